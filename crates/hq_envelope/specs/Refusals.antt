@@ -1,0 +1,110 @@
+-- The numbers and names of refusals and faults: part of every reply, so they never change.
+use Rattle.std.specs.Prelude.{ℕ, List, codes}
+use Rattle.hq_envelope.specs.declared.failure.Refusal.{Refusal}
+use Rattle.hq_envelope.specs.declared.failure.Refusal.TheVariants.{BadRequest, NoKey, WrongRole, NoRoute, WrongMethod, BodyTooLong, BadJson, BadField, NoMessage, NoLine, NoNotice, NoCustomer, BadAddress, BadSpool, BadPattern, BadAction, BadStatus, BadLabel, BadText, AttemptAhead, UnknownRecipient, DoubledRecipient, NoOutcome, QuotaMessages, QuotaBytes, QuotaLines, SerialsSpent, NoticesSpent, BadCsv, DoubledPattern, LabelUsed, BadDirectory, DoubledName, DoubledKey, BadHost, BadRelayKey}
+use Rattle.hq_envelope.specs.declared.failure.Fault.{Fault}
+use Rattle.hq_envelope.specs.declared.failure.Fault.TheVariants.{WantOfMemory, Disk, BadSchema, Closed}
+use Rattle.hq_envelope.specs.declared.failure.Fail.{Fail}
+use Rattle.hq_envelope.specs.declared.failure.Fail.TheVariants.{Refused, Fault as AsFault}
+
+abbrev pub refusal_number : Refusal → ℕ
+refusal_number BadRequest = 1
+refusal_number NoKey = 2
+refusal_number WrongRole = 3
+refusal_number NoRoute = 4
+refusal_number WrongMethod = 5
+refusal_number BodyTooLong = 6
+refusal_number BadJson = 7
+refusal_number BadField = 8
+refusal_number NoMessage = 10
+refusal_number NoLine = 11
+refusal_number NoNotice = 12
+refusal_number NoCustomer = 13
+refusal_number BadAddress = 20
+refusal_number BadSpool = 23
+refusal_number BadPattern = 24
+refusal_number BadAction = 25
+refusal_number BadStatus = 26
+refusal_number BadLabel = 27
+refusal_number BadText = 28
+refusal_number (AttemptAhead attempts) = 30
+refusal_number UnknownRecipient = 31
+refusal_number DoubledRecipient = 32
+refusal_number NoOutcome = 33
+refusal_number QuotaMessages = 40
+refusal_number QuotaBytes = 41
+refusal_number QuotaLines = 42
+refusal_number SerialsSpent = 43
+refusal_number NoticesSpent = 44
+refusal_number (BadCsv row) = 50
+refusal_number (DoubledPattern row) = 51
+refusal_number LabelUsed = 52
+refusal_number (BadDirectory row) = 53
+refusal_number (DoubledName row) = 54
+refusal_number (DoubledKey row) = 55
+refusal_number BadHost = 56
+refusal_number BadRelayKey = 57
+
+abbrev pub refusal_name : Refusal → List ℕ
+refusal_name BadRequest = codes "BadRequest"
+refusal_name NoKey = codes "NoKey"
+refusal_name WrongRole = codes "WrongRole"
+refusal_name NoRoute = codes "NoRoute"
+refusal_name WrongMethod = codes "WrongMethod"
+refusal_name BodyTooLong = codes "BodyTooLong"
+refusal_name BadJson = codes "BadJson"
+refusal_name BadField = codes "BadField"
+refusal_name NoMessage = codes "NoMessage"
+refusal_name NoLine = codes "NoLine"
+refusal_name NoNotice = codes "NoNotice"
+refusal_name NoCustomer = codes "NoCustomer"
+refusal_name BadAddress = codes "BadAddress"
+refusal_name BadSpool = codes "BadSpool"
+refusal_name BadPattern = codes "BadPattern"
+refusal_name BadAction = codes "BadAction"
+refusal_name BadStatus = codes "BadStatus"
+refusal_name BadLabel = codes "BadLabel"
+refusal_name BadText = codes "BadText"
+refusal_name (AttemptAhead attempts) = codes "AttemptAhead"
+refusal_name UnknownRecipient = codes "UnknownRecipient"
+refusal_name DoubledRecipient = codes "DoubledRecipient"
+refusal_name NoOutcome = codes "NoOutcome"
+refusal_name QuotaMessages = codes "QuotaMessages"
+refusal_name QuotaBytes = codes "QuotaBytes"
+refusal_name QuotaLines = codes "QuotaLines"
+refusal_name SerialsSpent = codes "SerialsSpent"
+refusal_name NoticesSpent = codes "NoticesSpent"
+refusal_name (BadCsv row) = codes "BadCsv"
+refusal_name (DoubledPattern row) = codes "DoubledPattern"
+refusal_name LabelUsed = codes "LabelUsed"
+refusal_name (BadDirectory row) = codes "BadDirectory"
+refusal_name (DoubledName row) = codes "DoubledName"
+refusal_name (DoubledKey row) = codes "DoubledKey"
+refusal_name BadHost = codes "BadHost"
+refusal_name BadRelayKey = codes "BadRelayKey"
+
+abbrev pub fault_number : Fault → ℕ
+fault_number WantOfMemory = 90
+fault_number Disk = 91
+fault_number BadSchema = 92
+fault_number Closed = 93
+
+abbrev pub fault_name : Fault → List ℕ
+fault_name WantOfMemory = codes "WantOfMemory"
+fault_name Disk = codes "Disk"
+fault_name BadSchema = codes "BadSchema"
+fault_name Closed = codes "Closed"
+
+-- the fault of a call that memory ran out for
+abbrev pub no_memory : Fault
+no_memory = WantOfMemory
+
+abbrev pub refused : Refusal → Fail
+refused refusal = Refused refusal
+
+abbrev pub faulted : Fault → Fail
+faulted fault = AsFault fault
+
+-- the same fault, where a refusal may come too
+abbrev pub no_memory_fail : Fail
+no_memory_fail = AsFault WantOfMemory

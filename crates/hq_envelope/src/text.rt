@@ -1,0 +1,77 @@
+//! Free texts of one line: what a remote server answered, or what a table line says.
+
+ghost use Rattle.std.specs.Prelude.{◌≡◌, []};
+ghost use Rattle.hq_envelope.specs.Readers.{Reads};
+ghost use Rattle.hq_envelope.specs.Words.{is_text_byte, is_text};
+
+use crate::copies::TryCopy;
+use crate::failure::{Fail, Refusal};
+use std::alloc::{AllocError, Global};
+use std::marker::Model;
+
+/// The most bytes that a text has.
+const TEXT_BYTES: usize = 1000;
+
+/// Whether a byte is printable ASCII or the space.
+fn is_text_byte(byte: u8) -> bool
+    ensures { result ≡ is_text_byte byte }
+{
+    (32..=126).contains(&byte)
+}
+
+fn is_text(text: &[u8]) -> bool
+    ensures { result ≡ is_text text.now }
+{
+    text.len() <= TEXT_BYTES && text.iter().all(|byte| is_text_byte(*byte))
+}
+
+/// At most 1,000 bytes of printable ASCII and spaces.
+#[derive(Debug, Drop)]
+pub struct Text {
+    text: String,
+}
+
+impl Model for Text {
+    ghost use Rattle.std.specs.Prelude.{List, ℕ, IsTrue, string_bytes};
+    ghost use Rattle.hq_envelope.specs.Words.{is_text};
+
+    ghost Value = { List ℕ };
+
+    ghost view = { λ t. string_bytes t.text };
+
+    ghost invariant = { λ t. IsTrue (is_text (string_bytes t.text)) };
+}
+
+impl Text {
+    /// Reads a text, or refuses it as 28 `BadText`.
+    pub fn parse(alloc: Global, text: &str) -> Result<Text, Fail>
+        ensures { Reads is_text Refusal.BadText text.now result }
+    {
+        if !is_text(text.as_bytes()) {
+            return Err(Fail::Refused(Refusal::BadText));
+        }
+        let text = String::from_str(alloc, text)?;
+        Ok(Text { text })
+    }
+
+    /// The text, without taking memory.
+    pub fn as_str(&self) -> &str
+        ensures { result.now ≡ self.now }
+    {
+        self.text.as_str()
+    }
+
+    /// Makes it the empty text, without taking memory.
+    pub fn clear(&mut self)
+        ensures { self.new ≡ [] }
+    {
+        self.text.clear();
+    }
+}
+
+impl TryCopy for Text {
+    fn copy(&self, alloc: Global) -> Result<Text, AllocError> {
+        let text = String::from_str(alloc, self.text.as_str())?;
+        Ok(Text { text })
+    }
+}
