@@ -1,5 +1,5 @@
 -- The numbers and names of refusals and faults: part of every reply, so they never change.
-use Rattle.std.specs.Prelude.{ℕ, List, codes}
+use Rattle.std.specs.Prelude.{ℕ, List, ◌++◌, codes, decimal, Option, Some, None}
 use Rattle.hq_envelope.specs.declared.failure.Refusal.{Refusal}
 use Rattle.hq_envelope.specs.declared.failure.Refusal.TheVariants.{BadRequest, NoKey, WrongRole, NoRoute, WrongMethod, BodyTooLong, BadJson, BadField, NoMessage, NoLine, NoNotice, NoCustomer, BadAddress, BadSpool, BadPattern, BadAction, BadStatus, BadLabel, BadText, AttemptAhead, UnknownRecipient, DoubledRecipient, NoOutcome, QuotaMessages, QuotaBytes, QuotaLines, SerialsSpent, NoticesSpent, BadCsv, DoubledPattern, LabelUsed, BadDirectory, DoubledName, DoubledKey, BadHost, BadRelayKey}
 use Rattle.hq_envelope.specs.declared.failure.Fault.{Fault}
@@ -94,6 +94,34 @@ fault_name WantOfMemory = codes "WantOfMemory"
 fault_name Disk = codes "Disk"
 fault_name BadSchema = codes "BadSchema"
 fault_name Closed = codes "Closed"
+
+-- what a refusal carries beside its name: the word for it, and the number
+abbrev pub refusal_detail : Refusal → Option (List ℕ × ℕ)
+refusal_detail (AttemptAhead attempts) = Some (codes "attempts", attempts)
+refusal_detail (BadCsv row) = Some (codes "row", row)
+refusal_detail (DoubledPattern row) = Some (codes "row", row)
+refusal_detail (BadDirectory row) = Some (codes "row", row)
+refusal_detail (DoubledName row) = Some (codes "row", row)
+refusal_detail (DoubledKey row) = Some (codes "row", row)
+refusal_detail _ = None
+
+abbrev pub shown : ℕ → List ℕ → List ℕ
+shown number name = decimal number ++ codes " " ++ name
+
+abbrev pub shown_with : ℕ → List ℕ → Option (List ℕ × ℕ) → List ℕ
+shown_with number name None = shown number name
+shown_with number name (Some detail) = shown number name ++ codes " " ++ detail.0 ++ codes " " ++ decimal detail.1
+
+-- as a person reads it: the number, the name, and the row or the attempts where it has them
+abbrev pub refusal_shown : Refusal → List ℕ
+refusal_shown refusal = shown_with (refusal_number refusal) (refusal_name refusal) (refusal_detail refusal)
+
+abbrev pub fault_shown : Fault → List ℕ
+fault_shown fault = shown (fault_number fault) (fault_name fault)
+
+abbrev pub fail_shown : Fail → List ℕ
+fail_shown (Refused refusal) = refusal_shown refusal
+fail_shown (AsFault fault) = fault_shown fault
 
 -- the fault of a call that memory ran out for
 abbrev pub no_memory : Fault

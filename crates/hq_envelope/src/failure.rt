@@ -1,8 +1,8 @@
 //! Why a call did not do what it was asked: the request was at fault, or the desk could not. What a
 //! refusal means for HTTP is not said here.
 
-ghost use Rattle.std.specs.Prelude.{◌≡◌};
-ghost use Rattle.hq_envelope.specs.Refusals.{refusal_number, refusal_name, fault_number, fault_name, no_memory, no_memory_fail, refused, faulted};
+ghost use Rattle.std.specs.Prelude.{◌≡◌, Some, option_map};
+ghost use Rattle.hq_envelope.specs.Refusals.{refusal_number, refusal_name, fault_number, fault_name, refusal_detail, refusal_shown, fault_shown, fail_shown, no_memory, no_memory_fail, refused, faulted};
 
 use std::alloc::{AllocError, AllocFailed};
 use std::error::Error;
@@ -241,20 +241,33 @@ impl Fault {
     }
 }
 
-/// The number and the name, and the row where there is one, as in `50 BadCsv row 3`.
-impl fmt::Display for Refusal {
-    fn fmt<W: fmt::Write>(&self, f: &mut fmt::Formatter<W>) -> fmt::Result {
-        let number = self.number();
-        let name = self.name();
-        write!(f, "{number} {name}")?;
+impl Refusal {
+    /// What it carries beside its name: the word for it, and the number.
+    fn detail(&self) -> Option<(&'static str, u32)>
+        ensures { option_map (λ detail. (detail.0.now, detail.1)) result ≡ refusal_detail self.now }
+    {
         match self {
-            Refusal::AttemptAhead { attempts } => write!(f, " attempts {attempts}"),
+            Refusal::AttemptAhead { attempts } => Some(("attempts", *attempts)),
             Refusal::BadCsv { row }
             | Refusal::DoubledPattern { row }
             | Refusal::BadDirectory { row }
             | Refusal::DoubledName { row }
-            | Refusal::DoubledKey { row } => write!(f, " row {row}"),
-            _ => Ok(()),
+            | Refusal::DoubledKey { row } => Some(("row", *row)),
+            _ => None,
+        }
+    }
+}
+
+/// The number and the name, and the row or the attempts where it has them, as in `50 BadCsv row 3`.
+impl fmt::Display for Refusal {
+    ghost output = { λ refusal. Some (refusal_shown refusal) };
+
+    fn fmt<W: fmt::Write>(&self, f: &mut fmt::Formatter<W>) -> fmt::Result {
+        let number = self.number();
+        let name = self.name();
+        match self.detail() {
+            Some((word, value)) => write!(f, "{number} {name} {word} {value}"),
+            None => write!(f, "{number} {name}"),
         }
     }
 }
@@ -263,6 +276,8 @@ impl Error for Refusal {}
 
 /// The number and the name, as in `91 Disk`.
 impl fmt::Display for Fault {
+    ghost output = { λ fault. Some (fault_shown fault) };
+
     fn fmt<W: fmt::Write>(&self, f: &mut fmt::Formatter<W>) -> fmt::Result {
         let number = self.number();
         let name = self.name();
@@ -273,6 +288,8 @@ impl fmt::Display for Fault {
 impl Error for Fault {}
 
 impl fmt::Display for Fail {
+    ghost output = { λ fail. Some (fail_shown fail) };
+
     fn fmt<W: fmt::Write>(&self, f: &mut fmt::Formatter<W>) -> fmt::Result {
         match self {
             Fail::Refused(refusal) => write!(f, "{refusal}"),

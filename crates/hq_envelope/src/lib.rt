@@ -6,15 +6,26 @@
 mod address;
 mod copies;
 mod failure;
+mod host;
+mod key;
+mod label;
 mod moment;
+mod name;
 mod serial;
+mod spool;
 mod text;
-mod words;
 
 pub use address::{Address, Sender};
 pub use copies::{Items, TryCopy, copy_all};
 pub use failure::{Fail, Fault, Refusal};
+pub use host::Host;
+pub use key::Key;
+pub use label::Label;
 pub use moment::Moment;
+pub use name::Name;
 pub use serial::Serial;
+pub use spool::Spool;
 pub use text::Text;
-pub use words::{Host, Key, Label, Name, Spool};
+
+#[cfg(test)]
+mod tests;

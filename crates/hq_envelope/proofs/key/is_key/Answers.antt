@@ -3,9 +3,9 @@ use Rattle.std.proofs.lemmas.Iterator.{YieldsList-from_slice}
 use Rattle.std.proofs.lemmas.Iterator.Search.{all_from_yields_List}
 use Rattle.std.proofs.lemmas.Bool.Decides.{nat_tests}
 use Rattle.hq_envelope.specs.Words.{is_key_byte}
-use Rattle.hq_envelope.proofs.words.is_key.Goals as goal
+use Rattle.hq_envelope.proofs.key.is_key.Goals as goal
 
-pub returns-then-text-le64 : goal.returns-then-text-le64
-returns-then-text-le64 c =
+pub returns-then-text-le-MOST_KEY_BYTES : goal.returns-then-text-le-MOST_KEY_BYTES
+returns-then-text-le-MOST_KEY_BYTES c =
     let e = all_from_yields_List is_key_byte _ _ c.all.result c.all.ensures.ran (YieldsList-from_slice c.args.text.now cc) (λ x b q k. search (rules, tests)) in
     grind (arith, nat_tests)
