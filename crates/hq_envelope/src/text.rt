@@ -43,6 +43,15 @@ impl Model for Text {
 }
 
 impl Text {
+    /// The empty text, without taking memory.
+    pub fn empty(alloc: Global) -> Text
+        ensures { result ≡ [] }
+    {
+        Text {
+            text: String::new(alloc),
+        }
+    }
+
     /// Reads a text, or refuses it as 28 `BadText`.
     pub fn parse(alloc: Global, text: &str) -> Result<Text, Fail>
         ensures { Reads is_text Refusal.BadText text.now result }

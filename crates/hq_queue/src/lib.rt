@@ -3,9 +3,17 @@
 #![tactic(auto)]
 
 mod account;
+mod admission;
+mod attempt;
 mod message;
+mod moves;
 mod status;
+#[cfg(test)]
+mod tests;
 
 pub use account::{Counts, Customer, Entry, Head, Quota, Tally};
+pub use admission::admit;
+pub use attempt::Attempt;
 pub use message::{Message, Pending, QueueState};
+pub use moves::{hold, release};
 pub use status::Status;

@@ -1,0 +1,24 @@
+-- The moves of a message (postsuper(1)): each gives the message after it, or nothing where it does not apply.
+use Rattle.std.specs.Prelude.{ℕ, ◌≡◌, Bool, true, false, Option, Some, None, if◌then◌else◌}
+use Rattle.hq_queue.specs.declared.message.Message.{Message}
+use Rattle.hq_queue.specs.declared.message.QueueState.{QueueState}
+use Rattle.hq_queue.specs.declared.message.QueueState.TheVariants.{Incoming, Deferred, Hold}
+
+abbrev pub is_on_hold : QueueState → Bool
+is_on_hold Incoming = false
+is_on_hold Deferred = false
+is_on_hold Hold = true
+
+-- hold (-h): a message that is incoming or deferred goes on hold
+abbrev pub held : Message → Option Message
+held m = if is_on_hold m.state then None else Some (record m { state = Hold })
+
+-- release (-H): a message on hold is deferred, and may be tried from that moment on
+abbrev pub released : ℕ → Message → Option Message
+released at m = if is_on_hold m.state then Some (record m { state = Deferred; next_try = at }) else None
+
+-- What a call makes of a message, by a move: true, and the message is the move's; or false where the move does
+-- not apply, and the message is as it was.
+abbrev pub Makes : Option Message → Message → Message → Bool → Type 0
+Makes move old new true = move ≡ Some new
+Makes move old new false = (move ≡ None) × (new ≡ old)
