@@ -1,0 +1,93 @@
+-- Empty tables are sound, and have the opening state of everybody.
+use Rattle.std.proofs.Common.{◌≡◌, ℕ, ◌+◌, ◌^◌, ◌<◌, ◌≤◌, List, [], map, sym, refl, ap, ◌∙◌, subst, Some, arith}
+use Rattle.std.specs.Prelude.{option_map, unwrap_or}
+use Rattle.std.specs.List.{IsDistinct}
+use Rattle.std.specs.Ordering.{nat_cmp}
+use Rattle.std.specs.declared.cmp.Ordering.{Ordering}
+use Rattle.std.specs.Cmp.{nat_cmp_total, IsTotalOrder}
+use Rattle.std.specs.Cmp.Lexicographic.{nat_list_cmp_total}
+use Rattle.std.specs.FinMap.{empty, entries, get, len, values, get-empty, len-empty, same_map}
+use Rattle.std.proofs.lemmas.Map.Lookups.{CmpEqualImpliesEq, exact_unsigned}
+use Rattle.hq_queue.specs.declared.message.Message.{Message}
+use Rattle.hq_tables.specs.Owned.{by_both, part_of, map_values}
+use Rattle.hq_tables.specs.Rows.{table}
+use Rattle.hq_tables.proofs.Parts.{get_part, get-map_values, both_total, both_exact}
+use Rattle.hq_tables.proofs.Pages.{no_entries}
+use Rattle.hq_store.specs.Tables.{text_cmp, opening, opening_head, no_tables, own, joined, pending_of, message_cmp, recipient_cmp}
+use Rattle.hq_store.specs.Sound.{IsNext, SoundState, Sound, numbered, pending_count}
+use Rattle.hq_store.specs.Listed.{AreUnique, AreDealt, head_key, head_value, message_key, message_value, recipient_key, recipient_value, recipients_of, heads_of, messages_of}
+use Rattle.hq_store.proofs.States.{none_some}
+
+module _ {N K X : Type 0} {S : N → N → Ordering} {R : K → K → Ordering} (s : IsTotalOrder S) (r : IsTotalOrder R) (re : CmpEqualImpliesEq R) where
+  part_empty : (c : N) → part_of S c (empty {X = X} {R = by_both S R}) ≡ empty
+  part_empty c = same_map r re _ _ (λ k. get_part R s c empty k ∙ get-empty (by_both S R) (c, k) ∙ sym (get-empty R k))
+
+no_message : (customer : List ℕ) → map_values (joined customer no_tables.recipients) (part_of text_cmp customer no_tables.messages) ≡ empty
+no_message customer = same_map nat_cmp_total exact_unsigned _ _ (λ k.
+    get-map_values nat_cmp (joined customer no_tables.recipients) exact_unsigned (part_of text_cmp customer no_tables.messages) k
+    ∙ ap (λ m. option_map (joined customer no_tables.recipients k) (get m k)) (part_empty nat_list_cmp_total nat_cmp_total exact_unsigned customer)
+    ∙ ap (option_map (joined customer no_tables.recipients k)) (get-empty nat_cmp k) ∙ sym (get-empty nat_cmp k))
+
+pub own_opening : (customer : List ℕ) → own customer no_tables ≡ opening
+own_opening customer = λ i. record { head = unwrap_or (get-empty text_cmp customer i) opening_head; messages = no_message customer i }
+
+-- stated for any number, since the limits are large
+next_one : (n : ℕ) → 1 ≤ n → (0 < 1) × (1 ≤ n)
+next_one n h = (omega arith, h)
+
+first_next : IsNext 1
+first_next = next_one (2 ^ 40) (omega arith)
+
+nothing : (k : ℕ) (m : Message) → get opening.messages k ≡ Some m → ⊥
+nothing k m h = none_some m (sym (get-empty nat_cmp k) ∙ h)
+
+no_values : values opening.messages ≡ []
+no_values = ap (map (λ e. e.1)) (no_entries nat_cmp)
+
+opening_sound : SoundState opening
+opening_sound = record {
+  shaped = record {
+    next_serial = first_next;
+    next_notice = first_next;
+    messages = λ k m h. absurd (nothing k m h);
+    spools = λ k l m n h g e. absurd (nothing k m h);
+    few_messages = let none : len opening.messages ≡ 0 = len-empty nat_cmp Message in omega arith;
+  };
+  conserved = ap (λ ms. pending_count ms + 0 + 0 + 0 + 0) (sym no_values);
+  bounded = omega arith;
+}
+
+no_recipients : (customer : List ℕ) (serial : ℕ) → entries (part_of nat_cmp serial (part_of text_cmp customer no_tables.recipients)) ≡ []
+no_recipients customer serial =
+    ap (λ m. entries (part_of nat_cmp serial m)) (part_empty nat_list_cmp_total (both_total nat_cmp_total nat_cmp_total) (both_exact exact_unsigned exact_unsigned) customer)
+    ∙ ap entries (part_empty nat_cmp_total nat_cmp_total exact_unsigned serial) ∙ no_entries nat_cmp
+
+no_pending : (customer : List ℕ) (serial : ℕ) → pending_of customer serial no_tables.recipients ≡ []
+unfolding pending_of
+no_pending customer serial = ap (map (λ e. e.1)) (no_recipients customer serial)
+
+pub empty_sound : Sound no_tables
+empty_sound = record {
+  states = λ customer. subst SoundState (sym (own_opening customer)) opening_sound;
+  recipients = record {
+    placed = λ customer serial. no_recipients customer serial ∙ ap (numbered 1) (sym (no_pending customer serial));
+    no_orphans = λ customer serial h. no_pending customer serial;
+  };
+}
+
+-- ---- no rows at all
+
+table_nothing : {A K X : Type 0} (R : K → K → Ordering) (key : A → K) (val : A → X) → table R key val [] ≡ empty
+unfolding table
+table_nothing R key val = refl
+
+pub none_unique : AreUnique []
+unfolding AreUnique IsDistinct
+none_unique = tt
+
+pub none_dealt : AreDealt []
+unfolding AreDealt
+none_dealt customer serial = sym (ap (pending_of customer serial) (table_nothing recipient_cmp recipient_key recipient_value) ∙ no_pending customer serial)
+
+pub no_rows : record { heads = heads_of []; messages = messages_of []; recipients = recipients_of [] } ≡ no_tables
+no_rows = λ i. record { heads = table_nothing text_cmp head_key head_value i; messages = table_nothing message_cmp message_key message_value i; recipients = table_nothing recipient_cmp recipient_key recipient_value i }

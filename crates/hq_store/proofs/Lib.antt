@@ -1,0 +1,12 @@
+pub mod Conserved
+pub mod Counted
+pub mod Dealt
+pub mod DealtRows
+pub mod Empty
+pub mod Keys
+pub mod Many
+pub mod Own
+pub mod Read
+pub mod Serials
+pub mod Shapes
+pub mod States

@@ -1,0 +1,91 @@
+-- A change of one customer's rows is that change of the customer's state, and changes no other.
+use Rattle.std.proofs.Common.{◌≡◌, ◌≢◌, ℕ, Bool, true, false, cond, List, [], ◌∷◌, sym, refl, ap, ◌∙◌, Some, None}
+use Rattle.std.specs.Prelude.{Option, option_map, unwrap_or}
+use Rattle.std.specs.Ordering.{nat_cmp, eq_by_cmp}
+use Rattle.std.specs.Cmp.{nat_cmp_total}
+use Rattle.std.specs.Cmp.Lexicographic.{nat_list_cmp_total}
+use Rattle.std.specs.FinMap.{FinMap, get, insert, remove, get-insert, get-remove, same_map}
+use Rattle.std.proofs.lemmas.Map.Lookups.{exact_unsigned, exact_bytes}
+use Rattle.std.proofs.lemmas.Map.Views.{tells_apart}
+use Rattle.std.proofs.lemmas.Bool.{both_ways}
+use Rattle.hq_store.specs.declared.change.Change.{Change}
+use Rattle.hq_store.specs.declared.change.Change.TheVariants.{PutHead, PutMessage, DropMessage}
+use Rattle.hq_queue.specs.declared.account.Head.{Head}
+use Rattle.hq_queue.specs.declared.message.Message.{Message}
+use Rattle.hq_queue.specs.declared.message.Pending.{Pending}
+use Rattle.hq_tables.specs.Owned.{part_of, map_values}
+use Rattle.hq_store.specs.Tables.{text_cmp, message_cmp, Tables, Row, opening_head, change, change_all, write, write_all, row_of, message_of, pending_of, joined, deal, own}
+use Rattle.hq_tables.proofs.Parts.{part_insert, part_insert_other, part_remove, part_remove_other, tied_true, tied_false, get-map_values}
+use Rattle.hq_store.proofs.Dealt.{Recipients, pending_same, pending_other_message, pending_other_owner}
+
+abbrev Messages : Type 0
+Messages = FinMap message_cmp Row
+
+abbrev queue : List ℕ → Messages → Recipients → FinMap nat_cmp Message
+queue c ms rs = map_values (joined c rs) (part_of text_cmp c ms)
+
+-- by cases on whether the keys tie
+at_tie : (b : Bool) (q k : ℕ) (f g : ℕ → Row → Message) (row : Row) (o : Option Row) (new : Option Message) → (b ≡ true → option_map (f q) (Some row) ≡ new) → (b ≡ false → f q ≡ g q) → option_map (f q) (cond b (Some row) o) ≡ cond b new (option_map (g q) o)
+at_tie true q k f g row o new same other = same refl
+at_tie false q k f g row o new same other = ap (λ h. option_map h o) (other refl)
+
+apart_numbers : (q k : ℕ) → eq_by_cmp nat_cmp q k ≡ false → q ≢ k
+apart_numbers q k h e = both_ways _ h (ap (eq_by_cmp nat_cmp q) (sym e) ∙ tied_true nat_cmp_total q)
+
+-- a message put into the rows is put into the customer's queue
+queue_put : (c : List ℕ) (ms : Messages) (rs : Recipients) (m : Message) → queue c (insert ms (c, m.serial) (row_of m)) (deal c m.serial m.pending rs) ≡ insert (queue c ms rs) m.serial m
+queue_put c ms rs m = same_map nat_cmp_total exact_unsigned _ _ (λ q.
+    let dealt = deal c m.serial m.pending rs in
+    get-map_values nat_cmp (joined c dealt) exact_unsigned (part_of text_cmp c (insert ms (c, m.serial) (row_of m))) q
+    ∙ ap (λ t. option_map (joined c dealt q) (get t q)) (part_insert nat_list_cmp_total nat_cmp_total exact_bytes exact_unsigned c ms m.serial (row_of m))
+    ∙ ap (option_map (joined c dealt q)) (get-insert nat_cmp_total (part_of text_cmp c ms) m.serial (row_of m) q)
+    ∙ at_tie (eq_by_cmp nat_cmp q m.serial) q m.serial (joined c dealt) (joined c rs) (row_of m) (get (part_of text_cmp c ms) q) (Some m)
+    (λ h. ap (λ k. Some (message_of k (row_of m) (pending_of c k dealt))) (tells_apart exact_unsigned q m.serial h) ∙ ap (λ ps. Some (message_of m.serial (row_of m) ps)) (pending_same c m.serial m.pending rs))
+    (λ h. λ i r. message_of q r (pending_other_message c m.serial q m.pending rs (apart_numbers q m.serial h) i))
+    ∙ sym (get-insert nat_cmp_total (queue c ms rs) m.serial m q ∙ ap (cond (eq_by_cmp nat_cmp q m.serial) (Some m)) (get-map_values nat_cmp (joined c rs) exact_unsigned (part_of text_cmp c ms) q)))
+
+gone : (b : Bool) (q : ℕ) (f g : ℕ → Row → Message) (o : Option Row) → (b ≡ false → f q ≡ g q) → option_map (f q) (cond b None o) ≡ cond b None (option_map (g q) o)
+gone true q f g o other = refl
+gone false q f g o other = ap (λ h. option_map h o) (other refl)
+
+-- a message dropped from the rows is dropped from the queue
+queue_drop : (c : List ℕ) (ms : Messages) (rs : Recipients) (serial : ℕ) → queue c (remove ms (c, serial)) (deal c serial [] rs) ≡ remove (queue c ms rs) serial
+queue_drop c ms rs serial = same_map nat_cmp_total exact_unsigned _ _ (λ q.
+    let dealt = deal c serial [] rs in
+    get-map_values nat_cmp (joined c dealt) exact_unsigned (part_of text_cmp c (remove ms (c, serial))) q
+    ∙ ap (λ t. option_map (joined c dealt q) (get t q)) (part_remove nat_list_cmp_total nat_cmp_total exact_bytes exact_unsigned c ms serial)
+    ∙ ap (option_map (joined c dealt q)) (get-remove nat_cmp_total (part_of text_cmp c ms) serial q)
+    ∙ gone (eq_by_cmp nat_cmp q serial) q (joined c dealt) (joined c rs) (get (part_of text_cmp c ms) q)
+    (λ h. λ i r. message_of q r (pending_other_message c serial q [] rs (apart_numbers q serial h) i))
+    ∙ sym (get-remove nat_cmp_total (queue c ms rs) serial q ∙ ap (cond (eq_by_cmp nat_cmp q serial) None) (get-map_values nat_cmp (joined c rs) exact_unsigned (part_of text_cmp c ms) q)))
+
+-- another customer's queue stays
+queue_other : (c d : List ℕ) (ms new : Messages) (rs : Recipients) (serial : ℕ) (ps : List Pending) → d ≢ c → part_of text_cmp d new ≡ part_of text_cmp d ms → queue d new (deal c serial ps rs) ≡ queue d ms rs
+queue_other c d ms new rs serial ps apart e = λ i. map_values (λ k r. message_of k r (pending_other_owner c d serial k ps rs apart i)) (e i)
+
+head_own : (c : List ℕ) (t : Tables) (head : Head) → unwrap_or (get (insert t.heads c head) c) opening_head ≡ head
+head_own c t head = ap (λ o. unwrap_or o opening_head) (get-insert nat_list_cmp_total t.heads c head c ∙ ap (λ b. cond b (Some head) (get t.heads c)) (tied_true nat_list_cmp_total c))
+
+head_other : (c d : List ℕ) (t : Tables) (head : Head) → d ≢ c → unwrap_or (get (insert t.heads c head) d) opening_head ≡ unwrap_or (get t.heads d) opening_head
+head_other c d t head apart = ap (λ o. unwrap_or o opening_head) (get-insert nat_list_cmp_total t.heads c head d ∙ ap (λ b. cond b (Some head) (get t.heads d)) (tied_false exact_bytes d c apart))
+
+-- each change, for the customer who makes it
+pub own_write : (c : List ℕ) (ch : Change) (t : Tables) → own c (write c ch t) ≡ change ch (own c t)
+own_write c (PutHead head) t = λ i. record (own c t) { head = head_own c t head i }
+own_write c (PutMessage m) t = λ i. record (own c t) { messages = queue_put c t.messages t.recipients m i }
+own_write c (DropMessage serial) t = λ i. record (own c t) { messages = queue_drop c t.messages t.recipients serial i }
+
+-- and for each other customer
+pub other_write : (c d : List ℕ) (ch : Change) (t : Tables) → d ≢ c → own d (write c ch t) ≡ own d t
+other_write c d (PutHead head) t apart = λ i. record (own d t) { head = head_other c d t head apart i }
+other_write c d (PutMessage m) t apart = λ i. record (own d t) { messages = queue_other c d t.messages _ t.recipients m.serial m.pending apart (part_insert_other nat_list_cmp_total nat_cmp_total exact_bytes exact_unsigned c d t.messages m.serial (row_of m) apart) i }
+other_write c d (DropMessage serial) t apart = λ i. record (own d t) { messages = queue_other c d t.messages _ t.recipients serial [] apart (part_remove_other nat_list_cmp_total nat_cmp_total exact_bytes exact_unsigned c d t.messages serial apart) i }
+
+-- any list of changes
+pub own_write_all : (c : List ℕ) (chs : List Change) (t : Tables) → own c (write_all c chs t) ≡ change_all chs (own c t)
+own_write_all c [] t = refl
+own_write_all c (ch ∷ chs) t = own_write_all c chs (write c ch t) ∙ ap (change_all chs) (own_write c ch t)
+
+pub other_write_all : (c d : List ℕ) (chs : List Change) (t : Tables) → d ≢ c → own d (write_all c chs t) ≡ own d t
+other_write_all c d [] t apart = refl
+other_write_all c d (ch ∷ chs) t apart = other_write_all c d chs (write c ch t) apart ∙ other_write c d ch t apart

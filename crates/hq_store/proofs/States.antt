@@ -1,0 +1,87 @@
+-- A change that fits keeps a customer's state shaped.
+use Rattle.std.proofs.Common.{◌≡◌, ◌⊎◌, inl, inr, ⊎_elim, ℕ, ◌+◌, ◌-◌, ◌<◌, ◌≤◌, Bool, true, false, cond, sym, refl, ap, ◌∙◌, subst, Some, None, Option, arith}
+use Rattle.std.specs.Prelude.{is_some}
+use Rattle.std.specs.Ordering.{nat_cmp, eq_by_cmp}
+use Rattle.std.specs.Cmp.{nat_cmp_total}
+use Rattle.std.proofs.lemmas.Map.Lookups.{exact_unsigned}
+use Rattle.std.proofs.lemmas.Map.Views.{tells_apart}
+use Rattle.std.specs.FinMap.{FinMap, get, insert, remove, len, contains_key, get-insert, get-remove, len-insert, len-remove}
+use Rattle.hq_queue.specs.declared.account.Head.{Head}
+use Rattle.hq_queue.specs.declared.message.Message.{Message}
+use Rattle.hq_store.specs.declared.change.Change.{Change}
+use Rattle.hq_store.specs.declared.change.Change.TheVariants.{PutHead, PutMessage, DropMessage}
+use Rattle.hq_store.specs.Tables.{State, change}
+use Rattle.hq_store.specs.Sound.{ShapedState, IsQueued}
+use Rattle.hq_store.specs.Fits.{Fits, HeadFits, MessageFits}
+
+pub same_some : {A : Type 0} (a b : A) → ◌≡◌ {A = Option A} (Some a) (Some b) → a ≡ b
+same_some a b e = cc
+
+pub none_some : {A : Type 0} (a : A) → ◌≡◌ {A = Option A} None (Some a) → ⊥
+none_some a e = cc
+
+-- what a look-up finds after a message was put
+pub found : (q : FinMap nat_cmp Message) (k : ℕ) (n : Message) (x : ℕ) (m : Message) → get (insert q k n) x ≡ Some m → ((x ≡ k) × (n ≡ m)) ⊎ (get q x ≡ Some m)
+found q k n x m h = cases (eq_by_cmp nat_cmp x k) refl (sym (get-insert nat_cmp_total q k n x) ∙ h) where
+  cases : (b : Bool) → eq_by_cmp nat_cmp x k ≡ b → cond b (Some n) (get q x) ≡ Some m → ((x ≡ k) × (n ≡ m)) ⊎ (get q x ≡ Some m)
+  cases true e f = inl (tells_apart exact_unsigned x k e, same_some n m f)
+  cases false e f = inr f
+
+-- what a look-up finds after one was dropped
+pub left : (q : FinMap nat_cmp Message) (k x : ℕ) (m : Message) → get (remove q k) x ≡ Some m → get q x ≡ Some m
+left q k x m h = cases (eq_by_cmp nat_cmp x k) (sym (get-remove nat_cmp_total q k x) ∙ h) where
+  cases : (b : Bool) → cond b None (get q x) ≡ Some m → get q x ≡ Some m
+  cases true f = absurd (none_some m f)
+  cases false f = f
+
+head_shaped : (s : State) (head : Head) → ShapedState s → HeadFits s head → ShapedState (change (PutHead head) s)
+head_shaped s head h fit = record {
+  next_serial = fit.next_serial;
+  next_notice = fit.next_notice;
+  messages = λ serial m f. let q = h.messages serial m f in record { own_serial = q.own_serial; positive = q.positive; below = fit.above serial m f; some_pending = q.some_pending; apart = q.apart };
+  spools = h.spools;
+  few_messages = h.few_messages;
+}
+
+-- an old serial leaves the number of messages, a new one has room
+put_few : (o : Option Message) (n : ℕ) → n ≤ 1000 → (o ≡ None → n < 1000) → cond (is_some o) n (n + 1) ≤ 1000
+put_few None n h room = let r = room refl in omega arith
+put_few (Some m) n h room = h
+
+message_shaped : (s : State) (n : Message) → ShapedState s → MessageFits s n → ShapedState (change (PutMessage n) s)
+message_shaped s n h fit = record {
+  next_serial = h.next_serial;
+  next_notice = h.next_notice;
+  messages = λ serial m f. ⊎_elim
+      (λ (p : (serial ≡ n.serial) × (n ≡ m)). subst (λ x. IsQueued s.head.next_serial x m) (sym p.0) (subst (λ x. IsQueued s.head.next_serial n.serial x) p.1 fit.queued))
+      (λ (p : get s.messages serial ≡ Some m). h.messages serial m p) (found s.messages n.serial n serial m f);
+  spools = λ k l m m' f f' e. ⊎_elim
+      (λ (p : (k ≡ n.serial) × (n ≡ m)). ⊎_elim
+      (λ (q : (l ≡ n.serial) × (n ≡ m')). p.0 ∙ sym q.0)
+      (λ (q : get s.messages l ≡ Some m'). p.0 ∙ sym (fit.spool l m' q (sym (ap (λ (x : Message). x.spool) p.1 ∙ e))))
+      (found s.messages n.serial n l m' f'))
+      (λ (p : get s.messages k ≡ Some m). ⊎_elim
+      (λ (q : (l ≡ n.serial) × (n ≡ m')). fit.spool k m p (e ∙ sym (ap (λ (x : Message). x.spool) q.1)) ∙ sym q.0)
+      (λ (q : get s.messages l ≡ Some m'). h.spools k l m m' p q e)
+      (found s.messages n.serial n l m' f'))
+      (found s.messages n.serial n k m f);
+  few_messages = subst (λ x. x ≤ 1000) (sym (len-insert nat_cmp_total s.messages n.serial n)) (put_few (get s.messages n.serial) (len s.messages) h.few_messages fit.room);
+}
+
+fewer : (b : Bool) (n : ℕ) → n ≤ 1000 → cond b (n - 1) n ≤ 1000
+fewer true n h = omega arith
+fewer false n h = h
+
+drop_shaped : (s : State) (k : ℕ) → ShapedState s → ShapedState (change (DropMessage k) s)
+drop_shaped s k h = record {
+  next_serial = h.next_serial;
+  next_notice = h.next_notice;
+  messages = λ serial m f. h.messages serial m (left s.messages k serial m f);
+  spools = λ x y m m' f f' e. h.spools x y m m' (left s.messages k x m f) (left s.messages k y m' f') e;
+  few_messages = subst (λ x. x ≤ 1000) (sym (len-remove nat_cmp_total s.messages k)) (fewer (contains_key s.messages k) (len s.messages) h.few_messages);
+}
+
+pub change_shaped : (s : State) (ch : Change) → ShapedState s → Fits s ch → ShapedState (change ch s)
+change_shaped s (PutHead head) h fit = head_shaped s head h fit
+change_shaped s (PutMessage m) h fit = message_shaped s m h fit
+change_shaped s (DropMessage serial) h fit = drop_shaped s serial h

@@ -1,0 +1,32 @@
+-- When a change fits the customer's state that it meets: then shaped tables stay shaped.
+use Rattle.std.specs.Prelude.{◌≡◌, ℕ, ◌<◌, ⊤, List, [], ◌∷◌, Some, None}
+use Rattle.std.specs.FinMap.{get, len}
+use Rattle.hq_queue.specs.declared.account.Head.{Head}
+use Rattle.hq_queue.specs.declared.message.Message.{Message}
+use Rattle.hq_store.specs.declared.change.Change.{Change}
+use Rattle.hq_store.specs.declared.change.Change.TheVariants.{PutHead, PutMessage, DropMessage}
+use Rattle.hq_store.specs.Tables.{State, change}
+use Rattle.hq_store.specs.Sound.{IsNext, IsQueued}
+
+-- next numbers in range, above every serial that is there
+pub record HeadFits (s : State) (head : Head) : Type 0 where
+  pub next_serial : IsNext head.next_serial
+  pub next_notice : IsNext head.next_notice
+  pub above : (serial : ℕ) (m : Message) → get s.messages serial ≡ Some m → serial < head.next_serial
+
+-- a message for the queue, with a spool name that no other message has, and room where its serial is new
+pub record MessageFits (s : State) (m : Message) : Type 0 where
+  pub queued : IsQueued s.head.next_serial m.serial m
+  pub spool : (serial : ℕ) (n : Message) → get s.messages serial ≡ Some n → n.spool ≡ m.spool → serial ≡ m.serial
+  pub room : get s.messages m.serial ≡ None → len s.messages < 1000
+
+-- drops always fit
+abbrev pub Fits : State → Change → Type 0
+Fits s (PutHead head) = HeadFits s head
+Fits s (PutMessage m) = MessageFits s m
+Fits s (DropMessage serial) = ⊤
+
+-- each change fits the state that those before it leave
+abbrev pub AllFit : State → List Change → Type 0
+AllFit s [] = ⊤
+AllFit s (c ∷ cs) = Fits s c × AllFit (change c s) cs

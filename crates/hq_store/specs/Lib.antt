@@ -1,0 +1,6 @@
+pub mod Tables
+pub mod Readings
+pub mod Sound
+pub mod Fits
+pub mod Shelves
+pub mod Listed

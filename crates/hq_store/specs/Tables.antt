@@ -1,0 +1,118 @@
+-- One customer's state, the tables of all customers, and what a change does to each.
+use Rattle.std.specs.Prelude.{ℕ, suc, Bool, not, ◌&&◌, List, [], ◌∷◌, unwrap_or}
+use Rattle.std.specs.declared.cmp.Ordering.{Ordering}
+use Rattle.std.specs.Ordering.{nat_cmp, eq_by_cmp}
+use Rattle.std.specs.Cmp.Lexicographic.{slice_cmp}
+use Rattle.std.specs.FinMap.{FinMap, empty, get, insert, remove, retain_keys, values}
+use Rattle.hq_envelope.specs.declared.address.Sender.{Sender}
+use Rattle.hq_queue.specs.declared.account.Head.{Head}
+use Rattle.hq_queue.specs.declared.message.Message.{Message}
+use Rattle.hq_queue.specs.declared.message.Pending.{Pending}
+use Rattle.hq_queue.specs.declared.message.QueueState.{QueueState}
+use Rattle.hq_store.specs.declared.change.Change.{Change}
+use Rattle.hq_store.specs.declared.change.Change.TheVariants.{PutHead, PutMessage, DropMessage}
+use Rattle.hq_tables.specs.Owned.{by_both, part_of, map_values}
+
+-- names and texts in the order of their bytes
+abbrev pub text_cmp : List ℕ → List ℕ → Ordering
+text_cmp = slice_cmp nat_cmp
+
+-- by customer, then by serial
+abbrev pub message_cmp : List ℕ × ℕ → List ℕ × ℕ → Ordering
+message_cmp = by_both text_cmp nat_cmp
+
+-- by customer, then by serial, then by place
+abbrev pub recipient_cmp : List ℕ × (ℕ × ℕ) → List ℕ × (ℕ × ℕ) → Ordering
+recipient_cmp = by_both text_cmp (by_both nat_cmp nat_cmp)
+
+-- ---- one customer
+
+-- a customer's state: its head, and its messages by serial
+pub record State : Type 0 where
+  pub head : Head
+  pub messages : FinMap nat_cmp Message
+
+-- the head of a customer of whom nothing is kept yet: both next numbers are 1
+abbrev pub opening_head : Head
+opening_head = record { next_serial = 1; next_notice = 1; tally = record { accepted = 0; delivered = 0; failed = 0; deleted = 0; expired = 0 } }
+
+-- a customer of whom nothing is kept yet
+abbrev pub opening : State
+opening = record { head = opening_head; messages = empty }
+
+-- a change of one customer's state; a message stands at its serial
+abbrev pub change : Change → State → State
+change (PutHead head) s = record s { head = head }
+change (PutMessage message) s = record s { messages = insert s.messages message.serial message }
+change (DropMessage serial) s = record s { messages = remove s.messages serial }
+
+-- all changes in order
+abbrev pub change_all : List Change → State → State
+change_all [] s = s
+change_all (c ∷ cs) s = change_all cs (change c s)
+
+-- ---- the tables of all customers
+
+-- a row of messages, beside its key: the message without serial and recipients
+pub record Row : Type 0 where
+  pub sender : Sender
+  pub spool : List ℕ
+  pub size : ℕ
+  pub arrival : ℕ
+  pub state : QueueState
+  pub next_try : ℕ
+  pub attempts : ℕ
+  pub warned : Bool
+
+-- every key begins with the customer's name; recipients have a table of their own, by serial and place
+pub record Tables : Type 0 where
+  pub heads : FinMap text_cmp Head
+  pub messages : FinMap message_cmp Row
+  pub recipients : FinMap recipient_cmp Pending
+
+-- tables of nobody
+abbrev pub no_tables : Tables
+no_tables = record { heads = empty; messages = empty; recipients = empty }
+
+-- the row of a message
+abbrev pub row_of : Message → Row
+row_of m = record { sender = m.sender; spool = m.spool; size = m.size; arrival = m.arrival; state = m.state; next_try = m.next_try; attempts = m.attempts; warned = m.warned }
+
+-- the message of a row, its serial and its recipients
+abbrev pub message_of : ℕ → Row → List Pending → Message
+message_of serial r ps = record { serial = serial; sender = r.sender; spool = r.spool; size = r.size; arrival = r.arrival; state = r.state; next_try = r.next_try; attempts = r.attempts; warned = r.warned; pending = ps }
+
+-- the recipients of a customer's message, in order of place
+unfoldable pub pending_of : List ℕ → ℕ → FinMap recipient_cmp Pending → List Pending
+pending_of customer serial rs = values (part_of nat_cmp serial (part_of text_cmp customer rs))
+
+-- a row of messages with its recipients
+abbrev pub joined : List ℕ → FinMap recipient_cmp Pending → ℕ → Row → Message
+joined customer rs serial r = message_of serial r (pending_of customer serial rs)
+
+-- recipients put at the places from i on
+abbrev pub place_all : List ℕ → ℕ → ℕ → List Pending → FinMap recipient_cmp Pending → FinMap recipient_cmp Pending
+place_all customer serial i [] rs = rs
+place_all customer serial i (p ∷ ps) rs = place_all customer serial (suc i) ps (insert rs (customer, (serial, i)) p)
+
+-- these recipients, at the places 1, 2, .., instead of all that the message had
+unfoldable pub deal : List ℕ → ℕ → List Pending → FinMap recipient_cmp Pending → FinMap recipient_cmp Pending
+deal customer serial ps rs = place_all customer serial 1 ps (retain_keys rs (λ k. not (eq_by_cmp text_cmp customer k.0 && eq_by_cmp nat_cmp serial k.1.0)))
+
+-- a change of one customer's rows in the tables
+abbrev pub write : List ℕ → Change → Tables → Tables
+write customer (PutHead head) t = record t { heads = insert t.heads customer head }
+write customer (PutMessage m) t = record t { messages = insert t.messages (customer, m.serial) (row_of m); recipients = deal customer m.serial m.pending t.recipients }
+write customer (DropMessage serial) t = record t { messages = remove t.messages (customer, serial); recipients = deal customer serial [] t.recipients }
+
+-- all changes in order
+abbrev pub write_all : List ℕ → List Change → Tables → Tables
+write_all customer [] t = t
+write_all customer (c ∷ cs) t = write_all customer cs (write customer c t)
+
+-- what the tables have of one customer: its state
+abbrev pub own : List ℕ → Tables → State
+own customer t = record {
+  head = unwrap_or (get t.heads customer) opening_head;
+  messages = map_values (joined customer t.recipients) (part_of text_cmp customer t.messages);
+}

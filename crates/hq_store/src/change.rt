@@ -1,0 +1,28 @@
+//! What can be changed of one customer.
+
+ghost use Rattle.std.specs.Prelude.{◌≡◌};
+
+use hq_envelope::{Serial, TryCopy};
+use hq_queue::{Head, Message};
+use std::alloc::{AllocError, Global};
+
+/// One change of one customer's rows.
+#[derive(Drop)]
+pub enum Change {
+    /// Sets the head.
+    PutHead(Head),
+    /// Sets the message of this serial, and deals its recipients anew.
+    PutMessage(Message),
+    /// Drops the message of this serial and all its recipients; nothing where there is none.
+    DropMessage(Serial),
+}
+
+impl TryCopy for Change {
+    fn copy(&self, alloc: Global) -> Result<Change, AllocError> {
+        match self {
+            Change::PutHead(head) => Ok(Change::PutHead(*head)),
+            Change::PutMessage(message) => Ok(Change::PutMessage(message.copy(alloc)?)),
+            Change::DropMessage(serial) => Ok(Change::DropMessage(*serial)),
+        }
+    }
+}

@@ -1,0 +1,19 @@
+//! The tables of all customers, and the shelf that keeps them: reading calls, and one writing call that
+//! makes all its changes or none. A shelf knows rows and nothing of the rules of the queue.
+#![tactic(auto)]
+
+mod change;
+mod heads;
+pub mod laws;
+mod list_rows;
+mod list_shelf;
+mod messages;
+mod recipients;
+mod rows;
+mod shelf;
+#[cfg(test)]
+mod tests;
+
+pub use change::Change;
+pub use list_shelf::ListShelf;
+pub use shelf::Shelf;

@@ -1,0 +1,121 @@
+//! The shelf of plain lists.
+
+ghost use Rattle.std.specs.Prelude.{◌≡◌};
+ghost use Rattle.hq_store.specs.Tables.{no_tables};
+ghost use Rattle.hq_store.specs.Listed.{tables_of};
+
+use crate::change::Change;
+use crate::list_rows::ListRows;
+use crate::shelf::Shelf;
+use crate::{heads, messages};
+use hq_envelope::{Fault, Items, Name, Serial, Spool};
+use hq_queue::{Counts, Head, Message};
+use std::alloc::Global;
+use std::marker::Model;
+
+/// The tables in plain lists in memory: slow, and simple to look through. Its only fault is 90, and it
+/// never closes.
+#[derive(Drop)]
+pub struct ListShelf {
+    alloc: Global,
+    rows: ListRows,
+}
+
+/// Seen as its rows. They lie so that no message stands twice, and recipients in the order of their places.
+impl Model for ListShelf {
+    ghost use Rattle.hq_store.specs.declared.list_rows.ListRows.{ListRows};
+    ghost use Rattle.hq_store.specs.Listed.{AreInOrder};
+
+    ghost Value = { ListRows };
+
+    ghost view = { λ s. s.rows };
+
+    ghost invariant = { λ s. AreInOrder s.rows };
+}
+
+impl ListShelf {
+    /// A shelf of which nobody has anything yet. It keeps the allocator; this call takes no memory.
+    pub fn new(alloc: Global) -> ListShelf
+        ensures { tables_of result ≡ no_tables }
+    {
+        let rows = ListRows {
+            heads: Vec::new(alloc),
+            messages: Vec::new(alloc),
+            recipients: Vec::new(alloc),
+        };
+        ListShelf { alloc, rows }
+    }
+}
+
+impl Shelf for ListShelf {
+    ghost use Rattle.std.specs.Prelude.{◌≡◌, ⊤, false};
+    ghost use Rattle.hq_envelope.specs.declared.failure.Fault.TheVariants.{WantOfMemory};
+    ghost use Rattle.hq_store.specs.Listed.{tables_of};
+
+    ghost tables = { tables_of };
+
+    ghost is_closed = { λ _. false };
+
+    ghost fault_count = { λ _. 0 };
+
+    ghost is_clean = { λ _. ⊤ };
+
+    ghost is_ours = { λ _. ⊤ };
+
+    ghost may_answer = { λ fault. fault ≡ WantOfMemory };
+
+    fn head(&mut self, customer: &Name) -> Result<Head, Fault> {
+        Ok(heads::head_in(self.rows.heads.as_slice(), customer))
+    }
+
+    fn counts(&mut self, customer: &Name) -> Result<Counts, Fault> {
+        Ok(messages::counts_in(self.rows.messages.as_slice(), customer))
+    }
+
+    fn message(&mut self, customer: &Name, serial: Serial) -> Result<Option<Message>, Fault> {
+        Ok(messages::message_in(
+            self.alloc,
+            self.rows.messages.as_slice(),
+            self.rows.recipients.as_slice(),
+            customer,
+            serial,
+        )?)
+    }
+
+    fn by_spool(&mut self, customer: &Name, spool: &Spool) -> Result<Option<Message>, Fault> {
+        Ok(messages::by_spool_in(
+            self.alloc,
+            self.rows.messages.as_slice(),
+            self.rows.recipients.as_slice(),
+            customer,
+            spool,
+        )?)
+    }
+
+    fn messages(
+        &mut self,
+        customer: &Name,
+        after: Option<Serial>,
+        limit: usize,
+    ) -> Result<Items<Message>, Fault> {
+        Ok(messages::page_in(
+            self.alloc,
+            self.rows.messages.as_slice(),
+            self.rows.recipients.as_slice(),
+            customer,
+            after,
+            limit,
+        )?)
+    }
+
+    fn apply(&mut self, customer: &Name, changes: &[Change]) -> Result<(), Fault> {
+        let mut next = self.rows.copy(self.alloc)?;
+        next.change_all(self.alloc, customer, changes)?;
+        self.rows = next;
+        Ok(())
+    }
+
+    fn faults(&self) -> u64 {
+        0
+    }
+}
