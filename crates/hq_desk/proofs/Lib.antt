@@ -1,0 +1,4 @@
+pub mod Isolation
+pub mod Pages
+pub mod SameAddresses
+pub mod Soundness

@@ -1,0 +1,22 @@
+-- A page of which one entry more was asked for.
+use Rattle.std.proofs.Common.{◌≡◌, ℕ, ◌+◌, Bool, List, length, take, min, ap, ◌∙◌, arith}
+use Rattle.std.specs.Prelude.{nat_lt}
+use Rattle.std.proofs.lemmas.Bool.Decides.{nat_tests}
+use Rattle.std.proofs.lemmas.List.{take-take, length-take}
+use Rattle.hq_queue.specs.declared.message.Message.{Message}
+use Rattle.std.proofs.Common.{[]}
+use Rattle.hq_desk.specs.declared.answer.Answer.TheVariants as answer
+use Rattle.hq_desk.specs.Decision.{page}
+
+more_is : (l n : ℕ) → nat_lt l (min (l + 1) n) ≡ nat_lt l n
+more_is l n = grind (arith, nat_tests)
+
+-- the first l, and whether one follows
+page_is : {X A : Type 0} (f : List X → Bool → A) (l : ℕ) (xs ys : List X) → ys ≡ take (l + 1) xs → f (take l ys) (nat_lt l (length ys)) ≡ f (take l xs) (nat_lt l (length xs))
+page_is f l xs ys e =
+    ap (λ zs. f (take l zs) (nat_lt l (length zs))) e
+    ∙ (λ i. f (take-take l (l + 1) xs (omega arith) i) ((ap (nat_lt l) (length-take (l + 1) xs) ∙ more_is l (length xs)) i))
+
+-- the page of all is that of the first hundred and one
+pub page_of_more : (ms found : List Message) → found ≡ take 101 ms → page found ≡ page ms
+page_of_more ms found e = page_is (λ shown more. record { answer = answer.Listed shown more; changes = [] }) 100 ms found e

@@ -1,0 +1,5 @@
+pub mod Answers
+pub mod Decision
+pub mod Desks
+pub mod Machine
+pub mod Limits

@@ -1,0 +1,33 @@
+//! What can be asked of the desk, by a customer or by a relay worker that names one.
+
+use hq_envelope::{Address, Items, Sender, Serial, Spool};
+
+/// A message that a relay worker hands in.
+#[derive(Drop)]
+pub struct Submission {
+    /// The name under which the relay keeps it. While it is queued, another submission of this name is a repeat.
+    pub spool: Spool,
+    /// Who is told of failures.
+    pub sender: Sender,
+    /// To whom it goes: 1 to 100 addresses, of which the first of those that are the same counts.
+    pub recipients: Items<Address>,
+    /// Its size in bytes, at most 2,147,483,647.
+    pub size: u32,
+}
+
+/// A call.
+#[derive(Drop)]
+pub enum Call {
+    /// Takes a message into the queue.
+    Submit(Submission),
+    /// Lists the first 100 messages after a serial, or from the start.
+    List(Option<Serial>),
+    /// Shows a message whole.
+    Show(Serial),
+    /// Puts a message on hold.
+    Hold(Serial),
+    /// Releases a message from hold.
+    Release(Serial),
+    /// Deletes a message.
+    Delete(Serial),
+}

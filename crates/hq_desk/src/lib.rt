@@ -1,0 +1,15 @@
+//! The desk: one call of one customer, answered and done. It reads what the decision needs through a shelf,
+//! decides, renders the answer, and only then makes the changes. It knows no bytes of the outside.
+#![tactic(auto)]
+
+mod answer;
+mod call;
+mod decision;
+mod desk;
+mod distinct;
+pub mod laws;
+
+pub use answer::Answer;
+pub use call::{Call, Submission};
+pub use decision::Decision;
+pub use desk::{Desk, Render, Rendered};

@@ -1,0 +1,4 @@
+pub mod JsonBodies
+pub mod NoFloats
+pub mod QueueIds
+pub mod Readers

@@ -1,0 +1,38 @@
+-- No answer has a float, so its compact text is what is written.
+use Rattle.std.proofs.Common.{◌≡◌, ℕ, List, [], ◌∷◌, map, Bool, true, false, ◌||◌, refl, ap, ◌∙◌}
+use Rattle.serde_json.specs.Data.{Data, string}
+use Rattle.serde_json.specs.View.{items_of}
+use Rattle.serde_json.specs.Written.{has_float, items_have_float}
+use Rattle.hq_envelope.specs.declared.failure.Refusal.{Refusal}
+use Rattle.hq_envelope.specs.declared.failure.Refusal.TheVariants.{AttemptAhead, BadCsv, DoubledPattern, BadDirectory, DoubledName, DoubledKey}
+use Rattle.hq_queue.specs.declared.message.Message.{Message}
+use Rattle.hq_queue.specs.declared.message.Pending.{Pending}
+use Rattle.hq_desk.specs.declared.answer.Answer.{Answer}
+use Rattle.hq_desk.specs.declared.answer.Answer.TheVariants as answer
+use Rattle.hq_json.specs.Replies.{entry, pending_entry, shown, listed, queued, refusal_data, answer_data}
+
+list_no_float : {X : Type 0} (f : X → Data) → ((x : X) → has_float (f x) ≡ false) → (xs : List X) → items_have_float (items_of (map f xs)) ≡ false
+list_no_float f h [] = refl
+list_no_float f h (x ∷ xs) = rw (h x) (list_no_float f h xs)
+
+entry_no_float : (m : Message) → has_float (entry m) ≡ false
+unfolding entry
+entry_no_float m = refl
+
+refusal_no_float : (r : Refusal) → has_float (refusal_data r) ≡ false
+refusal_no_float (AttemptAhead attempts) = refl
+refusal_no_float (BadCsv row) = refl
+refusal_no_float (DoubledPattern row) = refl
+refusal_no_float (BadDirectory row) = refl
+refusal_no_float (DoubledName row) = refl
+refusal_no_float (DoubledKey row) = refl
+refusal_no_float _ = refl
+
+pub answer_has_no_float : (a : Answer) → has_float (answer_data a) ≡ false
+unfolding listed shown queued
+answer_has_no_float (answer.Refused r) = refusal_no_float r
+answer_has_no_float (answer.Queued m) = rw (list_no_float (λ (p : Pending). string p.address) (λ _. refl) m.pending) refl
+answer_has_no_float (answer.Repeated serial) = refl
+answer_has_no_float (answer.Listed ms more) = rw (list_no_float entry entry_no_float ms) refl
+answer_has_no_float (answer.Shown m) = rw (list_no_float pending_entry (λ _. refl) m.pending) refl
+answer_has_no_float (answer.Changed n) = refl

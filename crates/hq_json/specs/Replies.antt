@@ -1,0 +1,112 @@
+-- The body of each answer, as a JSON value with its members in the order of their names; its bytes are the compact
+-- text of the value, as `serde_json` writes it.
+use Rattle.std.specs.Prelude.{ℕ, Bool, List, [], ◌∷◌, map, length, codes, Option, None, Some}
+use Rattle.serde_json.specs.Data.{Data, boolean, number, string, array, object, unsigned, no_members, member}
+use Rattle.serde_json.specs.View.{items_of}
+use Rattle.serde_json.specs.Written.{compact_text}
+use Rattle.hq_envelope.specs.Refusals.{refusal_number, refusal_name}
+use Rattle.hq_envelope.specs.Senders.{sender_text}
+use Rattle.hq_envelope.specs.Serials.{serial_text}
+use Rattle.hq_envelope.specs.declared.failure.Refusal.{Refusal}
+use Rattle.hq_envelope.specs.declared.failure.Refusal.TheVariants.{AttemptAhead, BadCsv, DoubledPattern, BadDirectory, DoubledName, DoubledKey}
+use Rattle.hq_queue.specs.declared.message.Message.{Message}
+use Rattle.hq_queue.specs.declared.message.Pending.{Pending}
+use Rattle.hq_queue.specs.declared.message.QueueState.{QueueState}
+use Rattle.hq_queue.specs.declared.message.QueueState.TheVariants.{Incoming, Deferred, Hold}
+use Rattle.hq_desk.specs.declared.answer.Answer.{Answer}
+use Rattle.hq_desk.specs.declared.answer.Answer.TheVariants as answer
+
+abbrev pub count : ℕ → Data
+count n = number (unsigned n)
+
+abbrev pub id : ℕ → Data
+id serial = string (serial_text serial)
+
+-- ---- refusals
+
+-- the number and the name
+abbrev pub refused : Refusal → Data
+refused r = object (member (codes "error") (count (refusal_number r)) (member (codes "name") (string (refusal_name r)) no_members))
+
+-- the row behind them
+abbrev pub refused_at : Refusal → ℕ → Data
+refused_at r row = object (member (codes "error") (count (refusal_number r)) (member (codes "name") (string (refusal_name r)) (member (codes "row") (count row) no_members)))
+
+-- the attempts before them
+abbrev pub refused_after : Refusal → ℕ → Data
+refused_after r attempts = object (member (codes "attempts") (count attempts) (member (codes "error") (count (refusal_number r)) (member (codes "name") (string (refusal_name r)) no_members)))
+
+abbrev pub refusal_data : Refusal → Data
+refusal_data (AttemptAhead attempts) = refused_after (AttemptAhead attempts) attempts
+refusal_data (BadCsv row) = refused_at (BadCsv row) row
+refusal_data (DoubledPattern row) = refused_at (DoubledPattern row) row
+refusal_data (BadDirectory row) = refused_at (BadDirectory row) row
+refusal_data (DoubledName row) = refused_at (DoubledName row) row
+refusal_data (DoubledKey row) = refused_at (DoubledKey row) row
+refusal_data r = refused r
+
+-- ---- messages
+
+abbrev pub state_name : QueueState → List ℕ
+state_name Incoming = codes "incoming"
+state_name Deferred = codes "deferred"
+state_name Hold = codes "hold"
+
+-- a message in a list
+unfoldable pub entry : Message → Data
+entry m =
+    object (member (codes "arrival") (count m.arrival) (member (codes "id") (id m.serial) (member (codes "recipients") (count (length m.pending))
+    (member (codes "sender") (string (sender_text m.sender)) (member (codes "size") (count m.size) (member (codes "state") (string (state_name m.state)) no_members))))))
+
+-- the status, or the empty text where there is none
+abbrev pub status_shown : Option (List ℕ) → List ℕ
+status_shown None = []
+status_shown (Some status) = status
+
+abbrev pub pending_entry : Pending → Data
+pending_entry p = object (member (codes "address") (string p.address) (member (codes "status") (string (status_shown p.status)) (member (codes "text") (string p.text) no_members)))
+
+abbrev pub pending_list : List Pending → Data
+pending_list ps = array (items_of (map pending_entry ps))
+
+-- a message shown whole
+unfoldable pub shown : Message → Data
+shown m =
+    object (member (codes "arrival") (count m.arrival) (member (codes "attempts") (count m.attempts) (member (codes "id") (id m.serial)
+    (member (codes "next_try") (count m.next_try) (member (codes "pending") (pending_list m.pending) (member (codes "sender") (string (sender_text m.sender))
+    (member (codes "size") (count m.size) (member (codes "spool") (string m.spool) (member (codes "state") (string (state_name m.state))
+    (member (codes "warned") (boolean m.warned) no_members))))))))))
+
+unfoldable pub listed : List Message → Bool → Data
+listed ms more = object (member (codes "messages") (array (items_of (map entry ms))) (member (codes "more") (boolean more) no_members))
+
+-- ---- submissions
+
+abbrev pub addresses : List Pending → Data
+addresses ps = array (items_of (map (λ (p : Pending). string p.address) ps))
+
+-- no recipient is refused: there are no access tables yet
+unfoldable pub queued : Message → Data
+queued m =
+    object (member (codes "id") (id m.serial) (member (codes "recipients") (addresses m.pending) (member (codes "refused") (array (items_of []))
+    (member (codes "state") (string (state_name m.state)) (member (codes "verdict") (string (codes "queued")) no_members)))))
+
+abbrev pub repeated : ℕ → Data
+repeated serial = object (member (codes "id") (id serial) (member (codes "verdict") (string (codes "repeat")) no_members))
+
+abbrev pub changed : ℕ → Data
+changed n = object (member (codes "changed") (count n) no_members)
+
+-- ---- every answer
+
+abbrev pub answer_data : Answer → Data
+answer_data (answer.Refused r) = refusal_data r
+answer_data (answer.Queued m) = queued m
+answer_data (answer.Repeated serial) = repeated serial
+answer_data (answer.Listed ms more) = listed ms more
+answer_data (answer.Shown m) = shown m
+answer_data (answer.Changed n) = changed n
+
+-- the bytes of an answer
+unfoldable pub answer_text : Answer → List ℕ
+answer_text a = compact_text (answer_data a)

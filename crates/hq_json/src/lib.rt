@@ -1,0 +1,10 @@
+//! JSON at the border of the desk: bodies read into what a call asks for, and answers written as replies.
+//! Which path and method a body belongs to is not said here.
+#![tactic(auto)]
+
+mod reading;
+mod replies;
+mod submission;
+
+pub use replies::{Json, refusal_text};
+pub use submission::read_submission;

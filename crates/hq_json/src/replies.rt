@@ -1,0 +1,230 @@
+//! The bytes of answers.
+
+ghost use Rattle.std.specs.Prelude.{◌≡◌, List, [], IfOk, map as map_list};
+ghost use Rattle.serde_json.specs.Data.{array, string};
+ghost use Rattle.serde_json.specs.View.{view, items_of, items_view};
+ghost use Rattle.serde_json.specs.Written.{compact_text};
+ghost use Rattle.hq_queue.specs.declared.message.Pending.{Pending};
+ghost use Rattle.hq_json.specs.Replies as replies;
+
+use hq_desk::{Answer, Render};
+use hq_envelope::{Refusal, Serial};
+use hq_queue::{Message, Pending, QueueState, Status};
+use serde_json::{Value, json};
+use std::alloc::{AllocError, Global};
+use std::str;
+
+/// A queue ID.
+fn id_value(alloc: Global, serial: Serial) -> Result<Value, AllocError>
+    ensures { IfOk result (λ v. view v ≡ replies.id serial) }
+{
+    let text = serial.text();
+    match str::from_utf8(&text) {
+        Ok(id) => Value::try_from_str(alloc, id),
+        Err(_) => unreachable!(),
+    }
+}
+
+// ---- refusals
+
+fn plain_refusal(alloc: Global, refusal: &Refusal) -> Result<Value, AllocError>
+    ensures { IfOk result (λ v. view v ≡ replies.refused refusal.now) }
+{
+    json!(in alloc; {"error": refusal.number(), "name": refusal.name()})
+}
+
+fn refusal_with_row(alloc: Global, refusal: &Refusal, row: u32) -> Result<Value, AllocError>
+    ensures { IfOk result (λ v. view v ≡ replies.refused_at refusal.now row) }
+{
+    json!(in alloc; {"error": refusal.number(), "name": refusal.name(), "row": row})
+}
+
+fn refusal_with_attempts(
+    alloc: Global,
+    refusal: &Refusal,
+    attempts: u32,
+) -> Result<Value, AllocError>
+    ensures { IfOk result (λ v. view v ≡ replies.refused_after refusal.now attempts) }
+{
+    json!(in alloc; {"attempts": attempts, "error": refusal.number(), "name": refusal.name()})
+}
+
+fn refusal_value(alloc: Global, refusal: &Refusal) -> Result<Value, AllocError>
+    ensures { IfOk result (λ v. view v ≡ replies.refusal_data refusal.now) }
+{
+    match refusal {
+        Refusal::AttemptAhead { attempts } => refusal_with_attempts(alloc, refusal, *attempts),
+        Refusal::BadCsv { row }
+        | Refusal::DoubledPattern { row }
+        | Refusal::BadDirectory { row }
+        | Refusal::DoubledName { row }
+        | Refusal::DoubledKey { row } => refusal_with_row(alloc, refusal, *row),
+        _ => plain_refusal(alloc, refusal),
+    }
+}
+
+// ---- messages
+
+fn state_name(state: QueueState) -> &'static str
+    ensures { result.now ≡ replies.state_name state }
+{
+    match state {
+        QueueState::Incoming => "incoming",
+        QueueState::Deferred => "deferred",
+        QueueState::Hold => "hold",
+    }
+}
+
+fn status_shown(status: &Option<Status>) -> &str
+    ensures { result.now ≡ replies.status_shown status.now }
+{
+    match status {
+        None => "",
+        Some(status) => status.as_str(),
+    }
+}
+
+#[tactic(auto, unfolding(crate::specs::Replies::entry))]
+fn entry_value(alloc: Global, message: &Message) -> Result<Value, AllocError>
+    ensures { IfOk result (λ v. view v ≡ replies.entry message.now) }
+{
+    let id = id_value(alloc, message.serial)?;
+    let recipients = message.pending.len() as u64;
+    json!(in alloc; {
+        "arrival": message.arrival.get(), "id": id, "recipients": recipients,
+        "sender": message.sender.as_str(), "size": message.size, "state": state_name(message.state)
+    })
+}
+
+fn entries_value(alloc: Global, messages: &[Message]) -> Result<Value, AllocError>
+    ensures { IfOk result (λ v. view v ≡ array (items_of (map_list replies.entry messages.now))) }
+{
+    let mut values = Vec::new(alloc);
+    for message in messages {
+        values.push(entry_value(alloc, message)?)?;
+    }
+    Ok(Value::Array(values))
+}
+
+#[tactic(auto, unfolding(crate::specs::Replies::listed))]
+fn list_value(alloc: Global, messages: &[Message], more: bool) -> Result<Value, AllocError>
+    ensures { IfOk result (λ v. view v ≡ replies.listed messages.now more) }
+{
+    let messages = entries_value(alloc, messages)?;
+    json!(in alloc; {"messages": messages, "more": more})
+}
+
+fn pending_value(alloc: Global, pending: &Pending) -> Result<Value, AllocError>
+    ensures { IfOk result (λ v. view v ≡ replies.pending_entry pending.now) }
+{
+    json!(in alloc; {
+        "address": pending.address.as_str(), "status": status_shown(&pending.status),
+        "text": pending.text.as_str()
+    })
+}
+
+fn pending_list(alloc: Global, list: &[Pending]) -> Result<Value, AllocError>
+    ensures { IfOk result (λ v. view v ≡ replies.pending_list list.now) }
+{
+    let mut values = Vec::new(alloc);
+    for pending in list {
+        values.push(pending_value(alloc, pending)?)?;
+    }
+    Ok(Value::Array(values))
+}
+
+#[tactic(auto, unfolding(crate::specs::Replies::shown))]
+fn shown_value(alloc: Global, message: &Message) -> Result<Value, AllocError>
+    ensures { IfOk result (λ v. view v ≡ replies.shown message.now) }
+{
+    let id = id_value(alloc, message.serial)?;
+    let pending = pending_list(alloc, message.pending.as_slice())?;
+    json!(in alloc; {
+        "arrival": message.arrival.get(), "attempts": message.attempts, "id": id,
+        "next_try": message.next_try.get(), "pending": pending,
+        "sender": message.sender.as_str(), "size": message.size,
+        "spool": message.spool.as_str(), "state": state_name(message.state),
+        "warned": message.warned
+    })
+}
+
+// ---- submissions
+
+fn address_list(alloc: Global, list: &[Pending]) -> Result<Value, AllocError>
+    ensures { IfOk result (λ v. view v ≡ replies.addresses list.now) }
+{
+    let mut values = Vec::new(alloc);
+    for pending in list {
+        values.push(Value::try_from_str(alloc, pending.address.as_str())?)?;
+    }
+    Ok(Value::Array(values))
+}
+
+#[tactic(auto, unfolding(crate::specs::Replies::queued))]
+fn queued_value(alloc: Global, message: &Message) -> Result<Value, AllocError>
+    ensures { IfOk result (λ v. view v ≡ replies.queued message.now) }
+{
+    let id = id_value(alloc, message.serial)?;
+    let recipients = address_list(alloc, message.pending.as_slice())?;
+    let refused = Value::Array(Vec::new(alloc));
+    json!(in alloc; {
+        "id": id, "recipients": recipients, "refused": refused,
+        "state": state_name(message.state), "verdict": "queued"
+    })
+}
+
+fn repeated_value(alloc: Global, serial: Serial) -> Result<Value, AllocError>
+    ensures { IfOk result (λ v. view v ≡ replies.repeated serial) }
+{
+    let id = id_value(alloc, serial)?;
+    json!(in alloc; {"id": id, "verdict": "repeat"})
+}
+
+fn changed_value(alloc: Global, count: u64) -> Result<Value, AllocError>
+    ensures { IfOk result (λ v. view v ≡ replies.changed count) }
+{
+    json!(in alloc; {"changed": count})
+}
+
+// ---- every answer
+
+fn answer_value(alloc: Global, answer: &Answer) -> Result<Value, AllocError>
+    ensures { IfOk result (λ v. view v ≡ replies.answer_data answer.now) }
+{
+    match answer {
+        Answer::Refused(refusal) => refusal_value(alloc, refusal),
+        Answer::Queued(message) => queued_value(alloc, message),
+        Answer::Repeated(serial) => repeated_value(alloc, *serial),
+        Answer::Listed(messages, more) => list_value(alloc, messages.as_slice(), *more),
+        Answer::Shown(message) => shown_value(alloc, message),
+        Answer::Changed(count) => changed_value(alloc, *count),
+    }
+}
+
+#[tactic(auto, using(crate::proofs::NoFloats::answer_has_no_float), unfolding(crate::specs::Replies::answer_text))]
+fn answer_bytes(alloc: Global, answer: &Answer) -> Result<Vec<u8>, AllocError>
+    ensures { IfOk result (λ bytes. bytes.items ≡ replies.answer_text answer.now) }
+{
+    answer_value(alloc, answer)?.to_vec(alloc)
+}
+
+/// Answers as compact JSON on one line, members in the order of their names.
+#[derive(Clone, Copy, Debug)]
+pub struct Json;
+
+impl Render for Json {
+    ghost use Rattle.hq_json.specs.Replies.{answer_text};
+
+    ghost text = { λ _ answer. answer_text answer };
+
+    fn render(&self, alloc: Global, answer: &Answer) -> Result<Vec<u8>, AllocError> {
+        answer_bytes(alloc, answer)
+    }
+}
+
+/// The body of a refusal that no call was made for.
+pub fn refusal_text(alloc: Global, refusal: Refusal) -> Result<Vec<u8>, AllocError>
+    ensures { IfOk result (λ bytes. bytes.items ≡ replies.answer_text (Answer.Refused refusal)) }
+{
+    answer_bytes(alloc, &Answer::Refused(refusal))
+}

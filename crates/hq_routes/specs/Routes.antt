@@ -1,0 +1,60 @@
+-- The paths of the desk, and which one a path is.
+use Rattle.std.specs.Prelude.{ℕ, List, [], ◌∷◌, ◌++◌, ◌&&◌, ◌||◌, ◌==◌, not, length, Bool, true, false, cond, codes, Option, Some, None, Result, Ok, Err}
+use Rattle.matchit.specs.Rows.{RowsOf}
+use Rattle.matchit.specs.Order.{placed}
+use Rattle.matchit.specs.Router.{RouteOf, route_from}
+use Rattle.matchit.specs.Route.{Scan, parse_route}
+use Rattle.matchit.specs.declared.error.InsertError.{InsertError}
+use Rattle.matchit.specs.Seek.{has_slash}
+use Rattle.hq_routes.specs.declared.Path.{Path}
+use Rattle.hq_routes.specs.declared.Path.TheVariants.{Messages, MessagesAfter, Message, Hold, Release, Submit}
+
+-- what stands for a parameter at the end of a pattern: it is no byte
+abbrev pub parameter : ℕ
+parameter = 256
+
+-- the path is the pattern's bytes; a parameter at the pattern's end takes the rest, one segment of at least one byte
+abbrev pub fits : List ℕ → List ℕ → Bool
+fits [] [] = true
+fits [] (b ∷ path) = false
+fits (x ∷ pattern) [] = false
+fits (x ∷ pattern) (b ∷ path) = (x == b && fits pattern path) || (x == parameter && length pattern == 0 && not (has_slash (b ∷ path)))
+
+-- the first row that the path fits
+abbrev pub route_in : {K : Type 0} → RowsOf K → List ℕ → Option K
+route_in [] path = None
+route_in ((pattern, k) ∷ rest) path = cond (fits pattern path) (Some k) (route_in rest path)
+
+abbrev pub with_parameter : List ℕ → List ℕ
+with_parameter text = text ++ parameter ∷ []
+
+-- every path of the desk, in the order of the patterns
+unfoldable pub table : RowsOf Path
+table =
+    (with_parameter (codes "/relay/submit/"), Submit)
+    ∷ (with_parameter (codes "/v1/hold/"), Hold)
+    ∷ (with_parameter (codes "/v1/message/"), Message)
+    ∷ (with_parameter (codes "/v1/messages-after/"), MessagesAfter)
+    ∷ (codes "/v1/messages", Messages)
+    ∷ (with_parameter (codes "/v1/release/"), Release)
+    ∷ []
+
+unfoldable pub path_of : List ℕ → Option Path
+path_of path = route_in table path
+
+-- the rows of a router after a path is added that has no fault and no conflict
+abbrev pub added_read : Result Scan InsertError → Path → RowsOf (RouteOf Path) → RowsOf (RouteOf Path)
+added_read (Ok s) path rows = placed (s.pattern, route_from s path) rows
+added_read (Err e) path rows = rows
+
+abbrev pub added : List ℕ × Path → RowsOf (RouteOf Path) → RowsOf (RouteOf Path)
+added r rows = added_read (parse_route r.0) r.1 rows
+
+abbrev pub added_all : List (List ℕ × Path) → RowsOf (RouteOf Path) → RowsOf (RouteOf Path)
+added_all [] rows = rows
+added_all (r ∷ rs) rows = added_all rs (added r rows)
+
+-- what follows the last slash, or all of it
+abbrev pub last_segment : List ℕ → List ℕ
+last_segment [] = []
+last_segment (b ∷ rest) = cond (has_slash (b ∷ rest)) (last_segment rest) (b ∷ rest)

@@ -1,0 +1,103 @@
+//! The paths that the desk answers at, and which of them a path is. Paths are matched as they stand: no
+//! escape, no query, no case. What a method does at a path is not said here.
+#![tactic(auto)]
+
+ghost use Rattle.std.specs.Prelude.{◌≡◌, [], IfOk, OnOk, MatchOption, map as map_list};
+ghost use Rattle.matchit.specs.Seek.{first};
+ghost use Rattle.matchit.specs.Router.{rename, map_key};
+ghost use Rattle.hq_routes.specs.Routes.{last_segment, path_of, added, added_all, table};
+
+use matchit::{InsertError, Router};
+use std::alloc::Global;
+
+/// A path of the desk.
+#[derive(Clone, Copy, Debug, PartialEq, Eq)]
+pub enum Path {
+    /// `/v1/messages`
+    Messages,
+    /// `/v1/messages-after/{id}`
+    MessagesAfter,
+    /// `/v1/message/{id}`
+    Message,
+    /// `/v1/hold/{id}`
+    Hold,
+    /// `/v1/release/{id}`
+    Release,
+    /// `/relay/submit/{customer}`
+    Submit,
+}
+
+/// Every path of the desk, as the router spells it.
+const PATHS: [(&str, Path); 6] = [
+    ("/v1/messages", Path::Messages),
+    ("/v1/messages-after/{id}", Path::MessagesAfter),
+    ("/v1/message/{id}", Path::Message),
+    ("/v1/hold/{id}", Path::Hold),
+    ("/v1/release/{id}", Path::Release),
+    ("/relay/submit/{customer}", Path::Submit),
+];
+
+/// Adds a path that has no conflict with those that are there.
+fn add(router: &mut Router<Path>, text: &str, path: Path) -> Result<(), InsertError>
+    ensures { OnOk result (router.new ≡ added (text.now, path) router.old) }
+{
+    router.insert(text, path)
+}
+
+fn filled(alloc: Global, paths: &[(&str, Path)]) -> Result<Router<Path>, InsertError>
+    ensures { IfOk result (λ r. r ≡ added_all (map_list (λ e. (e.0.now, e.1)) paths.now) []) }
+{
+    let mut router = Router::new(alloc);
+    for (text, path) in paths {
+        add(&mut router, text, *path)?;
+    }
+    Ok(router)
+}
+
+fn value_at(router: &Router<Path>, text: &str) -> Option<Path>
+    ensures { result ≡ map_key (λ e. e.value) (first router.now text.now) }
+{
+    match router.at(text) {
+        Ok(found) => Some(*found.value),
+        Err(_) => None,
+    }
+}
+
+/// The paths of the desk, entered in a router.
+#[derive(Drop)]
+pub struct Paths {
+    router: Router<Path>,
+    ghost whole: { rename (λ e. e.value) router ≡ table },
+}
+
+impl Paths {
+    /// Enters all paths. The only error is want of memory, since no two of them are in conflict.
+    pub fn new(alloc: Global) -> Result<Paths, InsertError> {
+        let router = filled(alloc, &PATHS)?;
+        Ok(Paths { router })
+    }
+
+    /// Which path of the desk it is. It takes no memory.
+    pub fn find(&self, text: &str) -> Option<Path>
+        ensures { result ≡ path_of text.now }
+    {
+        value_at(&self.router, text)
+    }
+}
+
+/// A path at its last slash.
+fn cut(path: &str) -> Option<(&str, &str)>
+    ensures { MatchOption result (last_segment path.now ≡ path.now) (λ cut. last_segment path.now ≡ cut.1.now) }
+{
+    path.rsplit_once('/')
+}
+
+/// What follows the last slash of a path, or all of it.
+pub fn last_segment(path: &str) -> &str
+    ensures { result.now ≡ last_segment path.now }
+{
+    match cut(path) {
+        Some((_, segment)) => segment,
+        None => path,
+    }
+}

@@ -1,0 +1,122 @@
+//! The shelf that fails as told.
+
+ghost use Rattle.std.specs.Prelude.{◌≡◌, ◌⊎◌};
+ghost use Rattle.hq_trial.specs.Trials.{opening};
+ghost use Rattle.hq_trial.specs.Shelves.{inner_of, trial_of};
+
+use crate::failure::{Failure, Trial};
+use hq_envelope::{Fault, Items, Name, Serial, Spool};
+use hq_queue::{Counts, Head, Message};
+use hq_store::{Change, Shelf};
+
+/// A shelf before another: it hands each call on, or fails it as told without handing it on.
+///
+/// All calls of a shelf are counted, but for `faults`. Its own count of faults has every 91 and 93 that it
+/// answered, those of the other among them, and none that the other answered before. After one 93 it is
+/// closed, and hands no call on. Only the other takes memory.
+#[derive(Drop)]
+pub struct FailingShelf<S> {
+    inner: S,
+    trial: Trial,
+}
+
+impl<S> FailingShelf<S> {
+    /// A shelf before this one, of which nothing was asked yet. Takes no memory.
+    pub fn new(inner: S, failure: Failure) -> FailingShelf<S>
+        ensures inner { inner_of result ≡ inner }
+        ensures trial { trial_of result ≡ opening failure }
+    {
+        FailingShelf {
+            inner,
+            trial: Trial::new(failure),
+        }
+    }
+
+    /// The other shelf again. Takes no memory.
+    pub fn into_inner(self) -> S
+        ensures { result ≡ inner_of self }
+    {
+        self.inner
+    }
+
+    /// How many calls were made of it, those among them that it failed; at the greatest `u64` it stays.
+    pub fn calls(&self) -> u64
+        ensures { result ≡ (trial_of self.now).calls }
+    {
+        self.trial.calls
+    }
+}
+
+impl<S: Shelf> Shelf for FailingShelf<S> {
+    ghost use Rattle.std.specs.Prelude.{◌≡◌, ◌⊎◌};
+    ghost use Rattle.hq_envelope.specs.declared.failure.Fault.TheVariants.{Disk, Closed};
+
+    ghost tables = { λ s. S.tables s.inner };
+
+    ghost is_closed = { λ s. s.trial.closed };
+
+    ghost fault_count = { λ s. s.trial.faults };
+
+    ghost is_clean = { λ s. S.is_clean s.inner };
+
+    ghost is_ours = { λ s. S.is_ours s.inner };
+
+    ghost may_answer = { λ fault. (fault ≡ Disk) ⊎ ((fault ≡ Closed) ⊎ S.may_answer fault) };
+
+    fn head(&mut self, customer: &Name) -> Result<Head, Fault> {
+        let answer = match self.trial.count() {
+            Some(fault) => Err(fault),
+            None => self.inner.head(customer),
+        };
+        self.trial.answer(answer)
+    }
+
+    fn counts(&mut self, customer: &Name) -> Result<Counts, Fault> {
+        let answer = match self.trial.count() {
+            Some(fault) => Err(fault),
+            None => self.inner.counts(customer),
+        };
+        self.trial.answer(answer)
+    }
+
+    fn message(&mut self, customer: &Name, serial: Serial) -> Result<Option<Message>, Fault> {
+        let answer = match self.trial.count() {
+            Some(fault) => Err(fault),
+            None => self.inner.message(customer, serial),
+        };
+        self.trial.answer(answer)
+    }
+
+    fn by_spool(&mut self, customer: &Name, spool: &Spool) -> Result<Option<Message>, Fault> {
+        let answer = match self.trial.count() {
+            Some(fault) => Err(fault),
+            None => self.inner.by_spool(customer, spool),
+        };
+        self.trial.answer(answer)
+    }
+
+    fn messages(
+        &mut self,
+        customer: &Name,
+        after: Option<Serial>,
+        limit: usize,
+    ) -> Result<Items<Message>, Fault> {
+        let answer = match self.trial.count() {
+            Some(fault) => Err(fault),
+            None => self.inner.messages(customer, after, limit),
+        };
+        self.trial.answer(answer)
+    }
+
+    fn apply(&mut self, customer: &Name, changes: &[Change]) -> Result<(), Fault> {
+        let answer = match self.trial.count() {
+            Some(fault) => Err(fault),
+            None => self.inner.apply(customer, changes),
+        };
+        self.trial.answer(answer)
+    }
+
+    fn faults(&self) -> u64 {
+        self.trial.faults
+    }
+}

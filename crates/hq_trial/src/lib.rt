@@ -1,0 +1,14 @@
+//! For tests alone: a shelf that stands before another and fails as told, so that every call of a test can
+//! be made to fail in turn. What is tested with it, and what answers are right, is said elsewhere.
+#![tactic(auto)]
+
+mod failing_shelf;
+mod failure;
+mod plain_text;
+
+pub use failing_shelf::FailingShelf;
+pub use failure::Failure;
+pub use plain_text::PlainText;
+
+#[cfg(test)]
+mod tests;

@@ -1,0 +1,68 @@
+-- The customer that a look-up finds is the one under its name, and within the limits.
+use Rattle.std.proofs.Common.{◌≡◌, ◌≢◌, ℕ, ◌≤◌, Bool, true, false, cond, not, ◌&&◌, ◌||◌, List, [], ◌∷◌, Some, None, Option, sym, refl, ap, ◌∙◌, arith}
+use Rattle.std.specs.Prelude.{nat_le, option_map}
+use Rattle.std.specs.List.{find, list_any, list_all}
+use Rattle.std.specs.Ordering.{eq_by_cmp}
+use Rattle.std.specs.Cmp.Lexicographic.{nat_list_cmp_total}
+use Rattle.std.proofs.lemmas.Bool.{and_parts, false≢true}
+use Rattle.std.proofs.lemmas.Bool.Decides.{nat_tests}
+use Rattle.std.proofs.lemmas.Map.Lookups.{exact_bytes}
+use Rattle.hq_queue.specs.declared.account.Customer.{Customer}
+use Rattle.hq_store.specs.Tables.{text_cmp}
+use Rattle.hq_tables.proofs.Parts.{tied_true, tied_false}
+use Rattle.hq_wire.specs.Customers.{has_name, names_apart, keys_apart, in_limits, are_customers}
+use Rattle.hq_wire.specs.Directories.{entry_in}
+
+same_some : {A : Type 0} (a b : A) → ◌≡◌ {A = Option A} (Some a) (Some b) → a ≡ b
+same_some a b e = cc
+
+none_some : {A : Type 0} (a : A) → ◌≡◌ {A = Option A} None (Some a) → ⊥
+none_some a e = cc
+
+or_false : (a b : Bool) → (a || b) ≡ false → (a ≡ false) × (b ≡ false)
+or_false true b e = absurd (false≢true (sym e))
+or_false false b e = (refl, e)
+
+not_true : (a : Bool) → not a ≡ true → a ≡ false
+not_true true e = absurd (false≢true e)
+not_true false e = refl
+
+-- a test that none passes, the one that is found does not pass
+passed : (q p : Customer → Bool) (cs : List Customer) (c : Customer) → list_any q cs ≡ false → find p cs ≡ Some c → q c ≡ false
+passed q p [] c none f = absurd (none_some c f)
+passed q p (y ∷ ys) c none f = by (or_false (q y) (list_any q ys) none) (λ rest g. passed q p ys c rest g) (p y) f where
+  by : (q y ≡ false) × (list_any q ys ≡ false) → (list_any q ys ≡ false → find p ys ≡ Some c → q c ≡ false) → (b : Bool) → cond b (Some y) (find p ys) ≡ Some c → q c ≡ false
+  by parts further true g = let same : y ≡ c = same_some y c g in ap q (sym same) ∙ parts.0
+  by parts further false g = further parts.1 g
+
+-- a test that all pass, the one that is found passes
+all_passed : (q p : Customer → Bool) (cs : List Customer) (c : Customer) → list_all q cs ≡ true → find p cs ≡ Some c → q c ≡ true
+all_passed q p [] c all f = absurd (none_some c f)
+all_passed q p (y ∷ ys) c all f = by (and_parts (q y) (list_all q ys) all) (λ rest g. all_passed q p ys c rest g) (p y) f where
+  by : (q y ≡ true) × (list_all q ys ≡ true) → (list_all q ys ≡ true → find p ys ≡ Some c → q c ≡ true) → (b : Bool) → cond b (Some y) (find p ys) ≡ Some c → q c ≡ true
+  by parts further true g = let same : y ≡ c = same_some y c g in ap q (sym same) ∙ parts.0
+  by parts further false g = further parts.1 g
+
+under_name : (p : Customer → Bool) (cs : List Customer) (c : Customer) → names_apart cs ≡ true → find p cs ≡ Some c → entry_in cs c.entry.name ≡ c.entry
+under_name p [] c apart f = absurd (none_some c f)
+under_name p (y ∷ ys) c apart f = by (and_parts (not (list_any (has_name y.entry.name) ys)) (names_apart ys) apart) (λ rest g. under_name p ys c rest g) (p y) f where
+  by : (not (list_any (has_name y.entry.name) ys) ≡ true) × (names_apart ys ≡ true) → (names_apart ys ≡ true → find p ys ≡ Some c → entry_in ys c.entry.name ≡ c.entry) → (b : Bool) → cond b (Some y) (find p ys) ≡ Some c
+      → cond (eq_by_cmp text_cmp c.entry.name y.entry.name) y.entry (entry_in ys c.entry.name) ≡ c.entry
+  by parts further true g =
+      let same : y ≡ c = same_some y c g in
+      ap (λ (x : Customer). cond (eq_by_cmp text_cmp c.entry.name x.entry.name) x.entry (entry_in ys c.entry.name)) same
+      ∙ ap (λ b. cond b c.entry (entry_in ys c.entry.name)) (tied_true nat_list_cmp_total c.entry.name)
+  by parts further false g =
+      let other : eq_by_cmp text_cmp y.entry.name c.entry.name ≡ false = passed (has_name y.entry.name) p ys c (not_true (list_any (has_name y.entry.name) ys) parts.0) g in
+      let apart_names : c.entry.name ≢ y.entry.name = λ e. false≢true (sym other ∙ ap (eq_by_cmp text_cmp y.entry.name) e ∙ tied_true nat_list_cmp_total y.entry.name) in
+      ap (λ b. cond b y.entry (entry_in ys c.entry.name)) (tied_false exact_bytes c.entry.name y.entry.name apart_names) ∙ further parts.1 g
+
+-- the entry that was found is that under its name
+pub entry_found : (p : Customer → Bool) (cs : List Customer) (c : Customer) → are_customers cs ≡ true → find p cs ≡ Some c → entry_in cs c.entry.name ≡ c.entry
+entry_found p cs c h f = under_name p cs c (and_parts (names_apart cs) (keys_apart cs) (and_parts (names_apart cs && keys_apart cs) (list_all in_limits cs) h).0).0 f
+
+limit_is : (n : ℕ) → nat_le n 1000 ≡ true → n ≤ 1000
+limit_is n h = grind (arith, nat_tests)
+
+pub limits_found : (p : Customer → Bool) (cs : List Customer) (c : Customer) → are_customers cs ≡ true → find p cs ≡ Some c → c.entry.quota.messages ≤ 1000
+limits_found p cs c h f = limit_is c.entry.quota.messages (all_passed in_limits p cs c (and_parts (names_apart cs && keys_apart cs) (list_all in_limits cs) h).1 f)

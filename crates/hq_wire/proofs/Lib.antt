@@ -1,0 +1,4 @@
+pub mod Alone
+pub mod Entries
+pub mod Further
+pub mod QueueIds

@@ -1,0 +1,46 @@
+-- Who shows a key, and which customer an exchange is for.
+use Rattle.std.specs.Prelude.{ℕ, Bool, true, false, List, [], ◌∷◌, Option, None, Some, Result, Ok, Err, if◌then◌else◌}
+use Rattle.std.specs.List.{find}
+use Rattle.std.specs.Ordering.{eq_by_cmp}
+use Rattle.hq_envelope.specs.declared.failure.Refusal.{Refusal}
+use Rattle.hq_envelope.specs.declared.failure.Refusal.TheVariants.{NoKey, WrongRole, NoCustomer}
+use Rattle.hq_queue.specs.declared.account.Customer.{Customer}
+use Rattle.hq_queue.specs.declared.account.Entry.{Entry}
+use Rattle.hq_store.specs.Tables.{text_cmp}
+use Rattle.hq_wire.specs.Customers.{has_key, has_name}
+use Rattle.hq_wire.specs.declared.directory.Directory.{Directory}
+
+abbrev pub relay_of : Directory → List ℕ
+relay_of d = d.relay
+
+abbrev pub customers_of : Directory → List Customer
+customers_of d = d.customers
+
+-- stands for the entry of a name that no customer has
+abbrev pub no_entry : Entry
+no_entry = record { name = []; quota = record { messages = 0; bytes = 0; lines = 0; notices = 0 }; delay = 0 }
+
+abbrev pub entry_in : List Customer → List ℕ → Entry
+entry_in [] name = no_entry
+entry_in (c ∷ cs) name = if eq_by_cmp text_cmp name c.entry.name then c.entry else entry_in cs name
+
+-- the entry under a name
+abbrev pub entry_of : Directory → List ℕ → Entry
+entry_of d name = record (entry_in d.customers name) { name = name }
+
+-- the relay's key serves the customer that the path names
+abbrev pub by_relay : Bool → Option Customer → Result (List ℕ) Refusal
+by_relay false named = Err WrongRole
+by_relay true None = Err NoCustomer
+by_relay true (Some c) = Ok c.entry.name
+
+-- a customer's key serves that customer
+abbrev pub by_customer : Bool → Option Customer → Result (List ℕ) Refusal
+by_customer for_relay None = Err NoKey
+by_customer true (Some c) = Err WrongRole
+by_customer false (Some c) = Ok c.entry.name
+
+-- the name of the customer that an exchange is for; for_relay says whether the route is the relay's
+abbrev pub customer_of : Directory → Bool → Option (List ℕ) → List ℕ → Result (List ℕ) Refusal
+customer_of d for_relay None segment = Err NoKey
+customer_of d for_relay (Some key) segment = if eq_by_cmp text_cmp key d.relay then by_relay for_relay (find (has_name segment) d.customers) else by_customer for_relay (find (has_key key) d.customers)

@@ -1,0 +1,7 @@
+pub mod Calls
+pub mod Customers
+pub mod Directories
+pub mod Exchanges
+pub mod Replies
+pub mod Runs
+pub mod Steps

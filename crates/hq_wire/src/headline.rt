@@ -1,0 +1,55 @@
+//! Many exchanges of many customers, and what each customer sees of them.
+
+ghost use Rattle.std.specs.Prelude.{◌≡◌, ◌+◌, ◌-◌, ◌^◌, ◌<◌, ◌≤◌, ℕ, List, false, IfOk, OnErr, length, map};
+ghost use Rattle.hq_store.specs.Sound.{Sound};
+ghost use Rattle.hq_store.specs.Tables.{own};
+ghost use Rattle.hq_desk.specs.Desks.{shelf_of, host_of};
+ghost use Rattle.hq_wire.specs.Directories.{entry_of};
+ghost use Rattle.hq_wire.specs.Replies.{seen, reply_of, store_faults};
+ghost use Rattle.hq_wire.specs.Runs.{share, told, answers, state_after};
+
+use crate::answering::exchange;
+use crate::asked::Exchange;
+use crate::directory::Directory;
+use crate::reply::Reply;
+use hq_desk::Desk;
+use hq_store::Shelf;
+use std::alloc::{AllocError, Allocator, Global};
+
+/// Replies to exchanges in order, one reply each.
+///
+/// To every customer the replies to the calls made by or for it, and what is kept of it afterwards, are those of
+/// the machine of one customer, started from its own state and given its share of the calls alone, whatever other
+/// calls come between. Calls that are answered 503 are struck out.
+///
+/// Room for all replies is taken first from `room`; where it is refused, nothing was done.
+pub fn run<S: Shelf + Drop, A: Allocator>(
+    alloc: Global,
+    room: A,
+    desk: &mut Desk<S>,
+    directory: &Directory,
+    exchanges: &[Exchange],
+) -> Result<Vec<Reply, A>, AllocError>
+    ensures count { IfOk result (λ replies. length replies.items ≡ length exchanges.now) }
+    ensures replies { IfOk result (λ replies. S.is_clean (shelf_of desk.new) → S.is_ours (shelf_of desk.old) → S.is_closed (shelf_of desk.new) ≡ false → Sound (S.tables (shelf_of desk.old)) → (c : List ℕ) →
+        told directory.now c exchanges.now (map seen replies.items)
+        ≡ map reply_of (answers (host_of desk.old) (entry_of directory.now c) (own c (S.tables (shelf_of desk.old))) (share directory.now c exchanges.now (map seen replies.items)))) }
+    ensures state { IfOk result (λ replies. S.is_clean (shelf_of desk.new) → S.is_ours (shelf_of desk.old) → S.is_closed (shelf_of desk.new) ≡ false → Sound (S.tables (shelf_of desk.old)) → (c : List ℕ) →
+        own c (S.tables (shelf_of desk.new))
+        ≡ state_after (host_of desk.old) (entry_of directory.now c) (own c (S.tables (shelf_of desk.old))) (share directory.now c exchanges.now (map seen replies.items))) }
+    ensures sound { IfOk result (λ replies. S.is_clean (shelf_of desk.new) → S.is_ours (shelf_of desk.old) → S.is_closed (shelf_of desk.new) ≡ false → Sound (S.tables (shelf_of desk.old)) → Sound (S.tables (shelf_of desk.new))) }
+    ensures ours { S.is_clean (shelf_of desk.new) → S.is_ours (shelf_of desk.old) → S.is_ours (shelf_of desk.new) }
+    ensures quiet { S.is_clean (shelf_of desk.new) → S.is_clean (shelf_of desk.old) }
+    ensures stays_open { S.is_closed (shelf_of desk.new) ≡ false → S.is_closed (shelf_of desk.old) ≡ false }
+    ensures host { host_of desk.new ≡ host_of desk.old }
+    // The replies tell 91 or 93 at most as often as the shelf counted a fault.
+    ensures faults { IfOk result (λ replies. S.fault_count (shelf_of desk.new) < 2 ^ 64 - 1 → store_faults (map seen replies.items) + S.fault_count (shelf_of desk.old) ≤ S.fault_count (shelf_of desk.new)) }
+    ensures none { OnErr result (desk.new ≡ desk.old) }
+{
+    let mut replies = Vec::with_capacity(room, exchanges.len())?;
+    for item in exchanges {
+        let reply = exchange(alloc, desk, directory, item);
+        replies.push_reserved(reply);
+    }
+    Ok(replies)
+}

@@ -1,0 +1,20 @@
+//! The wire: exchanges turned into calls, answers into replies, and the headline: to each customer the desk is
+//! its own, whatever the other customers do.
+#![tactic(auto)]
+
+mod answering;
+mod asked;
+mod directory;
+mod headline;
+pub mod laws;
+mod reply;
+mod request;
+
+pub use answering::exchange;
+pub use asked::Exchange;
+pub use directory::{Directory, are_customers};
+pub use headline::run;
+pub use reply::{Body, Reply};
+
+#[cfg(test)]
+mod tests;
