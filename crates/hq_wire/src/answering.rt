@@ -22,8 +22,8 @@ use hq_queue::Entry;
 use hq_store::Shelf;
 use std::alloc::Global;
 
-/// The reply to a refusal that no call was made for.
-fn refusal_reply(alloc: Global, refusal: Refusal) -> Reply
+/// The reply to a refusal that no call was made for, or to want of memory where its text has no room.
+pub fn refusal_reply(alloc: Global, refusal: Refusal) -> Reply
     ensures told { (seen result ≡ reply_of (Refused refusal)) ⊎ (seen result ≡ fault_told no_memory) }
     ensures store { tells_store (seen result) ≡ false }
 {

@@ -10,11 +10,11 @@ pub mod laws;
 mod reply;
 mod request;
 
-pub use answering::exchange;
+pub use answering::{exchange, refusal_reply};
 pub use asked::Exchange;
 pub use directory::{Directory, are_customers};
 pub use headline::run;
-pub use reply::{Body, Reply};
+pub use reply::{Body, Reply, fault_reply};
 
 #[cfg(test)]
 mod tests;

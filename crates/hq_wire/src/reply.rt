@@ -63,9 +63,9 @@ fn fault_text(fault: Fault) -> &'static str
     }
 }
 
-/// The reply to a fault: 503 with a fixed text.
+/// The reply to a fault: 503 with a fixed text. It takes no memory.
 #[tactic(auto, unfolding(crate::specs::Replies::fault_told))]
-pub(crate) fn fault_reply(fault: Fault) -> Reply
+pub fn fault_reply(fault: Fault) -> Reply
     ensures told { seen result ≡ fault_told fault }
     ensures store { tells_store (seen result) ≡ not (is_memory fault) }
 {

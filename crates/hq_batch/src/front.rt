@@ -1,0 +1,100 @@
+//! The desk as what answers the lines of a batch.
+
+ghost use Rattle.std.specs.Prelude.{◌≡◌, false, Option, Some, IfOk, string_bytes, option_map};
+ghost use Rattle.hq_store.specs.Sound.{Sound};
+ghost use Rattle.hq_desk.specs.Desks.{shelf_of, host_of};
+ghost use Rattle.hq_wire.specs.Replies.{seen};
+ghost use Rattle.hq_lines.specs.Fields.{request_in, shown};
+ghost use Rattle.hq_batch.specs.Batches.{IsAsked, LineReplied};
+ghost use Rattle.hq_batch.specs.Steps.{LineStep};
+
+use crate::writing::write_reply;
+use hq_desk::Desk;
+use hq_envelope::{Fault, Refusal};
+use hq_lines::{Answers, Line, read_line};
+use hq_store::Shelf;
+use hq_wire::{Directory, Exchange, Reply, exchange, fault_reply, refusal_reply};
+use std::alloc::{AllocError, Global};
+use std::io::{self, Write};
+
+/// A key of its own.
+fn own_key(alloc: Global, key: Option<&str>) -> Result<Option<String>, AllocError>
+    ensures { IfOk result (λ own. option_map string_bytes own ≡ option_map (λ k. k.now) key.entry) }
+{
+    match key {
+        None => Ok(None),
+        Some(key) => Ok(Some(String::from_str(alloc, key)?)),
+    }
+}
+
+/// The exchange that a line asks for.
+fn exchange_of(alloc: Global, line: &Line<'_>) -> Result<Exchange, AllocError>
+    ensures { IfOk result (λ asked. IsAsked asked (shown line.now)) }
+{
+    Ok(Exchange {
+        at: line.at,
+        method: String::from_str(alloc, line.method)?,
+        path: String::from_str(alloc, line.path)?,
+        key: own_key(alloc, line.key)?,
+        body: Vec::from_slice(alloc, line.body)?,
+    })
+}
+
+/// Replies to a line that can be read.
+fn request_reply<S: Shelf + Drop>(
+    alloc: Global,
+    desk: &mut Desk<S>,
+    directory: &Directory,
+    line: &Line<'_>,
+) -> Reply
+    ensures replied { S.is_clean (shelf_of desk.new) → S.is_ours (shelf_of desk.old) → S.is_closed (shelf_of desk.new) ≡ false → Sound (S.tables (shelf_of desk.old)) →
+        LineReplied S.may_answer (host_of desk.old) directory.now (S.tables (shelf_of desk.old)) (Some (shown line.now)) (seen result) (S.tables (shelf_of desk.new)) }
+    ensures sound { S.is_clean (shelf_of desk.new) → S.is_ours (shelf_of desk.old) → S.is_closed (shelf_of desk.new) ≡ false → Sound (S.tables (shelf_of desk.old)) → Sound (S.tables (shelf_of desk.new)) }
+    ensures ours { S.is_clean (shelf_of desk.new) → S.is_ours (shelf_of desk.old) → S.is_ours (shelf_of desk.new) }
+    ensures quiet { S.is_clean (shelf_of desk.new) → S.is_clean (shelf_of desk.old) }
+    ensures stays_open { S.is_closed (shelf_of desk.new) ≡ false → S.is_closed (shelf_of desk.old) ≡ false }
+    ensures host { host_of desk.new ≡ host_of desk.old }
+{
+    match exchange_of(alloc, line) {
+        Ok(asked) => exchange(alloc, desk, directory, &asked),
+        Err(_) => fault_reply(Fault::WantOfMemory),
+    }
+}
+
+/// Replies to a line.
+fn line_reply<S: Shelf + Drop>(
+    alloc: Global,
+    desk: &mut Desk<S>,
+    directory: &Directory,
+    line: &[u8],
+) -> Reply
+    ensures replied { S.is_clean (shelf_of desk.new) → S.is_ours (shelf_of desk.old) → S.is_closed (shelf_of desk.new) ≡ false → Sound (S.tables (shelf_of desk.old)) →
+        LineReplied S.may_answer (host_of desk.old) directory.now (S.tables (shelf_of desk.old)) (request_in line.now) (seen result) (S.tables (shelf_of desk.new)) }
+    ensures sound { S.is_clean (shelf_of desk.new) → S.is_ours (shelf_of desk.old) → S.is_closed (shelf_of desk.new) ≡ false → Sound (S.tables (shelf_of desk.old)) → Sound (S.tables (shelf_of desk.new)) }
+    ensures ours { S.is_clean (shelf_of desk.new) → S.is_ours (shelf_of desk.old) → S.is_ours (shelf_of desk.new) }
+    ensures quiet { S.is_clean (shelf_of desk.new) → S.is_clean (shelf_of desk.old) }
+    ensures stays_open { S.is_closed (shelf_of desk.new) ≡ false → S.is_closed (shelf_of desk.old) ≡ false }
+    ensures host { host_of desk.new ≡ host_of desk.old }
+{
+    match read_line(line) {
+        Some(line) => request_reply(alloc, desk, directory, &line),
+        None => refusal_reply(alloc, Refusal::BadRequest),
+    }
+}
+
+/// The desk with the directory of its customers.
+#[derive(Drop)]
+pub struct Front<'d, S> {
+    pub alloc: Global,
+    pub desk: &'d mut Desk<S>,
+    pub directory: &'d Directory,
+}
+
+impl<'d, S: Shelf + Drop> Answers for Front<'d, S> {
+    ghost steps = { λ old request line new. LineStep S.may_answer S.is_clean S.is_ours S.is_closed S.tables old new request line };
+
+    fn answer<W: Write>(&mut self, line: &[u8], writer: &mut W) -> io::Result<()> {
+        let reply = line_reply(self.alloc, self.desk, self.directory, line);
+        write_reply(&reply, writer)
+    }
+}

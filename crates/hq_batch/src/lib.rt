@@ -1,0 +1,9 @@
+//! Batches: the lines of an input, each replied to as an exchange with the desk.
+#![tactic(auto)]
+
+mod front;
+mod serving;
+mod writing;
+
+pub use hq_lines::EngineFault;
+pub use serving::batch;

@@ -1,0 +1,64 @@
+//! A batch with the desk.
+
+ghost use Rattle.std.specs.Prelude.{◌≡◌, false, Option, List, ℕ, OnOk, IfErr};
+ghost use Rattle.std.specs.Io.KnownBytes.{IsAtEnd};
+ghost use Rattle.hq_store.specs.Sound.{Sound};
+ghost use Rattle.hq_desk.specs.Desks.{shelf_of, host_of};
+ghost use Rattle.hq_lines.specs.Lines.{lines_in, Served};
+ghost use Rattle.hq_batch.specs.Batches.{Batched, Leaves};
+ghost use Rattle.hq_lines.specs.Leaves as lines;
+ghost use Rattle.hq_batch.specs.Steps.{LineStep};
+
+use crate::front::Front;
+use hq_desk::Desk;
+use hq_lines::{EngineFault, serve_lines};
+use hq_store::Shelf;
+use hq_wire::Directory;
+use std::alloc::Global;
+use std::io::{Read, Write};
+
+/// The lines of an input, each answered by the front.
+fn serve_front<R: Read, W: Write, S: Shelf + Drop>(
+    alloc: Global,
+    reader: &mut R,
+    writer: &mut W,
+    front: &mut Front<'_, S>,
+) -> Result<(), EngineFault>
+    ensures same_reference { front.new.desk.ghost_name ≡ front.old.desk.ghost_name }
+    ensures served { OnOk result (Served (λ old line reply new. LineStep S.may_answer S.is_clean S.is_ours S.is_closed S.tables old new line reply) lines_in (R.remaining reader.old) (R.remaining reader.new) (W.contents writer.old) (W.contents writer.new) front.old front.new) }
+    ensures end { OnOk result (IsAtEnd (R.remaining reader.new)) }
+    ensures fault { IfErr result (lines.Leaves (λ old line reply new. LineStep S.may_answer S.is_clean S.is_ours S.is_closed S.tables old new line reply) (R.remaining reader.old) (R.remaining reader.new) (W.contents writer.old) (W.contents writer.new) front.old front.new ((reader.new ≡ reader.old) × (writer.new ≡ writer.old) × (front.new ≡ front.old))) }
+{
+    serve_lines(alloc, reader, writer, front)
+}
+
+/// Replies to the lines of an input in order, one line `STATUS BODY` each.
+///
+/// A line is `AT METHOD PATH KEY BODY`, fields parted by one space and ended by a line feed; a carriage return
+/// before it is dropped, empty lines are passed over, and the last line may lack its line feed. The key `-` is
+/// none, and the body may be missing with its space. A line that cannot be read, or has more than 300,000 bytes,
+/// is refused as 1 `BadRequest`. A line whose exchange has no room is replied to with 90, and nothing is done.
+///
+/// Room for a line is taken before the first read; where it is refused, nothing is read. At most 67,108,864 reads
+/// are made, an interrupted one counted. After a fault of reading the whole lines before it are replied to; after
+/// a fault of writing the exchanges of the first lines are done.
+pub fn batch<R: Read, W: Write, S: Shelf + Drop>(
+    alloc: Global,
+    reader: &mut R,
+    writer: &mut W,
+    desk: &mut Desk<S>,
+    directory: &Directory,
+) -> Result<(), EngineFault>
+    ensures served { S.is_clean (shelf_of desk.new) → S.is_ours (shelf_of desk.old) → S.is_closed (shelf_of desk.new) ≡ false → Sound (S.tables (shelf_of desk.old)) →
+        OnOk result (Batched S.may_answer (host_of desk.old) directory.now lines_in (R.remaining reader.old) (R.remaining reader.new) (W.contents writer.old) (W.contents writer.new) (S.tables (shelf_of desk.old)) (S.tables (shelf_of desk.new))) }
+    ensures end { OnOk result (IsAtEnd (R.remaining reader.new)) }
+    ensures fault { S.is_clean (shelf_of desk.new) → S.is_ours (shelf_of desk.old) → S.is_closed (shelf_of desk.new) ≡ false → Sound (S.tables (shelf_of desk.old)) →
+        IfErr result (Leaves S.may_answer (host_of desk.old) directory.now (R.remaining reader.old) (R.remaining reader.new) (W.contents writer.old) (W.contents writer.new) (S.tables (shelf_of desk.old)) (S.tables (shelf_of desk.new)) ((reader.new ≡ reader.old) × (writer.new ≡ writer.old) × (desk.new ≡ desk.old))) }
+{
+    let mut front = Front {
+        alloc,
+        desk,
+        directory,
+    };
+    serve_front(alloc, reader, writer, &mut front)
+}

@@ -1,0 +1,4 @@
+pub mod Fields
+pub mod Leaves
+pub mod Lines
+pub mod Progress

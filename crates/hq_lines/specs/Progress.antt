@@ -1,0 +1,31 @@
+-- How far the loop over an input is, for its own functions.
+use Rattle.std.specs.Prelude.{◌≡◌, ℕ, List, ◌++◌, take, Option}
+use Rattle.std.specs.List.{concat}
+use Rattle.std.specs.Io.KnownBytes.{Consumes, Appends}
+use Rattle.hq_lines.specs.Fields.{Request}
+use Rattle.hq_lines.specs.Lines.{parted, whole_lines, lines_in, requests, Run}
+
+-- what is kept of a line that is begun: enough to see that it is too long
+unfoldable pub kept : List ℕ → List ℕ
+kept line = take 300001 line
+
+-- These bytes were read, the whole lines among them are answered, and the line behind those is kept.
+pub record Progress {S : Type 0} (steps : S → Option Request → List ℕ → S → Type 0) (bytes : List ℕ) (write_old write_new : Option (List ℕ)) (old new : S) (begun : List ℕ) : Type 0 where
+  pub replies : List (List ℕ)
+  pub written : Appends write_old write_new (concat replies)
+  pub run : Run steps old (requests (whole_lines bytes)) replies new
+  pub line : begun ≡ kept (parted bytes).1
+
+-- The steps of the first lines of these bytes are done.
+pub record Cut {S : Type 0} (steps : S → Option Request → List ℕ → S → Type 0) (bytes : List ℕ) (old new : S) : Type 0 where
+  pub done : List (List ℕ)
+  pub missed : List (List ℕ)
+  pub replies : List (List ℕ)
+  pub lines : lines_in bytes ≡ done ++ missed
+  pub run : Run steps old (requests done) replies new
+
+-- Some bytes were read, and so far the loop is.
+pub record Going {S : Type 0} (steps : S → Option Request → List ℕ → S → Type 0) (read_old read_new write_old write_new : Option (List ℕ)) (old new : S) (begun : List ℕ) : Type 0 where
+  pub bytes : List ℕ
+  pub read : Consumes read_old read_new bytes
+  pub progress : Progress steps bytes write_old write_new old new begun

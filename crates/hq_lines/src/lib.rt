@@ -1,0 +1,13 @@
+//! Batches: the lines of an input, the fields of a line, and the loop that has each line answered.
+//! What a request means and what its reply says is for the crates above.
+#![tactic(auto)]
+
+mod batch;
+mod buffer;
+mod fields;
+
+pub use batch::{Answers, EngineFault, serve_lines};
+pub use fields::{Line, read_line};
+
+#[cfg(test)]
+mod tests;
