@@ -1,4 +1,3 @@
-use Rattle.std.proofs.Common.{◌≡◌}
 use Rattle.hq_lines.specs.Lines.{lines_in}
 use Rattle.hq_batch.proofs.Replying.{lent_desk}
 use Rattle.hq_batch.proofs.serving.serve_front.Goals as goal

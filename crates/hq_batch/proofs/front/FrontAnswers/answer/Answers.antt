@@ -1,4 +1,4 @@
-use Rattle.std.proofs.Common.{◌≡◌, refl}
+use Rattle.std.proofs.Common.{refl}
 use Rattle.hq_wire.specs.Replies.{seen}
 use Rattle.hq_batch.specs.Batches.{reply_line}
 use Rattle.hq_batch.proofs.front.FrontAnswers.answer.Goals as goal
