@@ -73,6 +73,43 @@ module _ {S : Type 0} (may : Fault → Type 0) (is_clean is_ours : S → Type 0)
   lent_desk ro rn wo wn parts old new same (Ok x) h fault = same_desk old new _ h.replies h.run
   lent_desk ro rn wo wn parts old new same (Err e) h fault = same_after ro rn wo wn old new same e fault
 
+  -- what stays of a desk, whatever the replies
+  pub record Kept (old new : Desk S) : Type 0 where
+    pub sound : is_clean (shelf_of new) → is_ours (shelf_of old) → is_closed (shelf_of new) ≡ false → Sound (tables (shelf_of old)) → Sound (tables (shelf_of new))
+    pub ours : is_clean (shelf_of new) → is_ours (shelf_of old) → is_ours (shelf_of new)
+    pub quiet : is_clean (shelf_of new) → is_clean (shelf_of old)
+    pub stays_open : is_closed (shelf_of new) ≡ false → is_closed (shelf_of old) ≡ false
+    pub host : host_of new ≡ host_of old
+
+  kept_none : (s : Desk S) → Kept s s
+  kept_none s = record { sound = λ clean ours closed sound. sound; ours = λ clean ours. ours; quiet = λ clean. clean; stays_open = λ closed. closed; host = refl }
+
+  kept_more : (d : Directory) (old mid new : Desk S) (q : Option Request) (r : Told) → Stepped may is_clean is_ours is_closed tables d old mid q r → Kept mid new → Kept old new
+  kept_more d old mid new q r step rest = record {
+    sound = λ clean ours closed sound. rest.sound clean (step.ours (rest.quiet clean) ours) closed (step.sound (rest.quiet clean) ours (rest.stays_open closed) sound);
+    ours = λ clean ours. rest.ours clean (step.ours (rest.quiet clean) ours);
+    quiet = λ clean. step.quiet (rest.quiet clean);
+    stays_open = λ closed. step.stays_open (rest.stays_open closed);
+    host = rest.host ∙ step.host;
+  }
+
+  kept : (old new : Front S) (qs : List (Option Request)) (lines : List (List ℕ)) → Run Line old qs lines new → Kept old.desk.now new.desk.now
+  kept old new [] [] p = subst (λ n. Kept old.desk.now n.desk.now) (sym p) (kept_none old.desk.now)
+  kept old new [] (line ∷ lines) p = absurd p
+  kept old new (q ∷ qs) [] p = absurd p
+  kept old new (q ∷ qs) (line ∷ lines) p = kept_more old.directory.now old.desk.now p.0.desk.now new.desk.now q p.1.told p.1.step (kept p.0 new qs lines p.2)
+
+  kept_after : (ro rn wo wn : Option (List ℕ)) (old new : Front S) {X : Type 0} → (X → new ≡ old) → (e : EngineFault) → lines.Leaves Line ro rn wo wn old new X e → Kept old.desk.now new.desk.now
+  kept_after ro rn wo wn old new same Read h = kept old new _ h.replies h.run
+  kept_after ro rn wo wn old new same TooManyReads h = kept old new _ h.replies h.run
+  kept_after ro rn wo wn old new same Write h = kept old new _ h.replies h.run
+  kept_after ro rn wo wn old new same WantOfMemory h = subst (λ n. Kept old.desk.now n.desk.now) (sym (same h)) (kept_none old.desk.now)
+
+  -- however the loop ends
+  pub kept_desk : (ro rn wo wn : Option (List ℕ)) (parts : List ℕ → List (List ℕ)) (old new : Front S) {X : Type 0} → (X → new ≡ old) → (r : Result ⊤ EngineFault) → OnOk r (Served Line parts ro rn wo wn old new) → IfErr r (lines.Leaves Line ro rn wo wn old new X) → Kept old.desk.now new.desk.now
+  kept_desk ro rn wo wn parts old new same (Ok x) h fault = kept old new _ h.replies h.run
+  kept_desk ro rn wo wn parts old new same (Err e) h fault = kept_after ro rn wo wn old new same e fault
+
   module _ (ro rn wo wn : Option (List ℕ)) (old new : Front S) (clean : is_clean (shelf_of new.desk.now)) (ours : is_ours (shelf_of old.desk.now)) (closed : is_closed (shelf_of new.desk.now) ≡ false) (sound : Sound (tables (shelf_of old.desk.now))) where
     pub batched : (lines : List ℕ → List (List ℕ)) → Served Line lines ro rn wo wn old new → Batched may (host_of old.desk.now) old.directory.now lines ro rn wo wn (tables (shelf_of old.desk.now)) (tables (shelf_of new.desk.now))
     batched lines h =

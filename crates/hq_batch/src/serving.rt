@@ -54,6 +54,11 @@ pub fn batch<R: Read, W: Write, S: Shelf + Drop>(
     ensures end { OnOk result (IsAtEnd (R.remaining reader.new)) }
     ensures fault { S.is_clean (shelf_of desk.new) → S.is_ours (shelf_of desk.old) → S.is_closed (shelf_of desk.new) ≡ false → Sound (S.tables (shelf_of desk.old)) →
         IfErr result (Leaves S.may_answer (host_of desk.old) directory.now (R.remaining reader.old) (R.remaining reader.new) (W.contents writer.old) (W.contents writer.new) (S.tables (shelf_of desk.old)) (S.tables (shelf_of desk.new)) ((reader.new ≡ reader.old) × (writer.new ≡ writer.old) × (desk.new ≡ desk.old))) }
+    ensures sound { S.is_clean (shelf_of desk.new) → S.is_ours (shelf_of desk.old) → S.is_closed (shelf_of desk.new) ≡ false → Sound (S.tables (shelf_of desk.old)) → Sound (S.tables (shelf_of desk.new)) }
+    ensures ours { S.is_clean (shelf_of desk.new) → S.is_ours (shelf_of desk.old) → S.is_ours (shelf_of desk.new) }
+    ensures quiet { S.is_clean (shelf_of desk.new) → S.is_clean (shelf_of desk.old) }
+    ensures stays_open { S.is_closed (shelf_of desk.new) ≡ false → S.is_closed (shelf_of desk.old) ≡ false }
+    ensures host { host_of desk.new ≡ host_of desk.old }
 {
     let mut front = Front {
         alloc,
