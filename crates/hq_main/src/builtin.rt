@@ -1,8 +1,6 @@
 //! The customers that the program serves as long as it reads no directory.
 
-ghost use Rattle.std.specs.Prelude.{◌≡◌};
-
-use hq_envelope::{Fail, Host, Key, Name};
+use hq_envelope::{Fail, Host, Key, Name, Refusal};
 use hq_queue::{Customer, Entry, Quota};
 use hq_wire::{Directory, are_customers};
 use std::alloc::Global;
@@ -48,14 +46,15 @@ fn birch(alloc: Global) -> Result<Customer, Fail> {
     Ok(Customer { entry, key })
 }
 
-/// Two customers: `acme` with small quotas and `birch` with large ones.
-pub fn directory(alloc: Global) -> Result<Option<Directory>, Fail> {
+/// Two customers: `acme` with small quotas and `birch` with large ones. 53 with row 0 would tell that they are no
+/// directory.
+pub fn directory(alloc: Global) -> Result<Directory, Fail> {
     let mut customers = Vec::new(alloc);
     customers.push(acme(alloc)?)?;
     customers.push(birch(alloc)?)?;
     if !are_customers(customers.as_slice()) {
-        return Ok(None);
+        return Err(Fail::Refused(Refusal::BadDirectory { row: 0 }));
     }
     let relay = Key::parse(alloc, RELAY_KEY)?;
-    Ok(Some(Directory::new(alloc, relay, customers)?))
+    Directory::new(alloc, relay, customers)
 }

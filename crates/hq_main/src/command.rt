@@ -1,60 +1,104 @@
-//! What the program does, over any input and outputs, and what it tells of a fault.
+//! What the program does, over any input and outputs, and what it tells of its end.
 
 use crate::builtin::{directory, host};
 use hq_batch::{EngineFault, batch};
 use hq_desk::Desk;
 use hq_envelope::{Fail, Fault};
 use hq_store::ListShelf;
-use std::alloc::Global;
-use std::io::{Read, Write};
+use std::fmt;
+use std::io::{self, ErrorKind, Read, Write};
 
-/// The exit status of a fault.
-const FAILED: u8 = 1;
+/// The exit status when the input has ended.
+pub const DONE: u8 = 0;
+
+/// The exit status of a refusal or a fault.
+pub const FAILED: u8 = 1;
 
 /// The exit status of words that are not taken.
-const BAD_WORDS: u8 = 2;
+pub const BAD_WORDS: u8 = 2;
 
-/// Serves the customers from an empty desk in memory.
-fn serve<R: Read, W: Write>(
-    alloc: Global,
-    input: &mut R,
-    output: &mut W,
-) -> Result<(), &'static str> {
-    let Ok(host) = host(alloc) else {
-        return Err("hq: 90 WantOfMemory");
-    };
-    let Ok(Some(directory)) = directory(alloc) else {
-        return Err("hq: 90 WantOfMemory");
-    };
-    let mut desk = Desk::new(ListShelf::new(alloc), host);
-    match batch(alloc, input, output, &mut desk, &directory) {
-        Ok(()) => Ok(()),
-        Err(EngineFault::Read) | Err(EngineFault::TooManyReads) => Err("hq: input"),
-        Err(EngineFault::Write) => Err("hq: output"),
-        Err(EngineFault::WantOfMemory) => Err("hq: 90 WantOfMemory"),
+/// Why the program ended before its input.
+#[derive(Clone, Copy, Debug, PartialEq, Eq, Drop)]
+pub enum Trouble {
+    /// The input could not be read, or had not ended after the most reads.
+    Input,
+    /// A reply could not be written.
+    Output,
+    /// The desk refused what it was to begin with, or could not do it.
+    Desk(Fail),
+}
+
+impl fmt::Display for Trouble {
+    fn fmt<W: fmt::Write>(&self, f: &mut fmt::Formatter<W>) -> fmt::Result {
+        match self {
+            Trouble::Input => f.write_str("input"),
+            Trouble::Output => f.write_str("output"),
+            Trouble::Desk(fail) => write!(f, "{fail}"),
+        }
     }
 }
 
-/// Runs the program, and answers its exit status: 0 when the input has ended, 1 for a fault, 2 for words, since
-/// none are taken yet. A fault is told in one line of `errors`.
+impl From<Fail> for Trouble {
+    fn from(fail: Fail) -> Trouble {
+        Trouble::Desk(fail)
+    }
+}
+
+impl From<EngineFault> for Trouble {
+    fn from(fault: EngineFault) -> Trouble {
+        match fault {
+            EngineFault::Read | EngineFault::TooManyReads => Trouble::Input,
+            EngineFault::Write => Trouble::Output,
+            EngineFault::WantOfMemory => Trouble::Desk(Fail::Fault(Fault::WantOfMemory)),
+        }
+    }
+}
+
+/// Serves the customers from an empty desk in memory.
+fn serve<R: Read, W: Write>(
+    rt: &HostRuntime,
+    input: &mut R,
+    output: &mut W,
+) -> Result<(), Trouble> {
+    let alloc = rt.alloc();
+    let mut desk = Desk::new(ListShelf::new(alloc), host(alloc)?);
+    let directory = directory(alloc)?;
+    batch(alloc, input, output, &mut desk, &directory)?;
+    Ok(())
+}
+
+/// Runs the program with the words after its name, and answers its exit status: 0 when the input has ended, 1 for
+/// a refusal or a fault, 2 for any word, since none is taken yet. Each of the last two is told in one line of
+/// `errors`; where that cannot be written, the status tells it alone.
 pub fn command<R: Read, W: Write, E: Write>(
-    alloc: Global,
-    has_words: bool,
+    rt: &HostRuntime,
+    words: &[String],
     input: &mut R,
     output: &mut W,
     errors: &mut E,
 ) -> u8 {
-    if has_words {
-        let _told = errors.write_all(
-            b"hq: no words are taken yet: lines are read from standard input\n",
+    if let Some(word) = words.first() {
+        let _told = writeln!(
+            errors,
+            "hq: {word}: no words are taken yet; lines are read from standard input"
         );
         return BAD_WORDS;
     }
-    match serve(alloc, input, output) {
-        Ok(()) => 0,
-        Err(text) => {
-            let _told = writeln!(errors, "{text}");
+    match serve(rt, input, output) {
+        Ok(()) => DONE,
+        Err(trouble) => {
+            let _told = writeln!(errors, "hq: {trouble}");
             FAILED
         }
     }
+}
+
+/// Tells why the words could not be taken as text, and answers the exit status.
+pub fn unread_words<E: Write>(error: &io::Error, errors: &mut E) -> u8 {
+    if error.kind() == ErrorKind::OutOfMemory {
+        let _told = writeln!(errors, "hq: {}", Fault::WantOfMemory);
+        return FAILED;
+    }
+    let _told = writeln!(errors, "hq: a word is not UTF-8");
+    BAD_WORDS
 }

@@ -8,21 +8,29 @@ mod command;
 #[cfg(test)]
 mod tests;
 
-use std::env;
+use command::{command, unread_words};
 use std::process::ExitCode;
+use std::{env, io};
+
+/// The words after the program's name.
+fn words(rt: &HostRuntime) -> io::Result<Vec<String>> {
+    let mut words = Vec::new(rt.alloc());
+    for word in env::args(rt)?.skip(1) {
+        words.push(word)?;
+    }
+    Ok(words)
+}
 
 fn main(rt: HostRuntime) -> ExitCode {
-    let Ok(mut words) = env::args(&rt) else {
-        return ExitCode::from(1);
+    let status = match words(&rt) {
+        Ok(words) => command(
+            &rt,
+            words.as_slice(),
+            &mut rt.stdin(),
+            &mut rt.stdout(),
+            &mut rt.stderr(),
+        ),
+        Err(error) => unread_words(&error, &mut rt.stderr()),
     };
-    let _program = words.next();
-    let has_words = words.next().is_some();
-    let status = command::command(
-        rt.alloc(),
-        has_words,
-        &mut rt.stdin(),
-        &mut rt.stdout(),
-        &mut rt.stderr(),
-    );
     ExitCode::from(status)
 }

@@ -1,10 +1,11 @@
 //! The program over inputs in memory: the worked rows as lines in and lines out, lines at their longest, and
 //! readers and writers that fail.
 
-use crate::command::command;
+use crate::command::{Trouble, command, unread_words};
+use hq_batch::EngineFault;
+use hq_envelope::Refusal;
 use std::alloc::{AllocError, Global};
 use std::io::{self, ErrorKind, Read, Write};
-use std::process::Abort;
 use std::test::Fail;
 
 /// A submit for acme, without its line feed.
@@ -47,24 +48,28 @@ impl Write for Full {
     }
 }
 
-/// The program with this input ends with 0 and writes these bytes.
-fn expect_output(rt: &(impl Abort + AllocGlobal), input: &[u8], want: &str) -> Result<(), Fail> {
-    let mut rest = input;
+/// How a run of the program ended, and what it wrote.
+#[derive(Drop)]
+struct Ended {
+    status: u8,
+    output: Vec<u8>,
+    errors: Vec<u8>,
+}
+
+/// The program with these words over this input.
+fn run_over<R: Read>(rt: &HostRuntime, words: &[String], input: &mut R) -> Ended {
     let mut output = Vec::new(rt.alloc());
     let mut errors = Vec::new(rt.alloc());
-    let status = command(rt.alloc(), false, &mut rest, &mut output, &mut errors);
-    assert_eq!(rt; status, 0);
-    assert!(rt;
-        output.as_slice() == want.as_bytes(),
-        "{}",
-        output.as_slice().escape_ascii()
-    );
-    assert!(rt; errors.is_empty());
-    Ok(())
+    let status = command(rt, words, input, &mut output, &mut errors);
+    Ended {
+        status,
+        output,
+        errors,
+    }
 }
 
 #[test]
-fn lines_and_replies(rt: HostRuntime) -> Result<(), Fail> {
+fn lines_and_replies(rt: HostRuntime) {
     let cases = [
         ("", ""),
         ("\n\r\n", ""),
@@ -106,9 +111,15 @@ fn lines_and_replies(rt: HostRuntime) -> Result<(), Fail> {
         ),
     ];
     for (input, want) in cases {
-        expect_output(&rt, input.as_bytes(), want)?;
+        let run = run_over(&rt, &[], &mut input.as_bytes());
+        assert_eq!(rt; run.status, 0);
+        assert!(rt;
+            run.output.as_slice() == want.as_bytes(),
+            "{}",
+            run.output.as_slice().escape_ascii()
+        );
+        assert!(rt; run.errors.is_empty());
     }
-    Ok(())
 }
 
 /// A line filled with spaces to so many bytes, and a line that lists.
@@ -124,18 +135,23 @@ fn filled(alloc: Global, length: usize) -> Result<Vec<u8>, AllocError> {
 
 #[test]
 fn longest_line(rt: HostRuntime) -> Result<(), Fail> {
-    let long = filled(rt.alloc(), 300_000)?;
-    expect_output(
-        &rt,
-        long.as_slice(),
-        "413 {\"error\":6,\"name\":\"BodyTooLong\"}\n200 {\"messages\":[],\"more\":false}\n",
-    )?;
-    let longer = filled(rt.alloc(), 300_001)?;
-    expect_output(
-        &rt,
-        longer.as_slice(),
-        "400 {\"error\":1,\"name\":\"BadRequest\"}\n200 {\"messages\":[],\"more\":false}\n",
-    )
+    let cases = [
+        (
+            300_000,
+            "413 {\"error\":6,\"name\":\"BodyTooLong\"}\n200 {\"messages\":[],\"more\":false}\n",
+        ),
+        (
+            300_001,
+            "400 {\"error\":1,\"name\":\"BadRequest\"}\n200 {\"messages\":[],\"more\":false}\n",
+        ),
+    ];
+    for (length, want) in cases {
+        let input = filled(rt.alloc(), length)?;
+        let run = run_over(&rt, &[], &mut input.as_slice());
+        assert_eq!(rt; run.status, 0);
+        assert!(rt; run.output.as_slice() == want.as_bytes());
+    }
+    Ok(())
 }
 
 #[test]
@@ -145,12 +161,10 @@ fn reader_that_fails_in_the_second_line(rt: HostRuntime) -> Result<(), Fail> {
     let mut torn = Torn {
         rest: input.as_bytes(),
     };
-    let mut output = Vec::new(rt.alloc());
-    let mut errors = Vec::new(rt.alloc());
-    let status = command(rt.alloc(), false, &mut torn, &mut output, &mut errors);
-    assert_eq!(rt; status, 1);
-    assert!(rt; output.as_slice() == QUEUED.as_bytes());
-    assert!(rt; errors.as_slice() == b"hq: input\n".as_slice());
+    let run = run_over(&rt, &[], &mut torn);
+    assert_eq!(rt; run.status, 1);
+    assert!(rt; run.output.as_slice() == QUEUED.as_bytes());
+    assert!(rt; run.errors.as_slice() == b"hq: input\n".as_slice());
     Ok(())
 }
 
@@ -158,18 +172,54 @@ fn reader_that_fails_in_the_second_line(rt: HostRuntime) -> Result<(), Fail> {
 fn writer_that_takes_nothing(rt: HostRuntime) {
     let mut rest = SUBMIT.as_bytes();
     let mut errors = Vec::new(rt.alloc());
-    let status = command(rt.alloc(), false, &mut rest, &mut Full {}, &mut errors);
+    let status = command(&rt, &[], &mut rest, &mut Full {}, &mut errors);
     assert_eq!(rt; status, 1);
     assert!(rt; errors.as_slice() == b"hq: output\n".as_slice());
 }
 
 #[test]
-fn words_are_refused(rt: HostRuntime) {
-    let mut rest = SUBMIT.as_bytes();
-    let mut output = Vec::new(rt.alloc());
-    let mut errors = Vec::new(rt.alloc());
-    let status = command(rt.alloc(), true, &mut rest, &mut output, &mut errors);
-    assert_eq!(rt; status, 2);
-    assert!(rt; output.is_empty());
-    assert!(rt; !errors.is_empty());
+fn words_are_refused(rt: HostRuntime) -> Result<(), Fail> {
+    let words = [String::from_str(rt.alloc(), "serve")?];
+    let run = run_over(&rt, &words, &mut SUBMIT.as_bytes());
+    assert_eq!(rt; run.status, 2);
+    assert!(rt; run.output.is_empty());
+    assert!(rt;
+        run.errors.as_slice()
+            == b"hq: serve: no words are taken yet; lines are read from standard input\n".as_slice()
+    );
+    Ok(())
+}
+
+#[test]
+fn words_that_are_no_text(rt: HostRuntime) {
+    let cases = [
+        (ErrorKind::InvalidData, 2, "hq: a word is not UTF-8\n"),
+        (ErrorKind::OutOfMemory, 1, "hq: 90 WantOfMemory\n"),
+    ];
+    for (kind, want, line) in cases {
+        let mut errors = Vec::new(rt.alloc());
+        let status = unread_words(&io::Error::from(kind), &mut errors);
+        assert_eq!(rt; status, want);
+        assert!(rt; errors.as_slice() == line.as_bytes());
+    }
+}
+
+#[test]
+fn what_is_told_of_each_trouble(rt: HostRuntime) -> Result<(), Fail> {
+    let alloc = rt.alloc();
+    let cases = [
+        (Trouble::from(EngineFault::Read), "input"),
+        (Trouble::from(EngineFault::TooManyReads), "input"),
+        (Trouble::from(EngineFault::Write), "output"),
+        (Trouble::from(EngineFault::WantOfMemory), "90 WantOfMemory"),
+        (
+            Trouble::from(hq_envelope::Fail::Refused(Refusal::BadDirectory { row: 0 })),
+            "53 BadDirectory row 0",
+        ),
+    ];
+    for (trouble, want) in cases {
+        let text = format!(in alloc; "{trouble}")?;
+        assert_eq!(rt; text.as_str(), want);
+    }
+    Ok(())
 }
