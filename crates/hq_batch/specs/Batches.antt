@@ -1,20 +1,29 @@
 -- A batch: each line is replied to as an exchange, in order.
-use Rattle.std.specs.Prelude.{◌≡◌, ◌⊎◌, ℕ, ◌+◌, ◌/◌, ◌%◌, List, [], ◌∷◌, ◌++◌, map, string_bytes, Option, None, Some, option_map}
+use Rattle.std.specs.Prelude.{◌≡◌, ℕ, ◌+◌, ◌-◌, ◌^◌, ◌/◌, ◌%◌, ◌<◌, ◌≤◌, List, [], ◌∷◌, ◌++◌, map, string_bytes, Option, None, Some, option_map, Err}
 use Rattle.std.specs.List.{concat}
 use Rattle.std.specs.Io.KnownBytes.{Consumes, Appends}
-use Rattle.hq_envelope.specs.Refusals.{no_memory}
 use Rattle.hq_envelope.specs.declared.failure.Fault.{Fault}
 use Rattle.hq_envelope.specs.declared.failure.Refusal.TheVariants.{BadRequest}
 use Rattle.hq_store.specs.Tables.{Tables}
-use Rattle.hq_desk.specs.declared.answer.Answer.TheVariants.{Refused}
-use Rattle.hq_wire.specs.Exchanges.{Replied, IsStruck}
-use Rattle.hq_wire.specs.Replies.{Told, reply_of}
+use Rattle.hq_wire.specs.Calls.{call_from}
+use Rattle.hq_wire.specs.Exchanges.{MayReply}
+use Rattle.hq_wire.specs.Replies.{Told, store_faults}
+use Rattle.hq_wire.specs.Runs.{Ask, Served, Alone}
 use Rattle.hq_wire.specs.declared.directory.Directory.{Directory}
 use Rattle.hq_wire.specs.declared.asked.Exchange.{Exchange}
 use Rattle.hq_lines.specs.Fields.{Request}
 use Rattle.hq_lines.specs.Lines.{lines_in, whole_lines, requests}
 use Rattle.hq_lines.specs.declared.batch.EngineFault.{EngineFault}
 use Rattle.hq_lines.specs.declared.batch.EngineFault.TheVariants.{Read, Write, TooManyReads, WantOfMemory}
+
+-- What a line asks: what its exchange asks; a line that cannot be read is refused as 1.
+abbrev pub ask_in : Directory → Option Request → Ask
+ask_in d None = record { at = 0; called = Err BadRequest }
+ask_in d (Some q) = record { at = q.at; called = call_from d q.method q.path q.key q.body }
+
+-- what lines ask, in order
+abbrev pub asks_in : Directory → List (List ℕ) → List Ask
+asks_in d lines = map (ask_in d) (requests lines)
 
 -- the exchange that a line asks for
 abbrev pub IsAsked : Exchange → Request → Type 0
@@ -28,42 +37,40 @@ three_digits n = (48 + n / 100 % 10) ∷ (48 + n / 10 % 10) ∷ (48 + n % 10) �
 abbrev pub reply_line : Told → List ℕ
 reply_line r = three_digits r.status ++ 32 ∷ r.body ++ 10 ∷ []
 
--- A line that can be read is replied to as its exchange is, and one that cannot be read is refused as 1; where either
--- has no room, that is told, and nothing is done.
+-- From the tables t, a line may get the reply r and leave the tables t'.
 abbrev pub LineReplied : (Fault → Type 0) → List ℕ → Directory → Tables → Option Request → Told → Tables → Type 0
-LineReplied may host d t None r t' = ((r ≡ reply_of (Refused BadRequest)) × (t' ≡ t)) ⊎ IsStruck no_memory t r t'
-LineReplied may host d t (Some q) r t' = ((x : Exchange) × IsAsked x q × Replied may host d t x r t') ⊎ IsStruck no_memory t r t'
+LineReplied may host d t q r t' = MayReply may (ask_in d q).called host d t (ask_in d q).at r t'
 
--- the lines in order, each with its reply
-abbrev pub AllReplied : (Fault → Type 0) → List ℕ → Directory → Tables → List (Option Request) → List Told → Tables → Type 0
-AllReplied may host d t [] [] t' = t' ≡ t
-AllReplied may host d t (q ∷ qs) (r ∷ rs) t' = (mid : Tables) × LineReplied may host d t q r mid × AllReplied may host d mid qs rs t'
-AllReplied may host d t [] (r ∷ rs) t' = ⊥
-AllReplied may host d t (q ∷ qs) [] t' = ⊥
+-- What was asked was replied to in order; every customer is told, and keeps, what it would alone; and 91 and 93 are
+-- told at most as often as the store counted them, as long as its count does not stand still.
+pub record Done (may : Fault → Type 0) (host : List ℕ) (d : Directory) (asks : List Ask) (replies : List Told) (t t' : Tables) (count count' : ℕ) : Type 0 where
+  pub served : Served may host d t asks replies t'
+  pub alone : Alone host d asks replies t t'
+  pub faults : count' < 2 ^ 64 - 1 → store_faults replies + count ≤ count'
 
 -- Some bytes were read; of those the lines (all, or the whole ones) were replied to in order, and the replies written.
-pub record Batched (may : Fault → Type 0) (host : List ℕ) (d : Directory) (lines : List ℕ → List (List ℕ)) (read_old read_new write_old write_new : Option (List ℕ)) (t t' : Tables) : Type 0 where
+pub record Batched (may : Fault → Type 0) (host : List ℕ) (d : Directory) (lines : List ℕ → List (List ℕ)) (read_old read_new write_old write_new : Option (List ℕ)) (t t' : Tables) (count count' : ℕ) : Type 0 where
   pub bytes : List ℕ
   pub replies : List Told
   pub read : Consumes read_old read_new bytes
   pub written : Appends write_old write_new (concat (map reply_line replies))
-  pub replied : AllReplied may host d t (requests (lines bytes)) replies t'
+  pub done : Done may host d (asks_in d (lines bytes)) replies t t' count count'
 
 -- Some bytes were read, and the exchanges of the first lines of those were done; of what was written nothing is said.
-pub record BrokenOff (may : Fault → Type 0) (host : List ℕ) (d : Directory) (read_old read_new : Option (List ℕ)) (t t' : Tables) : Type 0 where
+pub record BrokenOff (may : Fault → Type 0) (host : List ℕ) (d : Directory) (read_old read_new : Option (List ℕ)) (t t' : Tables) (count count' : ℕ) : Type 0 where
   pub bytes : List ℕ
-  pub done : List (List ℕ)
+  pub first : List (List ℕ)
   pub missed : List (List ℕ)
   pub replies : List Told
   pub read : Consumes read_old read_new bytes
-  pub lines : lines_in bytes ≡ done ++ missed
-  pub replied : AllReplied may host d t (requests done) replies t'
+  pub lines : lines_in bytes ≡ first ++ missed
+  pub done : Done may host d (asks_in d first) replies t t' count count'
 
 -- What a fault of a batch leaves: after a failed read or the last that is allowed, the whole lines among the bytes read
 -- are replied to; after a failed write, the exchanges of the first lines are done; where the room was refused, nothing
 -- was touched.
-abbrev pub Leaves : (Fault → Type 0) → List ℕ → Directory → Option (List ℕ) → Option (List ℕ) → Option (List ℕ) → Option (List ℕ) → Tables → Tables → Type 0 → EngineFault → Type 0
-Leaves may host d read_old read_new write_old write_new t t' untouched Read = Batched may host d whole_lines read_old read_new write_old write_new t t'
-Leaves may host d read_old read_new write_old write_new t t' untouched TooManyReads = Batched may host d whole_lines read_old read_new write_old write_new t t'
-Leaves may host d read_old read_new write_old write_new t t' untouched Write = BrokenOff may host d read_old read_new t t'
-Leaves may host d read_old read_new write_old write_new t t' untouched WantOfMemory = untouched
+abbrev pub Leaves : (Fault → Type 0) → List ℕ → Directory → Option (List ℕ) → Option (List ℕ) → Option (List ℕ) → Option (List ℕ) → Tables → Tables → ℕ → ℕ → Type 0 → EngineFault → Type 0
+Leaves may host d read_old read_new write_old write_new t t' count count' untouched Read = Batched may host d whole_lines read_old read_new write_old write_new t t' count count'
+Leaves may host d read_old read_new write_old write_new t t' count count' untouched TooManyReads = Batched may host d whole_lines read_old read_new write_old write_new t t' count count'
+Leaves may host d read_old read_new write_old write_new t t' count count' untouched Write = BrokenOff may host d read_old read_new t t' count count'
+Leaves may host d read_old read_new write_old write_new t t' count count' untouched WantOfMemory = untouched

@@ -1,9 +1,9 @@
 //! The desk as what answers the lines of a batch.
 
-ghost use Rattle.std.specs.Prelude.{◌≡◌, false, Option, Some, IfOk, string_bytes, option_map};
+ghost use Rattle.std.specs.Prelude.{◌≡◌, ◌+◌, ◌-◌, ◌^◌, ◌<◌, ◌≤◌, false, Option, Some, IfOk, string_bytes, option_map, if◌then◌else◌};
 ghost use Rattle.hq_store.specs.Sound.{Sound};
 ghost use Rattle.hq_desk.specs.Desks.{shelf_of, host_of};
-ghost use Rattle.hq_wire.specs.Replies.{seen};
+ghost use Rattle.hq_wire.specs.Replies.{seen, tells_store};
 ghost use Rattle.hq_lines.specs.Fields.{request_in, shown};
 ghost use Rattle.hq_batch.specs.Batches.{IsAsked, LineReplied};
 ghost use Rattle.hq_batch.specs.Steps.{LineStep};
@@ -54,6 +54,7 @@ fn request_reply<S: Shelf + Drop>(
     ensures quiet { S.is_clean (shelf_of desk.new) → S.is_clean (shelf_of desk.old) }
     ensures stays_open { S.is_closed (shelf_of desk.new) ≡ false → S.is_closed (shelf_of desk.old) ≡ false }
     ensures host { host_of desk.new ≡ host_of desk.old }
+    ensures grows { S.fault_count (shelf_of desk.new) < 2 ^ 64 - 1 → (if tells_store (seen result) then 1 else 0) + S.fault_count (shelf_of desk.old) ≤ S.fault_count (shelf_of desk.new) }
 {
     match exchange_of(alloc, line) {
         Ok(asked) => exchange(alloc, desk, directory, &asked),
@@ -75,6 +76,7 @@ fn line_reply<S: Shelf + Drop>(
     ensures quiet { S.is_clean (shelf_of desk.new) → S.is_clean (shelf_of desk.old) }
     ensures stays_open { S.is_closed (shelf_of desk.new) ≡ false → S.is_closed (shelf_of desk.old) ≡ false }
     ensures host { host_of desk.new ≡ host_of desk.old }
+    ensures grows { S.fault_count (shelf_of desk.new) < 2 ^ 64 - 1 → (if tells_store (seen result) then 1 else 0) + S.fault_count (shelf_of desk.old) ≤ S.fault_count (shelf_of desk.new) }
 {
     match read_line(line) {
         Some(line) => request_reply(alloc, desk, directory, &line),
@@ -91,7 +93,7 @@ pub struct Front<'d, S> {
 }
 
 impl<'d, S: Shelf + Drop> Answers for Front<'d, S> {
-    ghost steps = { λ old request line new. LineStep S.may_answer S.is_clean S.is_ours S.is_closed S.tables old new request line };
+    ghost steps = { λ old request line new. LineStep S.may_answer S.is_clean S.is_ours S.is_closed S.tables S.fault_count old new request line };
 
     fn answer<W: Write>(&mut self, line: &[u8], writer: &mut W) -> io::Result<()> {
         let reply = line_reply(self.alloc, self.desk, self.directory, line);

@@ -4,10 +4,8 @@ ghost use Rattle.std.specs.Prelude.{◌≡◌, false, Option, List, ℕ, OnOk, I
 ghost use Rattle.std.specs.Io.KnownBytes.{IsAtEnd};
 ghost use Rattle.hq_store.specs.Sound.{Sound};
 ghost use Rattle.hq_desk.specs.Desks.{shelf_of, host_of};
-ghost use Rattle.hq_lines.specs.Lines.{lines_in, Served};
+ghost use Rattle.hq_lines.specs.Lines.{lines_in};
 ghost use Rattle.hq_batch.specs.Batches.{Batched, Leaves};
-ghost use Rattle.hq_lines.specs.Leaves as lines;
-ghost use Rattle.hq_batch.specs.Steps.{LineStep};
 
 use crate::front::Front;
 use hq_desk::Desk;
@@ -17,7 +15,7 @@ use hq_wire::Directory;
 use std::alloc::Global;
 use std::io::{Read, Write};
 
-/// The lines of an input, each answered by the front.
+/// Replies to the lines of an input with the desk that is lent to the front.
 fn serve_front<R: Read, W: Write, S: Shelf + Drop>(
     alloc: Global,
     reader: &mut R,
@@ -25,9 +23,16 @@ fn serve_front<R: Read, W: Write, S: Shelf + Drop>(
     front: &mut Front<'_, S>,
 ) -> Result<(), EngineFault>
     ensures same_reference { front.new.desk.ghost_name ≡ front.old.desk.ghost_name }
-    ensures served { OnOk result (Served (λ old line reply new. LineStep S.may_answer S.is_clean S.is_ours S.is_closed S.tables old new line reply) lines_in (R.remaining reader.old) (R.remaining reader.new) (W.contents writer.old) (W.contents writer.new) front.old front.new) }
+    ensures served { S.is_clean (shelf_of front.new.desk.now) → S.is_ours (shelf_of front.old.desk.now) → S.is_closed (shelf_of front.new.desk.now) ≡ false → Sound (S.tables (shelf_of front.old.desk.now)) →
+        OnOk result (Batched S.may_answer (host_of front.old.desk.now) front.old.directory.now lines_in (R.remaining reader.old) (R.remaining reader.new) (W.contents writer.old) (W.contents writer.new) (S.tables (shelf_of front.old.desk.now)) (S.tables (shelf_of front.new.desk.now)) (S.fault_count (shelf_of front.old.desk.now)) (S.fault_count (shelf_of front.new.desk.now))) }
     ensures end { OnOk result (IsAtEnd (R.remaining reader.new)) }
-    ensures fault { IfErr result (lines.Leaves (λ old line reply new. LineStep S.may_answer S.is_clean S.is_ours S.is_closed S.tables old new line reply) (R.remaining reader.old) (R.remaining reader.new) (W.contents writer.old) (W.contents writer.new) front.old front.new ((reader.new ≡ reader.old) × (writer.new ≡ writer.old) × (front.new ≡ front.old))) }
+    ensures fault { S.is_clean (shelf_of front.new.desk.now) → S.is_ours (shelf_of front.old.desk.now) → S.is_closed (shelf_of front.new.desk.now) ≡ false → Sound (S.tables (shelf_of front.old.desk.now)) →
+        IfErr result (Leaves S.may_answer (host_of front.old.desk.now) front.old.directory.now (R.remaining reader.old) (R.remaining reader.new) (W.contents writer.old) (W.contents writer.new) (S.tables (shelf_of front.old.desk.now)) (S.tables (shelf_of front.new.desk.now)) (S.fault_count (shelf_of front.old.desk.now)) (S.fault_count (shelf_of front.new.desk.now)) ((reader.new ≡ reader.old) × (writer.new ≡ writer.old) × (front.new.desk.now ≡ front.old.desk.now))) }
+    ensures sound { S.is_clean (shelf_of front.new.desk.now) → S.is_ours (shelf_of front.old.desk.now) → S.is_closed (shelf_of front.new.desk.now) ≡ false → Sound (S.tables (shelf_of front.old.desk.now)) → Sound (S.tables (shelf_of front.new.desk.now)) }
+    ensures ours { S.is_clean (shelf_of front.new.desk.now) → S.is_ours (shelf_of front.old.desk.now) → S.is_ours (shelf_of front.new.desk.now) }
+    ensures quiet { S.is_clean (shelf_of front.new.desk.now) → S.is_clean (shelf_of front.old.desk.now) }
+    ensures stays_open { S.is_closed (shelf_of front.new.desk.now) ≡ false → S.is_closed (shelf_of front.old.desk.now) ≡ false }
+    ensures host { host_of front.new.desk.now ≡ host_of front.old.desk.now }
 {
     serve_lines(alloc, reader, writer, front)
 }
@@ -38,6 +43,10 @@ fn serve_front<R: Read, W: Write, S: Shelf + Drop>(
 /// before it is dropped, empty lines are passed over, and the last line may lack its line feed. The key `-` is
 /// none, and the body may be missing with its space. A line that cannot be read, or has more than 300,000 bytes,
 /// is refused as 1 `BadRequest`. A line whose exchange has no room is replied to with 90, and nothing is done.
+///
+/// To every customer the replies to the lines of its calls, and what is kept of it afterwards, are those of the
+/// machine of one customer, started from its own state and given its share of the calls alone, whatever other
+/// lines come between. Calls that are replied to with 503 are struck out.
 ///
 /// Room for a line is taken before the first read; where it is refused, nothing is read. At most 67,108,864 reads
 /// are made, an interrupted one counted. After a fault of reading the whole lines before it are replied to; after
@@ -50,10 +59,10 @@ pub fn batch<R: Read, W: Write, S: Shelf + Drop>(
     directory: &Directory,
 ) -> Result<(), EngineFault>
     ensures served { S.is_clean (shelf_of desk.new) → S.is_ours (shelf_of desk.old) → S.is_closed (shelf_of desk.new) ≡ false → Sound (S.tables (shelf_of desk.old)) →
-        OnOk result (Batched S.may_answer (host_of desk.old) directory.now lines_in (R.remaining reader.old) (R.remaining reader.new) (W.contents writer.old) (W.contents writer.new) (S.tables (shelf_of desk.old)) (S.tables (shelf_of desk.new))) }
+        OnOk result (Batched S.may_answer (host_of desk.old) directory.now lines_in (R.remaining reader.old) (R.remaining reader.new) (W.contents writer.old) (W.contents writer.new) (S.tables (shelf_of desk.old)) (S.tables (shelf_of desk.new)) (S.fault_count (shelf_of desk.old)) (S.fault_count (shelf_of desk.new))) }
     ensures end { OnOk result (IsAtEnd (R.remaining reader.new)) }
     ensures fault { S.is_clean (shelf_of desk.new) → S.is_ours (shelf_of desk.old) → S.is_closed (shelf_of desk.new) ≡ false → Sound (S.tables (shelf_of desk.old)) →
-        IfErr result (Leaves S.may_answer (host_of desk.old) directory.now (R.remaining reader.old) (R.remaining reader.new) (W.contents writer.old) (W.contents writer.new) (S.tables (shelf_of desk.old)) (S.tables (shelf_of desk.new)) ((reader.new ≡ reader.old) × (writer.new ≡ writer.old) × (desk.new ≡ desk.old))) }
+        IfErr result (Leaves S.may_answer (host_of desk.old) directory.now (R.remaining reader.old) (R.remaining reader.new) (W.contents writer.old) (W.contents writer.new) (S.tables (shelf_of desk.old)) (S.tables (shelf_of desk.new)) (S.fault_count (shelf_of desk.old)) (S.fault_count (shelf_of desk.new)) ((reader.new ≡ reader.old) × (writer.new ≡ writer.old) × (desk.new ≡ desk.old))) }
     ensures sound { S.is_clean (shelf_of desk.new) → S.is_ours (shelf_of desk.old) → S.is_closed (shelf_of desk.new) ≡ false → Sound (S.tables (shelf_of desk.old)) → Sound (S.tables (shelf_of desk.new)) }
     ensures ours { S.is_clean (shelf_of desk.new) → S.is_ours (shelf_of desk.old) → S.is_ours (shelf_of desk.new) }
     ensures quiet { S.is_clean (shelf_of desk.new) → S.is_clean (shelf_of desk.old) }

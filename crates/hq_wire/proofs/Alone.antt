@@ -1,6 +1,6 @@
 -- What one customer sees of a run is that customer's machine alone.
-use Rattle.std.proofs.Common.{◌≡◌, ◌≢◌, ◌⊎◌, ⊎_elim, ℕ, Bool, true, false, cond, not, ◌&&◌, eqb, List, [], ◌∷◌, ◌++◌, map, Result, Ok, Err, sym, refl, ap, ◌∙◌, subst}
-use Rattle.std.specs.Prelude.{nat_le, ◌||◌, bytes_eq}
+use Rattle.std.proofs.Common.{◌≡◌, ◌≢◌, ◌⊎◌, inl, inr, ⊎_elim, ℕ, Bool, true, false, cond, not, ◌&&◌, eqb, List, [], ◌∷◌, ◌++◌, map, Result, Ok, Err, sym, refl, ap, ◌∙◌, subst}
+use Rattle.std.specs.Prelude.{bytes_eq}
 use Rattle.std.specs.Ordering.{eq_by_cmp}
 use Rattle.std.specs.Cmp.Lexicographic.{nat_list_cmp_total}
 use Rattle.std.proofs.lemmas.List.{map-append}
@@ -20,13 +20,11 @@ use Rattle.hq_desk.specs.declared.answer.Answer.{Answer}
 use Rattle.hq_desk.specs.declared.answer.Answer.TheVariants.{Refused}
 use Rattle.hq_desk.specs.declared.call.Call.{Call}
 use Rattle.hq_desk.proofs.Isolation.{caller, others}
-use Rattle.hq_wire.specs.Calls.{call_of}
 use Rattle.hq_wire.specs.Directories.{entry_of}
 use Rattle.hq_wire.specs.Exchanges.{MayReply, IsStruck}
 use Rattle.hq_wire.specs.Replies.{Told, reply_of, status_of, fault_told, fault_text, is_missing, is_conflict, tells_store}
-use Rattle.hq_wire.specs.Runs.{Served, is_counted, asked, heard, share, told, answers, state_after}
+use Rattle.hq_wire.specs.Runs.{Ask, Served, is_counted, asked, heard, share, told, answers, state_after, Alone}
 use Rattle.hq_wire.specs.declared.directory.Directory.{Directory}
-use Rattle.hq_wire.specs.declared.asked.Exchange.{Exchange}
 
 by_test : (b : Bool) (x y : ℕ) → eqb x 503 ≡ false → eqb y 503 ≡ false → eqb (cond b x y) 503 ≡ false
 by_test true x y h k = h
@@ -114,9 +112,25 @@ joined host e s mid t xs ys rs qs a b =
       state = b.state ∙ ap (λ u. state_after host e u ys) a.state ∙ sym (state_after-append host e s xs ys);
     }
 
-pub seen_all : (may : Fault → Type 0) (host : List ℕ) (d : Directory) (c : List ℕ) (t t' : Tables) (xs : List Exchange) (rs : List Told) → Served may host d t xs rs t' → Seen host (entry_of d c) (own c t) (own c t') (share d c xs rs) (told d c xs rs)
+seen_all : (may : Fault → Type 0) (host : List ℕ) (d : Directory) (c : List ℕ) (t t' : Tables) (asks : List Ask) (rs : List Told) → Served may host d t asks rs t' → Seen host (entry_of d c) (own c t) (own c t') (share c asks rs) (told c asks rs)
 seen_all may host d c t t' [] [] h = unseen host _ _ _ (ap (own c) h)
-seen_all may host d c t t' (x ∷ xs) (r ∷ rs) h =
-    joined host (entry_of d c) (own c t) (own c h.0) (own c t') _ _ _ _ (seen_one may host d c t h.0 x.at (call_of d x) r h.1) (seen_all may host d c h.0 t' xs rs h.2)
+seen_all may host d c t t' (a ∷ asks) (r ∷ rs) h =
+    joined host (entry_of d c) (own c t) (own c h.0) (own c t') _ _ _ _ (seen_one may host d c t h.0 a.at a.called r h.1) (seen_all may host d c h.0 t' asks rs h.2)
 seen_all may host d c t t' [] (r ∷ rs) h = absurd h
-seen_all may host d c t t' (x ∷ xs) [] h = absurd h
+seen_all may host d c t t' (a ∷ asks) [] h = absurd h
+
+-- the headline, of whatever was asked and replied in order
+pub alone : (may : Fault → Type 0) (host : List ℕ) (d : Directory) (t t' : Tables) (asks : List Ask) (rs : List Told) → Served may host d t asks rs t' → Alone host d asks rs t t'
+alone may host d t t' asks rs h = record {
+  replies = λ c. (seen_all may host d c t t' asks rs h).told;
+  state = λ c. (seen_all may host d c t t' asks rs h).state;
+}
+
+-- of one
+pub alone_once : (may : Fault → Type 0) (host : List ℕ) (d : Directory) (t t' : Tables) (a : Ask) (r : Told) → MayReply may a.called host d t a.at r t' → Alone host d (a ∷ []) (r ∷ []) t t'
+alone_once may host d t t' a r h = alone may host d t t' (a ∷ []) (r ∷ []) (t', h, refl)
+
+-- want of memory may be told of anything that was asked
+pub without_room : (may : Fault → Type 0) (called : Result (List ℕ × Call) Refusal) (host : List ℕ) (d : Directory) (t t' : Tables) (at : ℕ) (r : Told) → IsStruck no_memory t r t' → MayReply may called host d t at r t'
+without_room may (Err e) host d t t' at r h = inr h
+without_room may (Ok named) host d t t' at r h = inr (no_memory, inl refl, h)

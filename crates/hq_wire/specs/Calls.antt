@@ -1,5 +1,5 @@
 -- From an exchange to a call: the refusals in the order of the steps here.
-use Rattle.std.specs.Prelude.{ℕ, ◌+◌, ◌*◌, ◌^◌, ◌==◌, ◌&&◌, Bool, true, false, nat_le, nat_lt, List, [], ◌∷◌, length, codes, bytes_eq, string_bytes, Option, None, Some, option_map, option_and_then, Result, Ok, Err, if◌then◌else◌}
+use Rattle.std.specs.Prelude.{ℕ, ◌+◌, ◌*◌, ◌^◌, ◌==◌, ◌&&◌, Bool, true, false, nat_le, nat_lt, List, [], ◌∷◌, length, codes, bytes_eq, string_bytes, Option, None, Some, option_map, option_and_then, Result, Ok, if◌then◌else◌}
 use Rattle.hq_envelope.specs.Serials.{hex_value}
 use Rattle.hq_envelope.specs.declared.failure.Refusal.{Refusal}
 use Rattle.hq_envelope.specs.declared.failure.Refusal.TheVariants.{BodyTooLong, NoRoute, WrongMethod, BadField}
@@ -69,11 +69,15 @@ asked_of kind.Submit segment body = do
 
 -- the customer's name and the call, or the refusal: the body's length, the path, the method, the key and whom it
 -- serves, the parameter, the body
-unfoldable pub call_of : Directory → Exchange → Result (List ℕ × Call) Refusal
-call_of d x = do
-  short ← guard (nat_le (length x.body.items) 262144) BodyTooLong
-  path ← or_refuse NoRoute (path_of (string_bytes x.path))
-  kind ← or_refuse WrongMethod (kind_of path (string_bytes x.method))
-  name ← customer_of d (is_for_relay kind) (option_map string_bytes x.key) (last_segment (string_bytes x.path))
-  call ← asked_of kind (last_segment (string_bytes x.path)) x.body.items
+unfoldable pub call_from : Directory → (method path : List ℕ) → Option (List ℕ) → List ℕ → Result (List ℕ × Call) Refusal
+call_from d method path key body = do
+  short ← guard (nat_le (length body) 262144) BodyTooLong
+  route ← or_refuse NoRoute (path_of path)
+  kind ← or_refuse WrongMethod (kind_of route method)
+  name ← customer_of d (is_for_relay kind) key (last_segment path)
+  call ← asked_of kind (last_segment path) body
   Ok (name, call)
+
+-- what an exchange asks
+abbrev pub call_of : Directory → Exchange → Result (List ℕ × Call) Refusal
+call_of d x = call_from d (string_bytes x.method) (string_bytes x.path) (option_map string_bytes x.key) x.body.items

@@ -1,25 +1,34 @@
 -- Whole runs: the desk's, and that of one customer's machine on that customer's share of the calls.
-use Rattle.std.specs.Prelude.{◌≡◌, ℕ, Bool, not, ◌&&◌, ◌==◌, List, [], ◌∷◌, ◌++◌, if◌then◌else◌, Result, Ok, Err}
+use Rattle.std.specs.Prelude.{◌≡◌, ℕ, Bool, not, ◌&&◌, ◌==◌, List, [], ◌∷◌, ◌++◌, map, if◌then◌else◌, Result, Ok, Err}
 use Rattle.std.specs.Ordering.{eq_by_cmp}
 use Rattle.hq_envelope.specs.declared.failure.Fault.{Fault}
 use Rattle.hq_envelope.specs.declared.failure.Refusal.{Refusal}
 use Rattle.hq_queue.specs.declared.account.Entry.{Entry}
-use Rattle.hq_store.specs.Tables.{Tables, State, text_cmp}
+use Rattle.hq_store.specs.Tables.{Tables, State, text_cmp, own}
 use Rattle.hq_desk.specs.Machine.{step}
 use Rattle.hq_desk.specs.declared.answer.Answer.{Answer}
 use Rattle.hq_desk.specs.declared.call.Call.{Call}
 use Rattle.hq_wire.specs.Calls.{call_of}
-use Rattle.hq_wire.specs.Exchanges.{Replied}
-use Rattle.hq_wire.specs.Replies.{Told}
+use Rattle.hq_wire.specs.Directories.{entry_of}
+use Rattle.hq_wire.specs.Exchanges.{MayReply}
+use Rattle.hq_wire.specs.Replies.{Told, reply_of}
 use Rattle.hq_wire.specs.declared.directory.Directory.{Directory}
 use Rattle.hq_wire.specs.declared.asked.Exchange.{Exchange}
 
--- exchanges, the replies to them in order, and the tables before and after
-abbrev pub Served : (Fault → Type 0) → List ℕ → Directory → Tables → List Exchange → List Told → Tables → Type 0
+-- What was asked: when, and for which customer which call, or the refusal that no call was made for.
+pub record Ask : Type 0 where
+  pub at : ℕ
+  pub called : Result (List ℕ × Call) Refusal
+
+abbrev pub ask_of : Directory → Exchange → Ask
+ask_of d x = record { at = x.at; called = call_of d x }
+
+-- what was asked, the replies to it in order, and the tables before and after
+abbrev pub Served : (Fault → Type 0) → List ℕ → Directory → Tables → List Ask → List Told → Tables → Type 0
 Served may host d t [] [] t' = t' ≡ t
-Served may host d t (x ∷ xs) (r ∷ rs) t' = (mid : Tables) × Replied may host d t x r mid × Served may host d mid xs rs t'
+Served may host d t (a ∷ asks) (r ∷ rs) t' = (mid : Tables) × MayReply may a.called host d t a.at r mid × Served may host d mid asks rs t'
 Served may host d t [] (r ∷ rs) t' = ⊥
-Served may host d t (x ∷ xs) [] t' = ⊥
+Served may host d t (a ∷ asks) [] t' = ⊥
 
 -- a call by or for this customer that was not struck out: only faults have the status 503
 abbrev pub is_counted : List ℕ → List ℕ → Told → Bool
@@ -34,14 +43,14 @@ heard c (Err e) r = []
 heard c (Ok named) r = if is_counted c named.0 r then r ∷ [] else []
 
 -- the customer's share: its calls with their moments, in order
-abbrev pub share : Directory → List ℕ → List Exchange → List Told → List (ℕ × Call)
-share d c (x ∷ xs) (r ∷ rs) = asked c x.at (call_of d x) r ++ share d c xs rs
-share d c _ _ = []
+abbrev pub share : List ℕ → List Ask → List Told → List (ℕ × Call)
+share c (a ∷ asks) (r ∷ rs) = asked c a.at a.called r ++ share c asks rs
+share c _ _ = []
 
 -- the replies to them
-abbrev pub told : Directory → List ℕ → List Exchange → List Told → List Told
-told d c (x ∷ xs) (r ∷ rs) = heard c (call_of d x) r ++ told d c xs rs
-told d c _ _ = []
+abbrev pub told : List ℕ → List Ask → List Told → List Told
+told c (a ∷ asks) (r ∷ rs) = heard c a.called r ++ told c asks rs
+told c _ _ = []
 
 -- the machine of one customer, over a share
 abbrev pub answers : List ℕ → Entry → State → List (ℕ × Call) → List Answer
@@ -52,3 +61,9 @@ answers host entry s (ask ∷ asks) = (step host entry s ask.0 ask.1).0 ∷ answ
 abbrev pub state_after : List ℕ → Entry → State → List (ℕ × Call) → State
 state_after host entry s [] = s
 state_after host entry s (ask ∷ asks) = state_after host entry (step host entry s ask.0 ask.1).1 asks
+
+-- The headline. Every customer is told, and what is kept of it is, what its own machine answers and is left in that is
+-- started from its own state and given its share of the calls alone.
+pub record Alone (host : List ℕ) (d : Directory) (asks : List Ask) (rs : List Told) (t t' : Tables) : Type 0 where
+  pub replies : (c : List ℕ) → told c asks rs ≡ map reply_of (answers host (entry_of d c) (own c t) (share c asks rs))
+  pub state : (c : List ℕ) → own c t' ≡ state_after host (entry_of d c) (own c t) (share c asks rs)

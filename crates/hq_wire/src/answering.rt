@@ -1,6 +1,6 @@
 //! How the desk replies to one exchange.
 
-ghost use Rattle.std.specs.Prelude.{◌≡◌, ◌⊎◌, ◌+◌, ◌-◌, ◌^◌, ◌<◌, ◌≤◌, false, if◌then◌else◌};
+ghost use Rattle.std.specs.Prelude.{◌≡◌, ◌⊎◌, ◌∷◌, [], ◌+◌, ◌-◌, ◌^◌, ◌<◌, ◌≤◌, false, if◌then◌else◌};
 ghost use Rattle.hq_envelope.specs.Refusals.{no_memory};
 ghost use Rattle.hq_envelope.specs.declared.failure.Fault.{Fault};
 ghost use Rattle.hq_store.specs.Sound.{Sound};
@@ -10,6 +10,7 @@ ghost use Rattle.hq_desk.specs.Machine.{shared};
 ghost use Rattle.hq_desk.specs.declared.answer.Answer.TheVariants.{Refused};
 ghost use Rattle.hq_wire.specs.Exchanges.{Replied, IsStruck};
 ghost use Rattle.hq_wire.specs.Replies.{seen, reply_of, fault_told, tells_store};
+ghost use Rattle.hq_wire.specs.Runs.{Alone, ask_of};
 
 use crate::asked::Exchange;
 use crate::directory::Directory;
@@ -78,6 +79,9 @@ pub fn exchange<S: Shelf + Drop>(
 ) -> Reply
     ensures replied { S.is_clean (shelf_of desk.new) → S.is_ours (shelf_of desk.old) → S.is_closed (shelf_of desk.new) ≡ false → Sound (S.tables (shelf_of desk.old)) →
         Replied S.may_answer (host_of desk.old) directory.now (S.tables (shelf_of desk.old)) exchange.now (seen result) (S.tables (shelf_of desk.new)) }
+    // The headline, of one exchange.
+    ensures alone { S.is_clean (shelf_of desk.new) → S.is_ours (shelf_of desk.old) → S.is_closed (shelf_of desk.new) ≡ false → Sound (S.tables (shelf_of desk.old)) →
+        Alone (host_of desk.old) directory.now (ask_of directory.now exchange.now ∷ []) (seen result ∷ []) (S.tables (shelf_of desk.old)) (S.tables (shelf_of desk.new)) }
     ensures sound { S.is_clean (shelf_of desk.new) → S.is_ours (shelf_of desk.old) → S.is_closed (shelf_of desk.new) ≡ false → Sound (S.tables (shelf_of desk.old)) → Sound (S.tables (shelf_of desk.new)) }
     ensures ours { S.is_clean (shelf_of desk.new) → S.is_ours (shelf_of desk.old) → S.is_ours (shelf_of desk.new) }
     ensures quiet { S.is_clean (shelf_of desk.new) → S.is_clean (shelf_of desk.old) }

@@ -1,12 +1,10 @@
 //! Many exchanges of many customers, and what each customer sees of them.
 
-ghost use Rattle.std.specs.Prelude.{◌≡◌, ◌+◌, ◌-◌, ◌^◌, ◌<◌, ◌≤◌, ℕ, List, false, IfOk, OnErr, length, map};
+ghost use Rattle.std.specs.Prelude.{◌≡◌, ◌+◌, ◌-◌, ◌^◌, ◌<◌, ◌≤◌, false, IfOk, OnErr, length, map};
 ghost use Rattle.hq_store.specs.Sound.{Sound};
-ghost use Rattle.hq_store.specs.Tables.{own};
 ghost use Rattle.hq_desk.specs.Desks.{shelf_of, host_of};
-ghost use Rattle.hq_wire.specs.Directories.{entry_of};
-ghost use Rattle.hq_wire.specs.Replies.{seen, reply_of, store_faults};
-ghost use Rattle.hq_wire.specs.Runs.{share, told, answers, state_after};
+ghost use Rattle.hq_wire.specs.Replies.{seen, store_faults};
+ghost use Rattle.hq_wire.specs.Runs.{Alone, ask_of};
 
 use crate::answering::exchange;
 use crate::asked::Exchange;
@@ -31,12 +29,8 @@ pub fn run<S: Shelf + Drop, A: Allocator>(
     exchanges: &[Exchange],
 ) -> Result<Vec<Reply, A>, AllocError>
     ensures count { IfOk result (λ replies. length replies.items ≡ length exchanges.now) }
-    ensures replies { IfOk result (λ replies. S.is_clean (shelf_of desk.new) → S.is_ours (shelf_of desk.old) → S.is_closed (shelf_of desk.new) ≡ false → Sound (S.tables (shelf_of desk.old)) → (c : List ℕ) →
-        told directory.now c exchanges.now (map seen replies.items)
-        ≡ map reply_of (answers (host_of desk.old) (entry_of directory.now c) (own c (S.tables (shelf_of desk.old))) (share directory.now c exchanges.now (map seen replies.items)))) }
-    ensures state { IfOk result (λ replies. S.is_clean (shelf_of desk.new) → S.is_ours (shelf_of desk.old) → S.is_closed (shelf_of desk.new) ≡ false → Sound (S.tables (shelf_of desk.old)) → (c : List ℕ) →
-        own c (S.tables (shelf_of desk.new))
-        ≡ state_after (host_of desk.old) (entry_of directory.now c) (own c (S.tables (shelf_of desk.old))) (share directory.now c exchanges.now (map seen replies.items))) }
+    ensures alone { IfOk result (λ replies. S.is_clean (shelf_of desk.new) → S.is_ours (shelf_of desk.old) → S.is_closed (shelf_of desk.new) ≡ false → Sound (S.tables (shelf_of desk.old)) →
+        Alone (host_of desk.old) directory.now (map (ask_of directory.now) exchanges.now) (map seen replies.items) (S.tables (shelf_of desk.old)) (S.tables (shelf_of desk.new))) }
     ensures sound { IfOk result (λ replies. S.is_clean (shelf_of desk.new) → S.is_ours (shelf_of desk.old) → S.is_closed (shelf_of desk.new) ≡ false → Sound (S.tables (shelf_of desk.old)) → Sound (S.tables (shelf_of desk.new))) }
     ensures ours { S.is_clean (shelf_of desk.new) → S.is_ours (shelf_of desk.old) → S.is_ours (shelf_of desk.new) }
     ensures quiet { S.is_clean (shelf_of desk.new) → S.is_clean (shelf_of desk.old) }

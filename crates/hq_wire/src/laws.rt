@@ -4,21 +4,19 @@
 ghost use Rattle.std.specs.Prelude.{◌≡◌, ℕ, List};
 ghost use Rattle.hq_store.specs.Tables.{Tables, own};
 ghost use Rattle.hq_wire.specs.Replies.{Told};
-ghost use Rattle.hq_wire.specs.Runs.{Served, share, told};
-ghost use Rattle.hq_wire.specs.declared.asked.Exchange.{Exchange};
+ghost use Rattle.hq_wire.specs.Runs.{Ask, Served, share, told};
 ghost use Rattle.hq_wire.specs.declared.directory.Directory.{Directory};
 
 use hq_store::Shelf;
 
-/// Nobody else matters: two lists of exchanges under one directory and host, over any
-/// shelf, from tables that hold the same of a
-/// customer, in which that customer's share is the same, give it equal replies, those of 503 left out, and leave
-/// the same of it.
+/// Nobody else matters: two lists of what was asked, by exchanges or by lines, under one directory and host, over
+/// any shelf, from tables that hold the same of a customer, in which that customer's share is the same, give it equal
+/// replies, those of 503 left out, and leave the same of it.
 pub fn nobody_else_matters<S: Shelf>()
-    ensures replies { (host : List ℕ) (d : Directory) (c : List ℕ) (xs ys : List Exchange) (rs qs : List Told) (t u t' u' : Tables) →
-        Served S.may_answer host d t xs rs t' → Served S.may_answer host d u ys qs u' → own c t ≡ own c u → share d c xs rs ≡ share d c ys qs →
-        told d c xs rs ≡ told d c ys qs }
-    ensures state { (host : List ℕ) (d : Directory) (c : List ℕ) (xs ys : List Exchange) (rs qs : List Told) (t u t' u' : Tables) →
-        Served S.may_answer host d t xs rs t' → Served S.may_answer host d u ys qs u' → own c t ≡ own c u → share d c xs rs ≡ share d c ys qs →
+    ensures replies { (host : List ℕ) (d : Directory) (c : List ℕ) (xs ys : List Ask) (rs qs : List Told) (t u t' u' : Tables) →
+        Served S.may_answer host d t xs rs t' → Served S.may_answer host d u ys qs u' → own c t ≡ own c u → share c xs rs ≡ share c ys qs →
+        told c xs rs ≡ told c ys qs }
+    ensures state { (host : List ℕ) (d : Directory) (c : List ℕ) (xs ys : List Ask) (rs qs : List Told) (t u t' u' : Tables) →
+        Served S.may_answer host d t xs rs t' → Served S.may_answer host d u ys qs u' → own c t ≡ own c u → share c xs rs ≡ share c ys qs →
         own c t' ≡ own c u' }
 {}

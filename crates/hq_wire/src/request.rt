@@ -118,7 +118,7 @@ fn key_of(exchange: &Exchange) -> Option<&str>
 
 /// The customer and the call of an exchange, or the first refusal in the order: 6 `BodyTooLong`, 4 `NoRoute`,
 /// 5 `WrongMethod`, 2 `NoKey`, 3 `WrongRole`, 13 `NoCustomer`, then those of the parameter and the body.
-#[tactic(auto, unfolding(crate::specs::Calls::call_of))]
+#[tactic(auto, unfolding(crate::specs::Calls::call_from))]
 pub(crate) fn call_of<'d>(
     alloc: Global,
     directory: &'d Directory,

@@ -1,4 +1,4 @@
-use Rattle.std.proofs.Common.{◌≡◌, ◌+◌, ◌≤◌, false, cond, sym, ap, subst, arith}
+use Rattle.std.proofs.Common.{◌≡◌, ◌+◌, ◌≤◌, false, cond, sym, subst, arith}
 use Rattle.std.specs.Prelude.{Bool}
 use Rattle.hq_wire.specs.Replies.{tells_store}
 use Rattle.hq_wire.proofs.Alone.{tells_answer}

@@ -1,10 +1,9 @@
 use Rattle.std.proofs.Common.{◌≡◌, ◌+◌, ◌++◌, ◌∷◌, [], cond, map, take, sym, ap, ◌∙◌, subst, arith}
 use Rattle.std.proofs.lemmas.List.{take_all, map-append}
-use Rattle.hq_desk.specs.Desks.{shelf_of, host_of}
 use Rattle.hq_wire.specs.Exchanges.{Replied}
 use Rattle.hq_wire.specs.Replies.{seen, store_faults, tells_store}
-use Rattle.hq_wire.specs.Runs.{Served}
-use Rattle.hq_wire.proofs.Alone.{seen_all}
+use Rattle.hq_wire.specs.Runs.{Served, ask_of}
+use Rattle.hq_wire.proofs.Alone.{alone}
 use Rattle.hq_wire.proofs.Further.{served_more, one_more_told}
 use Rattle.hq_wire.proofs.headline.run.Goals as goal
 
@@ -27,7 +26,7 @@ loop-item-preserved g c =
           let opened = one.stays_open closed in
           let kept = was.ours earlier ours in
           let done = one.replied clean kept closed (was.sound earlier ours opened sound) in
-          subst (λ rs. Served may c.args.desk.now.host d first (take (c.loop-item.item-index + 1) c.args.exchanges.now) rs after) (sym pushed)
+          subst (λ rs. Served may c.args.desk.now.host d first (map (ask_of d) (take (c.loop-item.item-index + 1) c.args.exchanges.now)) rs after) (sym pushed)
           (served_more may c.args.desk.now.host d first before after c.args.exchanges.now c.loop-item.item-index item (map seen c.loop-item.replies.items) reply c.loop-item-test.true (was.served earlier ours opened sound)
           (subst (λ x. Replied may c.args.desk.now.host d before x reply after) c.item-item.is
           (subst (λ h. Replied may h d before item reply after) was.host done)));
@@ -47,14 +46,10 @@ loop-item-preserved g c =
       room = omega (arith, c.push_reserved.ensures.capacity);
     }
 
-pub returns-clause-replies : goal.returns-clause-replies
-returns-clause-replies g c = λ clean ours closed sound name.
+pub returns-clause-alone : goal.returns-clause-alone
+returns-clause-alone g c = λ clean ours closed sound.
     let tables = g.S.Shelf.tables in
-    let run = subst (λ xs. Served g.S.Shelf.may_answer c.args.desk.now.host c.args.directory.now (tables c.args.desk.now.shelf) xs (map seen c.loop-item.replies.items) (tables c.loop-item.desk.shelf)) (take_all c.loop-item.item-index c.args.exchanges.now (omega arith)) (c.loop-item.invariant.served clean ours closed sound) in
-    (seen_all g.S.Shelf.may_answer c.args.desk.now.host c.args.directory.now name _ _ c.args.exchanges.now (map seen c.loop-item.replies.items) run).told
-
-pub returns-clause-state : goal.returns-clause-state
-returns-clause-state g c = λ clean ours closed sound name.
-    let tables = g.S.Shelf.tables in
-    let run = subst (λ xs. Served g.S.Shelf.may_answer c.args.desk.now.host c.args.directory.now (tables c.args.desk.now.shelf) xs (map seen c.loop-item.replies.items) (tables c.loop-item.desk.shelf)) (take_all c.loop-item.item-index c.args.exchanges.now (omega arith)) (c.loop-item.invariant.served clean ours closed sound) in
-    (seen_all g.S.Shelf.may_answer c.args.desk.now.host c.args.directory.now name _ _ c.args.exchanges.now (map seen c.loop-item.replies.items) run).state
+    let d = c.args.directory.now in
+    let replies = map seen c.loop-item.replies.items in
+    let run = subst (λ xs. Served g.S.Shelf.may_answer c.args.desk.now.host d (tables c.args.desk.now.shelf) (map (ask_of d) xs) replies (tables c.loop-item.desk.shelf)) (take_all c.loop-item.item-index c.args.exchanges.now (omega arith)) (c.loop-item.invariant.served clean ours closed sound) in
+    alone g.S.Shelf.may_answer c.args.desk.now.host d _ _ (map (ask_of d) c.args.exchanges.now) replies run

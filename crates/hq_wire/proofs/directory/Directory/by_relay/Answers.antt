@@ -1,7 +1,7 @@
 use Rattle.std.proofs.Common.{◌≡◌, Some, sym, ap, ◌∙◌}
 use Rattle.std.specs.List.{find}
 use Rattle.hq_queue.specs.declared.account.Entry.{Entry}
-use Rattle.hq_wire.specs.Customers.{has_name, has_key}
+use Rattle.hq_wire.specs.Customers.{has_name}
 use Rattle.hq_wire.proofs.Entries.{entry_found, limits_found}
 use Rattle.hq_wire.proofs.directory.Directory.by_relay.Goals as goal
 
