@@ -7,7 +7,7 @@ use Rattle.std.proofs.lemmas.Bool.Decides.{nat_tests}
 use Rattle.std.proofs.lemmas.Grind.{common_steps}
 use Rattle.std.proofs.Common.{add-one, lit<, ⊎_elim, ◌⊎◌, inl, inr}
 use Rattle.std.proofs.lemmas.Bool.{cases_lt}
-use Rattle.std.proofs.Common.{append-nil, ◌≢◌}
+use Rattle.std.proofs.Common.{append-nil}
 use Rattle.std.specs.Option.{SomeIff, IfSome}
 use Rattle.hq_envelope.specs.Serials.{hex_digit, hex_value, hex_text}
 

@@ -26,6 +26,3 @@ pub use name::Name;
 pub use serial::Serial;
 pub use spool::Spool;
 pub use text::Text;
-
-#[cfg(test)]
-mod tests;

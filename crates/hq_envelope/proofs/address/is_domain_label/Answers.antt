@@ -1,8 +1,8 @@
-use Rattle.std.proofs.Common.{ap, ◌∙◌, arith, rules, tests}
+use Rattle.std.proofs.Common.{arith, rules, tests}
 use Rattle.std.proofs.lemmas.Iterator.{YieldsList-from_slice}
 use Rattle.std.proofs.lemmas.Iterator.Search.{all_from_yields_List}
 use Rattle.std.proofs.lemmas.Bool.Decides.{nat_tests}
-use Rattle.hq_envelope.specs.Addresses.{is_label_byte, is_domain_label}
+use Rattle.hq_envelope.specs.Addresses.{is_label_byte}
 use Rattle.hq_envelope.proofs.address.is_domain_label.Goals as goal
 
 pub returns-then-not-is_empty : goal.returns-then-not-is_empty

@@ -1,5 +1,5 @@
-use Rattle.std.proofs.Common.{◌≡◌, ℕ, ◌<◌, ◌^◌, ◌*◌, ◌∙◌, sym, ap, arith, length, take, get_or, Some}
-use Rattle.hq_envelope.specs.Serials.{serial_text, hex_value}
+use Rattle.std.proofs.Common.{◌≡◌, ◌∙◌, sym, ap, arith, length, get_or, Some}
+use Rattle.hq_envelope.specs.Serials.{hex_value}
 use Rattle.hq_envelope.proofs.Hex.{below_power, below_power_more, read_more, hex_bytes, digit_of_value, length-hex_text, hex_none, serial_read}
 use Rattle.hq_envelope.proofs.serial.Serial.parse.Goals as goal
 

@@ -1,4 +1,4 @@
-use Rattle.std.proofs.Common.{◌≡◌, ◌^◌, ◌<◌, take, length}
+use Rattle.std.proofs.Common.{◌≡◌, ◌^◌, ◌<◌, take}
 use Rattle.hq_envelope.specs.Serials.{hex_text}
 use Rattle.hq_envelope.proofs.serial.Serial.parse.Given as goal
 

@@ -1,7 +1,7 @@
-use Rattle.std.proofs.Common.{◌∙◌, ap, sym, refl, arith, replicate}
+use Rattle.std.proofs.Common.{◌∙◌, ap, refl, arith, replicate}
 use Rattle.std.proofs.lemmas.Grind.{common_steps}
 use Rattle.hq_envelope.specs.Serials.{hex_text}
-use Rattle.hq_envelope.proofs.Hex.{hex_none, hex_start, hex_step_at, hex_end}
+use Rattle.hq_envelope.proofs.Hex.{hex_start, hex_step_at, hex_end}
 use Rattle.hq_envelope.proofs.serial.Serial.text.Goals as goal
 
 pub loop-i-init : goal.loop-i-init

@@ -1,4 +1,4 @@
-use Rattle.std.proofs.Common.{◌≡◌, ◌++◌, ◌-◌, ◌≤◌, length, drop}
+use Rattle.std.proofs.Common.{◌≡◌, ◌++◌, ◌-◌, length, drop}
 use Rattle.hq_envelope.specs.Serials.{hex_text}
 use Rattle.hq_envelope.proofs.serial.Serial.text.Given as goal
 

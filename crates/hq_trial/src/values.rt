@@ -1,6 +1,6 @@
 //! Values at the edges of their rules, and the table of refusals. Expected values are the product's rules.
 
-use crate::{
+use hq_envelope::{
     Address, Fail, Fault, Host, Items, Key, Label, Moment, Name, Refusal, Sender, Serial, Spool,
     Text, TryCopy, copy_all,
 };
