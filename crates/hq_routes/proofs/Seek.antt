@@ -1,11 +1,10 @@
 -- Where a parameter stands at the end of a pattern alone, the router's search finds the first row that the path fits.
-use Rattle.std.proofs.Common.{◌≡◌, ◌≢◌, ℕ, zero, suc, ◌+◌, ◌-◌, ◌<◌, ◌≤◌, List, [], ◌∷◌, ◌++◌, length, Option, Some, None, Bool, true, false, cond, not, ◌&&◌, ◌||◌, refl, sym, ap, subst, ◌∙◌, arith, nat_eq, ◌==◌, ltb, nat_lt, ◌⊎◌, inl, inr, true≢false}
-use Rattle.std.proofs.lemmas.Bool.{and_parts}
+use Rattle.std.proofs.Common.{◌≡◌, ℕ, zero, suc, ◌-◌, ◌<◌, List, [], ◌∷◌, length, Option, Some, None, Bool, true, false, cond, not, ◌&&◌, ◌||◌, refl, ap, subst, ◌∙◌, arith, ◌==◌, ltb, ◌⊎◌, inl, inr}
 use Rattle.std.proofs.lemmas.Bool.Decides.{nat_tests}
 use Rattle.matchit.specs.Rows.{RowsOf, param_token, catch_all_token, comes_before}
-use Rattle.matchit.specs.Seek.{own, step, or_else, seek, first, param_step, has_slash, segment, better, longest_from, longest_suffix, cuts}
+use Rattle.matchit.specs.Seek.{own, step, or_else, seek, first, param_step, has_slash, segment, longest_suffix}
 use Rattle.matchit.specs.Level.{IsText}
-use Rattle.hq_routes.specs.Routes.{fits, route_in, parameter}
+use Rattle.hq_routes.specs.Routes.{fits, route_in}
 
 -- bytes, and at the end perhaps a parameter
 abbrev pub IsSimple : List ℕ → Type 0

@@ -1,12 +1,12 @@
 -- What `rsplit_once` at a slash gives is the last segment.
-use Rattle.std.proofs.Common.{◌≡◌, ◌≢◌, ℕ, zero, suc, ◌+◌, ◌<◌, List, [], ◌∷◌, ◌++◌, length, get_or, take, drop, Option, Some, None, Bool, true, false, cond, ◌||◌, eqb, refl, sym, ap, ◌∙◌, subst, arith, Bor, lit<}
+use Rattle.std.proofs.Common.{◌≡◌, ◌≢◌, ℕ, suc, ◌<◌, List, [], ◌∷◌, ◌++◌, length, get_or, Option, Some, None, Bool, true, false, cond, eqb, refl, sym, ap, ◌∙◌, subst, arith, Bor, lit<}
 use Rattle.std.specs.Option.{MatchOption}
 use Rattle.std.specs.Str.{NoCharPasses}
 use Rattle.std.specs.Str.Pattern.{RFindsChar, SplitsAroundMatch}
 use Rattle.std.proofs.lemmas.List.{take-append-drop}
 use Rattle.std.proofs.lemmas.Str.Pattern.{NoCharPasses-char, drop_at_char}
 use Rattle.std.proofs.lemmas.Bool.Decides.{nat_tests}
-use Rattle.matchit.specs.Seek.{has_slash, slash}
+use Rattle.matchit.specs.Seek.{has_slash}
 use Rattle.hq_routes.specs.Routes.{last_segment}
 
 -- where no byte is a slash

@@ -1,4 +1,4 @@
-use Rattle.std.proofs.Common.{◌≡◌, ap, sym, ◌∙◌, arith}
+use Rattle.std.proofs.Common.{◌∙◌, arith}
 use Rattle.hq_routes.proofs.Table.{found, text_from}
 use Rattle.hq_routes.proofs.Paths.find.Goals as goal
 

@@ -1,4 +1,4 @@
-use Rattle.std.proofs.Common.{◌≡◌, ap, ◌∙◌}
+use Rattle.std.proofs.Common.{ap, ◌∙◌}
 use Rattle.matchit.specs.Router.{rename}
 use Rattle.hq_routes.proofs.Table.{rows_are}
 use Rattle.hq_routes.proofs.Paths.new.Goals as goal
