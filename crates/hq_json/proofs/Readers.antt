@@ -1,5 +1,5 @@
 -- What a reader of a value answers, as a step of reading.
-use Rattle.std.proofs.Common.{◌≡◌, ⊎_elim, Bool, true, false, cond, Result, Ok, Err, sym, refl, ap, ◌∙◌, subst}
+use Rattle.std.proofs.Common.{◌≡◌, ⊎_elim, Bool, false, Result, Ok, Err, sym, refl, ap, ◌∙◌, subst}
 use Rattle.hq_envelope.specs.Readers.{ReadsValue}
 use Rattle.hq_envelope.specs.Refusals.{no_memory_fail}
 use Rattle.hq_envelope.specs.declared.failure.Fail.{Fail}

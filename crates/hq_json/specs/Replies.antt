@@ -1,6 +1,6 @@
 -- The body of each answer, as a JSON value with its members in the order of their names; its bytes are the compact
 -- text of the value, as `serde_json` writes it.
-use Rattle.std.specs.Prelude.{ℕ, Bool, List, [], ◌∷◌, map, length, codes, Option, None, Some}
+use Rattle.std.specs.Prelude.{ℕ, Bool, List, [], map, length, codes, Option, None, Some}
 use Rattle.serde_json.specs.Data.{Data, boolean, number, string, array, object, unsigned, no_members, member}
 use Rattle.serde_json.specs.View.{items_of}
 use Rattle.serde_json.specs.Written.{compact_text}

@@ -1,5 +1,5 @@
 -- The body of a submission: {"spool", "sender", "recipients", "size"}.
-use Rattle.std.specs.Prelude.{ℕ, List, [], ◌∷◌, Result, Ok, Err, codes, map, string_bytes}
+use Rattle.std.specs.Prelude.{ℕ, List, [], ◌∷◌, Result, Ok, codes, map, string_bytes}
 use Rattle.serde_json.specs.Data.{Data}
 use Rattle.serde_json.specs.Find.{as_object}
 use Rattle.hq_envelope.specs.Addresses.{is_address}

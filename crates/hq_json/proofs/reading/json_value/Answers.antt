@@ -1,4 +1,4 @@
-use Rattle.std.proofs.Common.{rules, ◌≡◌, ap, sym, ◌∙◌}
+use Rattle.std.proofs.Common.{ap}
 use Rattle.std.proofs.lemmas.Bool.{false≢true}
 use Rattle.hq_json.specs.Reading.{or_refuse}
 use Rattle.hq_envelope.specs.declared.failure.Refusal.TheVariants.{BadJson}
