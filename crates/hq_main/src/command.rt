@@ -93,8 +93,9 @@ pub fn command<R: Read, W: Write, E: Write>(
     }
 }
 
-/// Tells why the words could not be taken as text, and answers the exit status.
-pub fn unread_words<E: Write>(error: &io::Error, errors: &mut E) -> u8 {
+/// Tells why the program could not begin, and answers its exit status: 1 for want of memory, and 2 for a word that is
+/// not UTF-8.
+pub fn not_begun<E: Write>(error: &io::Error, errors: &mut E) -> u8 {
     if error.kind() == ErrorKind::OutOfMemory {
         let _told = writeln!(errors, "hq: {}", Fault::WantOfMemory);
         return FAILED;

@@ -8,9 +8,10 @@ mod command;
 #[cfg(test)]
 mod tests;
 
-use command::{command, unread_words};
+use command::{command, not_begun};
+use std::env;
+use std::io::{self, BufWriter};
 use std::process::ExitCode;
-use std::{env, io};
 
 /// The words after the program's name.
 fn words(rt: &HostRuntime) -> io::Result<Vec<String>> {
@@ -21,16 +22,23 @@ fn words(rt: &HostRuntime) -> io::Result<Vec<String>> {
     Ok(words)
 }
 
+/// Runs the program over the process's input and outputs. A reply is gathered, and written at once when it is whole.
+fn run(rt: &HostRuntime) -> io::Result<u8> {
+    let words = words(rt)?;
+    let mut output = BufWriter::new(rt.alloc(), rt.stdout())?;
+    Ok(command(
+        rt,
+        words.as_slice(),
+        &mut rt.stdin(),
+        &mut output,
+        &mut rt.stderr(),
+    ))
+}
+
 fn main(rt: HostRuntime) -> ExitCode {
-    let status = match words(&rt) {
-        Ok(words) => command(
-            &rt,
-            words.as_slice(),
-            &mut rt.stdin(),
-            &mut rt.stdout(),
-            &mut rt.stderr(),
-        ),
-        Err(error) => unread_words(&error, &mut rt.stderr()),
+    let status = match run(&rt) {
+        Ok(status) => status,
+        Err(error) => not_begun(&error, &mut rt.stderr()),
     };
     ExitCode::from(status)
 }

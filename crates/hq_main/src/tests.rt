@@ -1,7 +1,7 @@
 //! The program over inputs in memory: the worked rows as lines in and lines out, lines at their longest, and
 //! readers and writers that fail.
 
-use crate::command::{Trouble, command, unread_words};
+use crate::command::{Trouble, command, not_begun};
 use hq_batch::EngineFault;
 use hq_envelope::Refusal;
 use std::alloc::{AllocError, Global};
@@ -191,14 +191,14 @@ fn words_are_refused(rt: HostRuntime) -> Result<(), Fail> {
 }
 
 #[test]
-fn words_that_are_no_text(rt: HostRuntime) {
+fn what_is_told_before_the_first_line(rt: HostRuntime) {
     let cases = [
         (ErrorKind::InvalidData, 2, "hq: a word is not UTF-8\n"),
         (ErrorKind::OutOfMemory, 1, "hq: 90 WantOfMemory\n"),
     ];
     for (kind, want, line) in cases {
         let mut errors = Vec::new(rt.alloc());
-        let status = unread_words(&io::Error::from(kind), &mut errors);
+        let status = not_begun(&io::Error::from(kind), &mut errors);
         assert_eq!(rt; status, want);
         assert!(rt; errors.as_slice() == line.as_bytes());
     }
