@@ -53,6 +53,19 @@ impl Read for Pieces<'_> {
     }
 }
 
+/// Is interrupted at every read, and counts them.
+#[derive(Drop)]
+struct Interrupted {
+    reads: u64,
+}
+
+impl Read for Interrupted {
+    fn read(&mut self, _buf: &mut [u8]) -> io::Result<usize> {
+        self.reads = self.reads.wrapping_add(1);
+        Err(io::Error::from(ErrorKind::Interrupted))
+    }
+}
+
 /// Takes so many writes, and then fails.
 #[derive(Drop)]
 struct Narrow {
@@ -261,4 +274,15 @@ fn interrupted_reads_count(rt: HostRuntime) -> Result<(), Fail> {
         assert_eq!(rt; echo.steps_done, steps, "with {most_reads} reads");
     }
     Ok(())
+}
+
+// A run with checks takes minutes for so many reads: give `rt try --test` more `--seconds`.
+#[test]
+fn most_reads(rt: HostRuntime) {
+    let mut reader = Interrupted { reads: 0 };
+    let mut written = Vec::new(rt.alloc());
+    let mut echo = Echo { steps_done: 0 };
+    let result = serve_lines(rt.alloc(), &mut reader, &mut written, &mut echo);
+    assert_eq!(rt; result, Err(EngineFault::TooManyReads));
+    assert_eq!(rt; reader.reads, 67_108_864);
 }
