@@ -1,5 +1,8 @@
 //! The customers that the program serves as long as it reads no directory.
 
+ghost use Rattle.std.specs.Prelude.{◌≡◌, IfOk};
+ghost use Rattle.hq_main.specs.Builtin as builtin;
+
 use hq_envelope::{Fail, Host, Key, Name, Refusal};
 use hq_queue::{Customer, Entry, Quota};
 use hq_wire::{Directory, are_customers};
@@ -12,11 +15,15 @@ const HOST: &str = "relay.example";
 const RELAY_KEY: &str = "relaykey00000001";
 
 /// The name of the relay.
-pub fn host(alloc: Global) -> Result<Host, Fail> {
+pub fn host(alloc: Global) -> Result<Host, Fail>
+    ensures { IfOk result (λ host. host ≡ builtin.host) }
+{
     Host::parse(alloc, HOST)
 }
 
-fn acme(alloc: Global) -> Result<Customer, Fail> {
+fn acme(alloc: Global) -> Result<Customer, Fail>
+    ensures { IfOk result (λ customer. customer ≡ builtin.acme) }
+{
     let entry = Entry {
         name: Name::parse(alloc, "acme")?,
         quota: Quota {
@@ -31,7 +38,9 @@ fn acme(alloc: Global) -> Result<Customer, Fail> {
     Ok(Customer { entry, key })
 }
 
-fn birch(alloc: Global) -> Result<Customer, Fail> {
+fn birch(alloc: Global) -> Result<Customer, Fail>
+    ensures { IfOk result (λ customer. customer ≡ builtin.birch) }
+{
     let entry = Entry {
         name: Name::parse(alloc, "birch")?,
         quota: Quota {
@@ -48,7 +57,9 @@ fn birch(alloc: Global) -> Result<Customer, Fail> {
 
 /// Two customers: `acme` with small quotas and `birch` with large ones. 53 with row 0 would tell that they are no
 /// directory.
-pub fn directory(alloc: Global) -> Result<Directory, Fail> {
+pub fn directory(alloc: Global) -> Result<Directory, Fail>
+    ensures { IfOk result builtin.IsBuiltin }
+{
     let mut customers = Vec::new(alloc);
     customers.push(acme(alloc)?)?;
     customers.push(birch(alloc)?)?;

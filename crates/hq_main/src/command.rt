@@ -1,5 +1,9 @@
 //! What the program does, over any input and outputs, and what it tells of its end.
 
+ghost use Rattle.std.specs.Prelude.{◌≡◌, ◌⊎◌, [], OnOk};
+ghost use Rattle.std.specs.Io.KnownBytes.{IsAtEnd};
+ghost use Rattle.hq_main.specs.Builtin.{Serves};
+
 use crate::builtin::{directory, host};
 use hq_batch::{EngineFault, batch};
 use hq_desk::Desk;
@@ -55,11 +59,10 @@ impl From<EngineFault> for Trouble {
 }
 
 /// Serves the customers from an empty desk in memory.
-fn serve<R: Read, W: Write>(
-    rt: &HostRuntime,
-    input: &mut R,
-    output: &mut W,
-) -> Result<(), Trouble> {
+fn serve<R: Read, W: Write>(rt: &HostRuntime, input: &mut R, output: &mut W) -> Result<(), Trouble>
+    ensures served { OnOk result (Serves (R.remaining input.old) (R.remaining input.new) (W.contents output.old) (W.contents output.new)) }
+    ensures end { OnOk result (IsAtEnd (R.remaining input.new)) }
+{
     let alloc = rt.alloc();
     let mut desk = Desk::new(ListShelf::new(alloc), host(alloc)?);
     let directory = directory(alloc)?;
@@ -76,11 +79,15 @@ pub fn command<R: Read, W: Write, E: Write>(
     input: &mut R,
     output: &mut W,
     errors: &mut E,
-) -> u8 {
-    if let Some(word) = words.first() {
-        let _told = writeln!(
-            errors,
-            "hq: {word}: no words are taken yet; lines are read from standard input"
+) -> u8
+    ensures words { (words.now ≡ [] → ⊥) → (result ≡ 2) × (input.new ≡ input.old) × (output.new ≡ output.old) }
+    ensures status { words.now ≡ [] → (result ≡ 0) ⊎ (result ≡ 1) }
+    ensures served { result ≡ 0 → Serves (R.remaining input.old) (R.remaining input.new) (W.contents output.old) (W.contents output.new) }
+    ensures end { result ≡ 0 → IsAtEnd (R.remaining input.new) }
+{
+    if !words.is_empty() {
+        let _told = errors.write_all(
+            b"hq: no words are taken yet: lines are read from standard input\n",
         );
         return BAD_WORDS;
     }

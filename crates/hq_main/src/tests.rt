@@ -48,6 +48,23 @@ impl Write for Full {
     }
 }
 
+/// Takes all, and counts how often it is flushed.
+#[derive(Drop)]
+struct Flushed {
+    flushes: u64,
+}
+
+impl Write for Flushed {
+    fn write(&mut self, buf: &[u8]) -> io::Result<usize> {
+        Ok(buf.len())
+    }
+
+    fn flush(&mut self) -> io::Result<()> {
+        self.flushes = self.flushes.wrapping_add(1);
+        Ok(())
+    }
+}
+
 /// How a run of the program ended, and what it wrote.
 #[derive(Drop)]
 struct Ended {
@@ -178,6 +195,16 @@ fn writer_that_takes_nothing(rt: HostRuntime) {
 }
 
 #[test]
+fn each_reply_is_flushed(rt: HostRuntime) {
+    let mut rest = "1 GET /v1/messages -\n\nx\n2 GET /v1/messages -".as_bytes();
+    let mut output = Flushed { flushes: 0 };
+    let mut errors = Vec::new(rt.alloc());
+    let status = command(&rt, &[], &mut rest, &mut output, &mut errors);
+    assert_eq!(rt; status, 0);
+    assert_eq!(rt; output.flushes, 3);
+}
+
+#[test]
 fn words_are_refused(rt: HostRuntime) -> Result<(), Fail> {
     let words = [String::from_str(rt.alloc(), "serve")?];
     let run = run_over(&rt, &words, &mut SUBMIT.as_bytes());
@@ -185,7 +212,7 @@ fn words_are_refused(rt: HostRuntime) -> Result<(), Fail> {
     assert!(rt; run.output.is_empty());
     assert!(rt;
         run.errors.as_slice()
-            == b"hq: serve: no words are taken yet; lines are read from standard input\n".as_slice()
+            == b"hq: no words are taken yet: lines are read from standard input\n".as_slice()
     );
     Ok(())
 }
