@@ -8,8 +8,6 @@ mod attempt;
 mod message;
 mod moves;
 mod status;
-#[cfg(test)]
-mod tests;
 
 pub use account::{Counts, Customer, Entry, Head, Quota, Tally};
 pub use admission::admit;

@@ -11,8 +11,6 @@ mod messages;
 mod recipients;
 mod rows;
 mod shelf;
-#[cfg(test)]
-mod tests;
 
 pub use change::Change;
 pub use list_shelf::ListShelf;

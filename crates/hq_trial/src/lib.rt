@@ -1,5 +1,5 @@
 //! For tests alone: a shelf that stands before another and fails as told, so that every call of a test can
-//! be made to fail in turn; and the tests of the desk and of its values.
+//! be made to fail in turn; and the tests of the desk.
 #![tactic(auto)]
 
 mod failing_shelf;
@@ -12,5 +12,3 @@ pub use plain_text::PlainText;
 
 #[cfg(test)]
 mod tests;
-#[cfg(test)]
-mod values;

@@ -72,6 +72,7 @@ fn serial_in(text: &str) -> Option<Serial>
 {
     match Serial::parse(text) {
         Some(serial) => {
+            // Called for what it says: the definition asks for the range of the number.
             let _number = serial.get();
             Some(serial)
         }

@@ -1,11 +1,11 @@
 //! The moves of each state, admission at its edges, the form of status codes, and copies. Expected values are
 //! the product's rules.
 
-use crate::{
+use hq_envelope::{Address, Items, Key, Moment, Name, Sender, Serial, Spool, Text, TryCopy};
+use hq_queue::{
     Attempt, Counts, Customer, Entry, Head, Message, Pending, QueueState, Quota, Status, Tally,
     admit, hold, release,
 };
-use hq_envelope::{Address, Items, Key, Moment, Name, Sender, Serial, Spool, Text, TryCopy};
 use std::alloc::Global;
 use std::process::Abort;
 use std::test::Fail;

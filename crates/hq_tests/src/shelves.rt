@@ -1,8 +1,8 @@
 //! The shelf of plain lists beside a slow plain program, which goes through all steps again for each answer.
 
-use crate::{Change, ListShelf, Shelf};
 use hq_envelope::{Address, Items, Moment, Name, Sender, Serial, Spool, Text, TryCopy};
 use hq_queue::{Head, Message, Pending, QueueState, Tally};
+use hq_store::{Change, ListShelf, Shelf};
 use std::alloc::{AllocError, Global};
 use std::test::Fail;
 
