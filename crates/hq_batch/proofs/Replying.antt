@@ -66,10 +66,12 @@ module _ {S : Type 0} (may : Fault → Type 0) (is_clean is_ours : S → Type 0)
   whole old new [] (line ∷ lines) p = absurd p
   whole old new (q ∷ qs) [] p = absurd p
   whole old new (q ∷ qs) (line ∷ lines) p =
-      let rest = whole p.0 new qs lines p.2 in
-      (p.1.told ∷ rest.0, (λ i. p.1.line_is i ∷ rest.1 i),
-      one_more old.directory.now old.desk.now p.0.desk.now new.desk.now q qs p.1.told rest.0 p.1.step
-      (subst (λ d. Whole d.now p.0.desk.now new.desk.now qs rest.0) p.1.directory rest.2))
+      let rest = whole p.0 new qs lines p.2 in (
+        p.1.told ∷ rest.0,
+        (λ i. p.1.line_is i ∷ rest.1 i),
+        one_more old.directory.now old.desk.now p.0.desk.now new.desk.now q qs p.1.told rest.0 p.1.step
+            (subst (λ d. Whole d.now p.0.desk.now new.desk.now qs rest.0) p.1.directory rest.2),
+      )
 
   same_desk : (old new : Front S) (qs : List (Option Request)) (lines : List (List ℕ)) → Run Line old qs lines new → new.desk.ghost_name ≡ old.desk.ghost_name
   same_desk old new [] [] p = ap (λ f. f.desk.ghost_name) p
