@@ -62,8 +62,8 @@ abbrev pub state_after : List ℕ → Entry → State → List (ℕ × Call) →
 state_after host entry s [] = s
 state_after host entry s (ask ∷ asks) = state_after host entry (step host entry s ask.0 ask.1).1 asks
 
--- The headline. Every customer is told, and what is kept of it is, what its own machine answers and is left in that is
--- started from its own state and given its share of the calls alone.
+-- The headline. For every customer there is its machine, started from its own state and given its share of the calls
+-- alone: the customer is told what that machine answers, and what is kept of it is the state that the machine is left in.
 pub record Alone (host : List ℕ) (d : Directory) (asks : List Ask) (rs : List Told) (t t' : Tables) : Type 0 where
   pub replies : (c : List ℕ) → told c asks rs ≡ map reply_of (answers host (entry_of d c) (own c t) (share c asks rs))
   pub state : (c : List ℕ) → own c t' ≡ state_after host (entry_of d c) (own c t) (share c asks rs)

@@ -4,7 +4,7 @@ ghost use Rattle.std.specs.Prelude.{◌≡◌, ◌+◌, ◌-◌, ◌^◌, ◌<�
 ghost use Rattle.hq_store.specs.Sound.{Sound};
 ghost use Rattle.hq_desk.specs.Desks.{shelf_of, host_of};
 ghost use Rattle.hq_wire.specs.Replies.{seen, store_faults};
-ghost use Rattle.hq_wire.specs.Runs.{Alone, ask_of};
+ghost use Rattle.hq_wire.specs.Runs.{Alone, Served, ask_of};
 
 use crate::answering::exchange;
 use crate::asked::Exchange;
@@ -29,6 +29,8 @@ pub fn run<S: Shelf + Drop, A: Allocator>(
     exchanges: &[Exchange],
 ) -> Result<Vec<Reply, A>, AllocError>
     ensures count { IfOk result (λ replies. length replies.items ≡ length exchanges.now) }
+    ensures served { IfOk result (λ replies. S.is_clean (shelf_of desk.new) → S.is_ours (shelf_of desk.old) → S.is_closed (shelf_of desk.new) ≡ false → Sound (S.tables (shelf_of desk.old)) →
+        Served S.may_answer (host_of desk.old) directory.now (S.tables (shelf_of desk.old)) (map (ask_of directory.now) exchanges.now) (map seen replies.items) (S.tables (shelf_of desk.new))) }
     ensures alone { IfOk result (λ replies. S.is_clean (shelf_of desk.new) → S.is_ours (shelf_of desk.old) → S.is_closed (shelf_of desk.new) ≡ false → Sound (S.tables (shelf_of desk.old)) →
         Alone (host_of desk.old) directory.now (map (ask_of directory.now) exchanges.now) (map seen replies.items) (S.tables (shelf_of desk.old)) (S.tables (shelf_of desk.new))) }
     ensures sound { IfOk result (λ replies. S.is_clean (shelf_of desk.new) → S.is_ours (shelf_of desk.old) → S.is_closed (shelf_of desk.new) ≡ false → Sound (S.tables (shelf_of desk.old)) → Sound (S.tables (shelf_of desk.new))) }

@@ -46,6 +46,12 @@ loop-item-preserved g c =
       room = omega (arith, c.push_reserved.ensures.capacity);
     }
 
+pub returns-clause-served : goal.returns-clause-served
+returns-clause-served g c = λ clean ours closed sound.
+    let tables = g.S.Shelf.tables in
+    let d = c.args.directory.now in
+    subst (λ xs. Served g.S.Shelf.may_answer c.args.desk.now.host d (tables c.args.desk.now.shelf) (map (ask_of d) xs) (map seen c.loop-item.replies.items) (tables c.loop-item.desk.shelf)) (take_all c.loop-item.item-index c.args.exchanges.now (omega arith)) (c.loop-item.invariant.served clean ours closed sound)
+
 pub returns-clause-alone : goal.returns-clause-alone
 returns-clause-alone g c = λ clean ours closed sound.
     let tables = g.S.Shelf.tables in
