@@ -55,8 +55,8 @@ fn birch(alloc: Global) -> Result<Customer, Fail>
     Ok(Customer { entry, key })
 }
 
-/// Two customers: `acme` with small quotas and `birch` with large ones. `BadDirectory` with row 0 would tell that they
-/// are no directory.
+/// Two customers: `acme` with small quotas and `birch` with large ones. Were they no directory, they would be refused as
+/// `BadDirectory` of no row.
 pub fn directory(alloc: Global) -> Result<Directory, Fail>
     ensures { IfOk result builtin.IsBuiltin }
 {

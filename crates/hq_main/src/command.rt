@@ -1,8 +1,10 @@
 //! What the program does, over any input and outputs, and what it tells of its end.
 
-ghost use Rattle.std.specs.Prelude.{◌≡◌, ◌⊎◌, [], OnOk};
+ghost use Rattle.std.specs.Prelude.{◌≡◌, ◌⊎◌, [], OnOk, IfErr};
 ghost use Rattle.std.specs.Io.KnownBytes.{IsAtEnd};
-ghost use Rattle.hq_main.specs.Builtin.{Serves};
+ghost use Rattle.hq_lines.specs.Lines.{lines_in};
+ghost use Rattle.hq_main.specs.Builtin.{Serves, Leaves, Fails, trouble_of};
+ghost use Rattle.hq_main.specs.declared.command.Trouble.TheVariants.{Desk};
 
 use crate::builtin::{directory, host};
 use hq_batch::{EngineFault, batch};
@@ -13,13 +15,13 @@ use std::fmt;
 use std::io::{self, ErrorKind, Read, Write};
 
 /// The exit status when the input has ended.
-pub const DONE: u8 = 0;
+const DONE: u8 = 0;
 
 /// The exit status of a refusal or a fault.
-pub const FAILED: u8 = 1;
+const FAILED: u8 = 1;
 
 /// The exit status of words that are not taken.
-pub const BAD_WORDS: u8 = 2;
+const BAD_WORDS: u8 = 2;
 
 /// Why the program ended before its input.
 #[derive(Clone, Copy, Debug, PartialEq, Eq, Drop)]
@@ -43,12 +45,16 @@ impl fmt::Display for Trouble {
 }
 
 impl From<Fail> for Trouble {
+    ghost from_gives = { λ fail trouble. trouble ≡ Desk fail };
+
     fn from(fail: Fail) -> Trouble {
         Trouble::Desk(fail)
     }
 }
 
 impl From<EngineFault> for Trouble {
+    ghost from_gives = { λ fault trouble. trouble ≡ trouble_of fault };
+
     fn from(fault: EngineFault) -> Trouble {
         match fault {
             EngineFault::Read | EngineFault::TooManyReads => Trouble::Input,
@@ -60,8 +66,9 @@ impl From<EngineFault> for Trouble {
 
 /// Serves the customers from an empty desk in memory.
 fn serve<R: Read, W: Write>(rt: &HostRuntime, input: &mut R, output: &mut W) -> Result<(), Trouble>
-    ensures served { OnOk result (Serves (R.remaining input.old) (R.remaining input.new) (W.contents output.old) (W.contents output.new)) }
+    ensures served { OnOk result (Serves lines_in (R.remaining input.old) (R.remaining input.new) (W.contents output.old) (W.contents output.new)) }
     ensures end { OnOk result (IsAtEnd (R.remaining input.new)) }
+    ensures fault { IfErr result (Leaves (R.remaining input.old) (R.remaining input.new) (W.contents output.old) (W.contents output.new) ((input.new ≡ input.old) × (output.new ≡ output.old))) }
 {
     let alloc = rt.alloc();
     let mut desk = Desk::new(ListShelf::new(alloc), host(alloc)?);
@@ -73,6 +80,9 @@ fn serve<R: Read, W: Write>(rt: &HostRuntime, input: &mut R, output: &mut W) -> 
 /// Runs the program with the words after its name, and answers its exit status: 0 when the input has ended, 1 for
 /// a refusal or a fault, 2 for any word, since none is taken yet. Each of the last two is told in one line of
 /// `errors`; where that cannot be written, the status tells it alone.
+///
+/// After a failed input the whole lines before are replied to; after a failed output the exchanges of the first lines
+/// are done; where the desk could not begin for want of memory, nothing is read or written.
 pub fn command<R: Read, W: Write, E: Write>(
     rt: &HostRuntime,
     words: &[String],
@@ -82,8 +92,9 @@ pub fn command<R: Read, W: Write, E: Write>(
 ) -> u8
     ensures words { (words.now ≡ [] → ⊥) → (result ≡ 2) × (input.new ≡ input.old) × (output.new ≡ output.old) }
     ensures status { words.now ≡ [] → (result ≡ 0) ⊎ (result ≡ 1) }
-    ensures served { result ≡ 0 → Serves (R.remaining input.old) (R.remaining input.new) (W.contents output.old) (W.contents output.new) }
+    ensures served { result ≡ 0 → Serves lines_in (R.remaining input.old) (R.remaining input.new) (W.contents output.old) (W.contents output.new) }
     ensures end { result ≡ 0 → IsAtEnd (R.remaining input.new) }
+    ensures fault { result ≡ 1 → Fails (R.remaining input.old) (R.remaining input.new) (W.contents output.old) (W.contents output.new) ((input.new ≡ input.old) × (output.new ≡ output.old)) }
 {
     if !words.is_empty() {
         let _told = errors.write_all(
