@@ -1,6 +1,6 @@
 -- What the program serves as long as it reads no directory: two customers, from an empty desk.
 use Rattle.std.specs.Prelude.{◌≡◌, ℕ, List, [], ◌∷◌, codes, Option}
-use Rattle.hq_envelope.specs.Refusals.{no_memory, no_memory_fail}
+use Rattle.hq_envelope.specs.Refusals.{fail_shown, no_memory, no_memory_fail}
 use Rattle.hq_queue.specs.declared.account.Customer.{Customer}
 use Rattle.hq_store.specs.Tables.{Tables, no_tables}
 use Rattle.hq_wire.specs.Directories.{relay_of, customers_of}
@@ -58,12 +58,18 @@ trouble_of TooManyReads = Input
 trouble_of Write = Output
 trouble_of WantOfMemory = Desk no_memory_fail
 
+-- as it is told: what failed, or the refusal or fault of the desk
+abbrev pub trouble_shown : Trouble → List ℕ
+trouble_shown Input = codes "input"
+trouble_shown Output = codes "output"
+trouble_shown (Desk fail) = fail_shown fail
+
 -- What a trouble leaves: where the input failed, the whole lines among the bytes read are replied to; where the output
--- did, the exchanges of the first lines are done; where the desk could not begin, nothing was touched.
+-- did, the exchanges of the first lines are done; where the desk could not begin, memory ran out and nothing was touched.
 abbrev pub Leaves : Option (List ℕ) → Option (List ℕ) → Option (List ℕ) → Option (List ℕ) → Type 0 → Trouble → Type 0
 Leaves read_old read_new write_old write_new untouched Input = Serves whole_lines read_old read_new write_old write_new
 Leaves read_old read_new write_old write_new untouched Output = BreaksOff read_old read_new
-Leaves read_old read_new write_old write_new untouched (Desk fail) = untouched
+Leaves read_old read_new write_old write_new untouched (Desk fail) = (fail ≡ no_memory_fail) × untouched
 
 -- A trouble, and what it leaves.
 pub record Fails (read_old read_new write_old write_new : Option (List ℕ)) (untouched : Type 0) : Type 0 where

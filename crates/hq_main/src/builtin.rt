@@ -1,11 +1,12 @@
 //! The customers that the program serves as long as it reads no directory.
 
-ghost use Rattle.std.specs.Prelude.{◌≡◌, IfOk};
+ghost use Rattle.std.specs.Prelude.{◌≡◌, MatchResult};
+ghost use Rattle.hq_envelope.specs.Refusals.{no_memory_fail};
 ghost use Rattle.hq_main.specs.Builtin as builtin;
 
-use hq_envelope::{Fail, Host, Key, Name, Refusal};
+use hq_envelope::{Fail, Host, Key, Name};
 use hq_queue::{Customer, Entry, Quota};
-use hq_wire::{Directory, are_customers};
+use hq_wire::Directory;
 use std::alloc::Global;
 
 /// The name of the relay.
@@ -14,15 +15,15 @@ const HOST: &str = "relay.example";
 /// The key of the relay's workers.
 const RELAY_KEY: &str = "relaykey00000001";
 
-/// The name of the relay.
+/// The name of the relay, or want of memory.
 pub fn host(alloc: Global) -> Result<Host, Fail>
-    ensures { IfOk result (λ host. host ≡ builtin.host) }
+    ensures { MatchResult result (λ host. host ≡ builtin.host) (λ fail. fail ≡ no_memory_fail) }
 {
     Host::parse(alloc, HOST)
 }
 
 fn acme(alloc: Global) -> Result<Customer, Fail>
-    ensures { IfOk result (λ customer. customer ≡ builtin.acme) }
+    ensures { MatchResult result (λ customer. customer ≡ builtin.acme) (λ fail. fail ≡ no_memory_fail) }
 {
     let entry = Entry {
         name: Name::parse(alloc, "acme")?,
@@ -39,7 +40,7 @@ fn acme(alloc: Global) -> Result<Customer, Fail>
 }
 
 fn birch(alloc: Global) -> Result<Customer, Fail>
-    ensures { IfOk result (λ customer. customer ≡ builtin.birch) }
+    ensures { MatchResult result (λ customer. customer ≡ builtin.birch) (λ fail. fail ≡ no_memory_fail) }
 {
     let entry = Entry {
         name: Name::parse(alloc, "birch")?,
@@ -55,17 +56,13 @@ fn birch(alloc: Global) -> Result<Customer, Fail>
     Ok(Customer { entry, key })
 }
 
-/// Two customers: `acme` with small quotas and `birch` with large ones. Were they no directory, they would be refused as
-/// `BadDirectory` of no row.
+/// Two customers: `acme` with small quotas and `birch` with large ones; or want of memory.
 pub fn directory(alloc: Global) -> Result<Directory, Fail>
-    ensures { IfOk result builtin.IsBuiltin }
+    ensures { MatchResult result builtin.IsBuiltin (λ fail. fail ≡ no_memory_fail) }
 {
     let mut customers = Vec::new(alloc);
     customers.push(acme(alloc)?)?;
     customers.push(birch(alloc)?)?;
-    if !are_customers(customers.as_slice()) {
-        return Err(Fail::Refused(Refusal::BadDirectory { row: 0 }));
-    }
     let relay = Key::parse(alloc, RELAY_KEY)?;
     Directory::new(alloc, relay, customers)
 }

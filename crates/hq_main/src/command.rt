@@ -1,9 +1,10 @@
 //! What the program does, over any input and outputs, and what it tells of its end.
 
-ghost use Rattle.std.specs.Prelude.{◌≡◌, ◌⊎◌, [], OnOk, IfErr};
+ghost use Rattle.std.specs.Prelude.{◌≡◌, ◌⊎◌, [], Some, OnOk, IfErr};
 ghost use Rattle.std.specs.Io.KnownBytes.{IsAtEnd};
+ghost use Rattle.std.specs.IoError.{error_kind};
 ghost use Rattle.hq_lines.specs.Lines.{lines_in};
-ghost use Rattle.hq_main.specs.Builtin.{Serves, Leaves, Fails, trouble_of};
+ghost use Rattle.hq_main.specs.Builtin.{Serves, Leaves, Fails, trouble_of, trouble_shown};
 ghost use Rattle.hq_main.specs.declared.command.Trouble.TheVariants.{Desk};
 
 use crate::builtin::{directory, host};
@@ -35,6 +36,8 @@ pub enum Trouble {
 }
 
 impl fmt::Display for Trouble {
+    ghost output = { λ trouble. Some (trouble_shown trouble) };
+
     fn fmt<W: fmt::Write>(&self, f: &mut fmt::Formatter<W>) -> fmt::Result {
         match self {
             Trouble::Input => f.write_str("input"),
@@ -113,7 +116,10 @@ pub fn command<R: Read, W: Write, E: Write>(
 
 /// Tells why the program could not begin, and answers its exit status: 1 for want of memory, and 2 for a word that is
 /// not UTF-8.
-pub fn not_begun<E: Write>(error: &io::Error, errors: &mut E) -> u8 {
+pub fn not_begun<E: Write>(error: &io::Error, errors: &mut E) -> u8
+    ensures memory { error_kind error.now ≡ ErrorKind.OutOfMemory → result ≡ 1 }
+    ensures word { (error_kind error.now ≡ ErrorKind.OutOfMemory → ⊥) → result ≡ 2 }
+{
     if error.kind() == ErrorKind::OutOfMemory {
         let _told = writeln!(errors, "hq: {}", Fault::WantOfMemory);
         return FAILED;

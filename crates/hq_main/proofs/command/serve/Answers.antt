@@ -41,7 +41,7 @@ left : (ro rn wo wn : Option (List ℕ)) (d : Directory) (named : List ℕ) (t t
 left ro rn wo wn d named t t' _ _ Read _ builtin is_host empty batched = served whole_lines ro rn wo wn d named t t' builtin is_host empty batched
 left ro rn wo wn d named t t' _ _ TooManyReads _ builtin is_host empty batched = served whole_lines ro rn wo wn d named t t' builtin is_host empty batched
 left ro rn wo wn d named t t' _ _ Write _ builtin is_host empty broken = broken_off ro rn d named t t' builtin is_host empty broken
-left ro rn wo wn d named t t' _ _ WantOfMemory less _ _ _ nothing = less nothing
+left ro rn wo wn d named t t' _ _ WantOfMemory less _ _ _ nothing = (refl, less nothing)
 
 pub returns-clause-served : goal.returns-clause-served
 returns-clause-served g c =
