@@ -12,12 +12,16 @@ use Rattle.hq_routes.specs.declared.Path.{Path}
 use Rattle.hq_routes.proofs.Seek.{IsSimple, AllSimple, Before, Sorted, first-route}
 use Rattle.matchit.proofs.OnLiterals.{matchit_on_literals}
 use Rattle.matchit.specs.Router.{rename}
-use Rattle.hq_routes.specs.Routes.{added_all, table}
+use Rattle.hq_routes.specs.Routes.{added_all, can_add_all, table}
 use Rattle.hq_routes.specs.declared.TheConstants.{PATHS}
 
 pub rows_are : rename (λ e. e.value) (added_all (map (λ e. (e.0.now, e.1)) PATHS) []) ≡ table
 unfolding matchit_on_literals table
 rows_are = refl
+
+pub can_add_paths : can_add_all (map (λ e. (e.0.now, e.1)) PATHS) [] ≡ true
+unfolding matchit_on_literals
+can_add_paths = refl
 
 -- ---- the table's shape, as tests that compute
 

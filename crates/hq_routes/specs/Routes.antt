@@ -1,8 +1,8 @@
 -- The paths of the desk, and which one a path is.
-use Rattle.std.specs.Prelude.{ℕ, List, [], ◌∷◌, ◌++◌, ◌&&◌, ◌||◌, ◌==◌, not, length, Bool, true, false, cond, codes, Option, Some, None, Result, Ok, Err}
+use Rattle.std.specs.Prelude.{ℕ, List, [], ◌∷◌, ◌++◌, ◌&&◌, ◌||◌, ◌==◌, not, length, Bool, true, false, cond, codes, Option, Some, None, is_none, Result, Ok, Err}
 use Rattle.matchit.specs.Rows.{RowsOf}
 use Rattle.matchit.specs.Order.{placed}
-use Rattle.matchit.specs.Router.{RouteOf, route_from}
+use Rattle.matchit.specs.Router.{RouteOf, route_from, nearest}
 use Rattle.matchit.specs.Route.{Scan, parse_route}
 use Rattle.matchit.specs.declared.error.InsertError.{InsertError}
 use Rattle.matchit.specs.Seek.{has_slash}
@@ -53,6 +53,19 @@ added r rows = added_read (parse_route r.0) r.1 rows
 abbrev pub added_all : List (List ℕ × Path) → RowsOf (RouteOf Path) → RowsOf (RouteOf Path)
 added_all [] rows = rows
 added_all (r ∷ rs) rows = added_all rs (added r rows)
+
+-- a path reads well, and no row is in conflict with it
+abbrev pub fits_read : Result Scan InsertError → RowsOf (RouteOf Path) → Bool
+fits_read (Ok s) rows = is_none (nearest s.pattern rows)
+fits_read (Err e) rows = false
+
+abbrev pub can_add : List ℕ × Path → RowsOf (RouteOf Path) → Bool
+can_add r rows = fits_read (parse_route r.0) rows
+
+-- each in turn reads well, and is in conflict with none before it
+abbrev pub can_add_all : List (List ℕ × Path) → RowsOf (RouteOf Path) → Bool
+can_add_all [] rows = true
+can_add_all (r ∷ rs) rows = can_add r rows && can_add_all rs (added r rows)
 
 -- what follows the last slash, or all of it
 abbrev pub last_segment : List ℕ → List ℕ

@@ -2,10 +2,10 @@
 //! escape, no query, no case. What a method does at a path is not said here.
 #![tactic(auto)]
 
-ghost use Rattle.std.specs.Prelude.{◌≡◌, [], IfOk, OnOk, MatchOption, map as map_list};
+ghost use Rattle.std.specs.Prelude.{◌≡◌, [], true, IfOk, IfErr, OnOk, MatchOption, map as map_list};
 ghost use Rattle.matchit.specs.Seek.{first};
 ghost use Rattle.matchit.specs.Router.{rename, map_key};
-ghost use Rattle.hq_routes.specs.Routes.{last_segment, path_of, added, added_all, table};
+ghost use Rattle.hq_routes.specs.Routes.{last_segment, path_of, added, added_all, can_add, can_add_all, table};
 
 use matchit::{InsertError, Router};
 use std::alloc::Global;
@@ -37,21 +37,26 @@ const PATHS: [(&str, Path); 6] = [
     ("/relay/submit/{customer}", Path::Submit),
 ];
 
-/// Adds a path that has no conflict with those that are there.
+/// Adds a path; where it reads well and has no conflict with those that are there, the only error is want of memory.
 fn add(router: &mut Router<Path>, text: &str, path: Path) -> Result<(), InsertError>
-    ensures { OnOk result (router.new ≡ added (text.now, path) router.old) }
+    ensures added { OnOk result (router.new ≡ added (text.now, path) router.old) }
+    ensures fault { can_add (text.now, path) router.old ≡ true → IfErr result (λ e. e ≡ InsertError.OutOfMemory) }
 {
     router.insert(text, path)
 }
 
-fn filled(alloc: Global, paths: &[(&str, Path)]) -> Result<Router<Path>, InsertError>
-    ensures { IfOk result (λ r. r ≡ added_all (map_list (λ e. (e.0.now, e.1)) paths.now) []) }
+/// Adds paths in their order.
+fn add_all(router: &mut Router<Path>, paths: &[(&str, Path)]) -> Result<(), InsertError>
+    ensures added { OnOk result (router.new ≡ added_all (map_list (λ e. (e.0.now, e.1)) paths.now) router.old) }
+    ensures fault { can_add_all (map_list (λ e. (e.0.now, e.1)) paths.now) router.old ≡ true → IfErr result (λ e. e ≡ InsertError.OutOfMemory) }
 {
-    let mut router = Router::new(alloc);
-    for (text, path) in paths {
-        add(&mut router, text, *path)?;
+    match paths {
+        [] => Ok(()),
+        [(text, path), rest @ ..] => {
+            add(router, text, *path)?;
+            add_all(router, rest)
+        }
     }
-    Ok(router)
 }
 
 fn value_at(router: &Router<Path>, text: &str) -> Option<Path>
@@ -72,8 +77,11 @@ pub struct Paths {
 
 impl Paths {
     /// Enters all paths. The only error is want of memory, since no two of them are in conflict.
-    pub fn new(alloc: Global) -> Result<Paths, InsertError> {
-        let router = filled(alloc, &PATHS)?;
+    pub fn new(alloc: Global) -> Result<Paths, InsertError>
+        ensures { IfErr result (λ e. e ≡ InsertError.OutOfMemory) }
+    {
+        let mut router = Router::new(alloc);
+        add_all(&mut router, &PATHS)?;
         Ok(Paths { router })
     }
 
