@@ -87,6 +87,7 @@ impl Serial {
     /// The serial whose queue ID the text is, or nothing where it is none's.
     pub fn parse(text: &str) -> Option<Serial>
         ensures written { IfSome result (λ serial. serial_text serial ≡ text.now) }
+        ensures range { IfSome result (λ serial. (0 < serial) × (serial < 2 ^ 40)) }
         ensures read { (n : ℕ) → 0 < n → n < 2 ^ 40 → serial_text n ≡ text.now → result ≡ Some n }
     {
         if text.len() != 10 {

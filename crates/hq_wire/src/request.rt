@@ -70,14 +70,7 @@ fn is_for_relay(kind: Kind) -> bool
 fn serial_in(text: &str) -> Option<Serial>
     ensures { result ≡ calls.serial_in text.now }
 {
-    match Serial::parse(text) {
-        Some(serial) => {
-            // Called for what it says: the definition asks for the range of the number.
-            let _number = serial.get();
-            Some(serial)
-        }
-        None => None,
-    }
+    Serial::parse(text)
 }
 
 /// The serial that a path names, or 8 `BadField`.

@@ -1,4 +1,4 @@
-use Rattle.std.proofs.Common.{◌≡◌, ◌∙◌, sym, ap, arith, length, get_or, Some}
+use Rattle.std.proofs.Common.{◌≡◌, ℕ, ◌^◌, ◌<◌, ◌∙◌, sym, ap, subst, arith, length, get_or, Option, Some, None, SomeIff, IfSome}
 use Rattle.hq_envelope.specs.Serials.{hex_value}
 use Rattle.hq_envelope.proofs.Hex.{below_power, below_power_more, read_more, hex_bytes, digit_of_value, length-hex_text, hex_none, serial_read}
 use Rattle.hq_envelope.proofs.serial.Serial.parse.Goals as goal
@@ -13,6 +13,10 @@ overflow_add-number c =
     let small = below_power c.loop-byte.number c.loop-byte.byte-index 9 c.loop-byte.invariant.small (omega arith) in
     let digit = digit_of_value (get_or c.as_bytes-byte-items.result.now c.loop-byte.byte-index 0) c.in_ok-number.field-0 (sym c.hex_value.ensures ∙ c.in_ok-number.was) in
     omega (arith, digit.0)
+
+in_range : (o : Option ℕ) (m : ℕ) → SomeIff o ((0 < m) × (m < 2 ^ 40)) m → IfSome o (λ n. (0 < n) × (n < 2 ^ 40))
+in_range None m h = tt
+in_range (Some n) m h = subst (λ n. (0 < n) × (n < 2 ^ 40)) (sym h.1) h.0
 
 pub loop-byte-preserved : goal.loop-byte-preserved
 loop-byte-preserved c =
@@ -36,4 +40,4 @@ loop-byte-init c = record { read = hex_none 0; small = omega arith }
 pub returns : goal.returns
 returns c =
     let both = serial_read c.args.text.now c.new.result c.loop-byte.number c.loop-byte.byte-index (omega arith) (omega (arith, ap length c.as_bytes-byte-items.ensures.value)) (omega (arith, ap length c.as_bytes-byte-items.ensures.value)) c.loop-byte.invariant.small c.loop-byte.invariant.read c.new.ensures in
-    record { written = both.0; read = both.1 }
+    record { written = both.0; range = in_range c.new.result c.loop-byte.number c.new.ensures; read = both.1 }
