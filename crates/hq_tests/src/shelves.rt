@@ -20,6 +20,21 @@ const STEPS: [&str; 9] = [
     "acme 4 s3 1 eve@far.example",
 ];
 
+/// The spool names that are asked for: those of the steps, and one that nobody has.
+const SPOOLS: [&str; 4] = ["s1", "s2", "s3", "s4"];
+
+/// The pages that are asked for: the serial that one begins after, 0 for none, and the most messages on it.
+const PAGES: [(u64, usize); 8] = [
+    (0, 0),
+    (0, 1),
+    (0, 9),
+    (1, 1),
+    (1, 2),
+    (2, 1),
+    (3, 9),
+    (9, 9),
+];
+
 fn name(alloc: Global, text: &str) -> Result<Name, Fail> {
     Ok(Name::parse(alloc, text)?)
 }
@@ -132,20 +147,11 @@ fn answered(alloc: Global, shelf: &mut ListShelf, customer: &str) -> Result<Stri
         let found = shelf.message(&customer, serial(number)?)?;
         report(&mut text, "serial", told_found(alloc, found)?.as_slice())?;
     }
-    for spool in ["s1", "s2", "s3", "s4"] {
+    for spool in SPOOLS {
         let found = shelf.by_spool(&customer, &Spool::parse(alloc, spool)?)?;
         report(&mut text, spool, told_found(alloc, found)?.as_slice())?;
     }
-    for (after, limit) in [
-        (0, 0),
-        (0, 1),
-        (0, 9),
-        (1, 1),
-        (1, 2),
-        (2, 1),
-        (3, 9),
-        (9, 9),
-    ] {
+    for (after, limit) in PAGES {
         let page = shelf.messages(&customer, Serial::new(after), limit)?;
         report(
             &mut text,
@@ -202,7 +208,7 @@ fn computed(alloc: Global, steps: &[&str], customer: &str) -> Result<String, Fai
             bytes = bytes.saturating_add(word(found, 2)?.parse::<u64>()?);
         }
     }
-    for spool in ["s1", "s2", "s3", "s4"] {
+    for spool in SPOOLS {
         let mut found = None;
         for number in 1..10 {
             let there = left(steps, customer, number);
@@ -212,16 +218,7 @@ fn computed(alloc: Global, steps: &[&str], customer: &str) -> Result<String, Fai
         }
         report(&mut text, spool, copied(alloc, found)?.as_slice())?;
     }
-    for (after, limit) in [
-        (0, 0),
-        (0, 1),
-        (0, 9),
-        (1, 1),
-        (1, 2),
-        (2, 1),
-        (3, 9),
-        (9, 9),
-    ] {
+    for (after, limit) in PAGES {
         report(
             &mut text,
             "page",

@@ -28,6 +28,15 @@ const LIST_BIRCH: &str = "1767225601 GET /v1/messages birchkey00000001";
 const LISTED_BIRCH: &str =
     "200 {\"messages\":[{\"arrival\":1767225600,\"id\":\"0000000001\",\"recipients\":1,\"sender\":\"ann@a.example\",\"size\":900,\"state\":\"incoming\"}],\"more\":false}";
 
+/// Both customers submit, acme holds its message twice, and birch lists its own.
+const FIRST_ROWS: [(&str, &str); 5] = [
+    (SUBMIT_ACME, QUEUED_FIRST),
+    (SUBMIT_BIRCH, QUEUED_FIRST),
+    (HOLD_ACME, "200 {\"changed\":1}"),
+    (HOLD_ACME, "200 {\"changed\":0}"),
+    (LIST_BIRCH, LISTED_BIRCH),
+];
+
 fn quota(messages: u64, bytes: u64, lines: u64, notices: u64) -> Quota {
     Quota {
         messages,
@@ -141,16 +150,7 @@ fn expect_replies(rt: &(impl Abort + AllocGlobal), rows: &[(&str, &str)]) -> Res
 
 #[test]
 fn first_submits_holds_and_lists(rt: HostRuntime) -> Result<(), Fail> {
-    expect_replies(
-        &rt,
-        &[
-            (SUBMIT_ACME, QUEUED_FIRST),
-            (SUBMIT_BIRCH, QUEUED_FIRST),
-            (HOLD_ACME, "200 {\"changed\":1}"),
-            (HOLD_ACME, "200 {\"changed\":0}"),
-            (LIST_BIRCH, LISTED_BIRCH),
-        ],
-    )
+    expect_replies(&rt, &FIRST_ROWS)
 }
 
 #[test]
@@ -545,16 +545,7 @@ fn expect_run(rt: &(impl Abort + AllocGlobal), rows: &[(&str, &str)]) -> Result<
 
 #[test]
 fn runs(rt: HostRuntime) -> Result<(), Fail> {
-    expect_run(
-        &rt,
-        &[
-            (SUBMIT_ACME, QUEUED_FIRST),
-            (SUBMIT_BIRCH, QUEUED_FIRST),
-            (HOLD_ACME, "200 {\"changed\":1}"),
-            (HOLD_ACME, "200 {\"changed\":0}"),
-            (LIST_BIRCH, LISTED_BIRCH),
-        ],
-    )?;
+    expect_run(&rt, &FIRST_ROWS)?;
     expect_run(
         &rt,
         &[(SUBMIT_BIRCH, QUEUED_FIRST), (LIST_BIRCH, LISTED_BIRCH)],
