@@ -1,18 +1,20 @@
 -- The steps of the lines together are the replies to all of them.
-use Rattle.std.proofs.Common.{◌≡◌, ℕ, ◌+◌, ◌-◌, ◌^◌, ◌<◌, ◌≤◌, Bool, false, cond, List, [], ◌∷◌, map, Option, Result, Ok, Err, OnOk, IfErr, refl, sym, ap, ◌∙◌, subst, arith}
+use Rattle.std.proofs.Common.{◌≡◌, ℕ, ◌+◌, ◌-◌, ◌^◌, ◌<◌, ◌≤◌, false, cond, List, [], ◌∷◌, map, Option, Result, Ok, Err, OnOk, IfErr, refl, sym, ap, ◌∙◌, subst, arith}
 use Rattle.std.proofs.lemmas.List.Sums.{sum_by-append}
 use Rattle.std.specs.Bool.{⊤}
 use Rattle.std.specs.List.{concat}
 use Rattle.std.specs.Io.KnownBytes.{Appends}
 use Rattle.hq_envelope.specs.declared.failure.Fault.{Fault}
 use Rattle.hq_store.specs.Tables.{Tables}
+use Rattle.hq_store.specs.Shelves.{Sight, OnOpenSound}
 use Rattle.hq_store.specs.Sound.{Sound}
-use Rattle.hq_desk.specs.Desks.{shelf_of, host_of}
+use Rattle.hq_desk.specs.Desks.{Stays, host_of, on}
 use Rattle.hq_desk.specs.declared.desk.Desk.{Desk}
 use Rattle.hq_wire.specs.Replies.{Told, store_faults, tells_store}
 use Rattle.hq_wire.specs.Runs.{Served as AllServed}
 use Rattle.hq_wire.specs.declared.directory.Directory.{Directory}
 use Rattle.hq_wire.proofs.Alone.{alone}
+use Rattle.hq_wire.proofs.Further.{stay_put, stay_on}
 use Rattle.hq_lines.specs.Fields.{Request}
 use Rattle.hq_lines.specs.Leaves as lines
 use Rattle.hq_lines.specs.Lines.{requests, Run, Served, Broken}
@@ -22,32 +24,37 @@ use Rattle.hq_batch.specs.Batches.{ask_in, reply_line, Done, Batched, BrokenOff,
 use Rattle.hq_batch.specs.Steps.{Stepped, LineStep}
 use Rattle.hq_batch.specs.declared.front.Front.{Front}
 
-module _ {S : Type 0} (may : Fault → Type 0) (is_clean is_ours : S → Type 0) (is_closed : S → Bool) (tables : S → Tables) (fault_count : S → ℕ) where
+module _ {S : Type 0} (sight : Sight S) where
+  abbrev may : Fault → Type 0
+  may = sight.may_answer
+
+  abbrev tables : Desk S → Tables
+  tables = (on sight).tables
+
+  abbrev fault_count : Desk S → ℕ
+  fault_count = (on sight).fault_count
+
   -- what is said of a desk after the replies to lines
   pub record Whole (d : Directory) (old new : Desk S) (qs : List (Option Request)) (rs : List Told) : Type 0 where
-    pub served : is_clean (shelf_of new) → is_ours (shelf_of old) → is_closed (shelf_of new) ≡ false → Sound (tables (shelf_of old)) → AllServed may (host_of old) d (tables (shelf_of old)) (map (ask_in d) qs) rs (tables (shelf_of new))
-    pub sound : is_clean (shelf_of new) → is_ours (shelf_of old) → is_closed (shelf_of new) ≡ false → Sound (tables (shelf_of old)) → Sound (tables (shelf_of new))
-    pub ours : is_clean (shelf_of new) → is_ours (shelf_of old) → is_ours (shelf_of new)
-    pub quiet : is_clean (shelf_of new) → is_clean (shelf_of old)
-    pub stays_open : is_closed (shelf_of new) ≡ false → is_closed (shelf_of old) ≡ false
-    pub host : host_of new ≡ host_of old
-    pub faults : fault_count (shelf_of new) < 2 ^ 64 - 1 → store_faults rs + fault_count (shelf_of old) ≤ fault_count (shelf_of new)
+    pub served : OnOpenSound (on sight) old new (AllServed may (host_of old) d (tables old) (map (ask_in d) qs) rs (tables new))
+    pub sound : OnOpenSound (on sight) old new (Sound (tables new))
+    pub stays : Stays (on sight) old new
+    pub faults : fault_count new < 2 ^ 64 - 1 → store_faults rs + fault_count old ≤ fault_count new
 
   none_yet : (d : Directory) (s : Desk S) → Whole d s s [] []
-  none_yet d s = record { served = λ clean ours closed sound. refl; sound = λ clean ours closed sound. sound; ours = λ clean ours. ours; quiet = λ clean. clean; stays_open = λ closed. closed; host = refl; faults = λ small. omega arith }
+  none_yet d s = record { served = λ clean ours closed sound. refl; sound = λ clean ours closed sound. sound; stays = stay_put (on sight) s; faults = λ small. omega arith }
 
-  one_more : (d : Directory) (old mid new : Desk S) (q : Option Request) (qs : List (Option Request)) (r : Told) (rs : List Told) → Stepped may is_clean is_ours is_closed tables fault_count d old mid q r → Whole d mid new qs rs → Whole d old new (q ∷ qs) (r ∷ rs)
+  one_more : (d : Directory) (old mid new : Desk S) (q : Option Request) (qs : List (Option Request)) (r : Told) (rs : List Told) → Stepped sight d old mid q r → Whole d mid new qs rs → Whole d old new (q ∷ qs) (r ∷ rs)
   one_more d old mid new q qs r rs step rest = record {
     served = λ clean ours closed sound.
-        let mid_clean = rest.quiet clean in
-        let mid_open = rest.stays_open closed in
-        let after = rest.served clean (step.ours mid_clean ours) closed (step.sound mid_clean ours mid_open sound) in
-        (tables (shelf_of mid), step.replied mid_clean ours mid_open sound, subst (λ h. AllServed may h d (tables (shelf_of mid)) (map (ask_in d) qs) rs (tables (shelf_of new))) step.host after);
-    sound = λ clean ours closed sound. rest.sound clean (step.ours (rest.quiet clean) ours) closed (step.sound (rest.quiet clean) ours (rest.stays_open closed) sound);
-    ours = λ clean ours. rest.ours clean (step.ours (rest.quiet clean) ours);
-    quiet = λ clean. step.quiet (rest.quiet clean);
-    stays_open = λ closed. step.stays_open (rest.stays_open closed);
-    host = rest.host ∙ step.host;
+        let mid_clean = rest.stays.quiet clean in
+        let mid_open = rest.stays.stays_open closed in
+        let after = rest.served clean (step.stays.ours mid_clean ours) closed (step.sound mid_clean ours mid_open sound) in
+        (tables mid, step.replied mid_clean ours mid_open sound, subst (λ h. AllServed may h d (tables mid) (map (ask_in d) qs) rs (tables new)) step.stays.host after);
+    sound = λ clean ours closed sound.
+        let mid_clean = rest.stays.quiet clean in
+        rest.sound clean (step.stays.ours mid_clean ours) closed (step.sound mid_clean ours (rest.stays.stays_open closed) sound);
+    stays = stay_on (on sight) old mid new step.stays rest.stays;
     faults = λ small.
         let later = rest.faults small in
         let earlier = step.grows (omega arith) in
@@ -56,7 +63,7 @@ module _ {S : Type 0} (may : Fault → Type 0) (is_clean is_ours : S → Type 0)
   }
 
   abbrev Line : Front S → Option Request → List ℕ → Front S → Type 0
-  Line old request line new = LineStep may is_clean is_ours is_closed tables fault_count old new request line
+  Line old request line new = LineStep sight old new request line
 
   abbrev Replied : Front S → Front S → List (Option Request) → List (List ℕ) → Type 0
   Replied old new qs lines = (rs : List Told) × (lines ≡ map reply_line rs) × Whole old.directory.now old.desk.now new.desk.now qs rs
@@ -109,7 +116,7 @@ module _ {S : Type 0} (may : Fault → Type 0) (is_clean is_ours : S → Type 0)
     ended parts (Ok x) h fault = some_lines old new _ h.replies h.run
     ended parts (Err e) h fault = some_after e fault
 
-  module _ (ro rn wo wn : Option (List ℕ)) (old new : Front S) (clean : is_clean (shelf_of new.desk.now)) (ours : is_ours (shelf_of old.desk.now)) (closed : is_closed (shelf_of new.desk.now) ≡ false) (sound : Sound (tables (shelf_of old.desk.now))) where
+  module _ (ro rn wo wn : Option (List ℕ)) (old new : Front S) (clean : (on sight).is_clean new.desk.now) (ours : (on sight).is_ours old.desk.now) (closed : (on sight).is_closed new.desk.now ≡ false) (sound : Sound (tables old.desk.now)) where
     abbrev host : List ℕ
     host = host_of old.desk.now
 
@@ -117,16 +124,16 @@ module _ {S : Type 0} (may : Fault → Type 0) (is_clean is_ours : S → Type 0)
     d = old.directory.now
 
     abbrev t : Tables
-    t = tables (shelf_of old.desk.now)
+    t = tables old.desk.now
 
     abbrev t' : Tables
-    t' = tables (shelf_of new.desk.now)
+    t' = tables new.desk.now
 
     abbrev before : ℕ
-    before = fault_count (shelf_of old.desk.now)
+    before = fault_count old.desk.now
 
     abbrev after : ℕ
-    after = fault_count (shelf_of new.desk.now)
+    after = fault_count new.desk.now
 
     done : (qs : List (Option Request)) (rs : List Told) → Whole d old.desk.now new.desk.now qs rs → Done may host d (map (ask_in d) qs) rs t t' before after
     done qs rs all =

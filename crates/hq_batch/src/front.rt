@@ -1,8 +1,9 @@
 //! The desk as what answers the lines of a batch.
 
-ghost use Rattle.std.specs.Prelude.{◌≡◌, ◌+◌, ◌-◌, ◌^◌, ◌<◌, ◌≤◌, false, Option, Some, IfOk, string_bytes, option_map, if◌then◌else◌};
+ghost use Rattle.std.specs.Prelude.{◌≡◌, ◌+◌, ◌-◌, ◌^◌, ◌<◌, ◌≤◌, Option, Some, IfOk, string_bytes, option_map, if◌then◌else◌};
+ghost use Rattle.hq_store.specs.Shelves.{OnOpenSound};
 ghost use Rattle.hq_store.specs.Sound.{Sound};
-ghost use Rattle.hq_desk.specs.Desks.{shelf_of, host_of};
+ghost use Rattle.hq_desk.specs.Desks.{Stays, host_of, on};
 ghost use Rattle.hq_wire.specs.Replies.{seen, tells_store};
 ghost use Rattle.hq_lines.specs.Fields.{request_in, shown};
 ghost use Rattle.hq_batch.specs.Batches.{IsAsked, LineReplied};
@@ -47,14 +48,11 @@ fn request_reply<S: Shelf + Drop>(
     directory: &Directory,
     line: &Line<'_>,
 ) -> Reply
-    ensures replied { S.is_clean (shelf_of desk.new) → S.is_ours (shelf_of desk.old) → S.is_closed (shelf_of desk.new) ≡ false → Sound (S.tables (shelf_of desk.old)) →
-        LineReplied S.may_answer (host_of desk.old) directory.now (S.tables (shelf_of desk.old)) (Some (shown line.now)) (seen result) (S.tables (shelf_of desk.new)) }
-    ensures sound { S.is_clean (shelf_of desk.new) → S.is_ours (shelf_of desk.old) → S.is_closed (shelf_of desk.new) ≡ false → Sound (S.tables (shelf_of desk.old)) → Sound (S.tables (shelf_of desk.new)) }
-    ensures ours { S.is_clean (shelf_of desk.new) → S.is_ours (shelf_of desk.old) → S.is_ours (shelf_of desk.new) }
-    ensures quiet { S.is_clean (shelf_of desk.new) → S.is_clean (shelf_of desk.old) }
-    ensures stays_open { S.is_closed (shelf_of desk.new) ≡ false → S.is_closed (shelf_of desk.old) ≡ false }
-    ensures host { host_of desk.new ≡ host_of desk.old }
-    ensures grows { S.fault_count (shelf_of desk.new) < 2 ^ 64 - 1 → (if tells_store (seen result) then 1 else 0) + S.fault_count (shelf_of desk.old) ≤ S.fault_count (shelf_of desk.new) }
+    ensures replied { OnOpenSound (on S.sight) desk.old desk.new
+        (LineReplied S.sight.may_answer (host_of desk.old) directory.now ((on S.sight).tables desk.old) (Some (shown line.now)) (seen result) ((on S.sight).tables desk.new)) }
+    ensures sound { OnOpenSound (on S.sight) desk.old desk.new (Sound ((on S.sight).tables desk.new)) }
+    ensures stays { Stays (on S.sight) desk.old desk.new }
+    ensures grows { (on S.sight).fault_count desk.new < 2 ^ 64 - 1 → (if tells_store (seen result) then 1 else 0) + (on S.sight).fault_count desk.old ≤ (on S.sight).fault_count desk.new }
 {
     match exchange_of(alloc, line) {
         Ok(asked) => exchange(alloc, desk, directory, &asked),
@@ -69,14 +67,11 @@ fn line_reply<S: Shelf + Drop>(
     directory: &Directory,
     line: &[u8],
 ) -> Reply
-    ensures replied { S.is_clean (shelf_of desk.new) → S.is_ours (shelf_of desk.old) → S.is_closed (shelf_of desk.new) ≡ false → Sound (S.tables (shelf_of desk.old)) →
-        LineReplied S.may_answer (host_of desk.old) directory.now (S.tables (shelf_of desk.old)) (request_in line.now) (seen result) (S.tables (shelf_of desk.new)) }
-    ensures sound { S.is_clean (shelf_of desk.new) → S.is_ours (shelf_of desk.old) → S.is_closed (shelf_of desk.new) ≡ false → Sound (S.tables (shelf_of desk.old)) → Sound (S.tables (shelf_of desk.new)) }
-    ensures ours { S.is_clean (shelf_of desk.new) → S.is_ours (shelf_of desk.old) → S.is_ours (shelf_of desk.new) }
-    ensures quiet { S.is_clean (shelf_of desk.new) → S.is_clean (shelf_of desk.old) }
-    ensures stays_open { S.is_closed (shelf_of desk.new) ≡ false → S.is_closed (shelf_of desk.old) ≡ false }
-    ensures host { host_of desk.new ≡ host_of desk.old }
-    ensures grows { S.fault_count (shelf_of desk.new) < 2 ^ 64 - 1 → (if tells_store (seen result) then 1 else 0) + S.fault_count (shelf_of desk.old) ≤ S.fault_count (shelf_of desk.new) }
+    ensures replied { OnOpenSound (on S.sight) desk.old desk.new
+        (LineReplied S.sight.may_answer (host_of desk.old) directory.now ((on S.sight).tables desk.old) (request_in line.now) (seen result) ((on S.sight).tables desk.new)) }
+    ensures sound { OnOpenSound (on S.sight) desk.old desk.new (Sound ((on S.sight).tables desk.new)) }
+    ensures stays { Stays (on S.sight) desk.old desk.new }
+    ensures grows { (on S.sight).fault_count desk.new < 2 ^ 64 - 1 → (if tells_store (seen result) then 1 else 0) + (on S.sight).fault_count desk.old ≤ (on S.sight).fault_count desk.new }
 {
     match read_line(line) {
         Some(line) => request_reply(alloc, desk, directory, &line),
@@ -93,7 +88,7 @@ pub struct Front<'d, S> {
 }
 
 impl<'d, S: Shelf + Drop> Answers for Front<'d, S> {
-    ghost steps = { λ old request line new. LineStep S.may_answer S.is_clean S.is_ours S.is_closed S.tables S.fault_count old new request line };
+    ghost steps = { λ old request line new. LineStep S.sight old new request line };
 
     fn answer<W: Write>(&mut self, line: &[u8], writer: &mut W) -> io::Result<()> {
         let reply = line_reply(self.alloc, self.desk, self.directory, line);

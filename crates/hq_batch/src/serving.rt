@@ -1,9 +1,10 @@
 //! A batch with the desk.
 
-ghost use Rattle.std.specs.Prelude.{◌≡◌, false, Option, List, ℕ, OnOk, IfErr};
+ghost use Rattle.std.specs.Prelude.{◌≡◌, Option, List, ℕ, OnOk, IfErr};
 ghost use Rattle.std.specs.Io.KnownBytes.{IsAtEnd};
+ghost use Rattle.hq_store.specs.Shelves.{OnOpenSound};
 ghost use Rattle.hq_store.specs.Sound.{Sound};
-ghost use Rattle.hq_desk.specs.Desks.{shelf_of, host_of};
+ghost use Rattle.hq_desk.specs.Desks.{Stays, host_of, on};
 ghost use Rattle.hq_lines.specs.Lines.{lines_in};
 ghost use Rattle.hq_batch.specs.Batches.{Batched, Leaves};
 
@@ -23,16 +24,13 @@ fn serve_front<R: Read, W: Write, S: Shelf + Drop>(
     front: &mut Front<'_, S>,
 ) -> Result<(), EngineFault>
     ensures same_reference { front.new.desk.ghost_name ≡ front.old.desk.ghost_name }
-    ensures served { S.is_clean (shelf_of front.new.desk.now) → S.is_ours (shelf_of front.old.desk.now) → S.is_closed (shelf_of front.new.desk.now) ≡ false → Sound (S.tables (shelf_of front.old.desk.now)) →
-        OnOk result (Batched S.may_answer (host_of front.old.desk.now) front.old.directory.now lines_in (R.remaining reader.old) (R.remaining reader.new) (W.contents writer.old) (W.contents writer.new) (S.tables (shelf_of front.old.desk.now)) (S.tables (shelf_of front.new.desk.now)) (S.fault_count (shelf_of front.old.desk.now)) (S.fault_count (shelf_of front.new.desk.now))) }
+    ensures served { OnOpenSound (on S.sight) front.old.desk.now front.new.desk.now
+        (OnOk result (Batched S.sight.may_answer (host_of front.old.desk.now) front.old.directory.now lines_in (R.remaining reader.old) (R.remaining reader.new) (W.contents writer.old) (W.contents writer.new) ((on S.sight).tables front.old.desk.now) ((on S.sight).tables front.new.desk.now) ((on S.sight).fault_count front.old.desk.now) ((on S.sight).fault_count front.new.desk.now))) }
     ensures end { OnOk result (IsAtEnd (R.remaining reader.new)) }
-    ensures fault { S.is_clean (shelf_of front.new.desk.now) → S.is_ours (shelf_of front.old.desk.now) → S.is_closed (shelf_of front.new.desk.now) ≡ false → Sound (S.tables (shelf_of front.old.desk.now)) →
-        IfErr result (Leaves S.may_answer (host_of front.old.desk.now) front.old.directory.now (R.remaining reader.old) (R.remaining reader.new) (W.contents writer.old) (W.contents writer.new) (S.tables (shelf_of front.old.desk.now)) (S.tables (shelf_of front.new.desk.now)) (S.fault_count (shelf_of front.old.desk.now)) (S.fault_count (shelf_of front.new.desk.now)) ((reader.new ≡ reader.old) × (writer.new ≡ writer.old) × (front.new.desk.now ≡ front.old.desk.now))) }
-    ensures sound { S.is_clean (shelf_of front.new.desk.now) → S.is_ours (shelf_of front.old.desk.now) → S.is_closed (shelf_of front.new.desk.now) ≡ false → Sound (S.tables (shelf_of front.old.desk.now)) → Sound (S.tables (shelf_of front.new.desk.now)) }
-    ensures ours { S.is_clean (shelf_of front.new.desk.now) → S.is_ours (shelf_of front.old.desk.now) → S.is_ours (shelf_of front.new.desk.now) }
-    ensures quiet { S.is_clean (shelf_of front.new.desk.now) → S.is_clean (shelf_of front.old.desk.now) }
-    ensures stays_open { S.is_closed (shelf_of front.new.desk.now) ≡ false → S.is_closed (shelf_of front.old.desk.now) ≡ false }
-    ensures host { host_of front.new.desk.now ≡ host_of front.old.desk.now }
+    ensures fault { OnOpenSound (on S.sight) front.old.desk.now front.new.desk.now
+        (IfErr result (Leaves S.sight.may_answer (host_of front.old.desk.now) front.old.directory.now (R.remaining reader.old) (R.remaining reader.new) (W.contents writer.old) (W.contents writer.new) ((on S.sight).tables front.old.desk.now) ((on S.sight).tables front.new.desk.now) ((on S.sight).fault_count front.old.desk.now) ((on S.sight).fault_count front.new.desk.now) ((reader.new ≡ reader.old) × (writer.new ≡ writer.old) × (front.new.desk.now ≡ front.old.desk.now)))) }
+    ensures sound { OnOpenSound (on S.sight) front.old.desk.now front.new.desk.now (Sound ((on S.sight).tables front.new.desk.now)) }
+    ensures stays { Stays (on S.sight) front.old.desk.now front.new.desk.now }
 {
     serve_lines(alloc, reader, writer, front)
 }
@@ -58,16 +56,13 @@ pub fn batch<R: Read, W: Write, S: Shelf + Drop>(
     desk: &mut Desk<S>,
     directory: &Directory,
 ) -> Result<(), EngineFault>
-    ensures served { S.is_clean (shelf_of desk.new) → S.is_ours (shelf_of desk.old) → S.is_closed (shelf_of desk.new) ≡ false → Sound (S.tables (shelf_of desk.old)) →
-        OnOk result (Batched S.may_answer (host_of desk.old) directory.now lines_in (R.remaining reader.old) (R.remaining reader.new) (W.contents writer.old) (W.contents writer.new) (S.tables (shelf_of desk.old)) (S.tables (shelf_of desk.new)) (S.fault_count (shelf_of desk.old)) (S.fault_count (shelf_of desk.new))) }
+    ensures served { OnOpenSound (on S.sight) desk.old desk.new
+        (OnOk result (Batched S.sight.may_answer (host_of desk.old) directory.now lines_in (R.remaining reader.old) (R.remaining reader.new) (W.contents writer.old) (W.contents writer.new) ((on S.sight).tables desk.old) ((on S.sight).tables desk.new) ((on S.sight).fault_count desk.old) ((on S.sight).fault_count desk.new))) }
     ensures end { OnOk result (IsAtEnd (R.remaining reader.new)) }
-    ensures fault { S.is_clean (shelf_of desk.new) → S.is_ours (shelf_of desk.old) → S.is_closed (shelf_of desk.new) ≡ false → Sound (S.tables (shelf_of desk.old)) →
-        IfErr result (Leaves S.may_answer (host_of desk.old) directory.now (R.remaining reader.old) (R.remaining reader.new) (W.contents writer.old) (W.contents writer.new) (S.tables (shelf_of desk.old)) (S.tables (shelf_of desk.new)) (S.fault_count (shelf_of desk.old)) (S.fault_count (shelf_of desk.new)) ((reader.new ≡ reader.old) × (writer.new ≡ writer.old) × (desk.new ≡ desk.old))) }
-    ensures sound { S.is_clean (shelf_of desk.new) → S.is_ours (shelf_of desk.old) → S.is_closed (shelf_of desk.new) ≡ false → Sound (S.tables (shelf_of desk.old)) → Sound (S.tables (shelf_of desk.new)) }
-    ensures ours { S.is_clean (shelf_of desk.new) → S.is_ours (shelf_of desk.old) → S.is_ours (shelf_of desk.new) }
-    ensures quiet { S.is_clean (shelf_of desk.new) → S.is_clean (shelf_of desk.old) }
-    ensures stays_open { S.is_closed (shelf_of desk.new) ≡ false → S.is_closed (shelf_of desk.old) ≡ false }
-    ensures host { host_of desk.new ≡ host_of desk.old }
+    ensures fault { OnOpenSound (on S.sight) desk.old desk.new
+        (IfErr result (Leaves S.sight.may_answer (host_of desk.old) directory.now (R.remaining reader.old) (R.remaining reader.new) (W.contents writer.old) (W.contents writer.new) ((on S.sight).tables desk.old) ((on S.sight).tables desk.new) ((on S.sight).fault_count desk.old) ((on S.sight).fault_count desk.new) ((reader.new ≡ reader.old) × (writer.new ≡ writer.old) × (desk.new ≡ desk.old)))) }
+    ensures sound { OnOpenSound (on S.sight) desk.old desk.new (Sound ((on S.sight).tables desk.new)) }
+    ensures stays { Stays (on S.sight) desk.old desk.new }
 {
     let mut front = Front {
         alloc,

@@ -1,5 +1,7 @@
 -- What is said of a desk.
-use Rattle.std.specs.Prelude.{ℕ, ◌≡◌, List}
+use Rattle.std.specs.Prelude.{ℕ, ◌≡◌, ◌⊎◌, false, List}
+use Rattle.hq_envelope.specs.Refusals.{no_memory}
+use Rattle.hq_store.specs.Shelves.{Sight}
 use Rattle.hq_desk.specs.declared.answer.Answer.{Answer}
 use Rattle.hq_desk.specs.declared.desk.Desk.{Desk}
 use Rattle.hq_desk.specs.declared.desk.Rendered.{Rendered}
@@ -12,6 +14,31 @@ shelf_of desk = desk.shelf
 -- the name of its relay
 abbrev pub host_of : {S : Type 0} → Desk S → List ℕ
 host_of desk = desk.host
+
+-- what is seen of a shelf, by a call that may want memory whichever the shelf
+abbrev pub with_memory : {S : Type 0} → Sight S → Sight S
+with_memory sight = record sight { may_answer = λ fault. (fault ≡ no_memory) ⊎ sight.may_answer fault }
+
+-- What is seen of a desk: what is seen of its shelf; but its calls may want memory, whichever the shelf.
+abbrev pub on : {S : Type 0} → Sight S → Sight (Desk S)
+on sight = record {
+  tables = λ desk. sight.tables (shelf_of desk);
+  is_closed = λ desk. sight.is_closed (shelf_of desk);
+  fault_count = λ desk. sight.fault_count (shelf_of desk);
+  is_clean = λ desk. sight.is_clean (shelf_of desk);
+  is_ours = λ desk. sight.is_ours (shelf_of desk);
+  may_answer = λ fault. (fault ≡ no_memory) ⊎ sight.may_answer fault;
+}
+
+-- What calls keep of a desk, whatever they answered. `sight` is what is seen of it.
+pub record Stays {S : Type 0} (sight : Sight (Desk S)) (old new : Desk S) : Type 0 where
+  -- the rows stay those of the tables
+  pub ours : sight.is_clean new → sight.is_ours old → sight.is_ours new
+  -- what is clean now was clean
+  pub quiet : sight.is_clean new → sight.is_clean old
+  -- what is open now was open
+  pub stays_open : sight.is_closed new ≡ false → sight.is_closed old ≡ false
+  pub host : host_of new ≡ host_of old
 
 -- an answer with its number and its one text
 abbrev pub IsRendered : (Answer → List ℕ) → Answer → Rendered → Type 0

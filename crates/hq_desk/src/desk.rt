@@ -1,12 +1,11 @@
 //! The desk over any shelf: what a call reads, and what it does.
 
-ghost use Rattle.std.specs.Prelude.{◌≡◌, ◌⊎◌, false, None, IfOk, IfErr, OnOk, OnErr};
-ghost use Rattle.hq_envelope.specs.Refusals.{no_memory};
-ghost use Rattle.hq_store.specs.Readings.{read_tables, after_serial};
-ghost use Rattle.hq_store.specs.Shelves.{IsTallied};
+ghost use Rattle.std.specs.Prelude.{◌≡◌, None, IfOk, OnOk};
+ghost use Rattle.hq_store.specs.Readings.{after_serial};
+ghost use Rattle.hq_store.specs.Shelves.{Finds, FindsSound, Keeps, KeepsOnErr, OnOpen, OnSound};
 ghost use Rattle.hq_store.specs.Sound.{Sound};
 ghost use Rattle.hq_desk.specs.Decision as rules;
-ghost use Rattle.hq_desk.specs.Desks.{shelf_of, host_of, IsRendered};
+ghost use Rattle.hq_desk.specs.Desks.{shelf_of, host_of, with_memory, on, IsRendered};
 ghost use Rattle.hq_desk.specs.Limits.{IsEntry, IsCall};
 ghost use Rattle.hq_desk.specs.Machine.{shared};
 
@@ -42,6 +41,105 @@ pub struct Rendered {
     pub bytes: Vec<u8>,
 }
 
+/// What a submission of a new spool name is answered and changes.
+fn decide_new<S: Shelf>(
+    shelf: &mut S,
+    alloc: Global,
+    at: Moment,
+    entry: &Entry,
+    submission: Submission,
+) -> Result<Decision, Fault>
+    ensures found { FindsSound S.sight shelf.old shelf.new result entry.now.name (λ rows. rules.submit entry.now rows at submission None) }
+    ensures kept { Keeps (with_memory S.sight) shelf.old shelf.new result }
+{
+    let head = shelf.head(&entry.name)?;
+    let counts = shelf.counts(&entry.name)?;
+    let serial = admitted(&head, &entry.quota, &counts, submission.size);
+    let decision = admit(alloc, head, at, submission, serial)?;
+    Ok(decision)
+}
+
+/// What a submission is answered and changes.
+fn decide_submit<S: Shelf>(
+    shelf: &mut S,
+    alloc: Global,
+    at: Moment,
+    entry: &Entry,
+    submission: Submission,
+) -> Result<Decision, Fault>
+    ensures found { FindsSound S.sight shelf.old shelf.new result entry.now.name (λ rows. rules.submit entry.now rows at submission (rows.by_spool submission.spool)) }
+    ensures kept { Keeps (with_memory S.sight) shelf.old shelf.new result }
+{
+    match shelf.by_spool(&entry.name, &submission.spool)? {
+        Some(known) => Ok(tell(alloc, Answer::Repeated(known.serial))),
+        None => decide_new(shelf, alloc, at, entry, submission),
+    }
+}
+
+/// What the deletion of a message is answered and changes.
+fn decide_delete<S: Shelf>(
+    shelf: &mut S,
+    alloc: Global,
+    entry: &Entry,
+    serial: Serial,
+) -> Result<Decision, Fault>
+    ensures found { Finds S.sight shelf.old shelf.new result entry.now.name (λ rows. rules.delete rows.head (rows.message serial)) }
+    ensures kept { Keeps (with_memory S.sight) shelf.old shelf.new result }
+{
+    let Some(message) = shelf.message(&entry.name, serial)? else {
+        return Ok(refuse(alloc, Refusal::NoMessage));
+    };
+    let head = shelf.head(&entry.name)?;
+    let decision = delete(alloc, head, &message)?;
+    Ok(decision)
+}
+
+/// What a list is answered.
+fn decide_list<S: Shelf>(
+    shelf: &mut S,
+    alloc: Global,
+    entry: &Entry,
+    after: Option<Serial>,
+) -> Result<Decision, Fault>
+    ensures found { Finds S.sight shelf.old shelf.new result entry.now.name (λ rows. rules.page (after_serial after rows.messages)) }
+    ensures kept { Keeps (with_memory S.sight) shelf.old shelf.new result }
+{
+    let found = shelf.messages(&entry.name, after, PAGE + 1)?;
+    Ok(page(alloc, found))
+}
+
+/// What a call is answered and changes, by what the shelf has.
+#[tactic(auto, unfolding(crate::specs::Decision::decide))]
+fn decide<S: Shelf>(
+    shelf: &mut S,
+    host: &Host,
+    alloc: Global,
+    at: Moment,
+    entry: &Entry,
+    call: Call,
+) -> Result<Decision, Fault>
+    ensures found { FindsSound S.sight shelf.old shelf.new result entry.now.name (λ rows. rules.decide host.now entry.now rows at call) }
+    ensures kept { Keeps (with_memory S.sight) shelf.old shelf.new result }
+{
+    match call {
+        Call::Submit(submission) => decide_submit(shelf, alloc, at, entry, submission),
+        Call::List(after) => decide_list(shelf, alloc, entry, after),
+        Call::Show(serial) => {
+            let found = shelf.message(&entry.name, serial)?;
+            Ok(show(alloc, found))
+        }
+        Call::Hold(serial) => {
+            let found = shelf.message(&entry.name, serial)?;
+            Ok(hold_found(alloc, found)?)
+        }
+        Call::Release(serial) => {
+            let found = shelf.message(&entry.name, serial)?;
+            Ok(release_found(alloc, at, found)?)
+        }
+        Call::Delete(serial) => decide_delete(shelf, alloc, entry, serial),
+    }
+}
+
 /// The desk of all customers, over a shelf that keeps their tables.
 #[derive(Drop)]
 pub struct Desk<S> {
@@ -65,129 +163,6 @@ impl<S: Shelf + Drop> Desk<S> {
         self.shelf
     }
 
-    /// What a submission of a new spool name is answered and changes.
-    fn decide_new(
-        &mut self,
-        alloc: Global,
-        at: Moment,
-        entry: &Entry,
-        submission: Submission,
-    ) -> Result<Decision, Fault>
-        ensures found { S.is_clean (shelf_of self.new) → S.is_ours (shelf_of self.old) → Sound (S.tables (shelf_of self.old)) → IfOk result (λ decision. decision ≡ rules.submit entry.now (read_tables entry.now.name (S.tables (shelf_of self.old))) at submission None) }
-        ensures same { S.is_clean (shelf_of self.new) → S.is_ours (shelf_of self.old) → S.is_closed (shelf_of self.new) ≡ false → S.tables (shelf_of self.new) ≡ S.tables (shelf_of self.old) }
-        ensures ours { S.is_clean (shelf_of self.new) → S.is_ours (shelf_of self.old) → S.is_ours (shelf_of self.new) }
-        ensures quiet { S.is_clean (shelf_of self.new) → S.is_clean (shelf_of self.old) }
-        ensures tally { IsTallied (S.is_closed (shelf_of self.old)) (S.is_closed (shelf_of self.new)) (S.fault_count (shelf_of self.old)) (S.fault_count (shelf_of self.new)) result }
-        ensures cause { IfErr result (λ fault. (fault ≡ no_memory) ⊎ S.may_answer fault) }
-        ensures host { host_of self.new ≡ host_of self.old }
-    {
-        let head = self.shelf.head(&entry.name)?;
-        let counts = self.shelf.counts(&entry.name)?;
-        let serial = admitted(&head, &entry.quota, &counts, submission.size);
-        let decision = admit(alloc, head, at, submission, serial)?;
-        Ok(decision)
-    }
-
-    /// What a submission is answered and changes.
-    fn decide_submit(
-        &mut self,
-        alloc: Global,
-        at: Moment,
-        entry: &Entry,
-        submission: Submission,
-    ) -> Result<Decision, Fault>
-        ensures found { S.is_clean (shelf_of self.new) → S.is_ours (shelf_of self.old) → Sound (S.tables (shelf_of self.old)) → IfOk result (λ decision. decision ≡ rules.submit entry.now (read_tables entry.now.name (S.tables (shelf_of self.old))) at submission ((read_tables entry.now.name (S.tables (shelf_of self.old))).by_spool submission.spool)) }
-        ensures same { S.is_clean (shelf_of self.new) → S.is_ours (shelf_of self.old) → S.is_closed (shelf_of self.new) ≡ false → S.tables (shelf_of self.new) ≡ S.tables (shelf_of self.old) }
-        ensures ours { S.is_clean (shelf_of self.new) → S.is_ours (shelf_of self.old) → S.is_ours (shelf_of self.new) }
-        ensures quiet { S.is_clean (shelf_of self.new) → S.is_clean (shelf_of self.old) }
-        ensures tally { IsTallied (S.is_closed (shelf_of self.old)) (S.is_closed (shelf_of self.new)) (S.fault_count (shelf_of self.old)) (S.fault_count (shelf_of self.new)) result }
-        ensures cause { IfErr result (λ fault. (fault ≡ no_memory) ⊎ S.may_answer fault) }
-        ensures host { host_of self.new ≡ host_of self.old }
-    {
-        match self.shelf.by_spool(&entry.name, &submission.spool)? {
-            Some(known) => Ok(tell(alloc, Answer::Repeated(known.serial))),
-            None => self.decide_new(alloc, at, entry, submission),
-        }
-    }
-
-    /// What the deletion of a message is answered and changes.
-    fn decide_delete(
-        &mut self,
-        alloc: Global,
-        entry: &Entry,
-        serial: Serial,
-    ) -> Result<Decision, Fault>
-        ensures found { S.is_clean (shelf_of self.new) → S.is_ours (shelf_of self.old) → IfOk result (λ decision. decision ≡ rules.delete (read_tables entry.now.name (S.tables (shelf_of self.old))).head ((read_tables entry.now.name (S.tables (shelf_of self.old))).message serial)) }
-        ensures same { S.is_clean (shelf_of self.new) → S.is_ours (shelf_of self.old) → S.is_closed (shelf_of self.new) ≡ false → S.tables (shelf_of self.new) ≡ S.tables (shelf_of self.old) }
-        ensures ours { S.is_clean (shelf_of self.new) → S.is_ours (shelf_of self.old) → S.is_ours (shelf_of self.new) }
-        ensures quiet { S.is_clean (shelf_of self.new) → S.is_clean (shelf_of self.old) }
-        ensures tally { IsTallied (S.is_closed (shelf_of self.old)) (S.is_closed (shelf_of self.new)) (S.fault_count (shelf_of self.old)) (S.fault_count (shelf_of self.new)) result }
-        ensures cause { IfErr result (λ fault. (fault ≡ no_memory) ⊎ S.may_answer fault) }
-        ensures host { host_of self.new ≡ host_of self.old }
-    {
-        let Some(message) = self.shelf.message(&entry.name, serial)? else {
-            return Ok(refuse(alloc, Refusal::NoMessage));
-        };
-        let head = self.shelf.head(&entry.name)?;
-        let decision = delete(alloc, head, &message)?;
-        Ok(decision)
-    }
-
-    /// What a list is answered.
-    fn decide_list(
-        &mut self,
-        alloc: Global,
-        entry: &Entry,
-        after: Option<Serial>,
-    ) -> Result<Decision, Fault>
-        ensures found { S.is_clean (shelf_of self.new) → S.is_ours (shelf_of self.old) → IfOk result (λ decision. decision ≡ rules.page (after_serial after (read_tables entry.now.name (S.tables (shelf_of self.old))).messages)) }
-        ensures same { S.is_clean (shelf_of self.new) → S.is_ours (shelf_of self.old) → S.is_closed (shelf_of self.new) ≡ false → S.tables (shelf_of self.new) ≡ S.tables (shelf_of self.old) }
-        ensures ours { S.is_clean (shelf_of self.new) → S.is_ours (shelf_of self.old) → S.is_ours (shelf_of self.new) }
-        ensures quiet { S.is_clean (shelf_of self.new) → S.is_clean (shelf_of self.old) }
-        ensures tally { IsTallied (S.is_closed (shelf_of self.old)) (S.is_closed (shelf_of self.new)) (S.fault_count (shelf_of self.old)) (S.fault_count (shelf_of self.new)) result }
-        ensures cause { IfErr result (λ fault. (fault ≡ no_memory) ⊎ S.may_answer fault) }
-        ensures host { host_of self.new ≡ host_of self.old }
-    {
-        let found = self.shelf.messages(&entry.name, after, PAGE + 1)?;
-        Ok(page(alloc, found))
-    }
-
-    /// What a call is answered and changes, by what the shelf has.
-    #[tactic(auto, unfolding(crate::specs::Decision::decide))]
-    fn decide(
-        &mut self,
-        alloc: Global,
-        at: Moment,
-        entry: &Entry,
-        call: Call,
-    ) -> Result<Decision, Fault>
-        ensures found { S.is_clean (shelf_of self.new) → S.is_ours (shelf_of self.old) → Sound (S.tables (shelf_of self.old)) → IfOk result (λ decision. decision ≡ rules.decide (host_of self.old) entry.now (read_tables entry.now.name (S.tables (shelf_of self.old))) at call) }
-        ensures same { S.is_clean (shelf_of self.new) → S.is_ours (shelf_of self.old) → S.is_closed (shelf_of self.new) ≡ false → S.tables (shelf_of self.new) ≡ S.tables (shelf_of self.old) }
-        ensures ours { S.is_clean (shelf_of self.new) → S.is_ours (shelf_of self.old) → S.is_ours (shelf_of self.new) }
-        ensures quiet { S.is_clean (shelf_of self.new) → S.is_clean (shelf_of self.old) }
-        ensures tally { IsTallied (S.is_closed (shelf_of self.old)) (S.is_closed (shelf_of self.new)) (S.fault_count (shelf_of self.old)) (S.fault_count (shelf_of self.new)) result }
-        ensures cause { IfErr result (λ fault. (fault ≡ no_memory) ⊎ S.may_answer fault) }
-        ensures host { host_of self.new ≡ host_of self.old }
-    {
-        match call {
-            Call::Submit(submission) => self.decide_submit(alloc, at, entry, submission),
-            Call::List(after) => self.decide_list(alloc, entry, after),
-            Call::Show(serial) => {
-                let found = self.shelf.message(&entry.name, serial)?;
-                Ok(show(alloc, found))
-            }
-            Call::Hold(serial) => {
-                let found = self.shelf.message(&entry.name, serial)?;
-                Ok(hold_found(alloc, found)?)
-            }
-            Call::Release(serial) => {
-                let found = self.shelf.message(&entry.name, serial)?;
-                Ok(release_found(alloc, at, found)?)
-            }
-            Call::Delete(serial) => self.decide_delete(alloc, entry, serial),
-        }
-    }
-
     /// Does a call of a customer at a moment. The answer is rendered before anything is changed, and
     /// nothing takes memory after the changes, so after 90 and 91 the tables are as before; after 93
     /// every call answers 93 until the store is opened again.
@@ -199,20 +174,14 @@ impl<S: Shelf + Drop> Desk<S> {
         call: Call,
         render: &R,
     ) -> Result<Rendered, Fault>
-        // The shared step's answer as it is rendered, and its tables.
-        ensures answer { S.is_clean (shelf_of self.new) → S.is_ours (shelf_of self.old) → Sound (S.tables (shelf_of self.old)) → IfOk result (IsRendered (R.text render.now) (shared (host_of self.old) entry.now (S.tables (shelf_of self.old)) at call).0) }
-        ensures tables { S.is_clean (shelf_of self.new) → S.is_ours (shelf_of self.old) → Sound (S.tables (shelf_of self.old)) → OnOk result (S.tables (shelf_of self.new) ≡ (shared (host_of self.old) entry.now (S.tables (shelf_of self.old)) at call).1) }
-        // Or a fault, and the tables as before.
-        ensures none { S.is_clean (shelf_of self.new) → S.is_ours (shelf_of self.old) → S.is_closed (shelf_of self.new) ≡ false → OnErr result (S.tables (shelf_of self.new) ≡ S.tables (shelf_of self.old)) }
-        ensures tally { IsTallied (S.is_closed (shelf_of self.old)) (S.is_closed (shelf_of self.new)) (S.fault_count (shelf_of self.old)) (S.fault_count (shelf_of self.new)) result }
-        ensures cause { IfErr result (λ fault. (fault ≡ no_memory) ⊎ S.may_answer fault) }
-        // What stays as it was, and that sound tables stay sound.
-        ensures ours { S.is_clean (shelf_of self.new) → S.is_ours (shelf_of self.old) → S.is_ours (shelf_of self.new) }
-        ensures quiet { S.is_clean (shelf_of self.new) → S.is_clean (shelf_of self.old) }
+        // The shared step's answer as it is rendered, and its tables, which stay sound; or a fault.
+        ensures answer { OnSound (on S.sight) self.old self.new (IfOk result (IsRendered (R.text render.now) (shared (host_of self.old) entry.now ((on S.sight).tables self.old) at call).0)) }
+        ensures tables { OnSound (on S.sight) self.old self.new (OnOk result ((on S.sight).tables self.new ≡ (shared (host_of self.old) entry.now ((on S.sight).tables self.old) at call).1)) }
+        ensures sound { OnOpen (on S.sight) self.old self.new (IsEntry entry.now → IsCall call → Sound ((on S.sight).tables self.old) → Sound ((on S.sight).tables self.new)) }
+        ensures kept { KeepsOnErr (on S.sight) self.old self.new result }
         ensures host { host_of self.new ≡ host_of self.old }
-        ensures sound { S.is_clean (shelf_of self.new) → S.is_ours (shelf_of self.old) → S.is_closed (shelf_of self.new) ≡ false → IsEntry entry.now → IsCall call → Sound (S.tables (shelf_of self.old)) → Sound (S.tables (shelf_of self.new)) }
     {
-        let decision = self.decide(alloc, at, entry, call)?;
+        let decision = decide(&mut self.shelf, &self.host, alloc, at, entry, call)?;
         let number = decision.answer.number();
         let bytes = render.render(alloc, &decision.answer)?;
         self.shelf.apply(&entry.name, decision.changes.as_slice())?;

@@ -7,6 +7,7 @@ pub mod Keys
 pub mod Many
 pub mod Own
 pub mod Read
+pub mod Then
 pub mod Serials
 pub mod Shapes
 pub mod States

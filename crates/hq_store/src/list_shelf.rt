@@ -52,17 +52,15 @@ impl Shelf for ListShelf {
     ghost use Rattle.hq_envelope.specs.declared.failure.Fault.TheVariants.{WantOfMemory};
     ghost use Rattle.hq_store.specs.Listed.{tables_of};
 
-    ghost tables = { tables_of };
-
-    ghost is_closed = { λ _. false };
-
-    ghost fault_count = { λ _. 0 };
-
-    ghost is_clean = { λ _. ⊤ };
-
-    ghost is_ours = { λ _. ⊤ };
-
-    ghost may_answer = { λ fault. fault ≡ WantOfMemory };
+    /// It is always clean and open.
+    ghost sight = { record {
+      tables = tables_of;
+      is_closed = λ _. false;
+      fault_count = λ _. 0;
+      is_clean = λ _. ⊤;
+      is_ours = λ _. ⊤;
+      may_answer = λ fault. fault ≡ WantOfMemory;
+    } };
 
     fn head(&mut self, customer: &Name) -> Result<Head, Fault> {
         Ok(heads::head_in(self.rows.heads.as_slice(), customer))

@@ -1,9 +1,9 @@
 //! What every store of the tables does, whichever way it keeps them.
 
-ghost use Rattle.std.specs.Prelude.{◌≡◌, ℕ, Bool, false, IfOk, IfErr, OnOk, OnErr};
-ghost use Rattle.hq_store.specs.Tables.{Tables, write_all};
-ghost use Rattle.hq_store.specs.Readings.{read_tables, page_of};
-ghost use Rattle.hq_store.specs.Shelves.{IsTallied};
+ghost use Rattle.std.specs.Prelude.{◌≡◌, OnOk};
+ghost use Rattle.hq_store.specs.Tables.{write_all};
+ghost use Rattle.hq_store.specs.Readings.{page_of};
+ghost use Rattle.hq_store.specs.Shelves.{Sight, OnClean, Finds, Keeps, KeepsOnErr};
 
 use crate::change::Change;
 use hq_envelope::{Fault, Items, Name, Serial, Spool};
@@ -19,62 +19,29 @@ use hq_queue::{Counts, Head, Message};
 /// What is said of the tables is said where the store is clean as the call ends, and where its rows were
 /// the rows of the tables before.
 pub trait Shelf {
-    ghost use Rattle.hq_envelope.specs.declared.failure.Fault.{Fault};
-
-    /// The tables, whichever way they are kept.
-    ghost tables: { Self → Tables };
-
-    /// Whether every call answers 93 from now on.
-    ghost is_closed: { Self → Bool };
-
-    /// How many 91 and 93 were answered.
-    ghost fault_count: { Self → ℕ };
-
-    /// So far what was read is what was written. It may fall at any call, and never comes back.
-    ghost is_clean: { Self → Type 0 };
-
-    /// The rows that are kept are those of the tables.
-    ghost is_ours: { Self → Type 0 };
-
-    /// The faults that a call may answer.
-    ghost may_answer: { Fault → Type 0 };
+    /// What is seen of it.
+    ghost sight: { Sight Self };
 
     /// The customer's head; where none was put, that of a customer of whom nothing is kept.
     fn head(&mut self, customer: &Name) -> Result<Head, Fault>
-        ensures found { is_clean self.new → is_ours self.old → IfOk result (λ head. head ≡ (read_tables customer.now (tables self.old)).head) }
-        ensures same { is_clean self.new → is_ours self.old → is_closed self.new ≡ false → tables self.new ≡ tables self.old }
-        ensures ours { is_clean self.new → is_ours self.old → is_ours self.new }
-        ensures quiet { is_clean self.new → is_clean self.old }
-        ensures tally { IsTallied (is_closed self.old) (is_closed self.new) (fault_count self.old) (fault_count self.new) result }
-        ensures cause { IfErr result may_answer };
+        ensures found { Finds sight self.old self.new result customer.now (λ rows. rows.head) }
+        ensures kept { Keeps sight self.old self.new result };
 
     /// How many messages the customer has, and their bytes together, which stay at the greatest `u64`.
     /// Lines are not kept yet, and are 0.
     fn counts(&mut self, customer: &Name) -> Result<Counts, Fault>
-        ensures found { is_clean self.new → is_ours self.old → IfOk result (λ counts. counts ≡ (read_tables customer.now (tables self.old)).counts) }
-        ensures same { is_clean self.new → is_ours self.old → is_closed self.new ≡ false → tables self.new ≡ tables self.old }
-        ensures ours { is_clean self.new → is_ours self.old → is_ours self.new }
-        ensures quiet { is_clean self.new → is_clean self.old }
-        ensures tally { IsTallied (is_closed self.old) (is_closed self.new) (fault_count self.old) (fault_count self.new) result }
-        ensures cause { IfErr result may_answer };
+        ensures found { Finds sight self.old self.new result customer.now (λ rows. rows.counts) }
+        ensures kept { Keeps sight self.old self.new result };
 
     /// The customer's message of this serial.
     fn message(&mut self, customer: &Name, serial: Serial) -> Result<Option<Message>, Fault>
-        ensures found { is_clean self.new → is_ours self.old → IfOk result (λ message. message ≡ (read_tables customer.now (tables self.old)).message serial) }
-        ensures same { is_clean self.new → is_ours self.old → is_closed self.new ≡ false → tables self.new ≡ tables self.old }
-        ensures ours { is_clean self.new → is_ours self.old → is_ours self.new }
-        ensures quiet { is_clean self.new → is_clean self.old }
-        ensures tally { IsTallied (is_closed self.old) (is_closed self.new) (fault_count self.old) (fault_count self.new) result }
-        ensures cause { IfErr result may_answer };
+        ensures found { Finds sight self.old self.new result customer.now (λ rows. rows.message serial) }
+        ensures kept { Keeps sight self.old self.new result };
 
     /// The customer's message with this spool name; the one of the smallest serial, where several have it.
     fn by_spool(&mut self, customer: &Name, spool: &Spool) -> Result<Option<Message>, Fault>
-        ensures found { is_clean self.new → is_ours self.old → IfOk result (λ message. message ≡ (read_tables customer.now (tables self.old)).by_spool spool.now) }
-        ensures same { is_clean self.new → is_ours self.old → is_closed self.new ≡ false → tables self.new ≡ tables self.old }
-        ensures ours { is_clean self.new → is_ours self.old → is_ours self.new }
-        ensures quiet { is_clean self.new → is_clean self.old }
-        ensures tally { IsTallied (is_closed self.old) (is_closed self.new) (fault_count self.old) (fault_count self.new) result }
-        ensures cause { IfErr result may_answer };
+        ensures found { Finds sight self.old self.new result customer.now (λ rows. rows.by_spool spool.now) }
+        ensures kept { Keeps sight self.old self.new result };
 
     /// The customer's messages in order of serial: the first `limit` after the serial, or of all.
     fn messages(
@@ -83,23 +50,15 @@ pub trait Shelf {
         after: Option<Serial>,
         limit: usize,
     ) -> Result<Items<Message>, Fault>
-        ensures found { is_clean self.new → is_ours self.old → IfOk result (λ page. page ≡ page_of after limit (read_tables customer.now (tables self.old)).messages) }
-        ensures same { is_clean self.new → is_ours self.old → is_closed self.new ≡ false → tables self.new ≡ tables self.old }
-        ensures ours { is_clean self.new → is_ours self.old → is_ours self.new }
-        ensures quiet { is_clean self.new → is_clean self.old }
-        ensures tally { IsTallied (is_closed self.old) (is_closed self.new) (fault_count self.old) (fault_count self.new) result }
-        ensures cause { IfErr result may_answer };
+        ensures found { Finds sight self.old self.new result customer.now (λ rows. page_of after limit rows.messages) }
+        ensures kept { Keeps sight self.old self.new result };
 
     /// Makes all changes of the customer's rows, in order, or none.
     fn apply(&mut self, customer: &Name, changes: &[Change]) -> Result<(), Fault>
-        ensures made { is_clean self.new → is_ours self.old → OnOk result (tables self.new ≡ write_all customer.now changes.now (tables self.old)) }
-        ensures none { is_clean self.new → is_ours self.old → is_closed self.new ≡ false → OnErr result (tables self.new ≡ tables self.old) }
-        ensures ours { is_clean self.new → is_ours self.old → is_ours self.new }
-        ensures quiet { is_clean self.new → is_clean self.old }
-        ensures tally { IsTallied (is_closed self.old) (is_closed self.new) (fault_count self.old) (fault_count self.new) result }
-        ensures cause { IfErr result may_answer };
+        ensures made { OnClean sight self.old self.new (OnOk result (sight.tables self.new ≡ write_all customer.now changes.now (sight.tables self.old))) }
+        ensures kept { KeepsOnErr sight self.old self.new result };
 
     /// How many 91 and 93 the calls have answered; at the greatest `u64` it stays. It takes no memory.
     fn faults(&self) -> u64
-        ensures { result ≡ fault_count self.now };
+        ensures { result ≡ sight.fault_count self.now };
 }

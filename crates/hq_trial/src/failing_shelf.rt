@@ -51,17 +51,14 @@ impl<S: Shelf> Shelf for FailingShelf<S> {
     ghost use Rattle.std.specs.Prelude.{◌≡◌, ◌⊎◌};
     ghost use Rattle.hq_envelope.specs.declared.failure.Fault.TheVariants.{Disk, Closed};
 
-    ghost tables = { λ s. S.tables s.inner };
-
-    ghost is_closed = { λ s. s.trial.closed };
-
-    ghost fault_count = { λ s. s.trial.faults };
-
-    ghost is_clean = { λ s. S.is_clean s.inner };
-
-    ghost is_ours = { λ s. S.is_ours s.inner };
-
-    ghost may_answer = { λ fault. (fault ≡ Disk) ⊎ ((fault ≡ Closed) ⊎ S.may_answer fault) };
+    ghost sight = { record {
+      tables = λ s. S.sight.tables s.inner;
+      is_closed = λ s. s.trial.closed;
+      fault_count = λ s. s.trial.faults;
+      is_clean = λ s. S.sight.is_clean s.inner;
+      is_ours = λ s. S.sight.is_ours s.inner;
+      may_answer = λ fault. (fault ≡ Disk) ⊎ ((fault ≡ Closed) ⊎ S.sight.may_answer fault);
+    } };
 
     fn head(&mut self, customer: &Name) -> Result<Head, Fault> {
         let answer = match self.trial.count() {

@@ -4,6 +4,9 @@ use Rattle.std.proofs.lemmas.List.{take_more, map-append}
 use Rattle.std.proofs.lemmas.List.Sums.{sum_by-append}
 use Rattle.hq_envelope.specs.declared.failure.Fault.{Fault}
 use Rattle.hq_store.specs.Tables.{Tables}
+use Rattle.hq_store.specs.Shelves.{Sight}
+use Rattle.hq_desk.specs.Desks.{Stays}
+use Rattle.hq_desk.specs.declared.desk.Desk.{Desk}
 use Rattle.hq_wire.specs.Exchanges.{MayReply, Replied}
 use Rattle.hq_wire.specs.Replies.{Told, store_faults, tells_store}
 use Rattle.hq_wire.specs.Runs.{Ask, Served, ask_of}
@@ -27,3 +30,16 @@ pub one_more_told : (rs : List Told) (r : Told) → store_faults (rs ++ r ∷ []
 one_more_told rs r =
     let joined : store_faults (rs ++ r ∷ []) ≡ store_faults rs + (0 + cond (tells_store r) 1 0) = sum_by-append (λ (x : Told). cond (tells_store x) 1 0) rs (r ∷ []) in
     joined ∙ ap (λ n. store_faults rs + n) (zero-add (cond (tells_store r) 1 0))
+
+-- what two stretches of calls keep, they keep together
+pub stay_on : {S : Type 0} (sight : Sight (Desk S)) (old mid new : Desk S) → Stays sight old mid → Stays sight mid new → Stays sight old new
+stay_on sight old mid new first next = record {
+  ours = λ clean ours. next.ours clean (first.ours (next.quiet clean) ours);
+  quiet = λ clean. first.quiet (next.quiet clean);
+  stays_open = λ open_. first.stays_open (next.stays_open open_);
+  host = next.host ∙ first.host;
+}
+
+-- no calls keep all
+pub stay_put : {S : Type 0} (sight : Sight (Desk S)) (desk : Desk S) → Stays sight desk desk
+stay_put sight desk = record { ours = λ clean ours. ours; quiet = λ clean. clean; stays_open = λ open_. open_; host = refl }

@@ -4,7 +4,8 @@ ghost use Rattle.std.specs.Prelude.{◌≡◌, ◌⊎◌, ◌∷◌, [], ◌+◌
 ghost use Rattle.hq_envelope.specs.Refusals.{no_memory};
 ghost use Rattle.hq_envelope.specs.declared.failure.Fault.{Fault};
 ghost use Rattle.hq_store.specs.Sound.{Sound};
-ghost use Rattle.hq_desk.specs.Desks.{shelf_of, host_of};
+ghost use Rattle.hq_store.specs.Shelves.{OnOpen, OnOpenSound};
+ghost use Rattle.hq_desk.specs.Desks.{Stays, host_of, on};
 ghost use Rattle.hq_desk.specs.Limits.{IsEntry, IsCall};
 ghost use Rattle.hq_desk.specs.Machine.{shared};
 ghost use Rattle.hq_desk.specs.declared.answer.Answer.TheVariants.{Refused};
@@ -46,15 +47,12 @@ fn call_reply<S: Shelf + Drop>(
     entry: &Entry,
     call: Call,
 ) -> Reply
-    ensures replied { S.is_clean (shelf_of desk.new) → S.is_ours (shelf_of desk.old) → S.is_closed (shelf_of desk.new) ≡ false → Sound (S.tables (shelf_of desk.old)) →
-        ((seen result ≡ reply_of (shared (host_of desk.old) entry.now (S.tables (shelf_of desk.old)) at call).0) × (S.tables (shelf_of desk.new) ≡ (shared (host_of desk.old) entry.now (S.tables (shelf_of desk.old)) at call).1))
-        ⊎ ((fault : Fault) × ((fault ≡ no_memory) ⊎ S.may_answer fault) × IsStruck fault (S.tables (shelf_of desk.old)) (seen result) (S.tables (shelf_of desk.new))) }
-    ensures sound { S.is_clean (shelf_of desk.new) → S.is_ours (shelf_of desk.old) → S.is_closed (shelf_of desk.new) ≡ false → IsEntry entry.now → IsCall call → Sound (S.tables (shelf_of desk.old)) → Sound (S.tables (shelf_of desk.new)) }
-    ensures ours { S.is_clean (shelf_of desk.new) → S.is_ours (shelf_of desk.old) → S.is_ours (shelf_of desk.new) }
-    ensures quiet { S.is_clean (shelf_of desk.new) → S.is_clean (shelf_of desk.old) }
-    ensures stays_open { S.is_closed (shelf_of desk.new) ≡ false → S.is_closed (shelf_of desk.old) ≡ false }
-    ensures host { host_of desk.new ≡ host_of desk.old }
-    ensures grows { S.fault_count (shelf_of desk.new) < 2 ^ 64 - 1 → (if tells_store (seen result) then 1 else 0) + S.fault_count (shelf_of desk.old) ≤ S.fault_count (shelf_of desk.new) }
+    ensures replied { OnOpenSound (on S.sight) desk.old desk.new
+        (((seen result ≡ reply_of (shared (host_of desk.old) entry.now ((on S.sight).tables desk.old) at call).0) × ((on S.sight).tables desk.new ≡ (shared (host_of desk.old) entry.now ((on S.sight).tables desk.old) at call).1))
+        ⊎ ((fault : Fault) × ((fault ≡ no_memory) ⊎ S.sight.may_answer fault) × IsStruck fault ((on S.sight).tables desk.old) (seen result) ((on S.sight).tables desk.new))) }
+    ensures sound { OnOpen (on S.sight) desk.old desk.new (IsEntry entry.now → IsCall call → Sound ((on S.sight).tables desk.old) → Sound ((on S.sight).tables desk.new)) }
+    ensures stays { Stays (on S.sight) desk.old desk.new }
+    ensures grows { (on S.sight).fault_count desk.new < 2 ^ 64 - 1 → (if tells_store (seen result) then 1 else 0) + (on S.sight).fault_count desk.old ≤ (on S.sight).fault_count desk.new }
 {
     match desk.act(alloc, at, entry, call, &Json) {
         Ok(rendered) => Reply {
@@ -77,18 +75,15 @@ pub fn exchange<S: Shelf + Drop>(
     directory: &Directory,
     exchange: &Exchange,
 ) -> Reply
-    ensures replied { S.is_clean (shelf_of desk.new) → S.is_ours (shelf_of desk.old) → S.is_closed (shelf_of desk.new) ≡ false → Sound (S.tables (shelf_of desk.old)) →
-        Replied S.may_answer (host_of desk.old) directory.now (S.tables (shelf_of desk.old)) exchange.now (seen result) (S.tables (shelf_of desk.new)) }
+    ensures replied { OnOpenSound (on S.sight) desk.old desk.new
+        (Replied S.sight.may_answer (host_of desk.old) directory.now ((on S.sight).tables desk.old) exchange.now (seen result) ((on S.sight).tables desk.new)) }
     // The headline, of one exchange.
-    ensures alone { S.is_clean (shelf_of desk.new) → S.is_ours (shelf_of desk.old) → S.is_closed (shelf_of desk.new) ≡ false → Sound (S.tables (shelf_of desk.old)) →
-        Alone (host_of desk.old) directory.now (ask_of directory.now exchange.now ∷ []) (seen result ∷ []) (S.tables (shelf_of desk.old)) (S.tables (shelf_of desk.new)) }
-    ensures sound { S.is_clean (shelf_of desk.new) → S.is_ours (shelf_of desk.old) → S.is_closed (shelf_of desk.new) ≡ false → Sound (S.tables (shelf_of desk.old)) → Sound (S.tables (shelf_of desk.new)) }
-    ensures ours { S.is_clean (shelf_of desk.new) → S.is_ours (shelf_of desk.old) → S.is_ours (shelf_of desk.new) }
-    ensures quiet { S.is_clean (shelf_of desk.new) → S.is_clean (shelf_of desk.old) }
-    ensures stays_open { S.is_closed (shelf_of desk.new) ≡ false → S.is_closed (shelf_of desk.old) ≡ false }
-    ensures host { host_of desk.new ≡ host_of desk.old }
+    ensures alone { OnOpenSound (on S.sight) desk.old desk.new
+        (Alone (host_of desk.old) directory.now (ask_of directory.now exchange.now ∷ []) (seen result ∷ []) ((on S.sight).tables desk.old) ((on S.sight).tables desk.new)) }
+    ensures sound { OnOpenSound (on S.sight) desk.old desk.new (Sound ((on S.sight).tables desk.new)) }
+    ensures stays { Stays (on S.sight) desk.old desk.new }
     // 91 and 93 are told only where the shelf counted a fault.
-    ensures grows { S.fault_count (shelf_of desk.new) < 2 ^ 64 - 1 → (if tells_store (seen result) then 1 else 0) + S.fault_count (shelf_of desk.old) ≤ S.fault_count (shelf_of desk.new) }
+    ensures grows { (on S.sight).fault_count desk.new < 2 ^ 64 - 1 → (if tells_store (seen result) then 1 else 0) + (on S.sight).fault_count desk.old ≤ (on S.sight).fault_count desk.new }
 {
     match call_of(alloc, directory, exchange) {
         Ok((entry, call)) => call_reply(alloc, desk, exchange.at, entry, call),

@@ -2,7 +2,8 @@
 
 ghost use Rattle.std.specs.Prelude.{◌≡◌, ◌+◌, ◌-◌, ◌^◌, ◌<◌, ◌≤◌, false, IfOk, OnErr, length, map};
 ghost use Rattle.hq_store.specs.Sound.{Sound};
-ghost use Rattle.hq_desk.specs.Desks.{shelf_of, host_of};
+ghost use Rattle.hq_store.specs.Shelves.{OnOpenSound};
+ghost use Rattle.hq_desk.specs.Desks.{Stays, host_of, on};
 ghost use Rattle.hq_wire.specs.Replies.{seen, store_faults};
 ghost use Rattle.hq_wire.specs.Runs.{Alone, Served, ask_of};
 
@@ -29,17 +30,14 @@ pub fn run<S: Shelf + Drop, A: Allocator>(
     exchanges: &[Exchange],
 ) -> Result<Vec<Reply, A>, AllocError>
     ensures count { IfOk result (λ replies. length replies.items ≡ length exchanges.now) }
-    ensures served { IfOk result (λ replies. S.is_clean (shelf_of desk.new) → S.is_ours (shelf_of desk.old) → S.is_closed (shelf_of desk.new) ≡ false → Sound (S.tables (shelf_of desk.old)) →
-        Served S.may_answer (host_of desk.old) directory.now (S.tables (shelf_of desk.old)) (map (ask_of directory.now) exchanges.now) (map seen replies.items) (S.tables (shelf_of desk.new))) }
-    ensures alone { IfOk result (λ replies. S.is_clean (shelf_of desk.new) → S.is_ours (shelf_of desk.old) → S.is_closed (shelf_of desk.new) ≡ false → Sound (S.tables (shelf_of desk.old)) →
-        Alone (host_of desk.old) directory.now (map (ask_of directory.now) exchanges.now) (map seen replies.items) (S.tables (shelf_of desk.old)) (S.tables (shelf_of desk.new))) }
-    ensures sound { IfOk result (λ replies. S.is_clean (shelf_of desk.new) → S.is_ours (shelf_of desk.old) → S.is_closed (shelf_of desk.new) ≡ false → Sound (S.tables (shelf_of desk.old)) → Sound (S.tables (shelf_of desk.new))) }
-    ensures ours { S.is_clean (shelf_of desk.new) → S.is_ours (shelf_of desk.old) → S.is_ours (shelf_of desk.new) }
-    ensures quiet { S.is_clean (shelf_of desk.new) → S.is_clean (shelf_of desk.old) }
-    ensures stays_open { S.is_closed (shelf_of desk.new) ≡ false → S.is_closed (shelf_of desk.old) ≡ false }
-    ensures host { host_of desk.new ≡ host_of desk.old }
+    ensures served { IfOk result (λ replies. OnOpenSound (on S.sight) desk.old desk.new
+        (Served S.sight.may_answer (host_of desk.old) directory.now ((on S.sight).tables desk.old) (map (ask_of directory.now) exchanges.now) (map seen replies.items) ((on S.sight).tables desk.new))) }
+    ensures alone { IfOk result (λ replies. OnOpenSound (on S.sight) desk.old desk.new
+        (Alone (host_of desk.old) directory.now (map (ask_of directory.now) exchanges.now) (map seen replies.items) ((on S.sight).tables desk.old) ((on S.sight).tables desk.new))) }
+    ensures sound { IfOk result (λ replies. OnOpenSound (on S.sight) desk.old desk.new (Sound ((on S.sight).tables desk.new))) }
+    ensures stays { Stays (on S.sight) desk.old desk.new }
     // The replies tell 91 or 93 at most as often as the shelf counted a fault.
-    ensures faults { IfOk result (λ replies. S.fault_count (shelf_of desk.new) < 2 ^ 64 - 1 → store_faults (map seen replies.items) + S.fault_count (shelf_of desk.old) ≤ S.fault_count (shelf_of desk.new)) }
+    ensures faults { IfOk result (λ replies. (on S.sight).fault_count desk.new < 2 ^ 64 - 1 → store_faults (map seen replies.items) + (on S.sight).fault_count desk.old ≤ (on S.sight).fault_count desk.new) }
     ensures none { OnErr result (desk.new ≡ desk.old) }
 {
     let mut replies = Vec::with_capacity(room, exchanges.len())?;

@@ -14,9 +14,9 @@ use hq_store::Shelf;
 /// replies, those of 503 left out, and leave the same of it.
 pub fn nobody_else_matters<S: Shelf>()
     ensures replies { (host : List ℕ) (d : Directory) (c : List ℕ) (xs ys : List Ask) (rs qs : List Told) (t u t' u' : Tables) →
-        Served S.may_answer host d t xs rs t' → Served S.may_answer host d u ys qs u' → own c t ≡ own c u → share c xs rs ≡ share c ys qs →
+        Served S.sight.may_answer host d t xs rs t' → Served S.sight.may_answer host d u ys qs u' → own c t ≡ own c u → share c xs rs ≡ share c ys qs →
         told c xs rs ≡ told c ys qs }
     ensures state { (host : List ℕ) (d : Directory) (c : List ℕ) (xs ys : List Ask) (rs qs : List Told) (t u t' u' : Tables) →
-        Served S.may_answer host d t xs rs t' → Served S.may_answer host d u ys qs u' → own c t ≡ own c u → share c xs rs ≡ share c ys qs →
+        Served S.sight.may_answer host d t xs rs t' → Served S.sight.may_answer host d u ys qs u' → own c t ≡ own c u → share c xs rs ≡ share c ys qs →
         own c t' ≡ own c u' }
 {}

@@ -12,11 +12,11 @@ use Rattle.hq_wire.proofs.answering.exchange.Goals as goal
 
 pub returns-in-Ok-clause-alone : goal.returns-in-Ok-clause-alone
 returns-in-Ok-clause-alone g c = λ clean ours closed sound.
-    let may = g.S.Shelf.may_answer in
+    let may = g.S.Shelf.sight.may_answer in
     let host = c.args.desk.now.host in
     let d = c.args.directory.now in
-    let t = g.S.Shelf.tables c.args.desk.now.shelf in
-    let t' = g.S.Shelf.tables c.call_reply.new.desk.shelf in
+    let t = g.S.Shelf.sight.tables c.args.desk.now.shelf in
+    let t' = g.S.Shelf.sight.tables c.call_reply.new.desk.shelf in
     let at = c.args.exchange.now.at in
     let call = c.in-Ok.call in
     let r = seen c.call_reply.result in
@@ -28,7 +28,7 @@ returns-in-Ok-clause-alone g c = λ clean ours closed sound.
 pub returns-in-Err-Fault-clause-alone : goal.returns-in-Err-Fault-clause-alone
 returns-in-Err-Fault-clause-alone g c = λ clean ours closed sound.
     let d = c.args.directory.now in
-    let t = g.S.Shelf.tables c.args.desk.now.shelf in
-    alone_once g.S.Shelf.may_answer c.args.desk.now.host d t t (ask_of d c.args.exchange.now) (seen c.fault_reply.result)
-    (without_room g.S.Shelf.may_answer (call_of d c.args.exchange.now) c.args.desk.now.host d t t c.args.exchange.now.at (seen c.fault_reply.result)
+    let t = g.S.Shelf.sight.tables c.args.desk.now.shelf in
+    alone_once g.S.Shelf.sight.may_answer c.args.desk.now.host d t t (ask_of d c.args.exchange.now) (seen c.fault_reply.result)
+    (without_room g.S.Shelf.sight.may_answer (call_of d c.args.exchange.now) c.args.desk.now.host d t t c.args.exchange.now.at (seen c.fault_reply.result)
     (c.fault_reply.ensures.told ∙ ap fault_told (subst (λ e. Fails e (call_of d c.args.exchange.now)) c.in-Err-Fault.field-0-is c.in-Err-Fault.ensures.call), refl))

@@ -1,4 +1,3 @@
-use Rattle.std.proofs.Common.{IfSome}
 use Rattle.hq_wire.proofs.QueueIds.{serial_is}
 use Rattle.hq_wire.proofs.request.serial_in.Goals as goal
 

@@ -13,7 +13,7 @@ returns g c =
         same_desk = refl;
         told = told;
         line_is = refl;
-        step = record { replied = done.replied; sound = done.sound; ours = done.ours; quiet = done.quiet; stays_open = done.stays_open; host = done.host; grows = done.grows };
+        step = record { replied = done.replied; sound = done.sound; stays = done.stays; grows = done.grows };
       },
       c.write_reply.ensures,
     )
