@@ -1,5 +1,5 @@
-//! The moves of each state, admission at its edges, the form of status codes, and copies. Expected values are
-//! the product's rules.
+//! The moves of each state, admission at its edges, the form of status codes, and copies. Expected
+//! values are the product's rules.
 
 use hq_envelope::{Address, Items, Key, Moment, Name, Sender, Serial, Spool, Text, TryCopy};
 use hq_queue::{
@@ -37,31 +37,49 @@ fn message_in(alloc: Global, state: QueueState) -> Result<Message, Fail> {
 
 /// The message is in this state with this next try, and otherwise as it was made.
 fn expect_message(rt: &impl Abort, message: &Message, state: QueueState, next_try: u64) {
-    assert_eq!(rt; message.serial.get(), 7);
-    assert_eq!(rt; message.sender.as_str(), "ann@a.example");
-    assert_eq!(rt; message.spool.as_str(), "s1");
-    assert_eq!(rt; message.size, 900);
-    assert_eq!(rt; message.arrival.get(), QUEUED);
-    assert_eq!(rt; message.state, state);
-    assert_eq!(rt; message.next_try.get(), next_try);
-    assert_eq!(rt; message.attempts, 3);
-    assert!(rt; message.warned);
-    assert_eq!(rt; message.pending.len(), 1);
+    assert_eq!(rt;
+        (
+            message.serial.get(),
+            message.sender.as_str(),
+            message.spool.as_str(),
+            message.size,
+            message.arrival.get(),
+        ),
+        (7, "ann@a.example", "s1", 900, QUEUED)
+    );
+    assert_eq!(rt;
+        (
+            message.state,
+            message.next_try.get(),
+            message.attempts,
+            message.warned,
+            message.pending.len(),
+        ),
+        (state, next_try, 3, true, 1)
+    );
     for pending in message.pending.as_slice() {
-        assert_eq!(rt; pending.address.as_str(), "bob@far.example");
-        assert_eq!(rt; pending.status.as_ref().map(Status::as_str), Some("4.2.0"));
-        assert_eq!(rt; pending.text.as_str(), "mailbox busy");
+        expect_pending(rt, pending);
     }
+}
+
+fn expect_pending(rt: &impl Abort, pending: &Pending) {
+    assert_eq!(rt;
+        (
+            pending.address.as_str(),
+            pending.status.as_ref().map(Status::as_str),
+            pending.text.as_str(),
+        ),
+        ("bob@far.example", Some("4.2.0"), "mailbox busy")
+    );
 }
 
 #[test]
 fn holds(rt: HostRuntime) -> Result<(), Fail> {
-    let cases = [
+    for (state, applies) in [
         (QueueState::Incoming, true),
         (QueueState::Deferred, true),
         (QueueState::Hold, false),
-    ];
-    for (state, applies) in cases {
+    ] {
         let mut message = message_in(rt.alloc(), state)?;
         assert_eq!(rt; hold(&mut message), applies, "from {state:?}");
         expect_message(&rt, &message, QueueState::Hold, QUEUED);
@@ -72,12 +90,11 @@ fn holds(rt: HostRuntime) -> Result<(), Fail> {
 #[test]
 fn releases(rt: HostRuntime) -> Result<(), Fail> {
     let at = Moment::new(QUEUED + 60).ok_or("a moment")?;
-    let cases = [
+    for (state, applies, after, next_try) in [
         (QueueState::Incoming, false, QueueState::Incoming, QUEUED),
         (QueueState::Deferred, false, QueueState::Deferred, QUEUED),
         (QueueState::Hold, true, QueueState::Deferred, QUEUED + 60),
-    ];
-    for (state, applies, after, next_try) in cases {
+    ] {
         let mut message = message_in(rt.alloc(), state)?;
         assert_eq!(rt; release(&mut message, at), applies, "from {state:?}");
         expect_message(&rt, &message, after, next_try);
@@ -85,20 +102,39 @@ fn releases(rt: HostRuntime) -> Result<(), Fail> {
     Ok(())
 }
 
-/// The serial that a message is admitted under and 0, or 0 and the number of the refusal.
-fn admission(quota: (u64, u64), counts: (u64, u64), next_serial: u64, size: u32) -> (u64, u16) {
-    let quota = Quota {
-        messages: quota.0,
-        bytes: quota.1,
-        lines: 5,
-        notices: 5,
-    };
-    let counts = Counts {
-        messages: counts.0,
-        bytes: counts.1,
-        lines: 0,
-    };
-    let head = Head {
+/// The quotas of these tests.
+#[derive(Clone, Copy)]
+enum Allowed {
+    OneMessage,
+    TwoMessages,
+    MostBytes,
+}
+
+fn quota(allowed: Allowed) -> Quota {
+    match allowed {
+        Allowed::OneMessage => Quota {
+            messages: 1,
+            bytes: 10_000,
+            lines: 5,
+            notices: 4,
+        },
+        Allowed::TwoMessages => Quota {
+            messages: 2,
+            bytes: 10_000,
+            lines: 5,
+            notices: 4,
+        },
+        Allowed::MostBytes => Quota {
+            messages: 2,
+            bytes: 2_147_483_647_000,
+            lines: 5,
+            notices: 4,
+        },
+    }
+}
+
+fn head(next_serial: u64) -> Head {
+    Head {
         next_serial,
         next_notice: 1,
         tally: Tally {
@@ -108,107 +144,136 @@ fn admission(quota: (u64, u64), counts: (u64, u64), next_serial: u64, size: u32)
             deleted: 0,
             expired: 0,
         },
+    }
+}
+
+/// The serial that a message is admitted under, or the number of the refusal.
+fn admission(
+    allowed: Allowed,
+    counts: (u64, u64),
+    next_serial: u64,
+    size: u32,
+) -> Result<u64, u16> {
+    let counts = Counts {
+        messages: counts.0,
+        bytes: counts.1,
+        lines: 0,
     };
-    match admit(&head, &quota, &counts, size) {
-        Ok(serial) => (serial.get(), 0),
-        Err(refusal) => (0, refusal.number()),
+    match admit(&head(next_serial), &quota(allowed), &counts, size) {
+        Ok(serial) => Ok(serial.get()),
+        Err(refusal) => Err(refusal.number()),
     }
 }
 
 #[test]
 fn admissions(rt: HostRuntime) {
+    let one = Allowed::OneMessage;
+    let two = Allowed::TwoMessages;
+    let most = Allowed::MostBytes;
     let last = 1_099_511_627_775;
     let spent = 1_099_511_627_776;
-    let cases = [
-        ((1, 10_000), (0, 0), 1, 10_000, (1, 0)),
-        ((1, 10_000), (0, 0), 1, 10_001, (0, 41)),
-        ((1, 10_000), (1, 0), 2, 0, (0, 40)),
-        ((2, 10_000), (1, 900), 2, 9_100, (2, 0)),
-        ((2, 10_000), (1, 900), 2, 9_101, (0, 41)),
-        ((2, 10_000), (1, 10_000), 2, 0, (2, 0)),
-        ((2, 10_000), (1, 10_001), 2, 0, (0, 41)),
-        ((2, 10_000), (2, 900), 3, 9_101, (0, 40)),
-        ((2, 10_000), (3, 900), spent, 9_101, (0, 40)),
-        ((2, 10_000), (1, 900), spent, 9_101, (0, 41)),
-        ((2, 10_000), (1, 900), spent, 9_100, (0, 43)),
-        ((2, 10_000), (1, 900), last, 9_100, (last, 0)),
-        ((2, 10_000), (1, 900), 0, 9_100, (0, 43)),
-        ((2, u64::MAX), (1, u64::MAX), 2, 1, (0, 41)),
-        ((2, u64::MAX), (1, u64::MAX), 2, 0, (2, 0)),
-    ];
-    for (quota, counts, next_serial, size, want) in cases {
-        assert_eq!(rt; admission(quota, counts, next_serial, size), want);
+    for (allowed, counts, next_serial, size, want) in [
+        (one, (0, 0), 1, 10_000, Ok(1)),
+        (one, (0, 0), 1, 10_001, Err(41)),
+        (one, (1, 0), 2, 0, Err(40)),
+        (two, (1, 900), 2, 9_100, Ok(2)),
+        (two, (1, 900), 2, 9_101, Err(41)),
+        (two, (1, 10_000), 2, 0, Ok(2)),
+        (two, (1, 10_001), 2, 0, Err(41)),
+        (two, (2, 900), 3, 9_101, Err(40)),
+        (two, (3, 900), spent, 9_101, Err(40)),
+        (two, (1, 900), spent, 9_101, Err(41)),
+        (two, (1, 900), spent, 9_100, Err(43)),
+        (two, (1, 900), last, 9_100, Ok(last)),
+        (two, (1, 900), 0, 9_100, Err(43)),
+        (two, (1, u64::MAX), 2, 1, Err(41)),
+        (most, (1, 2_147_483_647_000), 2, 0, Ok(2)),
+        (most, (1, 2_147_483_647_000), 2, 1, Err(41)),
+        (most, (1, u64::MAX), 2, 1, Err(41)),
+    ] {
+        assert_eq!(rt; admission(allowed, counts, next_serial, size), want);
     }
+}
+
+/// What a status reads back as, in place and as a text of its own, and its first digit.
+fn expect_status(rt: &(impl Abort + AllocGlobal), text: &str, first: u8) -> Result<(), Fail> {
+    let status = Status::parse(text)?.copy();
+    let owned = status.text(rt.alloc())?;
+    assert_eq!(rt;
+        (status.as_str(), owned.as_str(), status.first_digit()),
+        (text, text, first)
+    );
+    Ok(())
 }
 
 #[test]
 fn good_statuses(rt: HostRuntime) -> Result<(), Fail> {
-    let cases = [
+    for (text, first) in [
         ("4.2.0", 4),
         ("5.1.1", 5),
         ("5.100.999", 5),
         ("2.0.10", 2),
         ("0.0.0", 0),
         ("9.99.100", 9),
-    ];
-    for (text, first) in cases {
-        let status = Status::parse(text)?.copy();
-        assert_eq!(rt; status.as_str(), text);
-        assert_eq!(rt; status.text(rt.alloc())?.as_str(), text);
-        assert_eq!(rt; status.first_digit(), first, "of {text}");
+    ] {
+        expect_status(&rt, text, first)?;
     }
     Ok(())
 }
 
 #[test]
 fn bad_statuses(rt: HostRuntime) {
-    let cases = [
+    for text in [
         "", "4", "4.2", "4.2.", ".2.0", "4..0", "4.02.0", "4.2.00", "4.2.0 ", " 4.2.0", "a.2.0",
         "4.2.a", "44.2.0", "4.2.1000", "4.1000.0", "4.2.0.0", "4.2.0.", "4,2,0", "4.2.٣",
-    ];
-    for text in cases {
-        match Status::parse(text) {
-            Ok(_) => assert!(rt; false, "taken: {text}"),
-            Err(refusal) => assert_eq!(rt; refusal.number(), 26, "refused: {text}"),
-        }
+    ] {
+        let refused = Status::parse(text).err().map(|refusal| refusal.number());
+        assert_eq!(rt; refused, Some(26), "reading {text}");
     }
 }
 
 #[test]
 fn attempts(rt: HostRuntime) {
-    for number in [1, 2, 1_000_000] {
-        assert_eq!(rt; Attempt::new(number).map(Attempt::get), Some(number));
-    }
-    for number in [0, 1_000_001, u32::MAX] {
-        assert!(rt; Attempt::new(number).is_none(), "{number}");
+    for (number, kept) in [
+        (0, None),
+        (1, Some(1)),
+        (2, Some(2)),
+        (1_000_000, Some(1_000_000)),
+        (1_000_001, None),
+        (u32::MAX, None),
+    ] {
+        assert_eq!(rt; Attempt::new(number).map(Attempt::get), kept);
     }
 }
 
 #[test]
-fn copies(rt: HostRuntime) -> Result<(), Fail> {
-    let message = message_in(rt.alloc(), QueueState::Deferred)?;
-    let copy = message.copy(rt.alloc())?;
+fn copies_of_messages(rt: HostRuntime) -> Result<(), Fail> {
+    let copy = message_in(rt.alloc(), QueueState::Deferred)?.copy(rt.alloc())?;
     expect_message(&rt, &copy, QueueState::Deferred, QUEUED);
+    Ok(())
+}
 
-    let quota = Quota {
-        messages: 1,
-        bytes: 2,
-        lines: 3,
-        notices: 4,
-    };
+fn customer(alloc: Global) -> Result<Customer, Fail> {
     let entry = Entry {
-        name: Name::parse(rt.alloc(), "acme")?,
-        quota,
+        name: Name::parse(alloc, "acme")?,
+        quota: quota(Allowed::TwoMessages),
         delay: 3600,
     };
-    let customer = Customer {
-        entry,
-        key: Key::parse(rt.alloc(), "acmekey000000001")?,
-    };
-    let copy = customer.copy(rt.alloc())?;
-    assert_eq!(rt; copy.entry.name.as_str(), "acme");
-    assert_eq!(rt; copy.entry.quota, quota);
-    assert_eq!(rt; copy.entry.delay, 3600);
-    assert_eq!(rt; copy.key.as_str(), "acmekey000000001");
+    let key = Key::parse(alloc, "acmekey000000001")?;
+    Ok(Customer { entry, key })
+}
+
+#[test]
+fn copies_of_customers(rt: HostRuntime) -> Result<(), Fail> {
+    let copy = customer(rt.alloc())?.copy(rt.alloc())?;
+    assert_eq!(rt; copy.entry.quota, quota(Allowed::TwoMessages));
+    assert_eq!(rt;
+        (
+            copy.entry.name.as_str(),
+            copy.entry.delay,
+            copy.key.as_str()
+        ),
+        ("acme", 3600, "acmekey000000001")
+    );
     Ok(())
 }
