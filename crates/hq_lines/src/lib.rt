@@ -8,6 +8,3 @@ mod fields;
 
 pub use batch::{Answers, EngineFault, serve_lines};
 pub use fields::{Line, read_line};
-
-#[cfg(test)]
-mod tests;
