@@ -15,6 +15,3 @@ pub use asked::Exchange;
 pub use directory::{Directory, are_customers};
 pub use headline::run;
 pub use reply::{Body, Reply, fault_reply};
-
-#[cfg(test)]
-mod tests;

@@ -1,0 +1,137 @@
+//! The relay of these tests, its two customers, and what they ask as lines `METHOD PATH KEY BODY`.
+
+use hq_desk::Desk;
+use hq_envelope::{Fail as Failure, Host, Key, Moment, Name};
+use hq_queue::{Customer, Entry, Quota};
+use hq_store::ListShelf;
+use hq_wire::{Directory, Exchange, Reply, are_customers, exchange};
+use std::alloc::{AllocError, Global};
+use std::process::Abort;
+use std::str;
+use std::test::Fail;
+
+/// The moment of every exchange: 2026-01-01T00:00:00Z.
+const START: u64 = 1_767_225_600;
+
+fn acme_quota() -> Quota {
+    Quota {
+        messages: 2,
+        bytes: 10_000,
+        lines: 10,
+        notices: 5,
+    }
+}
+
+fn birch_quota() -> Quota {
+    Quota {
+        messages: 100,
+        bytes: 1_000_000,
+        lines: 100,
+        notices: 10,
+    }
+}
+
+fn customer(alloc: Global, name: &str, key: &str, quota: Quota) -> Result<Customer, Failure> {
+    let entry = Entry {
+        name: Name::parse(alloc, name)?,
+        quota,
+        delay: 3600,
+    };
+    let key = Key::parse(alloc, key)?;
+    Ok(Customer { entry, key })
+}
+
+fn customers(alloc: Global) -> Result<Vec<Customer>, Failure> {
+    let acme = customer(alloc, "acme", "acmekey000000001", acme_quota())?;
+    let birch = customer(alloc, "birch", "birchkey00000001", birch_quota())?;
+    Ok(vec![in alloc; acme, birch]?)
+}
+
+/// The directory of both customers under this key of the relay, or its refusal.
+pub fn directory_under(
+    rt: &(impl Abort + AllocGlobal),
+    relay_key: &str,
+) -> Result<Directory, Failure> {
+    let customers = customers(rt.alloc())?;
+    assert!(rt; are_customers(customers.as_slice()));
+    let relay_key = Key::parse(rt.alloc(), relay_key)?;
+    Directory::new(rt.alloc(), relay_key, customers)
+}
+
+pub fn directory(rt: &(impl Abort + AllocGlobal)) -> Result<Directory, Failure> {
+    directory_under(rt, "relaykey00000001")
+}
+
+/// A desk over this shelf.
+pub fn desk_over(alloc: Global, shelf: ListShelf) -> Result<Desk<ListShelf>, Failure> {
+    Ok(Desk::new(shelf, Host::parse(alloc, "relay.example")?))
+}
+
+/// A word of a line; the last one has the rest of the line, and one that is missing is empty.
+fn word<'a>(line: &'a str, index: usize) -> &'a str {
+    line.splitn(4, ' ').nth(index).unwrap_or("")
+}
+
+/// A key of its own.
+fn own_key(alloc: Global, key: Option<&str>) -> Result<Option<String>, AllocError> {
+    match key {
+        None => Ok(None),
+        Some(key) => Ok(Some(String::from_str(alloc, key)?)),
+    }
+}
+
+pub fn exchange_of(
+    alloc: Global,
+    method: &str,
+    path: &str,
+    key: Option<&str>,
+    body: &str,
+) -> Result<Exchange, Fail> {
+    Ok(Exchange {
+        at: Moment::new(START).ok_or("no moment")?,
+        method: String::from_str(alloc, method)?,
+        path: String::from_str(alloc, path)?,
+        key: own_key(alloc, key)?,
+        body: Vec::from_slice(alloc, body.as_bytes())?,
+    })
+}
+
+/// The exchange of a line; the key `-` is none.
+pub fn asked(alloc: Global, line: &str) -> Result<Exchange, Fail> {
+    let key = match word(line, 2) {
+        "-" => None,
+        key => Some(key),
+    };
+    exchange_of(alloc, word(line, 0), word(line, 1), key, word(line, 3))
+}
+
+/// A reply as a line `STATUS BODY`.
+pub fn line_of(alloc: Global, reply: &Reply) -> Result<String, Fail> {
+    let body = str::from_utf8(reply.body.as_bytes())?;
+    Ok(format!(in alloc; "{} {body}", reply.status)?)
+}
+
+/// Asks, and compares what is replied.
+pub fn expect_reply(
+    rt: &(impl Abort + AllocGlobal),
+    desk: &mut Desk<ListShelf>,
+    asked: &Exchange,
+    want: &str,
+) -> Result<(), Fail> {
+    let directory = directory(rt)?;
+    let reply = exchange(rt.alloc(), desk, &directory, asked);
+    assert_eq!(rt; line_of(rt.alloc(), &reply)?.as_str(), want);
+    Ok(())
+}
+
+/// Asks each line in turn, and compares what is replied.
+pub fn expect_rows(
+    rt: &(impl Abort + AllocGlobal),
+    desk: &mut Desk<ListShelf>,
+    rows: &[(&str, &str)],
+) -> Result<(), Fail> {
+    for (line, want) in rows {
+        expect_reply(rt, desk, &asked(rt.alloc(), line)?, want)?;
+    }
+    Ok(())
+}

@@ -1,0 +1,83 @@
+//! Many exchanges in one run.
+
+use crate::relay::{asked, desk_over, directory, expect_rows, line_of};
+use hq_store::ListShelf;
+use hq_wire::{Exchange, run};
+use linked_list_allocator::LocalHeap;
+use std::alloc::Global;
+use std::process::Abort;
+use std::test::Fail;
+
+const SUBMIT_ACME: &str =
+    "POST /relay/submit/acme relaykey00000001 {\"spool\":\"s1\",\"sender\":\"ann@a.example\",\
+     \"recipients\":[\"bob@far.example\"],\"size\":900}";
+
+const SUBMIT_BIRCH: &str =
+    "POST /relay/submit/birch relaykey00000001 {\"spool\":\"s1\",\"sender\":\"ann@a.example\",\
+     \"recipients\":[\"bob@far.example\"],\"size\":900}";
+
+const QUEUED_FIRST: &str =
+    "200 {\"id\":\"0000000001\",\"recipients\":[\"bob@far.example\"],\"refused\":[],\
+     \"state\":\"incoming\",\"verdict\":\"queued\"}";
+
+const HOLD_ACME: &str = "POST /v1/hold/0000000001 acmekey000000001";
+
+const LIST_BIRCH: &str = "GET /v1/messages birchkey00000001";
+
+const LISTED_BIRCH: &str =
+    "200 {\"messages\":[{\"arrival\":1767225600,\"id\":\"0000000001\",\"recipients\":1,\
+     \"sender\":\"ann@a.example\",\"size\":900,\"state\":\"incoming\"}],\"more\":false}";
+
+/// The replies of one run over an empty desk.
+fn expect_run(rt: &(impl Abort + AllocGlobal), rows: &[(&str, &str)]) -> Result<(), Fail> {
+    let alloc = rt.alloc();
+    let directory = directory(rt)?;
+    let mut desk = desk_over(alloc, ListShelf::new(alloc))?;
+    let exchanges = exchanges(alloc, rows)?;
+    let replies = run(alloc, alloc, &mut desk, &directory, exchanges.as_slice())?;
+    assert_eq!(rt; replies.len(), rows.len());
+    for (reply, (_, want)) in replies.iter().zip(rows) {
+        assert_eq!(rt; line_of(alloc, reply)?.as_str(), *want);
+    }
+    Ok(())
+}
+
+fn exchanges(alloc: Global, rows: &[(&str, &str)]) -> Result<Vec<Exchange>, Fail> {
+    let mut exchanges = Vec::new(alloc);
+    for (line, _) in rows {
+        exchanges.push(asked(alloc, line)?)?;
+    }
+    Ok(exchanges)
+}
+
+/// Both customers submit, acme holds its message twice, and birch lists its own.
+const FIRST_ROWS: &[(&str, &str)] = &[
+    (SUBMIT_ACME, QUEUED_FIRST),
+    (SUBMIT_BIRCH, QUEUED_FIRST),
+    (HOLD_ACME, "200 {\"changed\":1}"),
+    (HOLD_ACME, "200 {\"changed\":0}"),
+    (LIST_BIRCH, LISTED_BIRCH),
+];
+
+/// The share of birch, which it is replied to in the same way alone.
+const BIRCH_ROWS: &[(&str, &str)] = &[(SUBMIT_BIRCH, QUEUED_FIRST), (LIST_BIRCH, LISTED_BIRCH)];
+
+#[test]
+fn runs(rt: HostRuntime) -> Result<(), Fail> {
+    for rows in [FIRST_ROWS, BIRCH_ROWS, &[]] {
+        expect_run(&rt, rows)?;
+    }
+    Ok(())
+}
+
+/// Where room for the replies is refused, nothing was done: the next submit gets the first serial.
+#[test]
+fn a_run_without_room(rt: HostRuntime) -> Result<(), Fail> {
+    let alloc = rt.alloc();
+    let heap = LocalHeap::new(alloc, 64)?;
+    let directory = directory(&rt)?;
+    let mut desk = desk_over(alloc, ListShelf::new(alloc))?;
+    let exchanges = exchanges(alloc, &[(SUBMIT_ACME, QUEUED_FIRST); 40])?;
+    assert!(rt; run(alloc, &heap, &mut desk, &directory, exchanges.as_slice()).is_err());
+    expect_rows(&rt, &mut desk, &[(SUBMIT_ACME, QUEUED_FIRST)])
+}
