@@ -1,19 +1,18 @@
-//! The program over inputs in memory: the worked rows as lines in and lines out, lines at their longest, and
-//! readers and writers that fail.
+//! The program over inputs in memory: its exit status, and what it writes on both outputs. What it
+//! replies to lines stands in `examples/`.
 
 use crate::command::{Trouble, command, not_begun};
 use hq_batch::EngineFault;
-use hq_envelope::Refusal;
+use hq_envelope::{Fail as Failure, Refusal};
 use std::alloc::{AllocError, Global};
 use std::io::{self, ErrorKind, Read, Write};
+use std::process::Abort;
 use std::test::Fail;
 
-/// A submit for acme, without its line feed.
-const SUBMIT: &str =
-    "1767225600 POST /relay/submit/acme relaykey00000001 {\"spool\":\"s1\",\"sender\":\"ann@a.example\",\"recipients\":[\"bob@far.example\"],\"size\":900}";
+/// A line that lists the messages of acme, without its line feed.
+const LIST: &str = "1767225600 GET /v1/messages acmekey000000001";
 
-const QUEUED: &str =
-    "200 {\"id\":\"0000000001\",\"recipients\":[\"bob@far.example\"],\"refused\":[],\"state\":\"incoming\",\"verdict\":\"queued\"}\n";
+const LISTED: &str = "200 {\"messages\":[],\"more\":false}\n";
 
 /// Gives some bytes, and then fails.
 #[derive(Drop)]
@@ -85,57 +84,31 @@ fn run_over<R: Read>(rt: &HostRuntime, words: &[String], input: &mut R) -> Ended
     }
 }
 
+fn expect_ended(rt: &impl Abort, ended: &Ended, status: u8, output: &str, errors: &str) {
+    assert_eq!(rt;
+        (
+            ended.status,
+            ended.output.as_slice(),
+            ended.errors.as_slice()
+        ),
+        (status, output.as_bytes(), errors.as_bytes())
+    );
+}
+
+/// Nothing is written on standard error where the input was replied to, refusals too.
 #[test]
-fn lines_and_replies(rt: HostRuntime) {
-    let cases = [
+fn done(rt: HostRuntime) {
+    for (input, output) in [
         ("", ""),
         ("\n\r\n", ""),
+        (LIST, LISTED),
         (
-            "1767225600 GET /v1/messages acmekey000000001",
-            "200 {\"messages\":[],\"more\":false}\n",
+            "1767225600 GET\n",
+            "400 {\"error\":1,\"name\":\"BadRequest\"}\n",
         ),
-        (
-            "1767225600 GET /v1/messages acmekey000000001\r\n",
-            "200 {\"messages\":[],\"more\":false}\n",
-        ),
-        (
-            "1767225600 GET /v1/messages -\n",
-            "401 {\"error\":2,\"name\":\"NoKey\"}\n",
-        ),
-        (
-            "1767225600 GET /v1/messages acmekey00000000\n",
-            "401 {\"error\":2,\"name\":\"NoKey\"}\n",
-        ),
-        (
-            "1767225600 GET /v1/messages relaykey00000001\n",
-            "403 {\"error\":3,\"name\":\"WrongRole\"}\n",
-        ),
-        (
-            "1767225600 GET /v1/nothing acmekey000000001\n",
-            "404 {\"error\":4,\"name\":\"NoRoute\"}\n",
-        ),
-        (
-            "1767225600 POST /v1/messages acmekey000000001\n",
-            "405 {\"error\":5,\"name\":\"WrongMethod\"}\n",
-        ),
-        (
-            "1767225600 POST /relay/submit/nobody relaykey00000001 {}\n",
-            "404 {\"error\":13,\"name\":\"NoCustomer\"}\n",
-        ),
-        (
-            "1767225600 GET\n4102444800 GET /v1/messages -\n",
-            "400 {\"error\":1,\"name\":\"BadRequest\"}\n400 {\"error\":1,\"name\":\"BadRequest\"}\n",
-        ),
-    ];
-    for (input, want) in cases {
-        let run = run_over(&rt, &[], &mut input.as_bytes());
-        assert_eq!(rt; run.status, 0);
-        assert!(rt;
-            run.output.as_slice() == want.as_bytes(),
-            "{}",
-            run.output.as_slice().escape_ascii()
-        );
-        assert!(rt; run.errors.is_empty());
+    ] {
+        let ended = run_over(&rt, &[], &mut input.as_bytes());
+        expect_ended(&rt, &ended, 0, output, "");
     }
 }
 
@@ -143,110 +116,107 @@ fn lines_and_replies(rt: HostRuntime) {
 fn filled(alloc: Global, length: usize) -> Result<Vec<u8>, AllocError> {
     let mut input = Vec::new(alloc);
     input.extend_from_slice(b"1767225600 POST /v1/check acmekey000000001 ")?;
-    for _ in input.len()..length {
-        input.push(b' ')?;
-    }
+    input.resize(length, b' ')?;
     input.extend_from_slice(b"\n1767225600 GET /v1/messages acmekey000000001\n")?;
     Ok(input)
 }
 
 #[test]
 fn longest_line(rt: HostRuntime) -> Result<(), Fail> {
-    let cases = [
-        (
-            300_000,
-            "413 {\"error\":6,\"name\":\"BodyTooLong\"}\n200 {\"messages\":[],\"more\":false}\n",
-        ),
-        (
-            300_001,
-            "400 {\"error\":1,\"name\":\"BadRequest\"}\n200 {\"messages\":[],\"more\":false}\n",
-        ),
-    ];
-    for (length, want) in cases {
+    for (length, replied) in [
+        (300_000, "413 {\"error\":6,\"name\":\"BodyTooLong\"}\n"),
+        (300_001, "400 {\"error\":1,\"name\":\"BadRequest\"}\n"),
+    ] {
         let input = filled(rt.alloc(), length)?;
-        let run = run_over(&rt, &[], &mut input.as_slice());
-        assert_eq!(rt; run.status, 0);
-        assert!(rt; run.output.as_slice() == want.as_bytes());
+        let output = format!(in rt.alloc(); "{replied}{LISTED}")?;
+        let ended = run_over(&rt, &[], &mut input.as_slice());
+        expect_ended(&rt, &ended, 0, output.as_str(), "");
     }
     Ok(())
 }
 
 #[test]
 fn reader_that_fails_in_the_second_line(rt: HostRuntime) -> Result<(), Fail> {
-    let alloc = rt.alloc();
-    let input = format!(in alloc; "{SUBMIT}\n1767225601 GET /v1/mess")?;
+    let input = format!(in rt.alloc(); "{LIST}\n1767225601 GET /v1/mess")?;
     let mut torn = Torn {
         rest: input.as_bytes(),
     };
-    let run = run_over(&rt, &[], &mut torn);
-    assert_eq!(rt; run.status, 1);
-    assert!(rt; run.output.as_slice() == QUEUED.as_bytes());
-    assert!(rt; run.errors.as_slice() == b"hq: input\n".as_slice());
+    let ended = run_over(&rt, &[], &mut torn);
+    expect_ended(&rt, &ended, 1, LISTED, "hq: input\n");
     Ok(())
 }
 
 #[test]
 fn writer_that_takes_nothing(rt: HostRuntime) {
-    let mut rest = SUBMIT.as_bytes();
     let mut errors = Vec::new(rt.alloc());
-    let status = command(&rt, &[], &mut rest, &mut Full {}, &mut errors);
-    assert_eq!(rt; status, 1);
-    assert!(rt; errors.as_slice() == b"hq: output\n".as_slice());
+    let status = command(&rt, &[], &mut LIST.as_bytes(), &mut Full {}, &mut errors);
+    assert_eq!(rt;
+        (status, errors.as_slice()),
+        (1, b"hq: output\n".as_slice())
+    );
 }
 
 #[test]
 fn each_reply_is_flushed(rt: HostRuntime) {
-    let mut rest = "1 GET /v1/messages -\n\nx\n2 GET /v1/messages -".as_bytes();
+    let mut input = "1 GET /v1/messages -\n\nx\n2 GET /v1/messages -".as_bytes();
     let mut output = Flushed { flushes: 0 };
     let mut errors = Vec::new(rt.alloc());
-    let status = command(&rt, &[], &mut rest, &mut output, &mut errors);
-    assert_eq!(rt; status, 0);
-    assert_eq!(rt; output.flushes, 3);
+    let status = command(&rt, &[], &mut input, &mut output, &mut errors);
+    assert_eq!(rt; (status, output.flushes), (0, 3));
 }
 
 #[test]
 fn words_are_refused(rt: HostRuntime) -> Result<(), Fail> {
     let words = [String::from_str(rt.alloc(), "serve")?];
-    let run = run_over(&rt, &words, &mut SUBMIT.as_bytes());
-    assert_eq!(rt; run.status, 2);
-    assert!(rt; run.output.is_empty());
-    assert!(rt;
-        run.errors.as_slice()
-            == b"hq: no words are taken yet: lines are read from standard input\n".as_slice()
-    );
+    let told = "hq: no words are taken yet: lines are read from standard input\n";
+    let ended = run_over(&rt, &words, &mut LIST.as_bytes());
+    expect_ended(&rt, &ended, 2, "", told);
     Ok(())
 }
 
 #[test]
 fn what_is_told_before_the_first_line(rt: HostRuntime) {
-    let cases = [
+    for (kind, want, line) in [
         (ErrorKind::InvalidData, 2, "hq: a word is not UTF-8\n"),
         (ErrorKind::OutOfMemory, 1, "hq: 90 WantOfMemory\n"),
-    ];
-    for (kind, want, line) in cases {
+    ] {
         let mut errors = Vec::new(rt.alloc());
         let status = not_begun(&io::Error::from(kind), &mut errors);
-        assert_eq!(rt; status, want);
-        assert!(rt; errors.as_slice() == line.as_bytes());
+        let ended = Ended {
+            status,
+            output: Vec::new(rt.alloc()),
+            errors,
+        };
+        expect_ended(&rt, &ended, want, "", line);
     }
 }
 
+fn expect_shown(
+    rt: &(impl Abort + AllocGlobal),
+    trouble: Trouble,
+    want: &str,
+) -> Result<(), AllocError> {
+    let text = format!(in rt.alloc(); "{trouble}")?;
+    assert_eq!(rt; text.as_str(), want);
+    Ok(())
+}
+
 #[test]
-fn what_is_told_of_each_trouble(rt: HostRuntime) -> Result<(), Fail> {
-    let alloc = rt.alloc();
-    let cases = [
-        (Trouble::from(EngineFault::Read), "input"),
-        (Trouble::from(EngineFault::TooManyReads), "input"),
-        (Trouble::from(EngineFault::Write), "output"),
-        (Trouble::from(EngineFault::WantOfMemory), "90 WantOfMemory"),
-        (
-            Trouble::from(hq_envelope::Fail::Refused(Refusal::BadDirectory { row: 0 })),
-            "53 BadDirectory row 0",
-        ),
-    ];
-    for (trouble, want) in cases {
-        let text = format!(in alloc; "{trouble}")?;
-        assert_eq!(rt; text.as_str(), want);
+fn what_is_told_of_each_fault(rt: HostRuntime) -> Result<(), Fail> {
+    for (fault, want) in [
+        (EngineFault::Read, "input"),
+        (EngineFault::TooManyReads, "input"),
+        (EngineFault::Write, "output"),
+        (EngineFault::WantOfMemory, "90 WantOfMemory"),
+    ] {
+        expect_shown(&rt, Trouble::from(fault), want)?;
     }
+    Ok(())
+}
+
+#[test]
+fn what_is_told_of_a_refusal(rt: HostRuntime) -> Result<(), Fail> {
+    let refused = Failure::Refused(Refusal::BadDirectory { row: 0 });
+    expect_shown(&rt, Trouble::from(refused), "53 BadDirectory row 0")?;
     Ok(())
 }
