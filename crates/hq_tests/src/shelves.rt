@@ -157,9 +157,9 @@ fn left_spool<'a>(steps: &'a [&'a str], customer: &str, spool: &str) -> Option<&
 }
 
 /// The messages that the steps leave after a serial, in order, at most so many, a line each.
-fn left_page(
+fn left_page<'a>(
     alloc: Global,
-    steps: &[&str],
+    steps: &'a [&'a str],
     customer: &str,
     after: u64,
     limit: usize,
@@ -179,7 +179,7 @@ fn left_page(
 }
 
 /// How much the steps leave.
-fn left_counts(steps: &[&str], customer: &str) -> Counts {
+fn left_counts<'a>(steps: &'a [&'a str], customer: &str) -> Counts {
     let mut counts = Counts {
         messages: 0,
         bytes: 0,
@@ -242,7 +242,7 @@ fn expect_pages(
     for (after, limit) in PAGES {
         let page = shelf.messages(customer, Serial::new(after), limit)?;
         let told = told_all(rt.alloc(), page.as_slice())?;
-        let want = left_page(rt.alloc(), steps, customer.as_str(), after, limit)?;
+        let want = left_page(rt.alloc(), &*steps, customer.as_str(), after, limit)?;
         assert_eq!(rt;
             told,
             want,
