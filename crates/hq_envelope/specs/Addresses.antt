@@ -1,8 +1,11 @@
 -- The syntax of mail addresses, by their bytes (RFC 5321, 4.1.2; without quoted local parts and domain literals).
-use Rattle.std.specs.Prelude.{ℕ, Bool, false, ◌&&◌, ◌||◌, not, ◌==◌, nat_lt, nat_le, List, [], ◌∷◌, length, map, if◌then◌else◌, Option, Some, None}
+use Rattle.std.specs.Prelude.{ℕ, Bool, false, ◌&&◌, ◌||◌, not, ◌==◌, nat_lt, nat_le, List, [], ◌∷◌, length, map, if◌then◌else◌, Option, Some, None, Result}
 use Rattle.std.specs.Option.{option_map_or}
 use Rattle.std.specs.Char.{to_ascii_lowercase}
 use Rattle.std.specs.List.{list_all, slice_split}
+use Rattle.hq_base.specs.Readers.{checked}
+use Rattle.hq_base.specs.declared.failure.Refusal.{Refusal}
+use Rattle.hq_base.specs.declared.failure.Refusal.TheVariants.{BadAddress}
 
 abbrev pub is_dot : ℕ → Bool
 is_dot b = b == 46
@@ -45,6 +48,10 @@ has_good_parts (Some parts) = is_local parts.0 && is_domain parts.1
 -- at most 254 bytes: a local part, the last @, and a domain
 abbrev pub is_address : List ℕ → Bool
 is_address bytes = nat_le (length bytes) 254 && has_good_parts (parts_of bytes)
+
+-- the address that a text is
+abbrev pub address_in : List ℕ → Result (List ℕ) Refusal
+address_in text = checked text (is_address text) BadAddress
 
 abbrev pub local_of : List ℕ → List ℕ
 local_of bytes = option_map_or (λ parts. parts.0) (parts_of bytes) []

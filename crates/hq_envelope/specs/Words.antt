@@ -1,6 +1,9 @@
 -- The rules of names, keys and texts, by their bytes. The limits are this product's own.
-use Rattle.std.specs.Prelude.{ℕ, Bool, ◌&&◌, ◌||◌, ◌==◌, nat_lt, nat_le, List, length}
+use Rattle.std.specs.Prelude.{ℕ, Bool, ◌&&◌, ◌||◌, ◌==◌, nat_lt, nat_le, List, length, Result}
 use Rattle.std.specs.List.{list_all}
+use Rattle.hq_base.specs.Readers.{checked}
+use Rattle.hq_base.specs.declared.failure.Refusal.{Refusal}
+use Rattle.hq_base.specs.declared.failure.Refusal.TheVariants.{BadField, BadSpool, BadLabel, BadText, BadHost}
 use Rattle.hq_envelope.specs.Addresses.{is_letter_or_digit, is_domain}
 
 -- a letter, a digit, '.', '-' or '_'
@@ -37,3 +40,23 @@ is_text_byte b = nat_le 32 b && nat_le b 126
 -- a text: at most 1,000 bytes
 abbrev pub is_text : List ℕ → Bool
 is_text bytes = nat_le (length bytes) 1000 && list_all is_text_byte bytes
+
+-- ---- what each reader answers
+
+abbrev pub spool_in : List ℕ → Result (List ℕ) Refusal
+spool_in text = checked text (is_spool text) BadSpool
+
+abbrev pub label_in : List ℕ → Result (List ℕ) Refusal
+label_in text = checked text (is_spool text) BadLabel
+
+abbrev pub name_in : List ℕ → Result (List ℕ) Refusal
+name_in text = checked text (is_name text) BadField
+
+abbrev pub key_in : List ℕ → Result (List ℕ) Refusal
+key_in text = checked text (is_key text) BadField
+
+abbrev pub host_in : List ℕ → Result (List ℕ) Refusal
+host_in text = checked text (is_host text) BadHost
+
+abbrev pub text_in : List ℕ → Result (List ℕ) Refusal
+text_in text = checked text (is_text text) BadText

@@ -1,12 +1,11 @@
 //! Mail addresses and senders: RFC 5321, 4.1.2, without quoted local parts and domain literals.
 
 ghost use Rattle.std.specs.Prelude.{◌≡◌, ◌↔◌, IsTrue, IfOk, MatchOption, Some, None, string_bytes};
-ghost use Rattle.hq_envelope.specs.Addresses.{is_local_byte, is_label_byte, is_local, is_domain_label, is_domain, is_address, parts_of, local_of, domain_of, folded};
-ghost use Rattle.hq_envelope.specs.Readers.{Reads, ReadsValue};
-ghost use Rattle.hq_envelope.specs.Senders.{sender_of, sender_text, is_sender};
+ghost use Rattle.hq_envelope.specs.Addresses.{is_local_byte, is_label_byte, is_local, is_domain_label, is_domain, is_address, address_in, parts_of, local_of, domain_of, folded};
+ghost use Rattle.hq_base.specs.Readers.{Reads};
+ghost use Rattle.hq_envelope.specs.Senders.{sender_in, sender_text};
 
-use crate::copies::TryCopy;
-use crate::failure::{Fail, Refusal};
+use hq_base::{Fail, Refusal, TryCopy};
 use std::alloc::{AllocError, Global};
 use std::marker::Model;
 
@@ -53,7 +52,8 @@ pub(crate) fn is_domain(text: &str) -> bool
 
 /// The parts before and after the last `@`.
 fn parts(text: &str) -> Option<(&str, &str)>
-    ensures { MatchOption result (parts_of text.now ≡ None) (λ parts. parts_of text.now ≡ Some (parts.0.now, parts.1.now)) }
+    ensures { MatchOption result (parts_of text.now ≡ None)
+        (λ parts. parts_of text.now ≡ Some (parts.0.now, parts.1.now)) }
 {
     text.rsplit_once('@')
 }
@@ -89,7 +89,7 @@ impl Model for Address {
 impl Address {
     /// Reads an address, or refuses it as 20 `BadAddress`.
     pub fn parse(alloc: Global, text: &str) -> Result<Address, Fail>
-        ensures { Reads is_address Refusal.BadAddress text.now result }
+        ensures { Reads result (address_in text.now) }
     {
         if !is_address(text) {
             return Err(Fail::Refused(Refusal::BadAddress));
@@ -159,7 +159,7 @@ pub enum Sender {
 impl Sender {
     /// Reads a sender: the empty text is the null sender, any other an address or 20 `BadAddress`.
     pub fn parse(alloc: Global, text: &str) -> Result<Sender, Fail>
-        ensures { ReadsValue (sender_of text.now) (is_sender text.now) Refusal.BadAddress result }
+        ensures { Reads result (sender_in text.now) }
     {
         if text.is_empty() {
             return Ok(Sender::Null);

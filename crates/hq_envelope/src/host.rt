@@ -1,12 +1,11 @@
 //! The relay's own name.
 
 ghost use Rattle.std.specs.Prelude.{◌≡◌};
-ghost use Rattle.hq_envelope.specs.Readers.{Reads};
-ghost use Rattle.hq_envelope.specs.Words.{is_host};
+ghost use Rattle.hq_base.specs.Readers.{Reads};
+ghost use Rattle.hq_envelope.specs.Words.{is_host, host_in};
 
 use crate::address::is_domain;
-use crate::copies::TryCopy;
-use crate::failure::{Fail, Refusal};
+use hq_base::{Fail, Refusal, TryCopy};
 use std::alloc::{AllocError, Global};
 use std::marker::Model;
 
@@ -39,7 +38,7 @@ impl Model for Host {
 impl Host {
     /// Reads a host, or refuses it as 56 `BadHost`.
     pub fn parse(alloc: Global, text: &str) -> Result<Host, Fail>
-        ensures { Reads is_host Refusal.BadHost text.now result }
+        ensures { Reads result (host_in text.now) }
     {
         if !is_host(text) {
             return Err(Fail::Refused(Refusal::BadHost));

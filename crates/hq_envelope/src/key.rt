@@ -1,11 +1,10 @@
 //! Keys: the secrets that customers and the relay show.
 
 ghost use Rattle.std.specs.Prelude.{◌≡◌};
-ghost use Rattle.hq_envelope.specs.Readers.{Reads};
-ghost use Rattle.hq_envelope.specs.Words.{is_key_byte, is_key};
+ghost use Rattle.hq_base.specs.Readers.{Reads};
+ghost use Rattle.hq_envelope.specs.Words.{is_key_byte, is_key, key_in};
 
-use crate::copies::TryCopy;
-use crate::failure::{Fail, Refusal};
+use hq_base::{Fail, Refusal, TryCopy};
 use std::alloc::{AllocError, Global};
 use std::fmt;
 use std::marker::Model;
@@ -51,7 +50,7 @@ impl Model for Key {
 impl Key {
     /// Reads a key, or refuses it as 8 `BadField`.
     pub fn parse(alloc: Global, text: &str) -> Result<Key, Fail>
-        ensures { Reads is_key Refusal.BadField text.now result }
+        ensures { Reads result (key_in text.now) }
     {
         if !is_key(text.as_bytes()) {
             return Err(Fail::Refused(Refusal::BadField));

@@ -1,12 +1,11 @@
 //! Labels: what an import goes by.
 
 ghost use Rattle.std.specs.Prelude.{◌≡◌};
-ghost use Rattle.hq_envelope.specs.Readers.{Reads};
-ghost use Rattle.hq_envelope.specs.Words.{is_spool};
+ghost use Rattle.hq_base.specs.Readers.{Reads};
+ghost use Rattle.hq_envelope.specs.Words.{is_spool, label_in};
 
-use crate::copies::TryCopy;
-use crate::failure::{Fail, Refusal};
 use crate::spool::is_spool;
+use hq_base::{Fail, Refusal, TryCopy};
 use std::alloc::{AllocError, Global};
 use std::marker::Model;
 
@@ -30,7 +29,7 @@ impl Model for Label {
 impl Label {
     /// Reads a label, or refuses it as 27 `BadLabel`.
     pub fn parse(alloc: Global, text: &str) -> Result<Label, Fail>
-        ensures { Reads is_spool Refusal.BadLabel text.now result }
+        ensures { Reads result (label_in text.now) }
     {
         if !is_spool(text.as_bytes()) {
             return Err(Fail::Refused(Refusal::BadLabel));

@@ -1,28 +1,21 @@
-//! The values that the outside names: addresses, queue IDs, moments, names, keys and texts, and the
-//! refusals and faults that a call may end in. Each text has one rule, and one reader that is exact.
-//! What is done with these values is for the crates above.
+//! The values that the outside names: addresses, names, keys and texts. Each text has one rule, and
+//! one reader that is exact. Refusals, faults, queue IDs, moments and lists are those of `hq_base`,
+//! shown here too. What is done with these values is for the crates above.
 #![tactic(auto)]
 
 mod address;
-mod copies;
-mod failure;
 mod host;
 mod key;
 mod label;
-mod moment;
 mod name;
-mod serial;
 mod spool;
 mod text;
 
 pub use address::{Address, Sender};
-pub use copies::{Items, TryCopy, copy_all};
-pub use failure::{Fail, Fault, Refusal};
 pub use host::Host;
+pub use hq_base::{Fail, Fault, Items, Moment, Refusal, Serial, TryCopy, copy_all};
 pub use key::Key;
 pub use label::Label;
-pub use moment::Moment;
 pub use name::Name;
-pub use serial::Serial;
 pub use spool::Spool;
 pub use text::Text;

@@ -1,11 +1,10 @@
 //! Customers' names.
 
 ghost use Rattle.std.specs.Prelude.{◌≡◌};
-ghost use Rattle.hq_envelope.specs.Readers.{Reads};
-ghost use Rattle.hq_envelope.specs.Words.{is_name_byte, is_name};
+ghost use Rattle.hq_base.specs.Readers.{Reads};
+ghost use Rattle.hq_envelope.specs.Words.{is_name_byte, is_name, name_in};
 
-use crate::copies::TryCopy;
-use crate::failure::{Fail, Refusal};
+use hq_base::{Fail, Refusal, TryCopy};
 use std::alloc::{AllocError, Global};
 use std::marker::Model;
 
@@ -45,7 +44,7 @@ impl Model for Name {
 impl Name {
     /// Reads a name, or refuses it as 8 `BadField`.
     pub fn parse(alloc: Global, text: &str) -> Result<Name, Fail>
-        ensures { Reads is_name Refusal.BadField text.now result }
+        ensures { Reads result (name_in text.now) }
     {
         if !is_name(text.as_bytes()) {
             return Err(Fail::Refused(Refusal::BadField));

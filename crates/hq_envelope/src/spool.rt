@@ -1,11 +1,10 @@
 //! Spool names: the names under which the relay keeps messages.
 
 ghost use Rattle.std.specs.Prelude.{◌≡◌};
-ghost use Rattle.hq_envelope.specs.Readers.{Reads};
-ghost use Rattle.hq_envelope.specs.Words.{is_spool_byte, is_spool};
+ghost use Rattle.hq_base.specs.Readers.{Reads};
+ghost use Rattle.hq_envelope.specs.Words.{is_spool_byte, is_spool, spool_in};
 
-use crate::copies::TryCopy;
-use crate::failure::{Fail, Refusal};
+use hq_base::{Fail, Refusal, TryCopy};
 use std::alloc::{AllocError, Global};
 use std::marker::Model;
 
@@ -45,7 +44,7 @@ impl Model for Spool {
 impl Spool {
     /// Reads a spool name, or refuses it as 23 `BadSpool`.
     pub fn parse(alloc: Global, text: &str) -> Result<Spool, Fail>
-        ensures { Reads is_spool Refusal.BadSpool text.now result }
+        ensures { Reads result (spool_in text.now) }
     {
         if !is_spool(text.as_bytes()) {
             return Err(Fail::Refused(Refusal::BadSpool));

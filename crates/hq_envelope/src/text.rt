@@ -1,11 +1,10 @@
 //! Free texts of one line: what a remote server answered, or what a table line says.
 
 ghost use Rattle.std.specs.Prelude.{◌≡◌, []};
-ghost use Rattle.hq_envelope.specs.Readers.{Reads};
-ghost use Rattle.hq_envelope.specs.Words.{is_text_byte, is_text};
+ghost use Rattle.hq_base.specs.Readers.{Reads};
+ghost use Rattle.hq_envelope.specs.Words.{is_text_byte, is_text, text_in};
 
-use crate::copies::TryCopy;
-use crate::failure::{Fail, Refusal};
+use hq_base::{Fail, Refusal, TryCopy};
 use std::alloc::{AllocError, Global};
 use std::marker::Model;
 
@@ -54,7 +53,7 @@ impl Text {
 
     /// Reads a text, or refuses it as 28 `BadText`.
     pub fn parse(alloc: Global, text: &str) -> Result<Text, Fail>
-        ensures { Reads is_text Refusal.BadText text.now result }
+        ensures { Reads result (text_in text.now) }
     {
         if !is_text(text.as_bytes()) {
             return Err(Fail::Refused(Refusal::BadText));

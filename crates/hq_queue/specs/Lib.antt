@@ -1,3 +1,4 @@
 pub mod Admission
+pub mod Limits
 pub mod Moves
 pub mod Statuses

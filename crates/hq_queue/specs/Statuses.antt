@@ -1,9 +1,10 @@
 -- The form of status codes, by their bytes (RFC 3463, 2: a class, a subject and a detail, parted by dots).
-use Rattle.std.specs.Prelude.{ℕ, Bool, false, ◌&&◌, ◌-◌, nat_le, List, [], ◌∷◌, if◌then◌else◌, Result, Ok, Err}
+use Rattle.std.specs.Prelude.{ℕ, Bool, false, ◌&&◌, ◌-◌, nat_le, List, [], ◌∷◌, Result}
 use Rattle.std.specs.List.{slice_split}
 use Rattle.hq_envelope.specs.Addresses.{is_dot}
-use Rattle.hq_envelope.specs.declared.failure.Refusal.{Refusal}
-use Rattle.hq_envelope.specs.declared.failure.Refusal.TheVariants.{BadStatus}
+use Rattle.hq_base.specs.Readers.{checked}
+use Rattle.hq_base.specs.declared.failure.Refusal.{Refusal}
+use Rattle.hq_base.specs.declared.failure.Refusal.TheVariants.{BadStatus}
 
 -- '0' to '9'
 abbrev pub is_digit : ℕ → Bool
@@ -34,8 +35,8 @@ abbrev pub is_status : List ℕ → Bool
 is_status bytes = are_status_parts (slice_split is_dot bytes)
 
 -- a status is read as it was written; what has not its form is refused
-abbrev pub status_of : List ℕ → Result (List ℕ) Refusal
-status_of bytes = if is_status bytes then Ok bytes else Err BadStatus
+abbrev pub status_in : List ℕ → Result (List ℕ) Refusal
+status_in bytes = checked bytes (is_status bytes) BadStatus
 
 -- the class as a number: what the first byte stands for (no status is empty)
 abbrev pub first_digit : List ℕ → ℕ

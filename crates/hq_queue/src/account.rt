@@ -1,11 +1,12 @@
 //! What is kept and allowed of one customer beside its messages: quota, head and tally.
 
-ghost use Rattle.std.specs.Prelude.{◌≡◌};
+ghost use Rattle.std.specs.Prelude.{◌≡◌, IsTrue};
+ghost use Rattle.hq_queue.specs.Limits.{is_quota, is_delay};
 
 use hq_envelope::{Key, Name, TryCopy};
 use std::alloc::{AllocError, Global};
 
-/// How much a customer may keep.
+/// How much a customer may keep: each number is within its limits.
 #[derive(Clone, Copy, Debug, PartialEq, Eq, Drop)]
 pub struct Quota {
     /// Queued messages, 1 to 1,000.
@@ -16,6 +17,7 @@ pub struct Quota {
     pub lines: u64,
     /// Kept notices, 1 to 1,000.
     pub notices: u64,
+    pub ghost limits: { IsTrue (is_quota messages bytes lines notices) },
 }
 
 /// What the desk knows of a customer.
@@ -27,6 +29,7 @@ pub struct Entry {
     pub quota: Quota,
     /// After how many seconds a sender is warned, 0 to 431,999; 0 is never.
     pub delay: u64,
+    pub ghost limit: { IsTrue (is_delay delay) },
 }
 
 impl TryCopy for Entry {

@@ -6,12 +6,13 @@ ghost use Rattle.hq_queue.specs.Admission.{admitted};
 use crate::account::{Counts, Head, Quota};
 use hq_envelope::{Refusal, Serial};
 
-/// The serial of a new message of `size` bytes, which is the head's next serial, or why it is refused.
+/// The serial of a new message of `size` bytes, which is the head's next serial, or why it is
+/// refused.
 ///
-/// The first of these that applies: 40 `QuotaMessages` where the customer has as many messages as its quota,
-/// 41 `QuotaBytes` where their bytes and `size` together pass the quota, 43 `SerialsSpent` where no serial is
-/// left. So it is for each next serial that a customer's head can have, 1 to 2^40; under any other none is
-/// admitted. Takes no memory.
+/// The first of these that applies: 40 `QuotaMessages` where the customer has as many messages as
+/// its quota, 41 `QuotaBytes` where their bytes and `size` together pass the quota, 43
+/// `SerialsSpent` where no serial is left. So it is for each next serial that a customer's head can
+/// have, 1 to 2^40; under any other none is admitted. Takes no memory.
 pub fn admit(head: &Head, quota: &Quota, counts: &Counts, size: u32) -> Result<Serial, Refusal>
     ensures rule { 0 < head.now.next_serial → head.now.next_serial ≤ 2 ^ 40
         → result ≡ admitted head.now quota.now counts.now size }

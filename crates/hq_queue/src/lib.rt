@@ -1,5 +1,5 @@
-//! Queued messages of one customer: what they are, how they move, and when a new one is admitted, in the
-//! words of postsuper(1). The crate is pure: it knows no store, no clock and no wire.
+//! Queued messages of one customer: what they are, how they move, and when a new one is admitted,
+//! in the words of postsuper(1). The crate is pure: it knows no store, no clock and no wire.
 #![tactic(auto)]
 
 mod account;

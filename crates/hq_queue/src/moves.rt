@@ -1,5 +1,5 @@
-//! The moves that a customer makes with a message of its own (postsuper(1)). What a report, an attempt or
-//! the passing of time does to a message is not said here.
+//! The moves that a customer makes with a message of its own (postsuper(1)). What a report, an
+//! attempt or the passing of time does to a message is not said here.
 
 ghost use Rattle.hq_queue.specs.Moves.{held, released, Makes};
 
@@ -8,8 +8,8 @@ use hq_envelope::Moment;
 
 /// Puts a message on hold (postsuper(1), `-h`), so that it is not tried until it is released.
 ///
-/// An incoming or deferred message goes on hold, and the answer is true. A message on hold stays as it is,
-/// and the answer is false. Takes no memory.
+/// An incoming or deferred message goes on hold, and the answer is true. A message on hold stays as
+/// it is, and the answer is false. Takes no memory.
 pub fn hold(message: &mut Message) -> bool
     ensures { Makes (held message.old) message.old message.new result }
 {
@@ -24,8 +24,8 @@ pub fn hold(message: &mut Message) -> bool
 
 /// Releases a message from hold (postsuper(1), `-H`): it may be tried from the moment `at` on.
 ///
-/// A message on hold becomes deferred with `at` as its next try, and the answer is true. Any other message
-/// stays as it is, and the answer is false. Takes no memory.
+/// A message on hold becomes deferred with `at` as its next try, and the answer is true. Any other
+/// message stays as it is, and the answer is false. Takes no memory.
 pub fn release(message: &mut Message, at: Moment) -> bool
     ensures { Makes (released at message.old) message.old message.new result }
 {

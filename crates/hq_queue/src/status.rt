@@ -3,7 +3,7 @@
 ghost use Rattle.std.specs.Prelude.{◌≡◌, ◌≤◌, [], ◌∷◌, IfOk, MatchOption, string_bytes};
 ghost use Rattle.std.specs.List.{slice_split};
 ghost use Rattle.hq_envelope.specs.Addresses.{is_dot};
-ghost use Rattle.hq_queue.specs.Statuses.{is_class, is_number, is_status, status_of, first_digit};
+ghost use Rattle.hq_queue.specs.Statuses.{is_class, is_number, is_status, status_in, first_digit};
 
 use hq_envelope::Refusal;
 use std::alloc::{AllocError, Global};
@@ -51,8 +51,8 @@ fn is_status(text: &str) -> bool
     is_class(class.as_bytes()) && is_number(subject.as_bytes()) && is_number(detail.as_bytes())
 }
 
-/// A status code, as written: a digit, a dot, 1 to 3 digits, a dot, 1 to 3 digits (RFC 3463, 2). A number of
-/// two or three digits does not begin with `0`.
+/// A status code, as written: a digit, a dot, 1 to 3 digits, a dot, 1 to 3 digits (RFC 3463, 2). A
+/// number of two or three digits does not begin with `0`.
 #[derive(Drop)]
 pub struct Status {
     bytes: [u8; STATUS_BYTES],
@@ -74,7 +74,7 @@ impl Status {
     /// Reads a status code, or refuses it as 26 `BadStatus`. Takes no memory.
     #[tactic(auto, using(crate::proofs::Forms::status_short, crate::proofs::Forms::room_for))]
     pub fn parse(text: &str) -> Result<Status, Refusal>
-        ensures { result ≡ status_of text.now }
+        ensures { result ≡ status_in text.now }
     {
         if !is_status(text) {
             return Err(Refusal::BadStatus);

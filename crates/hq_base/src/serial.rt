@@ -1,8 +1,8 @@
 //! Serials, whose written form is the queue ID.
 
-ghost use Rattle.std.specs.Prelude.{◌≡◌, ◌<◌, ◌^◌, ℕ, Some, IfSome};
+ghost use Rattle.std.specs.Prelude.{◌≡◌, ◌<◌, ◌^◌};
 ghost use Rattle.std.specs.Option.{SomeIff};
-ghost use Rattle.hq_envelope.specs.Serials.{hex_digit, hex_value, serial_text};
+ghost use Rattle.hq_base.specs.Serials.{hex_digit, hex_value, serial_text, serial_in};
 
 use std::marker::Model;
 
@@ -85,10 +85,9 @@ impl Serial {
     }
 
     /// The serial whose queue ID the text is, or nothing where it is none's.
+    #[tactic(auto, unfolding(crate::specs::Serials::serial_in))]
     pub fn parse(text: &str) -> Option<Serial>
-        ensures written { IfSome result (λ serial. serial_text serial ≡ text.now) }
-        ensures range { IfSome result (λ serial. (0 < serial) × (serial < 2 ^ 40)) }
-        ensures read { (n : ℕ) → 0 < n → n < 2 ^ 40 → serial_text n ≡ text.now → result ≡ Some n }
+        ensures { result ≡ serial_in text.now }
     {
         if text.len() != 10 {
             return None;

@@ -1,11 +1,11 @@
 -- The numbers and names of refusals and faults: part of every reply, so they never change.
 use Rattle.std.specs.Prelude.{ℕ, List, ◌++◌, codes, decimal, Option, Some, None}
-use Rattle.hq_envelope.specs.declared.failure.Refusal.{Refusal}
-use Rattle.hq_envelope.specs.declared.failure.Refusal.TheVariants.{BadRequest, NoKey, WrongRole, NoRoute, WrongMethod, BodyTooLong, BadJson, BadField, NoMessage, NoLine, NoNotice, NoCustomer, BadAddress, BadSpool, BadPattern, BadAction, BadStatus, BadLabel, BadText, AttemptAhead, UnknownRecipient, DoubledRecipient, NoOutcome, QuotaMessages, QuotaBytes, QuotaLines, SerialsSpent, NoticesSpent, BadCsv, DoubledPattern, LabelUsed, BadDirectory, DoubledName, DoubledKey, BadHost, BadRelayKey}
-use Rattle.hq_envelope.specs.declared.failure.Fault.{Fault}
-use Rattle.hq_envelope.specs.declared.failure.Fault.TheVariants.{WantOfMemory, Disk, BadSchema, Closed}
-use Rattle.hq_envelope.specs.declared.failure.Fail.{Fail}
-use Rattle.hq_envelope.specs.declared.failure.Fail.TheVariants.{Refused, Fault as AsFault}
+use Rattle.hq_base.specs.declared.failure.Refusal.{Refusal}
+use Rattle.hq_base.specs.declared.failure.Refusal.TheVariants.{BadRequest, NoKey, WrongRole, NoRoute, WrongMethod, BodyTooLong, BadJson, BadField, NoMessage, NoLine, NoNotice, NoCustomer, BadAddress, BadSpool, BadPattern, BadAction, BadStatus, BadLabel, BadText, AttemptAhead, UnknownRecipient, DoubledRecipient, NoOutcome, QuotaMessages, QuotaBytes, QuotaLines, SerialsSpent, NoticesSpent, BadCsv, DoubledPattern, LabelUsed, BadDirectory, DoubledName, DoubledKey, BadHost, BadRelayKey}
+use Rattle.hq_base.specs.declared.failure.Fault.{Fault}
+use Rattle.hq_base.specs.declared.failure.Fault.TheVariants.{WantOfMemory, Disk, BadSchema, Closed}
+use Rattle.hq_base.specs.declared.failure.Fail.{Fail}
+use Rattle.hq_base.specs.declared.failure.Fail.TheVariants.{Refused, Fault as AsFault}
 
 abbrev pub refusal_number : Refusal → ℕ
 refusal_number BadRequest = 1

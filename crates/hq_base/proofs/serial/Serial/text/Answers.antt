@@ -1,8 +1,8 @@
 use Rattle.std.proofs.Common.{◌∙◌, ap, refl, arith, replicate}
 use Rattle.std.proofs.lemmas.Grind.{common_steps}
-use Rattle.hq_envelope.specs.Serials.{hex_text}
-use Rattle.hq_envelope.proofs.Hex.{hex_start, hex_step_at, hex_end}
-use Rattle.hq_envelope.proofs.serial.Serial.text.Goals as goal
+use Rattle.hq_base.specs.Serials.{hex_text}
+use Rattle.hq_base.proofs.Hex.{hex_start, hex_step_at, hex_end}
+use Rattle.hq_base.proofs.serial.Serial.text.Goals as goal
 
 pub loop-i-init : goal.loop-i-init
 loop-i-init c = record { written = hex_start c.self.inside.number (replicate 10 48) refl ∙ ap (λ n. hex_text 10 n) c.self.view_is; long = refl }

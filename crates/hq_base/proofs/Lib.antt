@@ -1,0 +1,4 @@
+pub mod Hex
+pub mod QueueIds
+pub mod Truths
+pub mod Turns

@@ -1,0 +1,4 @@
+pub mod Readers
+pub mod Refusals
+pub mod Serials
+pub mod Turns
