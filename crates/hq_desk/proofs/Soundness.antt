@@ -1,6 +1,6 @@
 -- The machine of one customer keeps its state sound, kind by kind.
 use Rattle.std.proofs.Common.{◌≡◌, ◌≢◌, ℕ, suc, ◌+◌, ◌^◌, ◌<◌, ◌≤◌, Bool, true, false, cond, not, List, [], ◌∷◌, map, filter, length, sym, refl, ap, ◌∙◌, subst, Some, None, Option, Ok, Err, arith}
-use Rattle.std.specs.Prelude.{if◌then◌else◌, nat_le, nat_lt, nat_eq}
+use Rattle.std.specs.Prelude.{IsTrue, if◌then◌else◌, nat_le, nat_lt, nat_eq}
 use Rattle.std.specs.List as list
 use Rattle.std.specs.List.{IsDistinct, AllByRecursion}
 use Rattle.std.specs.Ordering.{nat_cmp, eq_by_cmp}
@@ -11,7 +11,8 @@ use Rattle.std.proofs.lemmas.Bool.{eqb-false, false≢true}
 use Rattle.std.proofs.lemmas.Bool.Decides.{nat_tests}
 use Rattle.std.proofs.lemmas.List.{length-map}
 use Rattle.std.proofs.lemmas.Map.Lookups.{exact_unsigned}
-use Rattle.hq_envelope.specs.declared.failure.Refusal.TheVariants as refusal
+use Rattle.hq_base.specs.declared.failure.Refusal.TheVariants as refusal
+use Rattle.hq_queue.specs.Limits.{is_within, is_quota}
 use Rattle.hq_queue.specs.Moves.{is_on_hold}
 use Rattle.hq_queue.specs.declared.account.Entry.{Entry}
 use Rattle.hq_queue.specs.declared.message.Message.{Message}
@@ -30,7 +31,6 @@ use Rattle.hq_tables.proofs.Totals.{total-insert, total-remove}
 use Rattle.hq_tables.specs.Owned.{given}
 use Rattle.hq_desk.specs.Decision as rules
 use Rattle.hq_desk.specs.Decision.{decide}
-use Rattle.hq_desk.specs.Limits.{IsEntry, IsCall}
 use Rattle.hq_desk.specs.Machine.{step, shared}
 use Rattle.hq_desk.specs.declared.call.Call.{Call}
 use Rattle.hq_desk.specs.declared.call.Call.TheVariants as call
@@ -172,9 +172,22 @@ free_serial s h = cases (get s.messages s.head.next_serial) refl where
   cases None e = refl
   cases (Some m) e = let was = (h.messages s.head.next_serial m e).below in absurd (omega arith)
 
+within_is : (low high n : ℕ) → IsTrue (is_within low high n) → (low ≤ n) × (n ≤ high)
+within_is low high n h = (grind (arith, nat_tests), grind (arith, nat_tests))
+
+recipients_of : (sub : Submission) → (1 ≤ length sub.recipients) × (length sub.recipients ≤ 100)
+recipients_of sub = within_is 1 100 (length sub.recipients) sub.number
+
+messages_within : (messages bytes lines notices : ℕ) → IsTrue (is_quota messages bytes lines notices) → messages ≤ 1000
+messages_within messages bytes lines notices h = grind (arith, nat_tests)
+
+quota_of : (entry : Entry) → entry.quota.messages ≤ 1000
+quota_of entry = messages_within entry.quota.messages entry.quota.bytes entry.quota.lines entry.quota.notices entry.quota.limits
+
 -- a new message keeps the state sound
-queue_kept : (s : State) (at : ℕ) (sub : Submission) → SoundState s → ((k : ℕ) (m : Message) → get s.messages k ≡ Some m → m.spool ≡ sub.spool → ⊥) → IsCall (call.Submit sub) → len s.messages < 1000 → s.head.next_serial < 2 ^ 40 → Keeps s (rules.enqueued s.head (rules.new_message s.head.next_serial at sub))
-queue_kept s at sub h spool few room serials =
+queue_kept : (s : State) (at : ℕ) (sub : Submission) → SoundState s → ((k : ℕ) (m : Message) → get s.messages k ≡ Some m → m.spool ≡ sub.spool → ⊥) → len s.messages < 1000 → s.head.next_serial < 2 ^ 40 → Keeps s (rules.enqueued s.head (rules.new_message s.head.next_serial at sub))
+queue_kept s at sub h spool room serials =
+    let few = recipients_of sub in
     let n = rules.new_message s.head.next_serial at sub in
     let head = rules.with_message (length n.pending) s.head in
     let raised = change (PutHead head) s in
@@ -198,16 +211,17 @@ queue_kept s at sub h spool few room serials =
     record { shaped = change_shaped raised (PutMessage n) (change_shaped s (PutHead head) h.shaped rises) fits; conserved = omega arith; bounded = omega arith }
 
 -- room and a serial are left where a submission is admitted
-admit_kept : (s : State) (entry : Entry) (at : ℕ) (sub : Submission) → SoundState s → ((k : ℕ) (m : Message) → get s.messages k ≡ Some m → m.spool ≡ sub.spool → ⊥) → IsEntry entry → IsCall (call.Submit sub) → (full bytes spent : Bool) → (full ≡ false → len s.messages < entry.quota.messages) → (spent ≡ false → s.head.next_serial ≢ 2 ^ 40)
+admit_kept : (s : State) (entry : Entry) (at : ℕ) (sub : Submission) → SoundState s → ((k : ℕ) (m : Message) → get s.messages k ≡ Some m → m.spool ≡ sub.spool → ⊥) → (full bytes spent : Bool) → (full ≡ false → len s.messages < entry.quota.messages) → (spent ≡ false → s.head.next_serial ≢ 2 ^ 40)
     → Keeps s (rules.admit s.head at sub (if full then Err refusal.QuotaMessages else (if bytes then Err refusal.QuotaBytes else (if spent then Err refusal.SerialsSpent else Ok s.head.next_serial))))
-admit_kept s entry at sub h spool quota few true bytes spent left serials = h
-admit_kept s entry at sub h spool quota few false true spent left serials = h
-admit_kept s entry at sub h spool quota few false false true left serials = h
-admit_kept s entry at sub h spool quota few false false false left serials =
+admit_kept s entry at sub h spool true bytes spent left serials = h
+admit_kept s entry at sub h spool false true spent left serials = h
+admit_kept s entry at sub h spool false false true left serials = h
+admit_kept s entry at sub h spool false false false left serials =
     let room = left refl in
     let other = serials refl in
     let next = h.shaped.next_serial in
-    queue_kept s at sub h spool few (omega arith) (omega arith)
+    let most = quota_of entry in
+    queue_kept s at sub h spool (omega arith) (omega arith)
 
 below_quota : (quota n : ℕ) → nat_le quota n ≡ false → n < quota
 below_quota quota n h = grind (arith, nat_tests)
@@ -216,8 +230,8 @@ not_spent : (n : ℕ) → nat_eq n (2 ^ 40) ≡ false → n ≢ 2 ^ 40
 not_spent n h = eqb-false n (2 ^ 40) h
 
 -- a submission keeps the state sound
-submit_kept : (s : State) (entry : Entry) (at : ℕ) (sub : Submission) → IsEntry entry → IsCall (call.Submit sub) → SoundState s → Keeps s (rules.submit entry (read_state s) at sub (with_spool sub.spool (values s.messages)))
-submit_kept s entry at sub quota few h = cases (with_spool sub.spool (values s.messages)) refl where
+submit_kept : (s : State) (entry : Entry) (at : ℕ) (sub : Submission) → SoundState s → Keeps s (rules.submit entry (read_state s) at sub (with_spool sub.spool (values s.messages)))
+submit_kept s entry at sub h = cases (with_spool sub.spool (values s.messages)) refl where
   counted : length (values s.messages) ≡ len s.messages
   counted = length-map (entries s.messages) (λ (e : ℕ × Message). e.1) ∙ sym (len-entries s.messages)
 
@@ -225,24 +239,24 @@ submit_kept s entry at sub quota few h = cases (with_spool sub.spool (values s.m
   cases (Some m) e = h
   cases None e =
       let counts = (read_state s).counts in
-      admit_kept s entry at sub h (new_spool s sub.spool e) quota few
+      admit_kept s entry at sub h (new_spool s sub.spool e)
       (nat_le entry.quota.messages counts.messages) (nat_lt entry.quota.bytes (counts.bytes + sub.size)) (nat_eq s.head.next_serial (2 ^ 40))
       (λ full. let few_messages = below_quota entry.quota.messages counts.messages full in omega (arith, counted)) (not_spent s.head.next_serial)
 
 -- ---- every kind
 
-pub step_sound : (host : List ℕ) (entry : Entry) (s : State) (at : ℕ) (call : Call) → IsEntry entry → IsCall call → SoundState s → SoundState (step host entry s at call).1
+pub step_sound : (host : List ℕ) (entry : Entry) (s : State) (at : ℕ) (call : Call) → SoundState s → SoundState (step host entry s at call).1
 unfolding decide
-step_sound host entry s at (call.Submit sub) quota few h = submit_kept s entry at sub quota few h
-step_sound host entry s at (call.List after) quota few h = h
-step_sound host entry s at (call.Show serial) quota few h = on_found s serial rules.show h (λ m there. h)
-step_sound host entry s at (call.Hold serial) quota few h = on_found s serial rules.hold h (λ m there. hold_kept s m (is_on_hold m.state) h (own_place s serial m h there))
-step_sound host entry s at (call.Release serial) quota few h = on_found s serial (rules.release at) h (λ m there. release_kept s m at (is_on_hold m.state) h (own_place s serial m h there))
-step_sound host entry s at (call.Delete serial) quota few h = on_found s serial (rules.delete s.head) h (λ m there. delete_kept s m h (own_place s serial m h there))
+step_sound host entry s at (call.Submit sub) h = submit_kept s entry at sub h
+step_sound host entry s at (call.List after) h = h
+step_sound host entry s at (call.Show serial) h = on_found s serial rules.show h (λ m there. h)
+step_sound host entry s at (call.Hold serial) h = on_found s serial rules.hold h (λ m there. hold_kept s m (is_on_hold m.state) h (own_place s serial m h there))
+step_sound host entry s at (call.Release serial) h = on_found s serial (rules.release at) h (λ m there. release_kept s m at (is_on_hold m.state) h (own_place s serial m h there))
+step_sound host entry s at (call.Delete serial) h = on_found s serial (rules.delete s.head) h (λ m there. delete_kept s m h (own_place s serial m h there))
 
 -- what holds of the machine holds of the shared step
-pub shared_sound : (host : List ℕ) (entry : Entry) (t : Tables) (at : ℕ) (call : Call) → IsEntry entry → IsCall call → Sound t → Sound (shared host entry t at call).1
-shared_sound host entry t at call quota few h =
+pub shared_sound : (host : List ℕ) (entry : Entry) (t : Tables) (at : ℕ) (call : Call) → Sound t → Sound (shared host entry t at call).1
+shared_sound host entry t at call h =
     let of = λ (r : Readings). decide host entry r at call in
     stays_sound entry.name (of (read_tables entry.name t)).changes t h
-    (subst (λ (r : Readings). SoundState (change_all (of r).changes (own entry.name t))) (sym (same_readings entry.name t)) (step_sound host entry (own entry.name t) at call quota few (h.states entry.name)))
+    (subst (λ (r : Readings). SoundState (change_all (of r).changes (own entry.name t))) (sym (same_readings entry.name t)) (step_sound host entry (own entry.name t) at call (h.states entry.name)))

@@ -1,8 +1,8 @@
 -- What the desk answers to each kind of call, and what it changes: by what can be read of the customer.
 -- A decision reads and writes nothing. Refusals come in the order in which they are tested here.
 use Rattle.std.specs.Prelude.{ℕ, ◌+◌, false, not, nat_lt, List, [], ◌∷◌, length, map, filter, take, Option, None, Some, Result, Ok, Err}
-use Rattle.hq_envelope.specs.declared.failure.Refusal.{Refusal}
-use Rattle.hq_envelope.specs.declared.failure.Refusal.TheVariants.{NoMessage}
+use Rattle.hq_base.specs.declared.failure.Refusal.{Refusal}
+use Rattle.hq_base.specs.declared.failure.Refusal.TheVariants.{NoMessage}
 use Rattle.hq_queue.specs.Admission.{admitted}
 use Rattle.hq_queue.specs.Moves.{held, released}
 use Rattle.hq_queue.specs.declared.account.Entry.{Entry}

@@ -1,7 +1,11 @@
 -- What is said of a desk.
 use Rattle.std.specs.Prelude.{ℕ, ◌≡◌, ◌⊎◌, false, List}
-use Rattle.hq_envelope.specs.Refusals.{no_memory}
+use Rattle.hq_base.specs.Refusals.{no_memory}
+use Rattle.hq_queue.specs.declared.account.Entry.{Entry}
 use Rattle.hq_store.specs.Shelves.{Sight}
+use Rattle.hq_store.specs.Tables.{Tables}
+use Rattle.hq_desk.specs.Machine.{shared}
+use Rattle.hq_desk.specs.declared.call.Call.{Call}
 use Rattle.hq_desk.specs.declared.answer.Answer.{Answer}
 use Rattle.hq_desk.specs.declared.desk.Desk.{Desk}
 use Rattle.hq_desk.specs.declared.desk.Rendered.{Rendered}
@@ -32,13 +36,17 @@ on sight = record {
 
 -- What calls keep of a desk, whatever they answered. `sight` is what is seen of it.
 pub record Stays {S : Type 0} (sight : Sight (Desk S)) (old new : Desk S) : Type 0 where
-  -- the rows stay those of the tables
-  pub ours : sight.is_clean new → sight.is_ours old → sight.is_ours new
+  -- the rows stay those of the tables; after Closed nothing is said of them
+  pub ours : sight.is_clean new → sight.is_ours old → sight.is_closed new ≡ false → sight.is_ours new
   -- what is clean now was clean
   pub quiet : sight.is_clean new → sight.is_clean old
   -- what is open now was open
   pub stays_open : sight.is_closed new ≡ false → sight.is_closed old ≡ false
   pub host : host_of new ≡ host_of old
+
+-- what the shared step makes of its tables: the answer, and the tables afterwards
+abbrev pub stepped : {S : Type 0} → Sight (Desk S) → Desk S → Entry → ℕ → Call → Answer × Tables
+stepped sight desk entry at call = shared (host_of desk) entry (sight.tables desk) at call
 
 -- an answer with its number and its one text
 abbrev pub IsRendered : (Answer → List ℕ) → Answer → Rendered → Type 0

@@ -1,11 +1,15 @@
 //! What can be asked of the desk, by a customer or by a relay worker that names one.
 
+ghost use Rattle.std.specs.Prelude.{IsTrue, length};
+ghost use Rattle.hq_desk.specs.Limits.{is_recipient_count};
+
 use hq_envelope::{Address, Items, Sender, Serial, Spool};
 
 /// A message that a relay worker hands in.
 #[derive(Drop)]
 pub struct Submission {
-    /// The name under which the relay keeps it. While it is queued, another submission of this name is a repeat.
+    /// The name under which the relay keeps it. While it is queued, another submission of this name
+    /// is a repeat.
     pub spool: Spool,
     /// Who is told of failures.
     pub sender: Sender,
@@ -13,6 +17,7 @@ pub struct Submission {
     pub recipients: Items<Address>,
     /// Its size in bytes, at most 2,147,483,647.
     pub size: u32,
+    pub ghost number: { IsTrue (is_recipient_count (length recipients)) },
 }
 
 /// A call.

@@ -2,12 +2,10 @@
 
 ghost use Rattle.std.specs.Prelude.{◌≡◌, None, IfOk, OnOk};
 ghost use Rattle.hq_store.specs.Readings.{after_serial};
-ghost use Rattle.hq_store.specs.Shelves.{Finds, FindsSound, Keeps, KeepsOnErr, OnOpen, OnSound};
+ghost use Rattle.hq_store.specs.Shelves.{Finds, FindsSound, Keeps, KeepsOnErr, OnSound, OnOpenSound};
 ghost use Rattle.hq_store.specs.Sound.{Sound};
 ghost use Rattle.hq_desk.specs.Decision as rules;
-ghost use Rattle.hq_desk.specs.Desks.{shelf_of, host_of, with_memory, on, IsRendered};
-ghost use Rattle.hq_desk.specs.Limits.{IsEntry, IsCall};
-ghost use Rattle.hq_desk.specs.Machine.{shared};
+ghost use Rattle.hq_desk.specs.Desks.{shelf_of, host_of, with_memory, on, stepped, IsRendered};
 
 use crate::answer::Answer;
 use crate::call::{Call, Submission};
@@ -49,7 +47,8 @@ fn decide_new<S: Shelf>(
     entry: &Entry,
     submission: Submission,
 ) -> Result<Decision, Fault>
-    ensures found { FindsSound S.sight shelf.old shelf.new result entry.now.name (λ rows. rules.submit entry.now rows at submission None) }
+    ensures found { FindsSound S.sight shelf.old shelf.new result entry.now.name
+        (λ rows. rules.submit entry.now rows at submission None) }
     ensures kept { Keeps (with_memory S.sight) shelf.old shelf.new result }
 {
     let head = shelf.head(&entry.name)?;
@@ -67,7 +66,8 @@ fn decide_submit<S: Shelf>(
     entry: &Entry,
     submission: Submission,
 ) -> Result<Decision, Fault>
-    ensures found { FindsSound S.sight shelf.old shelf.new result entry.now.name (λ rows. rules.submit entry.now rows at submission (rows.by_spool submission.spool)) }
+    ensures found { FindsSound S.sight shelf.old shelf.new result entry.now.name
+        (λ rows. rules.submit entry.now rows at submission (rows.by_spool submission.spool)) }
     ensures kept { Keeps (with_memory S.sight) shelf.old shelf.new result }
 {
     match shelf.by_spool(&entry.name, &submission.spool)? {
@@ -83,7 +83,8 @@ fn decide_delete<S: Shelf>(
     entry: &Entry,
     serial: Serial,
 ) -> Result<Decision, Fault>
-    ensures found { Finds S.sight shelf.old shelf.new result entry.now.name (λ rows. rules.delete rows.head (rows.message serial)) }
+    ensures found { Finds S.sight shelf.old shelf.new result entry.now.name
+        (λ rows. rules.delete rows.head (rows.message serial)) }
     ensures kept { Keeps (with_memory S.sight) shelf.old shelf.new result }
 {
     let Some(message) = shelf.message(&entry.name, serial)? else {
@@ -101,7 +102,8 @@ fn decide_list<S: Shelf>(
     entry: &Entry,
     after: Option<Serial>,
 ) -> Result<Decision, Fault>
-    ensures found { Finds S.sight shelf.old shelf.new result entry.now.name (λ rows. rules.page (after_serial after rows.messages)) }
+    ensures found { Finds S.sight shelf.old shelf.new result entry.now.name
+        (λ rows. rules.page (after_serial after rows.messages)) }
     ensures kept { Keeps (with_memory S.sight) shelf.old shelf.new result }
 {
     let found = shelf.messages(&entry.name, after, PAGE + 1)?;
@@ -118,7 +120,8 @@ fn decide<S: Shelf>(
     entry: &Entry,
     call: Call,
 ) -> Result<Decision, Fault>
-    ensures found { FindsSound S.sight shelf.old shelf.new result entry.now.name (λ rows. rules.decide host.now entry.now rows at call) }
+    ensures found { FindsSound S.sight shelf.old shelf.new result entry.now.name
+        (λ rows. rules.decide host.now entry.now rows at call) }
     ensures kept { Keeps (with_memory S.sight) shelf.old shelf.new result }
 {
     match call {
@@ -163,9 +166,9 @@ impl<S: Shelf + Drop> Desk<S> {
         self.shelf
     }
 
-    /// Does a call of a customer at a moment. The answer is rendered before anything is changed, and
-    /// nothing takes memory after the changes, so after 90 and 91 the tables are as before; after 93
-    /// every call answers 93 until the store is opened again.
+    /// Does a call of a customer at a moment. The answer is rendered before anything is changed,
+    /// and nothing takes memory after the changes, so after 90 and 91 the tables are as before;
+    /// after 93 every call answers 93 until the store is opened again.
     pub fn act<R: Render>(
         &mut self,
         alloc: Global,
@@ -175,9 +178,14 @@ impl<S: Shelf + Drop> Desk<S> {
         render: &R,
     ) -> Result<Rendered, Fault>
         // The shared step's answer as it is rendered, and its tables, which stay sound; or a fault.
-        ensures answer { OnSound (on S.sight) self.old self.new (IfOk result (IsRendered (R.text render.now) (shared (host_of self.old) entry.now ((on S.sight).tables self.old) at call).0)) }
-        ensures tables { OnSound (on S.sight) self.old self.new (OnOk result ((on S.sight).tables self.new ≡ (shared (host_of self.old) entry.now ((on S.sight).tables self.old) at call).1)) }
-        ensures sound { OnOpen (on S.sight) self.old self.new (IsEntry entry.now → IsCall call → Sound ((on S.sight).tables self.old) → Sound ((on S.sight).tables self.new)) }
+        ensures answer { OnSound (on S.sight) self.old self.new
+            (IfOk result (IsRendered (R.text render.now)
+            (stepped (on S.sight) self.old entry.now at call).0)) }
+        ensures tables { OnSound (on S.sight) self.old self.new
+            (OnOk result ((on S.sight).tables self.new
+            ≡ (stepped (on S.sight) self.old entry.now at call).1)) }
+        ensures sound { OnOpenSound (on S.sight) self.old self.new
+            (Sound ((on S.sight).tables self.new)) }
         ensures kept { KeepsOnErr (on S.sight) self.old self.new result }
         ensures host { host_of self.new ≡ host_of self.old }
     {

@@ -24,7 +24,9 @@ fn is_among(addresses: &[Address], address: &Address) -> bool
 
 /// Adds an address that is new.
 fn add_new(addresses: &mut Vec<Address>, address: Address) -> Result<(), AllocError>
-    ensures { OnOk result (addresses.new.items ≡ addresses.old.items ++ (if list_any (λ known. same_address known address) addresses.old.items then [] else address ∷ [])) }
+    ensures { OnOk result (addresses.new.items ≡ addresses.old.items ++
+        (if list_any (λ known. same_address known address) addresses.old.items then [] else address
+        ∷ [])) }
 {
     if !is_among(addresses.as_slice(), &address) {
         addresses.push(address)?;

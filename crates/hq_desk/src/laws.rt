@@ -1,23 +1,29 @@
-//! Laws over the definitions of the desk: for every customer, every call and all tables, with no program
-//! in them. Each is an empty function whose contract is the law.
+//! Laws over the definitions of the desk: for every customer, every call and all tables, with no
+//! program in them. Each is an empty function whose contract is the law.
 
 ghost use Rattle.std.specs.Prelude.{◌≡◌, ◌≢◌, ℕ, List};
 ghost use Rattle.hq_queue.specs.declared.account.Entry.{Entry};
 ghost use Rattle.hq_store.specs.Tables.{Tables, own};
 ghost use Rattle.hq_store.specs.Sound.{Sound};
 ghost use Rattle.hq_desk.specs.declared.call.Call.{Call};
-ghost use Rattle.hq_desk.specs.Limits.{IsEntry, IsCall};
 ghost use Rattle.hq_desk.specs.Machine.{step, shared};
 
-/// Isolation of one call, for every kind at once: the caller is answered what the machine answers that knows
-/// its state alone, its state afterwards is that machine's, and every other customer's state is untouched.
+/// Isolation of one call, for every kind at once: the caller is answered what the machine answers
+/// that knows its state alone, its state afterwards is that machine's, and every other customer's
+/// state is untouched.
 pub fn isolated()
-    ensures answer { (host : List ℕ) (entry : Entry) (t : Tables) (at : ℕ) (call : Call) → (shared host entry t at call).0 ≡ (step host entry (own entry.name t) at call).0 }
-    ensures state { (host : List ℕ) (entry : Entry) (t : Tables) (at : ℕ) (call : Call) → own entry.name (shared host entry t at call).1 ≡ (step host entry (own entry.name t) at call).1 }
-    ensures others { (host : List ℕ) (entry : Entry) (t : Tables) (at : ℕ) (call : Call) (other : List ℕ) → other ≢ entry.name → own other (shared host entry t at call).1 ≡ own other t }
+    ensures answer { (host : List ℕ) (entry : Entry) (t : Tables) (at : ℕ) (call : Call)
+        → (shared host entry t at call).0 ≡ (step host entry (own entry.name t) at call).0 }
+    ensures state { (host : List ℕ) (entry : Entry) (t : Tables) (at : ℕ) (call : Call)
+        → own entry.name (shared host entry t at call).1
+        ≡ (step host entry (own entry.name t) at call).1 }
+    ensures others { (host : List ℕ) (entry : Entry) (t : Tables) (at : ℕ) (call : Call)
+        (other : List ℕ) → other ≢ entry.name
+        → own other (shared host entry t at call).1 ≡ own other t }
 {}
 
-/// Sound tables stay sound by every call within its limits; so conservation holds for every customer afterwards.
+/// Sound tables stay sound by every call; so conservation holds for every customer afterwards.
 pub fn stays_sound()
-    ensures { (host : List ℕ) (entry : Entry) (t : Tables) (at : ℕ) (call : Call) → IsEntry entry → IsCall call → Sound t → Sound (shared host entry t at call).1 }
+    ensures { (host : List ℕ) (entry : Entry) (t : Tables) (at : ℕ) (call : Call)
+        → Sound t → Sound (shared host entry t at call).1 }
 {}

@@ -1,5 +1,6 @@
-//! The desk: one call of one customer, answered and done. It reads what the decision needs through a shelf,
-//! decides, renders the answer, and only then makes the changes. It knows no bytes of the outside.
+//! The desk: one call of one customer, answered and done. It reads what the decision needs through
+//! a shelf, decides, renders the answer, and only then makes the changes. It knows no bytes of the
+//! outside.
 #![tactic(auto)]
 
 mod answer;

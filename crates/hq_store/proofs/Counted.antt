@@ -10,7 +10,8 @@ use Rattle.hq_tables.proofs.OwnedPages.{owned}
 use Rattle.hq_store.specs.declared.rows.MessageRow.{MessageRow}
 use Rattle.hq_store.specs.Tables.{Row, text_cmp}
 use Rattle.hq_store.specs.Readings.{counts_of, saturated}
-use Rattle.hq_store.specs.Listed.{message_key, message_value, messages_of, AreUnique, is_past, rows_with}
+use Rattle.hq_store.specs.Listed.{message_key, message_value, messages_of}
+use Rattle.hq_store.specs.Lookups.{AreUnique, is_past, rows_with}
 use Rattle.hq_store.proofs.Keys.{message_total}
 use Rattle.hq_store.proofs.Read.{same_counts}
 use Rattle.hq_store.proofs.Serials.{by_key, test}

@@ -15,7 +15,8 @@ use Rattle.hq_tables.proofs.Parts.{both_total, both_exact, tied_true, tied_false
 use Rattle.hq_store.proofs.Dealt.{Recipients, pending_same, pending_other_message, pending_other_owner}
 use Rattle.hq_tables.proofs.Lists.{table_keep, table_push}
 use Rattle.hq_store.specs.declared.rows.RecipientRow.{RecipientRow}
-use Rattle.hq_store.specs.Listed.{recipient_key, recipient_value, is_recipient, recipients_of, recipient_rows, pending_in, AreDealt}
+use Rattle.hq_store.specs.Listed.{recipient_key, recipient_value, recipients_of}
+use Rattle.hq_store.specs.Lookups.{is_recipient, recipient_rows, pending_in, AreDealt}
 use Rattle.hq_tables.proofs.Cases.{equal}
 
 place_total : IsTotalOrder (by_both nat_cmp nat_cmp)

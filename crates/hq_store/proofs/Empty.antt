@@ -15,7 +15,8 @@ use Rattle.hq_tables.proofs.Parts.{get_part, get-map_values, both_total, both_ex
 use Rattle.hq_tables.proofs.Pages.{no_entries}
 use Rattle.hq_store.specs.Tables.{text_cmp, opening, opening_head, no_tables, own, joined, pending_of, message_cmp, recipient_cmp}
 use Rattle.hq_store.specs.Sound.{IsNext, SoundState, Sound, numbered, pending_count}
-use Rattle.hq_store.specs.Listed.{AreUnique, AreDealt, head_key, head_value, message_key, message_value, recipient_key, recipient_value, recipients_of, heads_of, messages_of}
+use Rattle.hq_store.specs.Listed.{head_key, head_value, message_key, message_value, recipient_key, recipient_value, recipients_of, heads_of, messages_of}
+use Rattle.hq_store.specs.Lookups.{AreUnique, AreDealt}
 use Rattle.hq_store.proofs.States.{none_some}
 
 module _ {N K X : Type 0} {S : N → N → Ordering} {R : K → K → Ordering} (s : IsTotalOrder S) (r : IsTotalOrder R) (re : CmpEqualImpliesEq R) where

@@ -12,7 +12,8 @@ use Rattle.hq_tables.proofs.Lists.{get_table, table_drop, table_put}
 use Rattle.hq_tables.proofs.Unique.{unique_filter, unique_put}
 use Rattle.hq_store.specs.declared.rows.HeadRow.{HeadRow}
 use Rattle.hq_store.specs.declared.rows.MessageRow.{MessageRow}
-use Rattle.hq_store.specs.Listed.{head_key, head_value, message_key, message_value, is_head, is_message, heads_of, messages_of, AreUnique}
+use Rattle.hq_store.specs.Listed.{head_key, head_value, message_key, message_value, heads_of, messages_of}
+use Rattle.hq_store.specs.Lookups.{is_head, is_message, AreUnique}
 
 pub message_total : IsTotalOrder message_cmp
 message_total = both_total nat_list_cmp_total nat_cmp_total

@@ -23,7 +23,8 @@ use Rattle.hq_tables.proofs.Pages.{sorted_rows}
 use Rattle.hq_tables.proofs.OwnedPages.{owned}
 use Rattle.hq_store.specs.declared.rows.MessageRow.{MessageRow}
 use Rattle.hq_store.specs.declared.rows.RecipientRow.{RecipientRow}
-use Rattle.hq_store.specs.Listed.{message_key, message_value, messages_of, recipients_of, AreUnique, is_after, is_past, has_spool, serials_where, serials_after, serials_with_spool, rows_with, message_at}
+use Rattle.hq_store.specs.Listed.{message_key, message_value, messages_of, recipients_of}
+use Rattle.hq_store.specs.Lookups.{AreUnique, is_after, is_past, has_spool, serials_where, serials_after, serials_with_spool, rows_with, message_at}
 use Rattle.hq_store.proofs.Keys.{message_total}
 use Rattle.hq_tables.proofs.Cases.{first, second, less}
 

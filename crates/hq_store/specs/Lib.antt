@@ -4,3 +4,4 @@ pub mod Sound
 pub mod Fits
 pub mod Shelves
 pub mod Listed
+pub mod Lookups

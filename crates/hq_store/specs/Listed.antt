@@ -1,17 +1,14 @@
 -- What plain lists of rows stand for, in whatever order the rows lie.
-use Rattle.std.specs.Prelude.{◌≡◌, ℕ, suc, Bool, true, nat_lt, None, Some, ◌&&◌, List, [], ◌∷◌, map, filter, Option, option_map}
-use Rattle.std.specs.Ordering.{nat_cmp, eq_by_cmp}
-use Rattle.std.specs.FinMap.{FinMap, entries, get}
+use Rattle.std.specs.Prelude.{ℕ, List}
+use Rattle.std.specs.FinMap.{FinMap}
 use Rattle.hq_queue.specs.declared.account.Head.{Head}
-use Rattle.hq_queue.specs.declared.message.Message.{Message}
 use Rattle.hq_queue.specs.declared.message.Pending.{Pending}
 use Rattle.hq_store.specs.declared.rows.HeadRow.{HeadRow}
 use Rattle.hq_store.specs.declared.rows.MessageRow.{MessageRow}
 use Rattle.hq_store.specs.declared.rows.RecipientRow.{RecipientRow}
 use Rattle.hq_store.specs.declared.list_rows.ListRows.{ListRows}
-use Rattle.hq_store.specs.Tables.{Tables, Row, text_cmp, message_cmp, recipient_cmp, joined, pending_of}
-use Rattle.hq_tables.specs.Owned.{rows_of}
-use Rattle.hq_tables.specs.Rows.{table, HasUniqueKeys}
+use Rattle.hq_store.specs.Tables.{Tables, Row, text_cmp, message_cmp, recipient_cmp}
+use Rattle.hq_tables.specs.Rows.{table}
 
 -- ---- keys and values of rows
 
@@ -46,74 +43,3 @@ recipients_of rows = table recipient_cmp recipient_key recipient_value rows
 
 abbrev pub tables_of : ListRows → Tables
 tables_of s = record { heads = heads_of s.heads.items; messages = messages_of s.messages.items; recipients = recipients_of s.recipients.items }
-
--- ---- tests of rows
-
-unfoldable pub is_head : List ℕ → HeadRow → Bool
-is_head customer r = eq_by_cmp text_cmp customer r.customer
-
-unfoldable pub is_message : List ℕ → ℕ → MessageRow → Bool
-is_message customer serial r = eq_by_cmp message_cmp (customer, serial) (r.customer, r.serial)
-
-unfoldable pub is_recipient : List ℕ → ℕ → RecipientRow → Bool
-is_recipient customer serial r = eq_by_cmp text_cmp customer r.customer && eq_by_cmp nat_cmp serial r.serial
-
-abbrev pub is_after : Option ℕ → ℕ → Bool
-is_after None serial = true
-is_after (Some n) serial = nat_lt n serial
-
--- a message of the customer after a serial, or any of its messages
-unfoldable pub is_past : List ℕ → Option ℕ → MessageRow → Bool
-is_past customer after r = eq_by_cmp text_cmp customer r.customer && is_after after r.serial
-
--- a message of the customer with a spool name
-unfoldable pub has_spool : List ℕ → List ℕ → MessageRow → Bool
-has_spool customer spool r = eq_by_cmp text_cmp customer r.customer && eq_by_cmp text_cmp spool r.spool
-
--- ---- rows made
-
-abbrev pub message_row : List ℕ → Message → MessageRow
-message_row customer m = record { customer = customer; serial = m.serial; sender = m.sender; spool = m.spool; size = m.size; arrival = m.arrival; state = m.state; next_try = m.next_try; attempts = m.attempts; warned = m.warned }
-
--- recipients at the places from i on
-abbrev pub recipient_rows : List ℕ → ℕ → ℕ → List Pending → List RecipientRow
-recipient_rows customer serial i [] = []
-recipient_rows customer serial i (p ∷ ps) = record { customer = customer; serial = serial; place = i; pending = p } ∷ recipient_rows customer serial (suc i) ps
-
--- ---- the order in which rows are kept
-
--- a message's recipients in the order of the rows
-abbrev pub pending_in : List ℕ → ℕ → List RecipientRow → List Pending
-pending_in customer serial rows = map recipient_value (filter (is_recipient customer serial) rows)
-
--- each message's recipients lie in the order of their places
-unfoldable pub AreDealt : List RecipientRow → Type 0
-AreDealt rows = (customer : List ℕ) (serial : ℕ) → pending_in customer serial rows ≡ pending_of customer serial (recipients_of rows)
-
--- no message stands twice
-unfoldable pub AreUnique : List MessageRow → Type 0
-AreUnique rows = HasUniqueKeys message_cmp message_key rows
-
-abbrev pub AreInOrder : ListRows → Type 0
-AreInOrder s = AreUnique s.messages.items × AreDealt s.recipients.items
-
--- ---- pages
-
--- the customer's rows of messages, by serial
-abbrev pub rows_with : List ℕ → List MessageRow → List (ℕ × Row)
-rows_with customer rows = rows_of text_cmp customer (entries (messages_of rows))
-
--- the serials of the rows that pass a test, as they lie
-abbrev pub serials_where : (MessageRow → Bool) → List MessageRow → List ℕ
-serials_where p rows = map (λ (r : MessageRow). r.serial) (filter p rows)
-
--- the serials after a serial, in order
-abbrev pub serials_after : Option ℕ → List (ℕ × Row) → List ℕ
-serials_after after es = map (λ (e : ℕ × Row). e.0) (filter (λ (e : ℕ × Row). is_after after e.0) es)
-
--- the serials with a spool name, in order
-abbrev pub serials_with_spool : List ℕ → List (ℕ × Row) → List ℕ
-serials_with_spool spool es = map (λ (e : ℕ × Row). e.0) (filter (λ (e : ℕ × Row). eq_by_cmp text_cmp spool e.1.spool) es)
-
-abbrev pub message_at : List ℕ → List MessageRow → List RecipientRow → ℕ → Option Message
-message_at customer messages recipients serial = option_map (joined customer (recipients_of recipients) serial) (get (messages_of messages) (customer, serial))

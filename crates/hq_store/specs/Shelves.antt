@@ -1,8 +1,8 @@
 -- What each call of a shelf says. `sight` is what is seen of the shelf, and `old` and `new` are the shelf before the call
 -- and after it.
 use Rattle.std.specs.Prelude.{◌≡◌, ℕ, ◌+◌, ◌-◌, ◌^◌, min, Bool, true, false, List, Result, Ok, Err, IfOk, IfErr, OnErr}
-use Rattle.hq_envelope.specs.declared.failure.Fault.{Fault}
-use Rattle.hq_envelope.specs.declared.failure.Fault.TheVariants.{WantOfMemory, Disk, BadSchema, Closed}
+use Rattle.hq_base.specs.declared.failure.Fault.{Fault}
+use Rattle.hq_base.specs.declared.failure.Fault.TheVariants.{WantOfMemory, Disk, BadSchema, Closed}
 use Rattle.hq_store.specs.Tables.{Tables}
 use Rattle.hq_store.specs.Readings.{Readings, read_tables}
 use Rattle.hq_store.specs.Sound.{Sound}
@@ -68,8 +68,8 @@ IsTallied was is m n (Err Closed) = (is ≡ true) × (n ≡ one_more m)
 pub record Keeps {S X : Type 0} (sight : Sight S) (old new : S) (result : Result X Fault) : Type 0 where
   -- the tables
   pub same : sight.is_clean new → sight.is_ours old → sight.is_closed new ≡ false → sight.tables new ≡ sight.tables old
-  -- the rows stay those of the tables
-  pub ours : sight.is_clean new → sight.is_ours old → sight.is_ours new
+  -- the rows stay those of the tables; after Closed nothing is said of them
+  pub ours : sight.is_clean new → sight.is_ours old → sight.is_closed new ≡ false → sight.is_ours new
   -- what is clean now was clean
   pub quiet : sight.is_clean new → sight.is_clean old
   pub tally : IsTallied (sight.is_closed old) (sight.is_closed new) (sight.fault_count old) (sight.fault_count new) result
@@ -78,7 +78,7 @@ pub record Keeps {S X : Type 0} (sight : Sight S) (old new : S) (result : Result
 -- What a call that changes keeps: the tables where it ends in a fault; and the rest as above.
 pub record KeepsOnErr {S X : Type 0} (sight : Sight S) (old new : S) (result : Result X Fault) : Type 0 where
   pub none : sight.is_clean new → sight.is_ours old → sight.is_closed new ≡ false → OnErr result (sight.tables new ≡ sight.tables old)
-  pub ours : sight.is_clean new → sight.is_ours old → sight.is_ours new
+  pub ours : sight.is_clean new → sight.is_ours old → sight.is_closed new ≡ false → sight.is_ours new
   pub quiet : sight.is_clean new → sight.is_clean old
   pub tally : IsTallied (sight.is_closed old) (sight.is_closed new) (sight.fault_count old) (sight.fault_count new) result
   pub cause : IfErr result sight.may_answer

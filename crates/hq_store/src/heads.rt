@@ -4,7 +4,8 @@ ghost use Rattle.std.specs.Prelude.{◌≡◌, not, OnOk, filter, option_map, un
 ghost use Rattle.std.specs.List as list;
 ghost use Rattle.std.specs.FinMap as map;
 ghost use Rattle.hq_store.specs.Tables.{opening_head};
-ghost use Rattle.hq_store.specs.Listed.{is_head, heads_of};
+ghost use Rattle.hq_store.specs.Listed.{heads_of};
+ghost use Rattle.hq_store.specs.Lookups.{is_head};
 
 use crate::rows::HeadRow;
 use hq_envelope::{Name, TryCopy};
@@ -53,7 +54,8 @@ pub(crate) fn put_head(
     customer: &Name,
     head: Head,
 ) -> Result<(), AllocError>
-    ensures { OnOk result (heads_of rows.new.items ≡ map.insert (heads_of rows.old.items) customer.now head) }
+    ensures { OnOk result (heads_of rows.new.items ≡ map.insert
+        (heads_of rows.old.items) customer.now head) }
 {
     let row = HeadRow {
         customer: customer.copy(alloc)?,

@@ -1,5 +1,5 @@
-//! Laws over the definitions of the shared tables: for every customer and all tables, with no program in
-//! them. Each is an empty function whose contract is the law.
+//! Laws over the definitions of the shared tables: for every customer and all tables, with no
+//! program in them. Each is an empty function whose contract is the law.
 
 ghost use Rattle.std.specs.Prelude.{◌≡◌, ◌≢◌, ℕ, List};
 ghost use Rattle.hq_store.specs.declared.change.Change.{Change};
@@ -10,27 +10,33 @@ ghost use Rattle.hq_store.specs.Fits.{AllFit};
 
 /// What is read of a customer in the tables of all is what is read of its own state.
 pub fn own_state_is_read()
-    ensures { (customer : List ℕ) (t : Tables) → read_tables customer t ≡ read_state (own customer t) }
+    ensures { (customer : List ℕ) (t : Tables)
+        → read_tables customer t ≡ read_state (own customer t) }
 {}
 
 /// Changes of a customer's rows are these changes of its own state.
 pub fn own_state_is_changed()
-    ensures { (customer : List ℕ) (changes : List Change) (t : Tables) → own customer (write_all customer changes t) ≡ change_all changes (own customer t) }
+    ensures { (customer : List ℕ) (changes : List Change) (t : Tables)
+        → own customer (write_all customer changes t) ≡ change_all changes (own customer t) }
 {}
 
 /// Changes of a customer's rows leave the state of every other.
 pub fn other_states_stay()
-    ensures { (customer other : List ℕ) (changes : List Change) (t : Tables) → other ≢ customer → own other (write_all customer changes t) ≡ own other t }
+    ensures { (customer other : List ℕ) (changes : List Change) (t : Tables)
+        → other ≢ customer → own other (write_all customer changes t) ≡ own other t }
 {}
 
 /// Changes that fit keep shaped tables shaped.
 pub fn shaped_tables_stay_shaped()
-    ensures { (customer : List ℕ) (changes : List Change) (t : Tables) → Shaped t → AllFit (own customer t) changes → Shaped (write_all customer changes t) }
+    ensures { (customer : List ℕ) (changes : List Change) (t : Tables)
+        → Shaped t → AllFit (own customer t) changes → Shaped (write_all customer changes t) }
 {}
 
 /// Sound tables stay sound by changes that leave the customer's own state sound.
 pub fn sound_tables_stay_sound()
-    ensures { (customer : List ℕ) (changes : List Change) (t : Tables) → Sound t → SoundState (change_all changes (own customer t)) → Sound (write_all customer changes t) }
+    ensures { (customer : List ℕ) (changes : List Change) (t : Tables)
+        → Sound t → SoundState (change_all changes (own customer t))
+        → Sound (write_all customer changes t) }
 {}
 
 /// Sound tables are shaped.

@@ -1,5 +1,5 @@
-//! The tables of all customers, and the shelf that keeps them: reading calls, and one writing call that
-//! makes all its changes or none. A shelf knows rows and nothing of the rules of the queue.
+//! The tables of all customers, and the shelf that keeps them: reading calls, and one writing call
+//! that makes all its changes or none. A shelf knows rows and nothing of the rules of the queue.
 #![tactic(auto)]
 
 mod change;

@@ -2,7 +2,8 @@
 
 ghost use Rattle.std.specs.Prelude.{◌≡◌, IfOk, OnOk};
 ghost use Rattle.hq_store.specs.Tables.{write, write_all};
-ghost use Rattle.hq_store.specs.Listed.{tables_of, AreInOrder};
+ghost use Rattle.hq_store.specs.Listed.{tables_of};
+ghost use Rattle.hq_store.specs.Lookups.{AreInOrder};
 
 use crate::change::Change;
 use crate::rows::{HeadRow, MessageRow, RecipientRow};
@@ -36,7 +37,8 @@ impl ListRows {
 
     /// Makes one change. After an error the rows are given up.
     fn change(&mut self, alloc: Global, customer: &Name, change: &Change) -> Result<(), AllocError>
-        ensures made { OnOk result (tables_of self.new ≡ write customer.now change.now (tables_of self.old)) }
+        ensures made { OnOk result
+            (tables_of self.new ≡ write customer.now change.now (tables_of self.old)) }
         ensures order { AreInOrder self.old → OnOk result (AreInOrder self.new) }
     {
         match change {
@@ -66,7 +68,8 @@ impl ListRows {
         customer: &Name,
         changes: &[Change],
     ) -> Result<(), AllocError>
-        ensures made { OnOk result (tables_of self.new ≡ write_all customer.now changes.now (tables_of self.old)) }
+        ensures made { OnOk result
+            (tables_of self.new ≡ write_all customer.now changes.now (tables_of self.old)) }
         ensures order { AreInOrder self.old → OnOk result (AreInOrder self.new) }
     {
         for change in changes {

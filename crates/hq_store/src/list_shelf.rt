@@ -13,18 +13,19 @@ use hq_queue::{Counts, Head, Message};
 use std::alloc::Global;
 use std::marker::Model;
 
-/// The tables in plain lists in memory: slow, and simple to look through. Its only fault is 90, and it
-/// never closes.
+/// The tables in plain lists in memory: slow, and simple to look through. Its only fault is 90, and
+/// it never closes.
 #[derive(Drop)]
 pub struct ListShelf {
     alloc: Global,
     rows: ListRows,
 }
 
-/// Seen as its rows. They lie so that no message stands twice, and recipients in the order of their places.
+/// Seen as its rows. They lie so that no message stands twice, and recipients in the order of their
+/// places.
 impl Model for ListShelf {
     ghost use Rattle.hq_store.specs.declared.list_rows.ListRows.{ListRows};
-    ghost use Rattle.hq_store.specs.Listed.{AreInOrder};
+    ghost use Rattle.hq_store.specs.Lookups.{AreInOrder};
 
     ghost Value = { ListRows };
 
@@ -49,7 +50,7 @@ impl ListShelf {
 
 impl Shelf for ListShelf {
     ghost use Rattle.std.specs.Prelude.{◌≡◌, ⊤, false};
-    ghost use Rattle.hq_envelope.specs.declared.failure.Fault.TheVariants.{WantOfMemory};
+    ghost use Rattle.hq_base.specs.declared.failure.Fault.TheVariants.{WantOfMemory};
     ghost use Rattle.hq_store.specs.Listed.{tables_of};
 
     /// It is always clean and open.

@@ -1,4 +1,5 @@
-//! The rows of messages: look-up, put, drop, counts and pages, and messages joined with their recipients.
+//! The rows of messages: look-up, put, drop, counts and pages, and messages joined with their
+//! recipients.
 
 ghost use Rattle.std.specs.Prelude.{◌≡◌, ℕ, not, IfOk, OnOk, [], ◌++◌, filter, map, option_map, slice_get};
 ghost use Rattle.std.specs.List as list;
@@ -7,7 +8,8 @@ ghost use Rattle.std.specs.FinMap as maps;
 ghost use Rattle.hq_queue.specs.declared.message.Message.{Message};
 ghost use Rattle.hq_store.specs.Tables.{Row, row_of, message_of, joined};
 ghost use Rattle.hq_store.specs.Readings.{counts_of, page_of, with_spool};
-ghost use Rattle.hq_store.specs.Listed.{is_message, is_past, messages_of, recipients_of, message_row, message_value, pending_in, serials_where, serials_after, serials_with_spool, rows_with, has_spool, message_at, AreUnique, AreDealt};
+ghost use Rattle.hq_store.specs.Listed.{messages_of, recipients_of, message_value};
+ghost use Rattle.hq_store.specs.Lookups.{is_message, is_past, message_row, pending_in, serials_where, serials_after, serials_with_spool, rows_with, has_spool, message_at, AreUnique, AreDealt};
 
 use crate::recipients;
 use crate::rows::{MessageRow, RecipientRow};
@@ -20,20 +22,23 @@ fn find_message<'a>(
     customer: &Name,
     serial: Serial,
 ) -> Option<&'a MessageRow>
-    ensures { option_map (λ row. row.now) result ≡ list.find (is_message customer.now serial) rows.now }
+    ensures { option_map (λ row. row.now) result ≡ list.find
+        (is_message customer.now serial) rows.now }
 {
     rows.iter().find(|row| row.is_at(customer, serial))
 }
 
 fn drop_row(rows: &mut Vec<MessageRow>, customer: &Name, serial: Serial)
-    ensures { rows.new.items ≡ filter (λ row. not (is_message customer.now serial row)) rows.old.items }
+    ensures { rows.new.items ≡ filter
+        (λ row. not (is_message customer.now serial row)) rows.old.items }
 {
     rows.retain(|row| row.is_other(customer, serial));
 }
 
 /// Drops the message, without its recipients.
 pub(crate) fn drop_message(rows: &mut Vec<MessageRow>, customer: &Name, serial: Serial)
-    ensures table { messages_of rows.new.items ≡ maps.remove (messages_of rows.old.items) (customer.now, serial) }
+    ensures table { messages_of rows.new.items ≡ maps.remove (messages_of rows.old.items)
+        (customer.now, serial) }
     ensures unique { AreUnique rows.old.items → AreUnique rows.new.items }
 {
     drop_row(rows, customer, serial);
@@ -66,7 +71,9 @@ pub(crate) fn put_message(
     customer: &Name,
     message: &Message,
 ) -> Result<(), AllocError>
-    ensures table { OnOk result (messages_of rows.new.items ≡ maps.insert (messages_of rows.old.items) (customer.now, message.now.serial) (row_of message.now)) }
+    ensures table { OnOk result
+        (messages_of rows.new.items ≡ maps.insert (messages_of rows.old.items)
+        (customer.now, message.now.serial) (row_of message.now)) }
     ensures unique { AreUnique rows.old.items → OnOk result (AreUnique rows.new.items) }
 {
     let row = message_row(alloc, customer, message)?;
@@ -83,7 +90,8 @@ fn joined(
     customer: &Name,
     serial: Serial,
 ) -> Result<Message, AllocError>
-    ensures { IfOk result (λ message. message ≡ message_of serial (message_value row.now) (pending_in customer.now serial recipients.now)) }
+    ensures { IfOk result (λ message. message ≡ message_of serial (message_value row.now)
+        (pending_in customer.now serial recipients.now)) }
 {
     let sender = row.sender.copy(alloc)?;
     let spool = row.spool.copy(alloc)?;
@@ -110,7 +118,8 @@ pub(crate) fn message_in(
     customer: &Name,
     serial: Serial,
 ) -> Result<Option<Message>, AllocError>
-    ensures { AreDealt recipients.now → IfOk result (λ found. found ≡ message_at customer.now messages.now recipients.now serial) }
+    ensures { AreDealt recipients.now → IfOk result
+        (λ found. found ≡ message_at customer.now messages.now recipients.now serial) }
 {
     match find_message(messages, customer, serial) {
         Some(row) => Ok(Some(joined(alloc, row, recipients, customer, serial)?)),
@@ -120,7 +129,8 @@ pub(crate) fn message_in(
 
 /// How many messages the customer has, and their bytes together.
 pub(crate) fn counts_in(rows: &[MessageRow], customer: &Name) -> Counts
-    ensures { AreUnique rows.now → result ≡ counts_of (λ (e : ℕ × Row). e.1.size) (rows_with customer.now rows.now) }
+    ensures { AreUnique rows.now → result ≡ counts_of (λ (e : ℕ × Row). e.1.size)
+        (rows_with customer.now rows.now) }
 {
     let mut counts = Counts {
         messages: 0,
@@ -152,7 +162,8 @@ fn serials_past(
     customer: &Name,
     after: Option<u64>,
 ) -> Result<Vec<Serial>, AllocError>
-    ensures { IfOk result (λ serials. serials.items ≡ serials_where (is_past customer.now after) rows.now) }
+    ensures { IfOk result (λ serials. serials.items ≡ serials_where
+        (is_past customer.now after) rows.now) }
 {
     let mut serials = Vec::new(alloc);
     for row in rows {
@@ -170,7 +181,8 @@ fn sorted_serials(
     customer: &Name,
     after: Option<u64>,
 ) -> Result<Vec<Serial>, AllocError>
-    ensures { AreUnique rows.now → IfOk result (λ serials. serials.items ≡ serials_after after (rows_with customer.now rows.now)) }
+    ensures { AreUnique rows.now → IfOk result
+        (λ serials. serials.items ≡ serials_after after (rows_with customer.now rows.now)) }
 {
     let mut serials = serials_past(alloc, rows, customer, after)?;
     serials.sort_unstable();
@@ -193,7 +205,9 @@ fn messages_at(
     customer: &Name,
     serials: &[Serial],
 ) -> Result<Vec<Message>, AllocError>
-    ensures { AreDealt recipients.now → IfOk result (λ page. page.items ≡ filter_map (message_at customer.now messages.now recipients.now) serials.now) }
+    ensures { AreDealt recipients.now → IfOk result
+        (λ page. page.items ≡ filter_map
+        (message_at customer.now messages.now recipients.now) serials.now) }
 {
     let mut page = Vec::new(alloc);
     for serial in serials {
@@ -212,7 +226,10 @@ pub(crate) fn page_in(
     after: Option<Serial>,
     limit: usize,
 ) -> Result<Items<Message>, AllocError>
-    ensures { AreUnique messages.now → AreDealt recipients.now → IfOk result (λ page. page ≡ page_of after limit (map (λ e. joined customer.now (recipients_of recipients.now) e.0 e.1) (rows_with customer.now messages.now))) }
+    ensures { AreUnique messages.now → AreDealt recipients.now → IfOk result
+        (λ page. page ≡ page_of after limit
+        (map (λ e. joined customer.now (recipients_of recipients.now) e.0 e.1)
+        (rows_with customer.now messages.now))) }
 {
     let mut serials = sorted_serials(alloc, messages, customer, number_of(after))?;
     serials.truncate(limit);
@@ -226,7 +243,8 @@ fn serials_having(
     customer: &Name,
     spool: &Spool,
 ) -> Result<Vec<Serial>, AllocError>
-    ensures { IfOk result (λ serials. serials.items ≡ serials_where (has_spool customer.now spool.now) rows.now) }
+    ensures { IfOk result (λ serials. serials.items ≡ serials_where
+        (has_spool customer.now spool.now) rows.now) }
 {
     let mut serials = Vec::new(alloc);
     for row in rows {
@@ -244,7 +262,9 @@ fn sorted_having(
     customer: &Name,
     spool: &Spool,
 ) -> Result<Vec<Serial>, AllocError>
-    ensures { AreUnique rows.now → IfOk result (λ serials. serials.items ≡ serials_with_spool spool.now (rows_with customer.now rows.now)) }
+    ensures { AreUnique rows.now → IfOk result
+        (λ serials. serials.items
+        ≡ serials_with_spool spool.now (rows_with customer.now rows.now)) }
 {
     let mut serials = serials_having(alloc, rows, customer, spool)?;
     serials.sort_unstable();
@@ -257,7 +277,8 @@ fn first_of(serials: &[Serial]) -> Option<Serial>
     serials.first().copied()
 }
 
-/// The customer's message with this spool name, the one of the smallest serial where several have it.
+/// The customer's message with this spool name, the one of the smallest serial where several have
+/// it.
 pub(crate) fn by_spool_in(
     alloc: Global,
     messages: &[MessageRow],
@@ -265,7 +286,10 @@ pub(crate) fn by_spool_in(
     customer: &Name,
     spool: &Spool,
 ) -> Result<Option<Message>, AllocError>
-    ensures { AreUnique messages.now → AreDealt recipients.now → IfOk result (λ found. found ≡ with_spool spool.now (map (λ e. joined customer.now (recipients_of recipients.now) e.0 e.1) (rows_with customer.now messages.now))) }
+    ensures { AreUnique messages.now → AreDealt recipients.now → IfOk result
+        (λ found. found ≡ with_spool spool.now
+        (map (λ e. joined customer.now (recipients_of recipients.now) e.0 e.1)
+        (rows_with customer.now messages.now))) }
 {
     let serials = sorted_having(alloc, messages, customer, spool)?;
     match first_of(serials.as_slice()) {

@@ -2,7 +2,8 @@
 
 ghost use Rattle.std.specs.Prelude.{◌≡◌, not, IfOk, OnOk, [], ◌++◌, filter};
 ghost use Rattle.hq_store.specs.Tables.{deal};
-ghost use Rattle.hq_store.specs.Listed.{is_recipient, recipients_of, recipient_rows, pending_in, AreDealt};
+ghost use Rattle.hq_store.specs.Listed.{recipients_of};
+ghost use Rattle.hq_store.specs.Lookups.{is_recipient, recipient_rows, pending_in, AreDealt};
 
 use crate::rows::RecipientRow;
 use hq_envelope::{Items, Name, Serial, TryCopy};
@@ -10,7 +11,8 @@ use hq_queue::Pending;
 use std::alloc::{AllocError, Global};
 
 fn drop_rows(rows: &mut Vec<RecipientRow>, customer: &Name, serial: Serial)
-    ensures { rows.new.items ≡ filter (λ row. not (is_recipient customer.now serial row)) rows.old.items }
+    ensures { rows.new.items ≡ filter
+        (λ row. not (is_recipient customer.now serial row)) rows.old.items }
 {
     rows.retain(|row| row.is_other(customer, serial));
 }
@@ -22,7 +24,8 @@ fn add_rows(
     serial: Serial,
     pending: &[Pending],
 ) -> Result<(), AllocError>
-    ensures { OnOk result (rows.new.items ≡ rows.old.items ++ recipient_rows customer.now serial 1 pending.now) }
+    ensures { OnOk result (rows.new.items ≡ rows.old.items
+        ++ recipient_rows customer.now serial 1 pending.now) }
 {
     let mut place = 1;
     for recipient in pending {
@@ -46,7 +49,9 @@ pub(crate) fn put_recipients(
     serial: Serial,
     pending: &[Pending],
 ) -> Result<(), AllocError>
-    ensures table { OnOk result (recipients_of rows.new.items ≡ deal customer.now serial pending.now (recipients_of rows.old.items)) }
+    ensures table { OnOk result
+        (recipients_of rows.new.items ≡ deal customer.now serial pending.now
+        (recipients_of rows.old.items)) }
     ensures dealt { AreDealt rows.old.items → OnOk result (AreDealt rows.new.items) }
 {
     drop_rows(rows, customer, serial);
@@ -56,7 +61,8 @@ pub(crate) fn put_recipients(
 
 /// Drops all recipients of the message.
 pub(crate) fn drop_recipients(rows: &mut Vec<RecipientRow>, customer: &Name, serial: Serial)
-    ensures table { recipients_of rows.new.items ≡ deal customer.now serial [] (recipients_of rows.old.items) }
+    ensures table { recipients_of rows.new.items ≡ deal customer.now serial []
+        (recipients_of rows.old.items) }
     ensures dealt { AreDealt rows.old.items → AreDealt rows.new.items }
 {
     drop_rows(rows, customer, serial);

@@ -3,7 +3,7 @@
 ghost use Rattle.std.specs.Prelude.{◌≡◌, not};
 ghost use Rattle.std.specs.Ordering.{nat_cmp, eq_by_cmp};
 ghost use Rattle.hq_store.specs.Tables.{text_cmp};
-ghost use Rattle.hq_store.specs.Listed.{is_head, is_message, is_recipient, is_past, has_spool};
+ghost use Rattle.hq_store.specs.Lookups.{is_head, is_message, is_recipient, is_past, has_spool};
 
 use hq_envelope::{Moment, Name, Sender, Serial, Spool, TryCopy};
 use hq_queue::{Head, Pending, QueueState};
@@ -56,7 +56,7 @@ fn is_serial(a: Serial, b: Serial) -> bool
 
 impl HeadRow {
     /// Whether it is the customer's.
-    #[tactic(auto, unfolding(crate::specs::Listed::is_head))]
+    #[tactic(auto, unfolding(crate::specs::Lookups::is_head))]
     pub(crate) fn is_of(&self, customer: &Name) -> bool
         ensures { result ≡ is_head customer.now self.now }
     {
@@ -73,7 +73,7 @@ impl HeadRow {
 
 impl MessageRow {
     /// Whether it is the customer's message of this serial.
-    #[tactic(auto, unfolding(crate::specs::Listed::is_message))]
+    #[tactic(auto, unfolding(crate::specs::Lookups::is_message))]
     pub(crate) fn is_at(&self, customer: &Name, serial: Serial) -> bool
         ensures { result ≡ is_message customer.now serial self.now }
     {
@@ -91,8 +91,9 @@ impl MessageRow {
         !self.is_at(customer, serial)
     }
 
-    /// Whether it is a message of the customer after a serial, or any of its messages where there is none.
-    #[tactic(auto, unfolding(crate::specs::Listed::is_past))]
+    /// Whether it is a message of the customer after a serial, or any of its messages where there
+    /// is none.
+    #[tactic(auto, unfolding(crate::specs::Lookups::is_past))]
     pub(crate) fn is_past(&self, customer: &Name, after: Option<u64>) -> bool
         ensures { result ≡ is_past customer.now after self.now }
     {
@@ -104,7 +105,7 @@ impl MessageRow {
     }
 
     /// Whether it is a message of the customer with this spool name.
-    #[tactic(auto, unfolding(crate::specs::Listed::has_spool))]
+    #[tactic(auto, unfolding(crate::specs::Lookups::has_spool))]
     pub(crate) fn has_spool(&self, customer: &Name, spool: &Spool) -> bool
         ensures { result ≡ has_spool customer.now spool.now self.now }
     {
@@ -114,7 +115,7 @@ impl MessageRow {
 
 impl RecipientRow {
     /// Whether it is a recipient of the customer's message of this serial.
-    #[tactic(auto, unfolding(crate::specs::Listed::is_recipient))]
+    #[tactic(auto, unfolding(crate::specs::Lookups::is_recipient))]
     pub(crate) fn is_at(&self, customer: &Name, serial: Serial) -> bool
         ensures { result ≡ is_recipient customer.now serial self.now }
     {

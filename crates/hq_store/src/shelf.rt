@@ -14,10 +14,11 @@ use hq_queue::{Counts, Head, Message};
 /// A call answers, or it ends in a fault:
 /// - 90 `WantOfMemory` leaves everything as before.
 /// - 91 `Disk` leaves the tables as before.
-/// - 93 `Closed` closes the shelf: from then on every call answers it, and nothing is said of the rows.
+/// - 93 `Closed` closes the shelf: from then on every call answers it, and nothing is said of the
+///   rows.
 ///
-/// What is said of the tables is said where the store is clean as the call ends, and where its rows were
-/// the rows of the tables before.
+/// What is said of the tables is said where the store is clean as the call ends, and where its rows
+/// were the rows of the tables before.
 pub trait Shelf {
     /// What is seen of it.
     ghost sight: { Sight Self };
@@ -27,20 +28,23 @@ pub trait Shelf {
         ensures found { Finds sight self.old self.new result customer.now (λ rows. rows.head) }
         ensures kept { Keeps sight self.old self.new result };
 
-    /// How many messages the customer has, and their bytes together, which stay at the greatest `u64`.
-    /// Lines are not kept yet, and are 0.
+    /// How many messages the customer has, and their bytes together, which stay at the greatest
+    /// `u64`. Lines are not kept yet, and are 0.
     fn counts(&mut self, customer: &Name) -> Result<Counts, Fault>
         ensures found { Finds sight self.old self.new result customer.now (λ rows. rows.counts) }
         ensures kept { Keeps sight self.old self.new result };
 
     /// The customer's message of this serial.
     fn message(&mut self, customer: &Name, serial: Serial) -> Result<Option<Message>, Fault>
-        ensures found { Finds sight self.old self.new result customer.now (λ rows. rows.message serial) }
+        ensures found { Finds sight self.old self.new result customer.now
+            (λ rows. rows.message serial) }
         ensures kept { Keeps sight self.old self.new result };
 
-    /// The customer's message with this spool name; the one of the smallest serial, where several have it.
+    /// The customer's message with this spool name; the one of the smallest serial, where several
+    /// have it.
     fn by_spool(&mut self, customer: &Name, spool: &Spool) -> Result<Option<Message>, Fault>
-        ensures found { Finds sight self.old self.new result customer.now (λ rows. rows.by_spool spool.now) }
+        ensures found { Finds sight self.old self.new result customer.now
+            (λ rows. rows.by_spool spool.now) }
         ensures kept { Keeps sight self.old self.new result };
 
     /// The customer's messages in order of serial: the first `limit` after the serial, or of all.
@@ -50,15 +54,19 @@ pub trait Shelf {
         after: Option<Serial>,
         limit: usize,
     ) -> Result<Items<Message>, Fault>
-        ensures found { Finds sight self.old self.new result customer.now (λ rows. page_of after limit rows.messages) }
+        ensures found { Finds sight self.old self.new result customer.now
+            (λ rows. page_of after limit rows.messages) }
         ensures kept { Keeps sight self.old self.new result };
 
     /// Makes all changes of the customer's rows, in order, or none.
     fn apply(&mut self, customer: &Name, changes: &[Change]) -> Result<(), Fault>
-        ensures made { OnClean sight self.old self.new (OnOk result (sight.tables self.new ≡ write_all customer.now changes.now (sight.tables self.old))) }
+        ensures made { OnClean sight self.old self.new
+            (OnOk result (sight.tables self.new ≡ write_all customer.now changes.now
+            (sight.tables self.old))) }
         ensures kept { KeepsOnErr sight self.old self.new result };
 
-    /// How many 91 and 93 the calls have answered; at the greatest `u64` it stays. It takes no memory.
+    /// How many 91 and 93 the calls have answered; at the greatest `u64` it stays. It takes no
+    /// memory.
     fn faults(&self) -> u64
         ensures { result ≡ sight.fault_count self.now };
 }

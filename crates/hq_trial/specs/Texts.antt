@@ -1,6 +1,6 @@
 -- Answers as one line of plain text.
 use Rattle.std.specs.Prelude.{ℕ, Bool, true, false, List, ◌++◌, codes, decimal, flat_map}
-use Rattle.hq_envelope.specs.Refusals.{refusal_shown}
+use Rattle.hq_base.specs.Refusals.{refusal_shown}
 use Rattle.hq_envelope.specs.Senders.{sender_text}
 use Rattle.hq_queue.specs.declared.message.Message.{Message}
 use Rattle.hq_queue.specs.declared.message.Pending.{Pending}

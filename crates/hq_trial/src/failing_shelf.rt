@@ -11,9 +11,9 @@ use hq_store::{Change, Shelf};
 
 /// A shelf before another: it hands each call on, or fails it as told without handing it on.
 ///
-/// All calls of a shelf are counted, but for `faults`. Its own count of faults has every 91 and 93 that it
-/// answered, those of the other among them, and none that the other answered before. After one 93 it is
-/// closed, and hands no call on. Only the other takes memory.
+/// All calls of a shelf are counted, but for `faults`. Its own count of faults has every 91 and 93
+/// that it answered, those of the other among them, and none that the other answered before. After
+/// one 93 it is closed, and hands no call on. Only the other takes memory.
 #[derive(Drop)]
 pub struct FailingShelf<S> {
     inner: S,
@@ -39,7 +39,8 @@ impl<S> FailingShelf<S> {
         self.inner
     }
 
-    /// How many calls were made of it, those among them that it failed; at the greatest `u64` it stays.
+    /// How many calls were made of it, those among them that it failed; at the greatest `u64` it
+    /// stays.
     pub fn calls(&self) -> u64
         ensures { result ≡ (trial_of self.now).calls }
     {
@@ -49,7 +50,7 @@ impl<S> FailingShelf<S> {
 
 impl<S: Shelf> Shelf for FailingShelf<S> {
     ghost use Rattle.std.specs.Prelude.{◌≡◌, ◌⊎◌};
-    ghost use Rattle.hq_envelope.specs.declared.failure.Fault.TheVariants.{Disk, Closed};
+    ghost use Rattle.hq_base.specs.declared.failure.Fault.TheVariants.{Disk, Closed};
 
     ghost sight = { record {
       tables = λ s. S.sight.tables s.inner;

@@ -1,5 +1,5 @@
-//! For tests alone: a shelf that stands before another and fails as told, so that every call of a test can
-//! be made to fail in turn; and the tests of the desk.
+//! For tests alone: a shelf that stands before another and fails as told, so that every call of a
+//! test can be made to fail in turn; and the tests of the desk.
 #![tactic(auto)]
 
 mod failing_shelf;

@@ -51,7 +51,8 @@ fn push_number(alloc: Global, text: &mut String, number: u64) -> Result<(), Allo
 
 /// Adds the addresses of recipients.
 fn push_addresses(text: &mut String, pending: &[Pending]) -> Result<(), AllocError>
-    ensures { OnOk result (string_bytes text.new ≡ string_bytes text.old ++ flat_map texts.address pending.now) }
+    ensures { OnOk result (string_bytes text.new ≡ string_bytes text.old
+        ++ flat_map texts.address pending.now) }
 {
     for recipient in pending {
         push_word(text, recipient.address.as_str())?;
@@ -61,7 +62,8 @@ fn push_addresses(text: &mut String, pending: &[Pending]) -> Result<(), AllocErr
 
 /// Adds the serials of messages.
 fn push_serials(alloc: Global, text: &mut String, messages: &[Message]) -> Result<(), AllocError>
-    ensures { OnOk result (string_bytes text.new ≡ string_bytes text.old ++ flat_map texts.serial messages.now) }
+    ensures { OnOk result (string_bytes text.new ≡ string_bytes text.old
+        ++ flat_map texts.serial messages.now) }
 {
     for message in messages {
         push_number(alloc, text, message.serial.get())?;
@@ -71,7 +73,8 @@ fn push_serials(alloc: Global, text: &mut String, messages: &[Message]) -> Resul
 
 /// Adds when a message came and may be tried next.
 fn push_times(alloc: Global, text: &mut String, message: &Message) -> Result<(), AllocError>
-    ensures { OnOk result (string_bytes text.new ≡ texts.times (string_bytes text.old) message.now) }
+    ensures { OnOk result
+        (string_bytes text.new ≡ texts.times (string_bytes text.old) message.now) }
 {
     push_number(alloc, text, message.arrival.get())?;
     push_number(alloc, text, message.next_try.get())?;

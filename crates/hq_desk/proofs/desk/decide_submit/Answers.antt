@@ -15,4 +15,4 @@ returns-in-None-clause-found g c = λ clean ours sound.
     let none : (read_tables name t).by_spool c.args.submission.spool ≡ None = sym (c.in_ok-known.ensures.found before ours) ∙ c.in-None.is in
     subst (λ (target : Decision). IfOk c.decide_new.result (λ decision. decision ≡ target))
     (λ i. rules.submit c.args.entry.now (read_tables name (tables i)) c.args.at c.args.submission (sym none i))
-    (c.decide_new.ensures.found clean (c.in_ok-known.ensures.kept.ours before ours) (subst Sound (sym tables) sound))
+    (c.decide_new.ensures.found clean (c.in_ok-known.ensures.kept.ours before ours c.in_ok-known.ensures.kept.tally.1) (subst Sound (sym tables) sound))

@@ -1,7 +1,7 @@
 use Rattle.std.proofs.Common.{None, ap, sym, ◌∙◌}
 use Rattle.std.specs.Prelude.{slice_get}
 use Rattle.hq_tables.specs.Owned.{given}
-use Rattle.hq_store.specs.Listed.{message_at}
+use Rattle.hq_store.specs.Lookups.{message_at}
 use Rattle.hq_store.proofs.Serials.{spool_is}
 use Rattle.hq_store.proofs.messages.by_spool_in.Goals as goal
 

@@ -2,7 +2,7 @@ use Rattle.std.proofs.Common.{◌≡◌, None, filter, take, ap, ◌∙◌, arit
 use Rattle.std.proofs.lemmas.List.{take_all}
 use Rattle.hq_store.specs.declared.rows.MessageRow.{MessageRow}
 use Rattle.hq_store.specs.Readings.{counts_of}
-use Rattle.hq_store.specs.Listed.{is_past}
+use Rattle.hq_store.specs.Lookups.{is_past}
 use Rattle.hq_store.proofs.Counted.{own_counts}
 use Rattle.hq_store.proofs.messages.counts_in.Goals as goal
 

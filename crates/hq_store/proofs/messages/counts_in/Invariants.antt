@@ -1,7 +1,7 @@
 use Rattle.std.proofs.Common.{◌≡◌, ◌≤◌, None, filter, take}
 use Rattle.hq_store.specs.declared.rows.MessageRow.{MessageRow}
 use Rattle.hq_store.specs.Readings.{counts_of}
-use Rattle.hq_store.specs.Listed.{is_past}
+use Rattle.hq_store.specs.Lookups.{is_past}
 use Rattle.hq_store.proofs.messages.counts_in.Given as goal
 
 abbrev pub invariant-loop-row : goal.invariant-loop-row

@@ -1,5 +1,6 @@
 use Rattle.std.proofs.Common.{ap, ◌∙◌, subst, sym}
-use Rattle.hq_store.specs.Listed.{messages_of, AreUnique}
+use Rattle.hq_store.specs.Listed.{messages_of}
+use Rattle.hq_store.specs.Lookups.{AreUnique}
 use Rattle.hq_store.proofs.Keys.{message_drop, unique_drop}
 use Rattle.hq_store.proofs.messages.drop_message.Goals as goal
 

@@ -1,6 +1,6 @@
 use Rattle.std.proofs.Common.{not, rules}
 use Rattle.std.proofs.lemmas.Fn.{filter_same}
-use Rattle.hq_store.specs.Listed.{is_message}
+use Rattle.hq_store.specs.Lookups.{is_message}
 use Rattle.hq_store.proofs.messages.drop_row.Goals as goal
 
 pub returns : goal.returns

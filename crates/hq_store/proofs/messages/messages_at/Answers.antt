@@ -2,7 +2,7 @@ use Rattle.std.proofs.Common.{ap, ◌∙◌, sym, ◌++◌, ◌∷◌, [], take}
 use Rattle.std.specs.List.{filter_map, cons_option}
 use Rattle.std.proofs.lemmas.List.{take_more}
 use Rattle.std.proofs.lemmas.List.Elements.{filter_map-append}
-use Rattle.hq_store.specs.Listed.{message_at}
+use Rattle.hq_store.specs.Lookups.{message_at}
 use Rattle.hq_store.proofs.messages.messages_at.Goals as goal
 
 pub loop-serial-preserved : goal.loop-serial-preserved

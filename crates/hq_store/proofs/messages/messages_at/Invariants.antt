@@ -1,6 +1,6 @@
 use Rattle.std.proofs.Common.{◌≡◌, take}
 use Rattle.std.specs.List.{filter_map}
-use Rattle.hq_store.specs.Listed.{AreDealt, message_at}
+use Rattle.hq_store.specs.Lookups.{AreDealt, message_at}
 use Rattle.hq_store.proofs.messages.messages_at.Given as goal
 
 abbrev pub invariant-loop-serial : goal.invariant-loop-serial

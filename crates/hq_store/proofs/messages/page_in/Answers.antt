@@ -1,6 +1,6 @@
 use Rattle.std.proofs.Common.{ap, ◌∙◌, take}
 use Rattle.std.specs.List.{filter_map}
-use Rattle.hq_store.specs.Listed.{message_at, serials_after, rows_with}
+use Rattle.hq_store.specs.Lookups.{message_at, serials_after, rows_with}
 use Rattle.hq_store.proofs.Serials.{page_is}
 use Rattle.hq_store.proofs.messages.page_in.Goals as goal
 

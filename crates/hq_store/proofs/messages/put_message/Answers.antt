@@ -1,5 +1,6 @@
 use Rattle.std.proofs.Common.{◌++◌, ◌∷◌, [], ap, ◌∙◌, subst, sym}
-use Rattle.hq_store.specs.Listed.{messages_of, AreUnique, message_row}
+use Rattle.hq_store.specs.Listed.{messages_of}
+use Rattle.hq_store.specs.Lookups.{AreUnique, message_row}
 use Rattle.hq_store.proofs.Keys.{message_put, unique_message}
 use Rattle.hq_store.proofs.messages.put_message.Goals as goal
 

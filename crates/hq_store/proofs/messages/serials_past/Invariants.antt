@@ -1,5 +1,5 @@
 use Rattle.std.proofs.Common.{◌≡◌, take}
-use Rattle.hq_store.specs.Listed.{serials_where, is_past}
+use Rattle.hq_store.specs.Lookups.{serials_where, is_past}
 use Rattle.hq_store.proofs.messages.serials_past.Given as goal
 
 abbrev pub invariant-loop-row : goal.invariant-loop-row

@@ -1,5 +1,5 @@
 use Rattle.std.proofs.Common.{◌≡◌, ◌+◌, ◌++◌, drop}
-use Rattle.hq_store.specs.Listed.{recipient_rows}
+use Rattle.hq_store.specs.Lookups.{recipient_rows}
 use Rattle.hq_store.proofs.recipients.add_rows.Given as goal
 
 -- what is left to add leads to the end

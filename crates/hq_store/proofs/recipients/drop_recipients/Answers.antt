@@ -1,5 +1,6 @@
 use Rattle.std.proofs.Common.{[], ap, ◌∙◌, subst, sym, append-nil}
-use Rattle.hq_store.specs.Listed.{recipients_of, AreDealt}
+use Rattle.hq_store.specs.Listed.{recipients_of}
+use Rattle.hq_store.specs.Lookups.{AreDealt}
 use Rattle.hq_store.proofs.DealtRows.{dealt_table, dealt_rows}
 use Rattle.hq_store.proofs.recipients.drop_recipients.Goals as goal
 

@@ -1,6 +1,6 @@
 use Rattle.std.proofs.Common.{not, rules}
 use Rattle.std.proofs.lemmas.Fn.{filter_same}
-use Rattle.hq_store.specs.Listed.{is_recipient}
+use Rattle.hq_store.specs.Lookups.{is_recipient}
 use Rattle.hq_store.proofs.recipients.drop_rows.Goals as goal
 
 pub returns : goal.returns

@@ -1,5 +1,5 @@
 use Rattle.std.proofs.Common.{◌≡◌, take}
-use Rattle.hq_store.specs.Listed.{pending_in}
+use Rattle.hq_store.specs.Lookups.{pending_in}
 use Rattle.hq_store.proofs.recipients.pending_in.Given as goal
 
 abbrev pub invariant-loop-row : goal.invariant-loop-row

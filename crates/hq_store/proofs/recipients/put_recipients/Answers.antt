@@ -1,5 +1,6 @@
 use Rattle.std.proofs.Common.{◌++◌, ap, ◌∙◌, subst, sym}
-use Rattle.hq_store.specs.Listed.{recipients_of, recipient_rows, AreDealt}
+use Rattle.hq_store.specs.Listed.{recipients_of}
+use Rattle.hq_store.specs.Lookups.{recipient_rows, AreDealt}
 use Rattle.hq_store.proofs.DealtRows.{dealt_table, dealt_rows}
 use Rattle.hq_store.proofs.recipients.put_recipients.Goals as goal
 

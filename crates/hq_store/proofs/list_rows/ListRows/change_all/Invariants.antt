@@ -1,6 +1,7 @@
 use Rattle.std.proofs.Common.{◌≡◌, drop}
 use Rattle.hq_store.specs.Tables.{write_all}
-use Rattle.hq_store.specs.Listed.{tables_of, AreInOrder}
+use Rattle.hq_store.specs.Listed.{tables_of}
+use Rattle.hq_store.specs.Lookups.{AreInOrder}
 use Rattle.hq_store.proofs.list_rows.ListRows.change_all.Given as goal
 
 -- what is left to change leads to the end

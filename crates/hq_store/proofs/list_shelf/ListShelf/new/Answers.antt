@@ -1,5 +1,6 @@
 use Rattle.std.proofs.Common.{subst, sym, ◌∙◌}
-use Rattle.hq_store.specs.Listed.{AreUnique, AreDealt, heads_of, messages_of, recipients_of}
+use Rattle.hq_store.specs.Listed.{heads_of, messages_of, recipients_of}
+use Rattle.hq_store.specs.Lookups.{AreUnique, AreDealt}
 use Rattle.hq_store.proofs.Empty.{none_unique, none_dealt, no_rows}
 use Rattle.hq_store.proofs.list_shelf.ListShelf.new.Goals as goal
 
