@@ -1,4 +1,4 @@
 pub mod JsonBodies
 pub mod NoFloats
 pub mod QueueIds
-pub mod Readers
+pub mod Submitted

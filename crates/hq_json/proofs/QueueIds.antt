@@ -5,7 +5,7 @@ use Rattle.std.proofs.lemmas.Bool.Decides.{nat_tests}
 use Rattle.std.proofs.lemmas.Str.{IsAscii-append, IsUtf8-from_ascii}
 use Rattle.std.proofs.lemmas.Str.Ascii.{IsAscii-cons, IsAscii-from_all}
 use Rattle.std.proofs.lemmas.List.Elements.{All-from_get_or}
-use Rattle.hq_envelope.specs.Serials.{hex_digit, hex_text, serial_text}
+use Rattle.hq_base.specs.Serials.{hex_digit, hex_text, serial_text}
 
 digit_small : (d : ℕ) → d < 16 → hex_digit d < 128
 digit_small d h = grind (arith, nat_tests)

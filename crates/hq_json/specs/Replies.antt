@@ -1,20 +1,28 @@
 -- The body of each answer, as a JSON value with its members in the order of their names; its bytes are the compact
 -- text of the value, as `serde_json` writes it.
-use Rattle.std.specs.Prelude.{ℕ, Bool, List, [], map, length, codes, Option, None, Some}
-use Rattle.serde_json.specs.Data.{Data, boolean, number, string, array, object, unsigned, no_members, member}
+use Rattle.std.specs.Prelude.{ℕ, Bool, List, [], ◌∷◌, map, length, codes, Option, None, Some}
+use Rattle.serde_json.specs.Data.{Data, boolean, number, string, array, object, unsigned, Members, no_members, member}
 use Rattle.serde_json.specs.View.{items_of}
 use Rattle.serde_json.specs.Written.{compact_text}
-use Rattle.hq_envelope.specs.Refusals.{refusal_number, refusal_name}
+use Rattle.hq_base.specs.Refusals.{refusal_number, refusal_name}
 use Rattle.hq_envelope.specs.Senders.{sender_text}
-use Rattle.hq_envelope.specs.Serials.{serial_text}
-use Rattle.hq_envelope.specs.declared.failure.Refusal.{Refusal}
-use Rattle.hq_envelope.specs.declared.failure.Refusal.TheVariants.{AttemptAhead, BadCsv, DoubledPattern, BadDirectory, DoubledName, DoubledKey}
+use Rattle.hq_base.specs.Serials.{serial_text}
+use Rattle.hq_base.specs.declared.failure.Refusal.{Refusal}
+use Rattle.hq_base.specs.declared.failure.Refusal.TheVariants.{AttemptAhead, BadCsv, DoubledPattern, BadDirectory, DoubledName, DoubledKey}
 use Rattle.hq_queue.specs.declared.message.Message.{Message}
 use Rattle.hq_queue.specs.declared.message.Pending.{Pending}
 use Rattle.hq_queue.specs.declared.message.QueueState.{QueueState}
 use Rattle.hq_queue.specs.declared.message.QueueState.TheVariants.{Incoming, Deferred, Hold}
 use Rattle.hq_desk.specs.declared.answer.Answer.{Answer}
 use Rattle.hq_desk.specs.declared.answer.Answer.TheVariants as answer
+
+abbrev pub members_in : List (List ℕ × Data) → Members
+members_in [] = no_members
+members_in (m ∷ ms) = member m.0 m.1 (members_in ms)
+
+-- an object with these members
+abbrev pub having : List (List ℕ × Data) → Data
+having ms = object (members_in ms)
 
 abbrev pub count : ℕ → Data
 count n = number (unsigned n)
@@ -26,15 +34,26 @@ id serial = string (serial_text serial)
 
 -- the number and the name
 abbrev pub refused : Refusal → Data
-refused r = object (member (codes "error") (count (refusal_number r)) (member (codes "name") (string (refusal_name r)) no_members))
+refused r = having (
+    (codes "error", count (refusal_number r)) ∷
+    (codes "name", string (refusal_name r)) ∷
+    [])
 
 -- the row behind them
 abbrev pub refused_at : Refusal → ℕ → Data
-refused_at r row = object (member (codes "error") (count (refusal_number r)) (member (codes "name") (string (refusal_name r)) (member (codes "row") (count row) no_members)))
+refused_at r row = having (
+    (codes "error", count (refusal_number r)) ∷
+    (codes "name", string (refusal_name r)) ∷
+    (codes "row", count row) ∷
+    [])
 
 -- the attempts before them
 abbrev pub refused_after : Refusal → ℕ → Data
-refused_after r attempts = object (member (codes "attempts") (count attempts) (member (codes "error") (count (refusal_number r)) (member (codes "name") (string (refusal_name r)) no_members)))
+refused_after r attempts = having (
+    (codes "attempts", count attempts) ∷
+    (codes "error", count (refusal_number r)) ∷
+    (codes "name", string (refusal_name r)) ∷
+    [])
 
 abbrev pub refusal_data : Refusal → Data
 refusal_data (AttemptAhead attempts) = refused_after (AttemptAhead attempts) attempts
@@ -54,9 +73,14 @@ state_name Hold = codes "hold"
 
 -- a message in a list
 unfoldable pub entry : Message → Data
-entry m =
-    object (member (codes "arrival") (count m.arrival) (member (codes "id") (id m.serial) (member (codes "recipients") (count (length m.pending))
-    (member (codes "sender") (string (sender_text m.sender)) (member (codes "size") (count m.size) (member (codes "state") (string (state_name m.state)) no_members))))))
+entry m = having (
+    (codes "arrival", count m.arrival) ∷
+    (codes "id", id m.serial) ∷
+    (codes "recipients", count (length m.pending)) ∷
+    (codes "sender", string (sender_text m.sender)) ∷
+    (codes "size", count m.size) ∷
+    (codes "state", string (state_name m.state)) ∷
+    [])
 
 -- the status, or the empty text where there is none
 abbrev pub status_shown : Option (List ℕ) → List ℕ
@@ -64,21 +88,35 @@ status_shown None = []
 status_shown (Some status) = status
 
 abbrev pub pending_entry : Pending → Data
-pending_entry p = object (member (codes "address") (string p.address) (member (codes "status") (string (status_shown p.status)) (member (codes "text") (string p.text) no_members)))
+pending_entry p = having (
+    (codes "address", string p.address) ∷
+    (codes "status", string (status_shown p.status)) ∷
+    (codes "text", string p.text) ∷
+    [])
 
 abbrev pub pending_list : List Pending → Data
 pending_list ps = array (items_of (map pending_entry ps))
 
 -- a message shown whole
 unfoldable pub shown : Message → Data
-shown m =
-    object (member (codes "arrival") (count m.arrival) (member (codes "attempts") (count m.attempts) (member (codes "id") (id m.serial)
-    (member (codes "next_try") (count m.next_try) (member (codes "pending") (pending_list m.pending) (member (codes "sender") (string (sender_text m.sender))
-    (member (codes "size") (count m.size) (member (codes "spool") (string m.spool) (member (codes "state") (string (state_name m.state))
-    (member (codes "warned") (boolean m.warned) no_members))))))))))
+shown m = having (
+    (codes "arrival", count m.arrival) ∷
+    (codes "attempts", count m.attempts) ∷
+    (codes "id", id m.serial) ∷
+    (codes "next_try", count m.next_try) ∷
+    (codes "pending", pending_list m.pending) ∷
+    (codes "sender", string (sender_text m.sender)) ∷
+    (codes "size", count m.size) ∷
+    (codes "spool", string m.spool) ∷
+    (codes "state", string (state_name m.state)) ∷
+    (codes "warned", boolean m.warned) ∷
+    [])
 
 unfoldable pub listed : List Message → Bool → Data
-listed ms more = object (member (codes "messages") (array (items_of (map entry ms))) (member (codes "more") (boolean more) no_members))
+listed ms more = having (
+    (codes "messages", array (items_of (map entry ms))) ∷
+    (codes "more", boolean more) ∷
+    [])
 
 -- ---- submissions
 
@@ -87,15 +125,19 @@ addresses ps = array (items_of (map (λ (p : Pending). string p.address) ps))
 
 -- no recipient is refused: there are no access tables yet
 unfoldable pub queued : Message → Data
-queued m =
-    object (member (codes "id") (id m.serial) (member (codes "recipients") (addresses m.pending) (member (codes "refused") (array (items_of []))
-    (member (codes "state") (string (state_name m.state)) (member (codes "verdict") (string (codes "queued")) no_members)))))
+queued m = having (
+    (codes "id", id m.serial) ∷
+    (codes "recipients", addresses m.pending) ∷
+    (codes "refused", array (items_of [])) ∷
+    (codes "state", string (state_name m.state)) ∷
+    (codes "verdict", string (codes "queued")) ∷
+    [])
 
 abbrev pub repeated : ℕ → Data
-repeated serial = object (member (codes "id") (id serial) (member (codes "verdict") (string (codes "repeat")) no_members))
+repeated serial = having ((codes "id", id serial) ∷ (codes "verdict", string (codes "repeat")) ∷ [])
 
 abbrev pub changed : ℕ → Data
-changed n = object (member (codes "changed") (count n) no_members)
+changed n = having ((codes "changed", count n) ∷ [])
 
 -- ---- every answer
 

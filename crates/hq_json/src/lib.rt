@@ -1,7 +1,8 @@
-//! JSON at the border of the desk: bodies read into what a call asks for, and answers written as replies.
-//! Which path and method a body belongs to is not said here.
+//! JSON at the border of the desk: bodies read into what a call asks for, and answers written as
+//! replies. Which path and method a body belongs to is not said here.
 #![tactic(auto)]
 
+mod members;
 mod reading;
 mod replies;
 mod submission;

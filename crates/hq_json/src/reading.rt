@@ -3,8 +3,9 @@
 ghost use Rattle.std.specs.Prelude.{◌≡◌, ◌≤◌, List, ℕ, IfOk, length, bytes_eq, option_map, option_and_then, map as map_list, string_bytes};
 ghost use Rattle.std.specs.List.{list_any};
 ghost use Rattle.serde_json.specs.View.{view, members_view, items_view};
-ghost use Rattle.hq_envelope.specs.declared.failure.Refusal.TheVariants.{BadJson, BadField};
-ghost use Rattle.hq_json.specs.Reading.{Gives, or_refuse, json_of, has_only, text_at, number_at, texts_of, texts_at};
+ghost use Rattle.hq_base.specs.declared.failure.Refusal.TheVariants.{BadJson, BadField};
+ghost use Rattle.hq_base.specs.Readers.{Reads, seen_by, or_refuse};
+ghost use Rattle.hq_json.specs.Reading.{json_of, has_only, text_at, number_at, texts_of, texts_at};
 
 use hq_envelope::{Fail, Fault, Refusal};
 use serde_json::{Map, Value};
@@ -12,7 +13,7 @@ use std::alloc::Global;
 
 /// The JSON value of a body, or 7 `BadJson`.
 pub(crate) fn json_value(alloc: Global, bytes: &[u8]) -> Result<Value, Fail>
-    ensures { Gives view result (or_refuse BadJson (json_of bytes.now)) }
+    ensures { Reads (seen_by view result) (or_refuse BadJson (json_of bytes.now)) }
 {
     match Value::from_slice(alloc, bytes) {
         Ok(value) => Ok(value),
@@ -70,7 +71,8 @@ pub(crate) fn has_only(map: &Map<String, Value>, names: &[&str]) -> bool
 }
 
 fn texts(alloc: Global, values: &[Value]) -> Result<Vec<String>, Fail>
-    ensures { Gives (λ v. map_list string_bytes v.items) result (or_refuse BadField (texts_of (items_view values.now))) }
+    ensures { Reads (seen_by (λ v. map_list string_bytes v.items) result)
+        (or_refuse BadField (texts_of (items_view values.now))) }
 {
     let mut found = Vec::new(alloc);
     for value in values {
@@ -82,24 +84,13 @@ fn texts(alloc: Global, values: &[Value]) -> Result<Vec<String>, Fail>
     Ok(found)
 }
 
-/// A member that is a list of `low` to `high` texts, or 8 `BadField`.
-pub(crate) fn texts_member(
-    alloc: Global,
-    value: &Value,
-    name: &str,
-    low: usize,
-    high: usize,
-) -> Result<Vec<String>, Fail>
-    ensures texts { Gives (λ v. map_list string_bytes v.items) result (or_refuse BadField (texts_at name.now low high (view value.now))) }
-    ensures number { IfOk result (λ v. (low ≤ length v.items) × (length v.items ≤ high)) }
+/// A member that is a list of texts, or 8 `BadField`.
+pub(crate) fn texts_member(alloc: Global, value: &Value, name: &str) -> Result<Vec<String>, Fail>
+    ensures { Reads (seen_by (λ v. map_list string_bytes v.items) result)
+        (or_refuse BadField (texts_at name.now (view value.now))) }
 {
-    let Some(list) = value.get(name).and_then(Value::as_array) else {
-        return Err(Fail::Refused(Refusal::BadField));
-    };
-    let found = texts(alloc, list)?;
-    if low <= found.len() && found.len() <= high {
-        Ok(found)
-    } else {
-        Err(Fail::Refused(Refusal::BadField))
+    match value.get(name).and_then(Value::as_array) {
+        Some(list) => texts(alloc, list),
+        None => Err(Fail::Refused(Refusal::BadField)),
     }
 }

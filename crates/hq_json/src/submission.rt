@@ -1,33 +1,39 @@
 //! The body of a submission.
 
-ghost use Rattle.std.specs.Prelude.{◌≡◌, ◌<◌, ◌≤◌, List, ℕ, Result, IfOk, length, map as map_list, string_bytes};
+ghost use Rattle.std.specs.Prelude.{map as map_list, string_bytes};
 ghost use Rattle.serde_json.specs.View.{view};
-ghost use Rattle.hq_envelope.specs.Senders.{sender_of, is_sender};
-ghost use Rattle.hq_envelope.specs.Words.{is_spool};
-ghost use Rattle.hq_envelope.specs.Addresses.{is_address};
-ghost use Rattle.hq_envelope.specs.declared.failure.Refusal.TheVariants.{BadSpool, BadAddress};
-ghost use Rattle.hq_json.specs.Reading.{Gives, checked};
-ghost use Rattle.hq_json.specs.Submissions.{fields_of, addresses_of, submission_of, read_submission, shown};
+ghost use Rattle.hq_base.specs.Readers.{Reads, seen_by};
+ghost use Rattle.hq_json.specs.Submissions.{recipients_of, fields_of, addresses_in, submission_of, read_submission, shown_recipients, shown};
 
+use crate::members::{RecipientTexts, SubmissionTexts};
 use crate::reading::{has_only, json_value, number_member, text_member, texts_member};
 use hq_desk::Submission;
 use hq_envelope::{Address, Fail, Items, Refusal, Sender, Spool};
 use serde_json::Value;
 use std::alloc::Global;
 
-/// The members of a submission as they stand in its body.
-#[derive(Drop)]
-pub(crate) struct SubmissionTexts<'v> {
-    pub(crate) spool: &'v str,
-    pub(crate) sender: &'v str,
-    pub(crate) recipients: Vec<String>,
-    pub(crate) size: u32,
+/// The most recipients of a submission.
+const MOST_RECIPIENTS: usize = 100;
+
+/// The most bytes of a message.
+const MOST_BYTES: u64 = 2_147_483_647;
+
+/// The texts of the recipients, or 8 `BadField`.
+#[tactic(auto, unfolding(crate::specs::Submissions::recipients_of))]
+fn recipients_in(alloc: Global, value: &Value) -> Result<RecipientTexts, Fail>
+    ensures { Reads (seen_by shown_recipients result) (recipients_of (view value.now)) }
+{
+    let texts = texts_member(alloc, value, "recipients")?;
+    if !(1..=MOST_RECIPIENTS).contains(&texts.len()) {
+        return Err(Fail::Refused(Refusal::BadField));
+    }
+    Ok(RecipientTexts { texts })
 }
 
+/// The members of a submission, or 8 `BadField`.
 #[tactic(auto, unfolding(crate::specs::Submissions::fields_of))]
 fn fields_in(alloc: Global, value: &Value) -> Result<SubmissionTexts<'_>, Fail>
-    ensures fields { Gives shown result (fields_of (view value.now)) }
-    ensures number { IfOk result (λ fields. (0 < length fields.recipients.items) × (length fields.recipients.items ≤ 100)) }
+    ensures { Reads (seen_by shown result) (fields_of (view value.now)) }
 {
     let known = match value.as_object() {
         Some(map) => has_only(map, &["spool", "sender", "recipients", "size"]),
@@ -38,8 +44,8 @@ fn fields_in(alloc: Global, value: &Value) -> Result<SubmissionTexts<'_>, Fail>
     }
     let spool = text_member(value, "spool").ok_or(Refusal::BadField)?;
     let sender = text_member(value, "sender").ok_or(Refusal::BadField)?;
-    let recipients = texts_member(alloc, value, "recipients", 1, 100)?;
-    let size = number_member(value, "size", 0, 2_147_483_647).ok_or(Refusal::BadField)?;
+    let recipients = recipients_in(alloc, value)?;
+    let size = number_member(value, "size", 0, MOST_BYTES).ok_or(Refusal::BadField)?;
     Ok(SubmissionTexts {
         spool,
         sender,
@@ -48,44 +54,26 @@ fn fields_in(alloc: Global, value: &Value) -> Result<SubmissionTexts<'_>, Fail>
     })
 }
 
-fn spool_of(alloc: Global, text: &str) -> Result<Spool, Fail>
-    ensures { Gives (λ spool. spool) result (checked text.now (is_spool text.now) BadSpool) }
-{
-    Spool::parse(alloc, text)
-}
-
-fn sender_in(alloc: Global, text: &str) -> Result<Sender, Fail>
-    ensures { Gives (λ sender. sender) result (checked (sender_of text.now) (is_sender text.now) BadAddress) }
-{
-    Sender::parse(alloc, text)
-}
-
-fn address_of(alloc: Global, text: &str) -> Result<Address, Fail>
-    ensures { Gives (λ address. address) result (checked text.now (is_address text.now) BadAddress) }
-{
-    Address::parse(alloc, text)
-}
-
-fn addresses_in(alloc: Global, texts: &[String]) -> Result<Vec<Address>, Fail>
-    ensures addresses { Gives (λ v. v.items) result (addresses_of (map_list string_bytes texts.now)) }
-    ensures number { IfOk result (λ v. length v.items ≡ length texts.now) }
+/// The addresses of texts, or 20 `BadAddress`.
+fn read_addresses(alloc: Global, texts: &[String]) -> Result<Vec<Address>, Fail>
+    ensures { Reads (seen_by (λ v. v.items) result)
+        (addresses_in (map_list string_bytes texts.now)) }
 {
     let mut addresses = Vec::new(alloc);
     for text in texts {
-        let address = address_of(alloc, text.as_str())?;
-        addresses.push(address)?;
+        addresses.push(Address::parse(alloc, text.as_str())?)?;
     }
     Ok(addresses)
 }
 
+/// The values of a submission's members.
 #[tactic(auto, unfolding(crate::specs::Submissions::submission_of))]
-fn submission_in(alloc: Global, fields: &SubmissionTexts<'_>) -> Result<Submission, Fail>
-    ensures submission { Gives (λ submission. submission) result (submission_of (shown fields.now)) }
-    ensures number { IfOk result (λ submission. length submission.recipients ≡ length fields.now.recipients.items) }
+fn submission_from(alloc: Global, fields: &SubmissionTexts<'_>) -> Result<Submission, Fail>
+    ensures { Reads result (submission_of (shown fields.now)) }
 {
-    let spool = spool_of(alloc, fields.spool)?;
-    let sender = sender_in(alloc, fields.sender)?;
-    let recipients = addresses_in(alloc, fields.recipients.as_slice())?;
+    let spool = Spool::parse(alloc, fields.spool)?;
+    let sender = Sender::parse(alloc, fields.sender)?;
+    let recipients = read_addresses(alloc, fields.recipients.texts.as_slice())?;
     Ok(Submission {
         spool,
         sender,
@@ -94,15 +82,14 @@ fn submission_in(alloc: Global, fields: &SubmissionTexts<'_>) -> Result<Submissi
     })
 }
 
-/// Reads the body of a submission: 7 `BadJson` where it is not JSON, 8 `BadField` where a member is missing,
-/// unknown, of the wrong kind or out of range, then 23 and 20 for the values in the order spool, sender,
-/// recipients.
+/// Reads the body of a submission: 7 `BadJson` where it is not JSON, 8 `BadField` where a member is
+/// missing, unknown, of the wrong kind or out of range, then 23 and 20 for the values in the order
+/// spool, sender, recipients.
 #[tactic(auto, unfolding(crate::specs::Submissions::read_submission))]
 pub fn read_submission(alloc: Global, body: &[u8]) -> Result<Submission, Fail>
-    ensures submission { Gives (λ submission. submission) result (read_submission body.now) }
-    ensures number { IfOk result (λ submission. (0 < length submission.recipients) × (length submission.recipients ≤ 100)) }
+    ensures { Reads result (read_submission body.now) }
 {
     let value = json_value(alloc, body)?;
     let fields = fields_in(alloc, &value)?;
-    submission_in(alloc, &fields)
+    submission_from(alloc, &fields)
 }

@@ -1,5 +1,5 @@
-//! The paths that the desk answers at, and which of them a path is. Paths are matched as they stand: no
-//! escape, no query, no case. What a method does at a path is not said here.
+//! The paths that the desk answers at, and which of them a path is. Paths are matched as they
+//! stand: no escape, no query, no case. What a method does at a path is not said here.
 #![tactic(auto)]
 
 ghost use Rattle.std.specs.Prelude.{◌≡◌, [], true, IfOk, IfErr, OnOk, MatchOption, map as map_list};
@@ -37,18 +37,22 @@ const PATHS: [(&str, Path); 6] = [
     ("/relay/submit/{customer}", Path::Submit),
 ];
 
-/// Adds a path; where it reads well and has no conflict with those that are there, the only error is want of memory.
+/// Adds a path; where it reads well and has no conflict with those that are there, the only error
+/// is want of memory.
 fn add(router: &mut Router<Path>, text: &str, path: Path) -> Result<(), InsertError>
     ensures added { OnOk result (router.new ≡ added (text.now, path) router.old) }
-    ensures fault { can_add (text.now, path) router.old ≡ true → IfErr result (λ e. e ≡ InsertError.OutOfMemory) }
+    ensures fault { can_add (text.now, path) router.old ≡ true → IfErr result
+        (λ e. e ≡ InsertError.OutOfMemory) }
 {
     router.insert(text, path)
 }
 
 /// Adds paths in their order.
 fn add_all(router: &mut Router<Path>, paths: &[(&str, Path)]) -> Result<(), InsertError>
-    ensures added { OnOk result (router.new ≡ added_all (map_list (λ e. (e.0.now, e.1)) paths.now) router.old) }
-    ensures fault { can_add_all (map_list (λ e. (e.0.now, e.1)) paths.now) router.old ≡ true → IfErr result (λ e. e ≡ InsertError.OutOfMemory) }
+    ensures added { OnOk result
+        (router.new ≡ added_all (map_list (λ e. (e.0.now, e.1)) paths.now) router.old) }
+    ensures fault { can_add_all (map_list (λ e. (e.0.now, e.1)) paths.now) router.old ≡ true
+        → IfErr result (λ e. e ≡ InsertError.OutOfMemory) }
 {
     match paths {
         [] => Ok(()),
@@ -95,7 +99,8 @@ impl Paths {
 
 /// A path at its last slash.
 fn cut(path: &str) -> Option<(&str, &str)>
-    ensures { MatchOption result (last_segment path.now ≡ path.now) (λ cut. last_segment path.now ≡ cut.1.now) }
+    ensures { MatchOption result (last_segment path.now ≡ path.now)
+        (λ cut. last_segment path.now ≡ cut.1.now) }
 {
     path.rsplit_once('/')
 }
