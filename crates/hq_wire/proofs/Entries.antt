@@ -1,16 +1,15 @@
--- The customer that a look-up finds is the one under its name, and within the limits.
-use Rattle.std.proofs.Common.{◌≡◌, ◌≢◌, ℕ, ◌≤◌, Bool, true, false, cond, not, ◌&&◌, ◌||◌, List, [], ◌∷◌, Some, None, Option, sym, refl, ap, ◌∙◌, arith}
-use Rattle.std.specs.Prelude.{nat_le}
-use Rattle.std.specs.List.{find, list_any, list_all}
+-- The customer that a look-up finds is the one under its name.
+use Rattle.std.proofs.Common.{◌≡◌, ◌≢◌, ℕ, Bool, true, false, cond, not, ◌||◌, List, [], ◌∷◌, Some, None, Option, sym, refl, ap, ◌∙◌}
+use Rattle.std.specs.List.{find, list_any}
 use Rattle.std.specs.Ordering.{eq_by_cmp}
 use Rattle.std.specs.Cmp.Lexicographic.{nat_list_cmp_total}
 use Rattle.std.proofs.lemmas.Bool.{and_parts, false≢true}
-use Rattle.std.proofs.lemmas.Bool.Decides.{nat_tests}
 use Rattle.std.proofs.lemmas.Map.Lookups.{exact_bytes}
+use Rattle.std.proofs.lemmas.Map.Views.{tells_apart}
 use Rattle.hq_queue.specs.declared.account.Customer.{Customer}
 use Rattle.hq_store.specs.Tables.{text_cmp}
 use Rattle.hq_tables.proofs.Parts.{tied_true, tied_false}
-use Rattle.hq_wire.specs.Customers.{has_name, names_apart, keys_apart, in_limits, are_customers}
+use Rattle.hq_wire.specs.Customers.{has_name, names_apart, keys_apart, are_customers}
 use Rattle.hq_wire.specs.Directories.{entry_in}
 
 same_some : {A : Type 0} (a b : A) → ◌≡◌ {A = Option A} (Some a) (Some b) → a ≡ b
@@ -35,14 +34,6 @@ passed q p (y ∷ ys) c none f = by (or_false (q y) (list_any q ys) none) (λ re
   by parts further true g = let same : y ≡ c = same_some y c g in ap q (sym same) ∙ parts.0
   by parts further false g = further parts.1 g
 
--- a test that all pass, the one that is found passes
-all_passed : (q p : Customer → Bool) (cs : List Customer) (c : Customer) → list_all q cs ≡ true → find p cs ≡ Some c → q c ≡ true
-all_passed q p [] c all f = absurd (none_some c f)
-all_passed q p (y ∷ ys) c all f = by (and_parts (q y) (list_all q ys) all) (λ rest g. all_passed q p ys c rest g) (p y) f where
-  by : (q y ≡ true) × (list_all q ys ≡ true) → (list_all q ys ≡ true → find p ys ≡ Some c → q c ≡ true) → (b : Bool) → cond b (Some y) (find p ys) ≡ Some c → q c ≡ true
-  by parts further true g = let same : y ≡ c = same_some y c g in ap q (sym same) ∙ parts.0
-  by parts further false g = further parts.1 g
-
 under_name : (p : Customer → Bool) (cs : List Customer) (c : Customer) → names_apart cs ≡ true → find p cs ≡ Some c → entry_in cs c.entry.name ≡ c.entry
 under_name p [] c apart f = absurd (none_some c f)
 under_name p (y ∷ ys) c apart f = by (and_parts (not (list_any (has_name y.entry.name) ys)) (names_apart ys) apart) (λ rest g. under_name p ys c rest g) (p y) f where
@@ -59,10 +50,12 @@ under_name p (y ∷ ys) c apart f = by (and_parts (not (list_any (has_name y.ent
 
 -- the entry that was found is that under its name
 pub entry_found : (p : Customer → Bool) (cs : List Customer) (c : Customer) → are_customers cs ≡ true → find p cs ≡ Some c → entry_in cs c.entry.name ≡ c.entry
-entry_found p cs c h f = under_name p cs c (and_parts (names_apart cs) (keys_apart cs) (and_parts (names_apart cs && keys_apart cs) (list_all in_limits cs) h).0).0 f
+entry_found p cs c h f = under_name p cs c (and_parts (names_apart cs) (keys_apart cs) h).0 f
 
-limit_is : (n : ℕ) → nat_le n 1000 ≡ true → n ≤ 1000
-limit_is n h = grind (arith, nat_tests)
-
-pub limits_found : (p : Customer → Bool) (cs : List Customer) (c : Customer) → are_customers cs ≡ true → find p cs ≡ Some c → c.entry.quota.messages ≤ 1000
-limits_found p cs c h f = limit_is c.entry.quota.messages (all_passed in_limits p cs c (and_parts (names_apart cs && keys_apart cs) (list_all in_limits cs) h).1 f)
+-- the entry under a name has this name, whether it is a customer's or not
+pub named : (cs : List Customer) (name : List ℕ) → (entry_in cs name).name ≡ name
+named [] name = refl
+named (c ∷ cs) name = by (named cs name) (eq_by_cmp text_cmp name c.entry.name) refl where
+  by : (entry_in cs name).name ≡ name → (b : Bool) → eq_by_cmp text_cmp name c.entry.name ≡ b → (cond b c.entry (entry_in cs name)).name ≡ name
+  by further true e = sym (tells_apart exact_bytes name c.entry.name e)
+  by further false e = further

@@ -1,4 +1,4 @@
 pub mod Alone
 pub mod Entries
-pub mod Further
-pub mod QueueIds
+pub mod Exchanging
+pub mod Serving

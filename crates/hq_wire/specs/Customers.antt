@@ -1,6 +1,6 @@
 -- What holds of the customers of a directory.
-use Rattle.std.specs.Prelude.{ℕ, Bool, true, not, ◌&&◌, nat_le, List, [], ◌∷◌}
-use Rattle.std.specs.List.{list_any, list_all}
+use Rattle.std.specs.Prelude.{ℕ, Bool, true, not, ◌&&◌, List, [], ◌∷◌}
+use Rattle.std.specs.List.{list_any}
 use Rattle.std.specs.Ordering.{eq_by_cmp}
 use Rattle.hq_queue.specs.declared.account.Customer.{Customer}
 use Rattle.hq_store.specs.Tables.{text_cmp}
@@ -21,10 +21,6 @@ abbrev pub keys_apart : List Customer → Bool
 keys_apart [] = true
 keys_apart (c ∷ cs) = not (list_any (has_key c.key) cs) && keys_apart cs
 
--- a quota of at most 1,000 messages
-abbrev pub in_limits : Customer → Bool
-in_limits c = nat_le c.entry.quota.messages 1000
-
--- customers with names and keys of their own, each within the limits
+-- customers with names and keys of their own
 abbrev pub are_customers : List Customer → Bool
-are_customers cs = names_apart cs && keys_apart cs && list_all in_limits cs
+are_customers cs = names_apart cs && keys_apart cs

@@ -2,8 +2,8 @@
 use Rattle.std.specs.Prelude.{ℕ, Bool, true, false, List, [], ◌∷◌, Option, None, Some, Result, Ok, Err, if◌then◌else◌}
 use Rattle.std.specs.List.{find}
 use Rattle.std.specs.Ordering.{eq_by_cmp}
-use Rattle.hq_envelope.specs.declared.failure.Refusal.{Refusal}
-use Rattle.hq_envelope.specs.declared.failure.Refusal.TheVariants.{NoKey, WrongRole, NoCustomer}
+use Rattle.hq_base.specs.declared.failure.Refusal.{Refusal}
+use Rattle.hq_base.specs.declared.failure.Refusal.TheVariants.{NoKey, WrongRole, NoCustomer}
 use Rattle.hq_queue.specs.declared.account.Customer.{Customer}
 use Rattle.hq_queue.specs.declared.account.Entry.{Entry}
 use Rattle.hq_store.specs.Tables.{text_cmp}
@@ -16,17 +16,17 @@ relay_of d = d.relay
 abbrev pub customers_of : Directory → List Customer
 customers_of d = d.customers
 
--- stands for the entry of a name that no customer has
-abbrev pub no_entry : Entry
-no_entry = record { name = []; quota = record { messages = 0; bytes = 0; lines = 0; notices = 0 }; delay = 0 }
+-- stands for the entry under a name that no customer has; no call is made for it
+abbrev pub nobody : List ℕ → Entry
+nobody name = record { name = name; quota = record { messages = 1; bytes = 1; lines = 1; notices = 1; limits = λ _. true }; delay = 0; limit = λ _. true }
 
 abbrev pub entry_in : List Customer → List ℕ → Entry
-entry_in [] name = no_entry
+entry_in [] name = nobody name
 entry_in (c ∷ cs) name = if eq_by_cmp text_cmp name c.entry.name then c.entry else entry_in cs name
 
 -- the entry under a name
 abbrev pub entry_of : Directory → List ℕ → Entry
-entry_of d name = record (entry_in d.customers name) { name = name }
+entry_of d name = entry_in d.customers name
 
 -- the relay's key serves the customer that the path names
 abbrev pub by_relay : Bool → Option Customer → Result (List ℕ) Refusal

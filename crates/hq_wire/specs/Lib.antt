@@ -4,4 +4,3 @@ pub mod Directories
 pub mod Exchanges
 pub mod Replies
 pub mod Runs
-pub mod Steps

@@ -1,7 +1,7 @@
 -- What is replied: a status and the bytes of a body.
 use Rattle.std.specs.Prelude.{ℕ, ◌==◌, ◌&&◌, ◌||◌, Bool, true, false, not, nat_le, List, bytes_eq, codes, count_by, if◌then◌else◌}
-use Rattle.hq_envelope.specs.declared.failure.Fault.{Fault}
-use Rattle.hq_envelope.specs.declared.failure.Fault.TheVariants.{WantOfMemory, Disk, BadSchema, Closed}
+use Rattle.hq_base.specs.declared.failure.Fault.{Fault}
+use Rattle.hq_base.specs.declared.failure.Fault.TheVariants.{WantOfMemory, Disk, BadSchema, Closed}
 use Rattle.hq_desk.specs.Answers.{answer_number}
 use Rattle.hq_desk.specs.declared.answer.Answer.{Answer}
 use Rattle.hq_json.specs.Replies.{answer_text}
@@ -10,7 +10,7 @@ use Rattle.hq_wire.specs.declared.reply.Body.TheVariants as body
 use Rattle.hq_wire.specs.declared.reply.Reply.{Reply}
 
 -- a reply as it is seen
-pub record Told : Type 0 where
+pub record SeenReply : Type 0 where
   pub status : ℕ
   pub body : List ℕ
 
@@ -18,7 +18,7 @@ abbrev pub body_bytes : Body → List ℕ
 body_bytes (body.Bytes bytes) = bytes.items
 body_bytes (body.Fixed text) = text.now
 
-abbrev pub seen : Reply → Told
+abbrev pub seen : Reply → SeenReply
 seen reply = record { status = reply.status; body = body_bytes reply.body }
 
 -- nothing is there: no route, message, line, notice or customer
@@ -41,7 +41,7 @@ status_of n =
     (if is_conflict n then 409 else 400))))))
 
 -- the reply to an answer
-abbrev pub reply_of : Answer → Told
+abbrev pub reply_of : Answer → SeenReply
 reply_of a = record { status = status_of (answer_number a); body = answer_text a }
 
 -- the fixed text of a fault
@@ -52,17 +52,17 @@ fault_text BadSchema = codes "{\"error\":92,\"name\":\"BadSchema\"}"
 fault_text Closed = codes "{\"error\":93,\"name\":\"Closed\"}"
 
 -- the reply to a fault: 503
-unfoldable pub fault_told : Fault → Told
-fault_told fault = record { status = 503; body = fault_text fault }
+unfoldable pub reply_of_fault : Fault → SeenReply
+reply_of_fault fault = record { status = 503; body = fault_text fault }
 
 abbrev pub is_memory : Fault → Bool
 is_memory WantOfMemory = true
 is_memory _ = false
 
 -- the reply tells a fault that is not want of memory: one that the store counts
-abbrev pub tells_store : Told → Bool
+abbrev pub tells_store : SeenReply → Bool
 tells_store r = r.status == 503 && not (bytes_eq r.body (fault_text WantOfMemory))
 
 -- how many replies do
-abbrev pub store_faults : List Told → ℕ
+abbrev pub store_faults : List SeenReply → ℕ
 store_faults rs = count_by tells_store rs

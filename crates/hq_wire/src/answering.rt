@@ -1,17 +1,13 @@
 //! How the desk replies to one exchange.
 
-ghost use Rattle.std.specs.Prelude.{◌≡◌, ◌⊎◌, ◌∷◌, [], ◌+◌, ◌-◌, ◌^◌, ◌<◌, ◌≤◌, false, if◌then◌else◌};
-ghost use Rattle.hq_envelope.specs.Refusals.{no_memory};
-ghost use Rattle.hq_envelope.specs.declared.failure.Fault.{Fault};
-ghost use Rattle.hq_store.specs.Sound.{Sound};
-ghost use Rattle.hq_store.specs.Shelves.{OnOpen, OnOpenSound};
-ghost use Rattle.hq_desk.specs.Desks.{Stays, host_of, on};
-ghost use Rattle.hq_desk.specs.Limits.{IsEntry, IsCall};
-ghost use Rattle.hq_desk.specs.Machine.{shared};
-ghost use Rattle.hq_desk.specs.declared.answer.Answer.TheVariants.{Refused};
-ghost use Rattle.hq_wire.specs.Exchanges.{Replied, IsStruck};
-ghost use Rattle.hq_wire.specs.Replies.{seen, reply_of, fault_told, tells_store};
-ghost use Rattle.hq_wire.specs.Runs.{Alone, ask_of};
+ghost use Rattle.std.specs.Prelude.{◌≡◌, ◌∷◌, [], Ok, false};
+ghost use Rattle.hq_store.specs.Shelves.{OnOpenSound};
+ghost use Rattle.hq_desk.specs.Desks.{host_of, on};
+ghost use Rattle.hq_wire.specs.Directories.{entry_of};
+ghost use Rattle.hq_wire.specs.Exchanges.{Exchanged, IsRefused, ask_of};
+ghost use Rattle.hq_wire.specs.Replies.{seen, tells_store};
+ghost use Rattle.hq_wire.specs.Runs.{Alone};
+ghost use Rattle.hq_wire.specs.declared.directory.Directory.{Directory};
 
 use crate::asked::Exchange;
 use crate::directory::Directory;
@@ -24,9 +20,10 @@ use hq_queue::Entry;
 use hq_store::Shelf;
 use std::alloc::Global;
 
-/// The reply to a refusal that no call was made for, or to want of memory where its text has no room.
+/// The reply to a refusal that no call was made for, or to want of memory where its text has no
+/// room.
 pub fn refusal_reply(alloc: Global, refusal: Refusal) -> Reply
-    ensures told { (seen result ≡ reply_of (Refused refusal)) ⊎ (seen result ≡ fault_told no_memory) }
+    ensures told { IsRefused refusal (seen result) }
     ensures store { tells_store (seen result) ≡ false }
 {
     let status = status_of(refusal.number());
@@ -39,7 +36,7 @@ pub fn refusal_reply(alloc: Global, refusal: Refusal) -> Reply
     }
 }
 
-/// The reply to a call.
+/// The reply to a call of a customer, under any directory that has this entry.
 fn call_reply<S: Shelf + Drop>(
     alloc: Global,
     desk: &mut Desk<S>,
@@ -47,12 +44,9 @@ fn call_reply<S: Shelf + Drop>(
     entry: &Entry,
     call: Call,
 ) -> Reply
-    ensures replied { OnOpenSound (on S.sight) desk.old desk.new
-        (((seen result ≡ reply_of (shared (host_of desk.old) entry.now ((on S.sight).tables desk.old) at call).0) × ((on S.sight).tables desk.new ≡ (shared (host_of desk.old) entry.now ((on S.sight).tables desk.old) at call).1))
-        ⊎ ((fault : Fault) × ((fault ≡ no_memory) ⊎ S.sight.may_answer fault) × IsStruck fault ((on S.sight).tables desk.old) (seen result) ((on S.sight).tables desk.new))) }
-    ensures sound { OnOpen (on S.sight) desk.old desk.new (IsEntry entry.now → IsCall call → Sound ((on S.sight).tables desk.old) → Sound ((on S.sight).tables desk.new)) }
-    ensures stays { Stays (on S.sight) desk.old desk.new }
-    ensures grows { (on S.sight).fault_count desk.new < 2 ^ 64 - 1 → (if tells_store (seen result) then 1 else 0) + (on S.sight).fault_count desk.old ≤ (on S.sight).fault_count desk.new }
+    ensures { (d : Directory) → entry.now ≡ entry_of d entry.now.name
+        → Exchanged S.sight d desk.old (record { at = at; called = Ok (entry.now.name, call) })
+        (seen result) desk.new }
 {
     match desk.act(alloc, at, entry, call, &Json) {
         Ok(rendered) => Reply {
@@ -63,27 +57,26 @@ fn call_reply<S: Shelf + Drop>(
     }
 }
 
-/// Replies to one exchange: with the shared step's answer, and its tables are left; or with the refusal that no
-/// call was made for, and the tables are as before; or, in place of either, with want of memory, and only where
-/// there was a call with a fault that the shelf can answer, and the tables are as before. It always replies.
+/// Replies to one exchange: with the shared step's answer, and its tables are left; or with the
+/// refusal that no call was made for, and the desk stays as it is; or, in place of either, with
+/// want of memory, and only where there was a call with a fault that the shelf can answer, and the
+/// tables are as before. It always replies.
 ///
-/// What is said of tables is said where the store is clean and open as the call ends, its rows were those of the
-/// tables before, and the tables were sound.
+/// What is said of tables is said where the store is clean and open as the call ends, its rows were
+/// those of the tables before, and the tables were sound. Whatever the store is, a refusal is told
+/// as such, and where the store is closed after a call the reply is 93 `Closed`, or 90.
 pub fn exchange<S: Shelf + Drop>(
     alloc: Global,
     desk: &mut Desk<S>,
     directory: &Directory,
     exchange: &Exchange,
 ) -> Reply
-    ensures replied { OnOpenSound (on S.sight) desk.old desk.new
-        (Replied S.sight.may_answer (host_of desk.old) directory.now ((on S.sight).tables desk.old) exchange.now (seen result) ((on S.sight).tables desk.new)) }
+    ensures done { Exchanged S.sight directory.now desk.old (ask_of directory.now exchange.now)
+        (seen result) desk.new }
     // The headline, of one exchange.
     ensures alone { OnOpenSound (on S.sight) desk.old desk.new
-        (Alone (host_of desk.old) directory.now (ask_of directory.now exchange.now ∷ []) (seen result ∷ []) ((on S.sight).tables desk.old) ((on S.sight).tables desk.new)) }
-    ensures sound { OnOpenSound (on S.sight) desk.old desk.new (Sound ((on S.sight).tables desk.new)) }
-    ensures stays { Stays (on S.sight) desk.old desk.new }
-    // 91 and 93 are told only where the shelf counted a fault.
-    ensures grows { (on S.sight).fault_count desk.new < 2 ^ 64 - 1 → (if tells_store (seen result) then 1 else 0) + (on S.sight).fault_count desk.old ≤ (on S.sight).fault_count desk.new }
+        (Alone (host_of desk.old) directory.now (ask_of directory.now exchange.now ∷ [])
+        (seen result ∷ []) ((on S.sight).tables desk.old) ((on S.sight).tables desk.new)) }
 {
     match call_of(alloc, directory, exchange) {
         Ok((entry, call)) => call_reply(alloc, desk, exchange.at, entry, call),

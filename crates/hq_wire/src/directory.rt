@@ -1,9 +1,9 @@
 //! The directory: the relay's key, the customers with their keys, and whom an exchange is for.
 
 ghost use Rattle.std.specs.Prelude.{◌≡◌, ◌⊎◌, IsTrue, IfOk, MatchResult, option_map, true, false};
-ghost use Rattle.std.specs.List.{find, list_any, list_all};
-ghost use Rattle.hq_envelope.specs.Refusals.{no_memory_fail, refused};
-ghost use Rattle.hq_wire.specs.Customers.{are_customers, names_apart, keys_apart, in_limits, has_key, has_name};
+ghost use Rattle.std.specs.List.{find, list_any};
+ghost use Rattle.hq_base.specs.Refusals.{no_memory_fail, refused};
+ghost use Rattle.hq_wire.specs.Customers.{are_customers, names_apart, keys_apart, has_key, has_name};
 
 use hq_envelope::{Fail, Fault, Items, Key, Refusal};
 use hq_queue::{Customer, Entry};
@@ -68,27 +68,15 @@ fn keys_apart(customers: &[Customer]) -> bool
     }
 }
 
-fn is_in_limits(customer: &Customer) -> bool
-    ensures { result ≡ in_limits customer.now }
-{
-    customer.entry.quota.messages <= 1000
-}
-
-fn all_in_limits(customers: &[Customer]) -> bool
-    ensures { result ≡ list_all in_limits customers.now }
-{
-    customers.iter().all(|customer| is_in_limits(customer))
-}
-
-/// Whether these may stand in a directory: names and keys are pairwise different, and no quota is above 1,000
-/// messages.
+/// Whether these may stand in a directory: names and keys are pairwise different.
 pub fn are_customers(customers: &[Customer]) -> bool
     ensures { result ≡ are_customers customers.now }
 {
-    names_apart(customers) && keys_apart(customers) && all_in_limits(customers)
+    names_apart(customers) && keys_apart(customers)
 }
 
-/// The relay's key, the customers, and the paths of the desk. It does not change while a desk is open.
+/// The relay's key, the customers, and the paths of the desk. It does not change while a desk is
+/// open.
 #[derive(Drop)]
 pub struct Directory {
     relay: Key,
@@ -101,17 +89,18 @@ impl Directory {
     ghost use Rattle.hq_wire.specs.Directories.{relay_of, customers_of, entry_of, by_relay, by_customer, customer_of};
     ghost use Rattle.std.specs.Ordering.{eq_by_cmp};
     ghost use Rattle.hq_store.specs.Tables.{text_cmp};
-    ghost use Rattle.hq_desk.specs.Limits.{IsEntry};
     ghost use Rattle.hq_routes.specs.Routes.{path_of};
-    ghost use Rattle.hq_wire.specs.Steps.{Same};
+    ghost use Rattle.hq_base.specs.Readers.{seen_by};
 
-    /// A directory of customers whose names and keys are pairwise different, and whose quotas are within
-    /// their limits. Refused as 57 `BadRelayKey` exactly where the relay's key is a customer's.
+    /// A directory of customers whose names and keys are pairwise different. Refused as 57
+    /// `BadRelayKey` exactly where the relay's key is a customer's.
     pub fn new(alloc: Global, relay: Key, customers: Vec<Customer>) -> Result<Directory, Fail>
         requires { IsTrue (are_customers customers.items) }
         ensures { MatchResult result
-            (λ d. (relay_of d ≡ relay) × (customers_of d ≡ customers.items) × (list_any (has_key relay) customers.items ≡ false))
-            (λ e. ((e ≡ refused Refusal.BadRelayKey) × (list_any (has_key relay) customers.items ≡ true)) ⊎ (e ≡ no_memory_fail)) }
+            (λ d. (relay_of d ≡ relay) × (customers_of d ≡ customers.items)
+            × (list_any (has_key relay) customers.items ≡ false))
+            (λ e. ((e ≡ refused Refusal.BadRelayKey)
+            × (list_any (has_key relay) customers.items ≡ true)) ⊎ (e ≡ no_memory_fail)) }
     {
         if is_taken(customers.as_slice(), relay.as_str()) {
             return Err(Fail::Refused(Refusal::BadRelayKey));
@@ -141,9 +130,9 @@ impl Directory {
 
     /// The customer that the relay's key serves on a route.
     fn by_relay(&self, for_relay: bool, segment: &str) -> Result<&Entry, Refusal>
-        ensures name { Same (λ entry. entry.now.name) result (by_relay for_relay (find (has_name segment.now) (customers_of self.now))) }
+        ensures name { seen_by (λ entry. entry.now.name) result
+            ≡ by_relay for_relay (find (has_name segment.now) (customers_of self.now)) }
         ensures entry { IfOk result (λ entry. entry.now ≡ entry_of self.now entry.now.name) }
-        ensures limits { IfOk result (λ entry. IsEntry entry.now) }
     {
         if !for_relay {
             return Err(Refusal::WrongRole);
@@ -156,9 +145,9 @@ impl Directory {
 
     /// The customer that its own key serves on a route.
     fn by_customer(&self, for_relay: bool, key: &str) -> Result<&Entry, Refusal>
-        ensures name { Same (λ entry. entry.now.name) result (by_customer for_relay (find (has_key key.now) (customers_of self.now))) }
+        ensures name { seen_by (λ entry. entry.now.name) result
+            ≡ by_customer for_relay (find (has_key key.now) (customers_of self.now)) }
         ensures entry { IfOk result (λ entry. entry.now ≡ entry_of self.now entry.now.name) }
-        ensures limits { IfOk result (λ entry. IsEntry entry.now) }
     {
         match with_key(self.customers.as_slice(), key) {
             None => Err(Refusal::NoKey),
@@ -172,17 +161,17 @@ impl Directory {
         }
     }
 
-    /// Whom an exchange is for, that shows this key on a route of the relay's or of customers: 2 `NoKey`,
-    /// 3 `WrongRole` or 13 `NoCustomer` where there is nobody.
+    /// Whom an exchange is for, that shows this key on a route of the relay's or of customers: 2
+    /// `NoKey`, 3 `WrongRole` or 13 `NoCustomer` where there is nobody.
     pub(crate) fn customer(
         &self,
         for_relay: bool,
         key: Option<&str>,
         segment: &str,
     ) -> Result<&Entry, Refusal>
-        ensures name { Same (λ entry. entry.now.name) result (customer_of self.now for_relay (option_map (λ k. k.now) key.entry) segment.now) }
+        ensures name { seen_by (λ entry. entry.now.name) result
+            ≡ customer_of self.now for_relay (option_map (λ k. k.now) key.entry) segment.now }
         ensures entry { IfOk result (λ entry. entry.now ≡ entry_of self.now entry.now.name) }
-        ensures limits { IfOk result (λ entry. IsEntry entry.now) }
     {
         match key {
             None => Err(Refusal::NoKey),

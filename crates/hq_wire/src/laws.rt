@@ -1,22 +1,27 @@
-//! Laws over the definitions of whole runs, with no program in them. Each is an empty function whose contract is
-//! the law.
+//! Laws over the definitions of whole runs, with no program in them. Each is an empty function
+//! whose contract is the law.
 
 ghost use Rattle.std.specs.Prelude.{◌≡◌, ℕ, List};
 ghost use Rattle.hq_store.specs.Tables.{Tables, own};
-ghost use Rattle.hq_wire.specs.Replies.{Told};
-ghost use Rattle.hq_wire.specs.Runs.{Ask, Served, share, told};
+ghost use Rattle.hq_wire.specs.Exchanges.{Ask};
+ghost use Rattle.hq_wire.specs.Replies.{SeenReply};
+ghost use Rattle.hq_wire.specs.Runs.{AllReplied, share, heard};
 ghost use Rattle.hq_wire.specs.declared.directory.Directory.{Directory};
 
 use hq_store::Shelf;
 
-/// Nobody else matters: two lists of what was asked, by exchanges or by lines, under one directory and host, over
-/// any shelf, from tables that hold the same of a customer, in which that customer's share is the same, give it equal
-/// replies, those of 503 left out, and leave the same of it.
+/// Nobody else matters: two lists of what was asked, by exchanges or by lines, under one directory
+/// and host, over any shelf, from tables that hold the same of a customer, in which that customer's
+/// share is the same, give it equal replies, those of 503 left out, and leave the same of it.
 pub fn nobody_else_matters<S: Shelf>()
-    ensures replies { (host : List ℕ) (d : Directory) (c : List ℕ) (xs ys : List Ask) (rs qs : List Told) (t u t' u' : Tables) →
-        Served S.sight.may_answer host d t xs rs t' → Served S.sight.may_answer host d u ys qs u' → own c t ≡ own c u → share c xs rs ≡ share c ys qs →
-        told c xs rs ≡ told c ys qs }
-    ensures state { (host : List ℕ) (d : Directory) (c : List ℕ) (xs ys : List Ask) (rs qs : List Told) (t u t' u' : Tables) →
-        Served S.sight.may_answer host d t xs rs t' → Served S.sight.may_answer host d u ys qs u' → own c t ≡ own c u → share c xs rs ≡ share c ys qs →
-        own c t' ≡ own c u' }
+    ensures replies { (host : List ℕ) (d : Directory) (c : List ℕ)
+        (xs ys : List Ask) (rs qs : List SeenReply) (t u t' u' : Tables)
+        → AllReplied S.sight.may_answer host d t xs rs t'
+        → AllReplied S.sight.may_answer host d u ys qs u'
+        → own c t ≡ own c u → share c xs rs ≡ share c ys qs → heard c xs rs ≡ heard c ys qs }
+    ensures state { (host : List ℕ) (d : Directory) (c : List ℕ)
+        (xs ys : List Ask) (rs qs : List SeenReply) (t u t' u' : Tables)
+        → AllReplied S.sight.may_answer host d t xs rs t'
+        → AllReplied S.sight.may_answer host d u ys qs u'
+        → own c t ≡ own c u → share c xs rs ≡ share c ys qs → own c t' ≡ own c u' }
 {}

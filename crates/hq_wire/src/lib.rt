@@ -1,5 +1,5 @@
-//! The wire: exchanges turned into calls, answers into replies, and the headline: to each customer the desk is
-//! its own, whatever the other customers do.
+//! The wire: exchanges turned into calls, answers into replies, and the headline: to each customer
+//! the desk is its own, whatever the other customers do.
 #![tactic(auto)]
 
 mod answering;

@@ -1,7 +1,7 @@
 //! Replies: statuses and bodies.
 
 ghost use Rattle.std.specs.Prelude.{◌≡◌, not};
-ghost use Rattle.hq_wire.specs.Replies.{status_of, fault_text, fault_told, seen, body_bytes, tells_store, is_memory};
+ghost use Rattle.hq_wire.specs.Replies.{status_of, fault_text, reply_of_fault, seen, body_bytes, tells_store, is_memory};
 
 use hq_envelope::Fault;
 
@@ -64,9 +64,9 @@ fn fault_text(fault: Fault) -> &'static str
 }
 
 /// The reply to a fault: 503 with a fixed text. It takes no memory.
-#[tactic(auto, unfolding(crate::specs::Replies::fault_told))]
+#[tactic(auto, unfolding(crate::specs::Replies::reply_of_fault))]
 pub fn fault_reply(fault: Fault) -> Reply
-    ensures told { seen result ≡ fault_told fault }
+    ensures told { seen result ≡ reply_of_fault fault }
     ensures store { tells_store (seen result) ≡ not (is_memory fault) }
 {
     Reply {

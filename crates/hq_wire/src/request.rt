@@ -1,10 +1,9 @@
 //! From an exchange to a call: the path, the method, the key, the parameter and the body.
 
-ghost use Rattle.std.specs.Prelude.{◌≡◌, ◌<◌, ◌≤◌, List, ℕ, IfOk, length, option_map, string_bytes};
-ghost use Rattle.hq_desk.specs.Limits.{IsEntry, IsCall};
-ghost use Rattle.hq_json.specs.Reading.{Gives, or_refuse};
-ghost use Rattle.hq_envelope.specs.declared.failure.Refusal.TheVariants.{BadField};
-ghost use Rattle.hq_routes.specs.Routes.{last_segment};
+ghost use Rattle.std.specs.Prelude.{◌≡◌, IfOk, option_map, string_bytes};
+ghost use Rattle.hq_base.specs.Readers.{Reads, seen_by, or_refuse};
+ghost use Rattle.hq_base.specs.Serials.{serial_in};
+ghost use Rattle.hq_base.specs.declared.failure.Refusal.TheVariants.{BadField};
 ghost use Rattle.hq_wire.specs.Directories.{entry_of};
 ghost use Rattle.hq_wire.specs.Calls as calls;
 
@@ -20,83 +19,84 @@ use std::alloc::Global;
 /// The most bytes of a body.
 const BODY_BYTES: usize = 262_144;
 
-/// What a path and a method ask for.
+/// What a route about one message asks for.
 #[derive(Clone, Copy, Debug, PartialEq, Eq)]
-pub enum Kind {
+pub(crate) enum MessageRoute {
+    /// The messages after it.
+    ListAfter,
+    /// The message whole.
+    Show,
+    /// The message on hold.
+    Hold,
+    /// The message released.
+    Release,
+    /// The message gone.
+    Delete,
+}
+
+/// What a method asks for at a path.
+#[derive(Clone, Copy, Debug, PartialEq, Eq)]
+pub(crate) enum Route {
     /// The messages from the start.
     List,
-    /// The messages after one.
-    ListAfter,
-    /// A message whole.
-    Show,
-    /// The deletion of a message.
-    Delete,
-    /// A message on hold.
-    Hold,
-    /// A message released.
-    Release,
+    /// Something about the message whose queue ID is the parameter.
+    About(MessageRoute),
     /// A message for the queue.
     Submit,
 }
 
-/// What a method asks for at a path, if the path has it.
-#[tactic(auto, unfolding(crate::specs::Calls::kind_of))]
-fn kind_of(path: Path, method: &str) -> Option<Kind>
-    ensures { result ≡ calls.kind_of path method.now }
+/// The route of a method at a path, if the path has it.
+#[tactic(auto, unfolding(crate::specs::Calls::route_of))]
+fn route_of(path: Path, method: &str) -> Option<Route>
+    ensures { result ≡ calls.route_of path method.now }
 {
     match path {
-        Path::Messages if method == "GET" => Some(Kind::List),
-        Path::MessagesAfter if method == "GET" => Some(Kind::ListAfter),
-        Path::Message if method == "GET" => Some(Kind::Show),
-        Path::Message if method == "DELETE" => Some(Kind::Delete),
-        Path::Hold if method == "POST" => Some(Kind::Hold),
-        Path::Release if method == "POST" => Some(Kind::Release),
-        Path::Submit if method == "POST" => Some(Kind::Submit),
+        Path::Messages if method == "GET" => Some(Route::List),
+        Path::MessagesAfter if method == "GET" => Some(Route::About(MessageRoute::ListAfter)),
+        Path::Message if method == "GET" => Some(Route::About(MessageRoute::Show)),
+        Path::Message if method == "DELETE" => Some(Route::About(MessageRoute::Delete)),
+        Path::Hold if method == "POST" => Some(Route::About(MessageRoute::Hold)),
+        Path::Release if method == "POST" => Some(Route::About(MessageRoute::Release)),
+        Path::Submit if method == "POST" => Some(Route::Submit),
         _ => None,
     }
 }
 
 /// Whether a route is the relay's.
-fn is_for_relay(kind: Kind) -> bool
-    ensures { result ≡ calls.is_for_relay kind }
+fn is_for_relay(route: Route) -> bool
+    ensures { result ≡ calls.is_for_relay route }
 {
-    match kind {
-        Kind::Submit => true,
+    match route {
+        Route::Submit => true,
         _ => false,
     }
 }
 
-/// The serial of a queue ID.
-fn serial_in(text: &str) -> Option<Serial>
-    ensures { result ≡ calls.serial_in text.now }
+/// The call about a message.
+fn call_about(about: MessageRoute, serial: Serial) -> Call
+    ensures { result ≡ calls.call_about about serial }
 {
-    Serial::parse(text)
-}
-
-/// The serial that a path names, or 8 `BadField`.
-fn serial_of(segment: &str) -> Result<Serial, Fail>
-    ensures { Gives (λ serial. serial) result (or_refuse BadField (calls.serial_in segment.now)) }
-{
-    match serial_in(segment) {
-        Some(serial) => Ok(serial),
-        None => Err(Fail::Refused(Refusal::BadField)),
+    match about {
+        MessageRoute::ListAfter => Call::List(Some(serial)),
+        MessageRoute::Show => Call::Show(serial),
+        MessageRoute::Hold => Call::Hold(serial),
+        MessageRoute::Release => Call::Release(serial),
+        MessageRoute::Delete => Call::Delete(serial),
     }
 }
 
-/// What a kind asks, of its parameter or its body.
+/// What a route asks, of its parameter or its body.
 #[tactic(auto, unfolding(crate::specs::Calls::asked_of))]
-fn asked_of(alloc: Global, kind: Kind, segment: &str, body: &[u8]) -> Result<Call, Fail>
-    ensures call { Gives (λ call. call) result (calls.asked_of kind segment.now body.now) }
-    ensures limits { IfOk result IsCall }
+fn asked_of(alloc: Global, route: Route, segment: &str, body: &[u8]) -> Result<Call, Fail>
+    ensures { Reads result (calls.asked_of route segment.now body.now) }
 {
-    match kind {
-        Kind::List => Ok(Call::List(None)),
-        Kind::ListAfter => Ok(Call::List(Some(serial_of(segment)?))),
-        Kind::Show => Ok(Call::Show(serial_of(segment)?)),
-        Kind::Delete => Ok(Call::Delete(serial_of(segment)?)),
-        Kind::Hold => Ok(Call::Hold(serial_of(segment)?)),
-        Kind::Release => Ok(Call::Release(serial_of(segment)?)),
-        Kind::Submit => Ok(Call::Submit(read_submission(alloc, body)?)),
+    match route {
+        Route::List => Ok(Call::List(None)),
+        Route::About(about) => {
+            let serial = Serial::parse(segment).ok_or(Refusal::BadField)?;
+            Ok(call_about(about, serial))
+        }
+        Route::Submit => Ok(Call::Submit(read_submission(alloc, body)?)),
     }
 }
 
@@ -110,17 +110,18 @@ fn key_of(exchange: &Exchange) -> Option<&str>
     }
 }
 
-/// The customer and the call of an exchange, or the first refusal in the order: 6 `BodyTooLong`, 4 `NoRoute`,
-/// 5 `WrongMethod`, 2 `NoKey`, 3 `WrongRole`, 13 `NoCustomer`, then those of the parameter and the body.
+/// The customer and the call of an exchange, or the first refusal in the order: 6 `BodyTooLong`, 4
+/// `NoRoute`, 5 `WrongMethod`, 2 `NoKey`, 3 `WrongRole`, 13 `NoCustomer`, then those of the
+/// parameter and the body.
 #[tactic(auto, unfolding(crate::specs::Calls::call_from))]
 pub(crate) fn call_of<'d>(
     alloc: Global,
     directory: &'d Directory,
     exchange: &Exchange,
 ) -> Result<(&'d Entry, Call), Fail>
-    ensures call { Gives (λ named. (named.0.now.name, named.1)) result (calls.call_of directory.now exchange.now) }
+    ensures call { Reads (seen_by (λ named. (named.0.now.name, named.1)) result)
+        (calls.call_of directory.now exchange.now) }
     ensures entry { IfOk result (λ named. named.0.now ≡ entry_of directory.now named.0.now.name) }
-    ensures limits { IfOk result (λ named. IsEntry named.0.now × IsCall named.1) }
 {
     if exchange.body.len() > BODY_BYTES {
         return Err(Fail::Refused(Refusal::BodyTooLong));
@@ -128,9 +129,9 @@ pub(crate) fn call_of<'d>(
     let path = directory
         .path(exchange.path.as_str())
         .ok_or(Refusal::NoRoute)?;
-    let kind = kind_of(path, exchange.method.as_str()).ok_or(Refusal::WrongMethod)?;
+    let route = route_of(path, exchange.method.as_str()).ok_or(Refusal::WrongMethod)?;
     let segment = last_segment(exchange.path.as_str());
-    let entry = directory.customer(is_for_relay(kind), key_of(exchange), segment)?;
-    let call = asked_of(alloc, kind, segment, exchange.body.as_slice())?;
+    let entry = directory.customer(is_for_relay(route), key_of(exchange), segment)?;
+    let call = asked_of(alloc, route, segment, exchange.body.as_slice())?;
     Ok((entry, call))
 }
