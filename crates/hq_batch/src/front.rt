@@ -1,18 +1,16 @@
 //! The desk as what answers the lines of a batch.
 
-ghost use Rattle.std.specs.Prelude.{◌≡◌, ◌+◌, ◌-◌, ◌^◌, ◌<◌, ◌≤◌, Option, Some, IfOk, string_bytes, option_map, if◌then◌else◌};
-ghost use Rattle.hq_store.specs.Shelves.{OnOpenSound};
-ghost use Rattle.hq_store.specs.Sound.{Sound};
-ghost use Rattle.hq_desk.specs.Desks.{Stays, host_of, on};
-ghost use Rattle.hq_wire.specs.Replies.{seen, tells_store};
+ghost use Rattle.std.specs.Prelude.{◌≡◌, Some, IfOk, string_bytes, option_map};
+ghost use Rattle.hq_wire.specs.Exchanges.{Exchanged};
+ghost use Rattle.hq_wire.specs.Replies.{seen};
 ghost use Rattle.hq_lines.specs.Fields.{request_in, shown};
-ghost use Rattle.hq_batch.specs.Batches.{IsAsked, LineReplied};
-ghost use Rattle.hq_batch.specs.Steps.{LineStep};
+ghost use Rattle.hq_batch.specs.Batches.{ask_in};
+ghost use Rattle.hq_batch.specs.Steps.{IsAsked, LineStep};
 
 use crate::writing::write_reply;
 use hq_desk::Desk;
 use hq_envelope::{Fault, Refusal};
-use hq_lines::{Answers, Line, read_line};
+use hq_lines::{Answers, RequestLine, read_line};
 use hq_store::Shelf;
 use hq_wire::{Directory, Exchange, Reply, exchange, fault_reply, refusal_reply};
 use std::alloc::{AllocError, Global};
@@ -29,7 +27,7 @@ fn own_key(alloc: Global, key: Option<&str>) -> Result<Option<String>, AllocErro
 }
 
 /// The exchange that a line asks for.
-fn exchange_of(alloc: Global, line: &Line<'_>) -> Result<Exchange, AllocError>
+fn exchange_of(alloc: Global, line: &RequestLine<'_>) -> Result<Exchange, AllocError>
     ensures { IfOk result (λ asked. IsAsked asked (shown line.now)) }
 {
     Ok(Exchange {
@@ -46,13 +44,11 @@ fn request_reply<S: Shelf + Drop>(
     alloc: Global,
     desk: &mut Desk<S>,
     directory: &Directory,
-    line: &Line<'_>,
+    line: &RequestLine<'_>,
 ) -> Reply
-    ensures replied { OnOpenSound (on S.sight) desk.old desk.new
-        (LineReplied S.sight.may_answer (host_of desk.old) directory.now ((on S.sight).tables desk.old) (Some (shown line.now)) (seen result) ((on S.sight).tables desk.new)) }
-    ensures sound { OnOpenSound (on S.sight) desk.old desk.new (Sound ((on S.sight).tables desk.new)) }
-    ensures stays { Stays (on S.sight) desk.old desk.new }
-    ensures grows { (on S.sight).fault_count desk.new < 2 ^ 64 - 1 → (if tells_store (seen result) then 1 else 0) + (on S.sight).fault_count desk.old ≤ (on S.sight).fault_count desk.new }
+    ensures { Exchanged S.sight directory.now desk.old
+        (ask_in directory.now (Some (shown line.now)))
+        (seen result) desk.new }
 {
     match exchange_of(alloc, line) {
         Ok(asked) => exchange(alloc, desk, directory, &asked),
@@ -67,11 +63,8 @@ fn line_reply<S: Shelf + Drop>(
     directory: &Directory,
     line: &[u8],
 ) -> Reply
-    ensures replied { OnOpenSound (on S.sight) desk.old desk.new
-        (LineReplied S.sight.may_answer (host_of desk.old) directory.now ((on S.sight).tables desk.old) (request_in line.now) (seen result) ((on S.sight).tables desk.new)) }
-    ensures sound { OnOpenSound (on S.sight) desk.old desk.new (Sound ((on S.sight).tables desk.new)) }
-    ensures stays { Stays (on S.sight) desk.old desk.new }
-    ensures grows { (on S.sight).fault_count desk.new < 2 ^ 64 - 1 → (if tells_store (seen result) then 1 else 0) + (on S.sight).fault_count desk.old ≤ (on S.sight).fault_count desk.new }
+    ensures { Exchanged S.sight directory.now desk.old (ask_in directory.now (request_in line.now))
+        (seen result) desk.new }
 {
     match read_line(line) {
         Some(line) => request_reply(alloc, desk, directory, &line),
@@ -88,7 +81,7 @@ pub struct Front<'d, S> {
 }
 
 impl<'d, S: Shelf + Drop> Answers for Front<'d, S> {
-    ghost steps = { λ old request line new. LineStep S.sight old new request line };
+    ghost steps = { LineStep S.sight };
 
     fn answer<W: Write>(&mut self, line: &[u8], writer: &mut W) -> io::Result<()> {
         let reply = line_reply(self.alloc, self.desk, self.directory, line);

@@ -29,7 +29,8 @@ fn three_digits(status: u16) -> [u8; 3]
 
 /// Writes a reply as a line: its status, a space, its body and a line feed; and flushes.
 pub(crate) fn write_reply<W: Write>(reply: &Reply, writer: &mut W) -> io::Result<()>
-    ensures { OnOk result (Appends (W.contents writer.old) (W.contents writer.new) (reply_line (seen reply.now))) }
+    ensures { OnOk result (Appends (W.contents writer.old) (W.contents writer.new)
+        (reply_line (seen reply.now))) }
 {
     writer.write_all(&three_digits(reply.status))?;
     writer.write_all(b" ")?;

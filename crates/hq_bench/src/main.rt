@@ -1,7 +1,8 @@
 //! The program `hq_bench`: it exists to be measured.
 //!
-//! It replies to the lines of standard input on standard output, as `hq` does, over plain lists in memory. Each of
-//! its two customers may have 1,000 messages, the most that a directory takes, so that large tables can be tried.
+//! It replies to the lines of standard input on standard output, as `hq` does, over plain lists in
+//! memory. Each of its two customers may have 1,000 messages, the most that a directory takes, so
+//! that large tables can be tried.
 #![tactic(auto)]
 
 use hq_batch::{EngineFault, batch};

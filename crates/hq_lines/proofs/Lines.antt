@@ -6,7 +6,7 @@ use Rattle.std.proofs.lemmas.Bool.{cases_lt, lt-ltb, le-ltb, lt-leb}
 use Rattle.std.proofs.lemmas.List.{take_all, take-append-le, length-take-le, map-append}
 use Rattle.std.proofs.lemmas.List.Elements.{filter-append}
 use Rattle.hq_lines.specs.Fields.{Request, request_in, fields_in}
-use Rattle.hq_lines.specs.Lines.{before_first, parted, without_return, is_filled, whole_lines, lines_in, requests}
+use Rattle.hq_lines.specs.Lines.{before_first, parted, without_return, is_filled, whole_lines, requests}
 use Rattle.hq_lines.specs.Progress.{kept}
 
 -- the parts after one more byte, where `ends` says that it is an LF
@@ -41,13 +41,13 @@ whole_joined false p = sym (append-nil _)
 pub whole_more : (xs : List ℕ) (b : ℕ) → whole_lines (xs ++ b ∷ []) ≡ whole_lines xs ++ cond (eqb b 10) (filter is_filled (without_return (parted xs).1 ∷ [])) []
 whole_more xs b = ap (λ (p : List (List ℕ) × List ℕ). filter is_filled (map without_return p.0)) (parted_joined xs b) ∙ whole_joined (eqb b 10) (parted xs)
 
--- the whole lines of the first bytes are the first lines of all
-pub first_lines : (ys xs : List ℕ) → (more : List (List ℕ)) × (lines_in (xs ++ ys) ≡ whole_lines xs ++ more)
-first_lines [] xs = (filter is_filled ((parted xs).1 ∷ []), ap lines_in (append-nil xs))
+-- the whole lines of the first bytes are the first whole lines of all
+pub first_lines : (ys xs : List ℕ) → (more : List (List ℕ)) × (whole_lines (xs ++ ys) ≡ whole_lines xs ++ more)
+first_lines [] xs = ([], ap whole_lines (append-nil xs) ∙ sym (append-nil (whole_lines xs)))
 first_lines (y ∷ ys) xs =
     let rest = first_lines ys (xs ++ y ∷ []) in (
       cond (eqb y 10) (filter is_filled (without_return (parted xs).1 ∷ [])) [] ++ rest.0,
-      ap lines_in (sym (append_assoc xs (y ∷ []) ys)) ∙ rest.1 ∙ ap (λ l. l ++ rest.0) (whole_more xs y) ∙ append_assoc (whole_lines xs) _ rest.0,
+      ap whole_lines (sym (append_assoc xs (y ∷ []) ys)) ∙ rest.1 ∙ ap (λ l. l ++ rest.0) (whole_more xs y) ∙ append_assoc (whole_lines xs) _ rest.0,
     )
 
 take_push : (n : ℕ) (front : List ℕ) (b : ℕ) → cond (ltb (length (take n front)) n) (take n front ++ b ∷ []) (take n front) ≡ take n (front ++ b ∷ [])

@@ -1,17 +1,19 @@
 -- Steps in order, and how far they bring the loop.
-use Rattle.std.proofs.Common.{◌≡◌, ℕ, arith, Bool, true, false, List, [], ◌∷◌, ◌++◌, length, Option, Result, OnOk, IfErr, refl, sym, ap, ◌∙◌, subst, cond, eqb, ltb, append-nil}
+use Rattle.std.proofs.Common.{◌≡◌, ℕ, arith, Bool, true, false, List, [], ◌∷◌, ◌++◌, length, Option, Result, Ok, Err, OnOk, IfErr, inl, inr, refl, sym, ap, ◌∙◌, subst, cond, eqb, ltb, append-nil}
+use Rattle.std.specs.Bool.{⊤}
 use Rattle.std.specs.List.{filter, concat}
-use Rattle.std.specs.Io.KnownBytes.{Consumes, Appends, Keeps}
+use Rattle.std.specs.Io.KnownBytes.{Consumes, Appends, Keeps, IsAtEnd}
 use Rattle.std.proofs.KnownBytes.{Consumes-nil, Consumes-trans, Consumes-kept, Appends-trans, Appends-nil}
 use Rattle.std.proofs.lemmas.Bool.{lt-ltb, eqb-false}
 use Rattle.std.proofs.lemmas.List.{map-append}
 use Rattle.std.proofs.lemmas.List.Folds.{concat-append}
-use Rattle.std.proofs.lemmas.Result.{on_ok_weaker, IfErr-weaker}
 use Rattle.hq_lines.specs.declared.batch.EngineFault.{EngineFault}
 use Rattle.hq_lines.specs.declared.batch.EngineFault.TheVariants.{Read, Write, TooManyReads, WantOfMemory}
 use Rattle.hq_lines.specs.Fields.{Request, request_in}
-use Rattle.hq_lines.specs.Leaves.{Leaves}
-use Rattle.hq_lines.specs.Lines.{parted, without_return, is_filled, whole_lines, lines_in, requests, Run, Served, Broken}
+use Rattle.hq_base.specs.Turns.{InTurn}
+use Rattle.hq_base.proofs.Turns.{turns_on}
+use Rattle.hq_lines.specs.Ends.{Ends}
+use Rattle.hq_lines.specs.Lines.{parted, without_return, is_filled, whole_lines, lines_in, requests, Streams, Served, Broken}
 use Rattle.hq_lines.specs.Progress.{kept, Progress, Cut, Going}
 use Rattle.hq_lines.proofs.Lines.{whole_more, first_lines, kept_more, kept_none, asks_kept, asks_ended}
 
@@ -20,25 +22,19 @@ pub filled_told : (line : List ℕ) (empty : Bool) → empty ≡ eqb (length lin
 filled_told line empty h k = lt-ltb 0 (length line) (omega (arith, eqb-false (length line) 0 (sym h ∙ k)))
 
 module _ {S : Type 0} (steps : S → Option Request → List ℕ → S → Type 0) where
-  run_more : (old mid new : S) (asked more : List (Option Request)) (told others : List (List ℕ)) → Run steps old asked told mid → Run steps mid more others new → Run steps old (asked ++ more) (told ++ others) new
-  run_more old mid new [] more [] others p q = subst (λ s. Run steps s more others new) p q
-  run_more old mid new [] more (reply ∷ told) others p q = absurd p
-  run_more old mid new (request ∷ asked) more [] others p q = absurd p
-  run_more old mid new (request ∷ asked) more (reply ∷ told) others p q = (p.0, p.1, run_more p.0 mid new asked more told others p.2 q)
-
   -- steps for some lines, and then for further ones
-  run_lines : (old mid new : S) (lines more : List (List ℕ)) (told others : List (List ℕ)) → Run steps old (requests lines) told mid → Run steps mid (requests more) others new → Run steps old (requests (lines ++ more)) (told ++ others) new
-  run_lines old mid new lines more told others p q = subst (λ asked. Run steps old asked (told ++ others) new) (sym (map-append request_in lines more)) (run_more old mid new (requests lines) (requests more) told others p q)
+  run_lines : (old mid new : S) (lines more : List (List ℕ)) (told others : List (List ℕ)) → InTurn steps old (requests lines) told mid → InTurn steps mid (requests more) others new → InTurn steps old (requests (lines ++ more)) (told ++ others) new
+  run_lines old mid new lines more told others p q = subst (λ asked. InTurn steps old asked (told ++ others) new) (sym (map-append request_in lines more)) (turns_on steps old mid new (requests lines) (requests more) told others p q)
 
   -- one line that is not empty, and one step
-  pub step_run : (old new : S) (line reply : List ℕ) → is_filled line ≡ true → steps old (request_in line) reply new → Run steps old (requests (filter is_filled (line ∷ []))) (reply ∷ []) new
-  step_run old new line reply h p = subst (λ t. Run steps old (requests (cond t (line ∷ []) [])) (reply ∷ []) new) (sym h) (new, p, refl)
+  pub step_run : (old new : S) (line reply : List ℕ) → is_filled line ≡ true → steps old (request_in line) reply new → InTurn steps old (requests (filter is_filled (line ∷ []))) (reply ∷ []) new
+  step_run old new line reply h p = subst (λ t. InTurn steps old (requests (cond t (line ∷ []) [])) (reply ∷ []) new) (sym h) (new, p, refl)
 
   -- what one line's replies are, by its one step
-  pub step_written : (old new : S) (w v : Option (List ℕ)) (line : List ℕ) → is_filled line ≡ true → (reply : List ℕ) × steps old (request_in line) reply new × Appends w v reply → (replies : List (List ℕ)) × Run steps old (requests (filter is_filled (line ∷ []))) replies new × Appends w v (concat replies)
+  pub step_written : (old new : S) (w v : Option (List ℕ)) (line : List ℕ) → is_filled line ≡ true → (reply : List ℕ) × steps old (request_in line) reply new × Appends w v reply → (replies : List (List ℕ)) × InTurn steps old (requests (filter is_filled (line ∷ []))) replies new × Appends w v (concat replies)
   step_written old new w v line h p = (p.0 ∷ [], step_run old new line p.0 h p.1, subst (Appends w v) (sym (append-nil p.0)) p.2)
 
-  pub step_done : {X : Type 0} (old new : S) (line : List ℕ) → X → is_filled line ≡ true → (reply : List ℕ) × steps old (request_in line) reply new × X → (replies : List (List ℕ)) × Run steps old (requests (filter is_filled (line ∷ []))) replies new × X
+  pub step_done : {X : Type 0} (old new : S) (line : List ℕ) → X → is_filled line ≡ true → (reply : List ℕ) × steps old (request_in line) reply new × X → (replies : List (List ℕ)) × InTurn steps old (requests (filter is_filled (line ∷ []))) replies new × X
   step_done old new line x h p = (p.0 ∷ [], step_run old new line p.0 h p.1, x)
 
   -- before the first byte
@@ -50,13 +46,13 @@ module _ {S : Type 0} (steps : S → Option Request → List ℕ → S → Type 
   asked_by true kept_line line h = ap (λ l. requests (filter is_filled (without_return l ∷ []))) h ∙ asks_ended line
   asked_by false kept_line line h = refl
 
-  run_byte : (xs : List ℕ) (b : ℕ) (wo w : Option (List ℕ)) (s t u : S) (old : List ℕ) (p : Progress steps xs wo w s t old) (replies : List (List ℕ)) → Run steps t (requests (cond (eqb b 10) (filter is_filled (without_return old ∷ [])) [])) replies u → Run steps s (requests (whole_lines (xs ++ b ∷ []))) (p.replies ++ replies) u
+  run_byte : (xs : List ℕ) (b : ℕ) (wo w : Option (List ℕ)) (s t u : S) (old : List ℕ) (p : Progress steps xs wo w s t old) (replies : List (List ℕ)) → InTurn steps t (requests (cond (eqb b 10) (filter is_filled (without_return old ∷ [])) [])) replies u → InTurn steps s (requests (whole_lines (xs ++ b ∷ []))) (p.replies ++ replies) u
   run_byte xs b wo w s t u old p replies q =
-      subst (λ lines. Run steps s (requests lines) (p.replies ++ replies) u) (sym (whole_more xs b))
-      (run_lines s t u (whole_lines xs) _ p.replies replies p.run (subst (λ asked. Run steps t asked replies u) (asked_by (eqb b 10) old (parted xs).1 p.line) q))
+      subst (λ lines. InTurn steps s (requests lines) (p.replies ++ replies) u) (sym (whole_more xs b))
+      (run_lines s t u (whole_lines xs) _ p.replies replies p.run (subst (λ asked. InTurn steps t asked replies u) (asked_by (eqb b 10) old (parted xs).1 p.line) q))
 
   -- one more byte
-  pub progress_more : (xs : List ℕ) (b : ℕ) (wo w v : Option (List ℕ)) (s t u : S) (old new : List ℕ) → Progress steps xs wo w s t old → new ≡ cond (eqb b 10) [] (cond (ltb (length old) 300001) (old ++ b ∷ []) old) → (replies : List (List ℕ)) × Run steps t (requests (cond (eqb b 10) (filter is_filled (without_return old ∷ [])) [])) replies u × Appends w v (concat replies) → Progress steps (xs ++ b ∷ []) wo v s u new
+  pub progress_more : (xs : List ℕ) (b : ℕ) (wo w v : Option (List ℕ)) (s t u : S) (old new : List ℕ) → Progress steps xs wo w s t old → new ≡ cond (eqb b 10) [] (cond (ltb (length old) 300001) (old ++ b ∷ []) old) → (replies : List (List ℕ)) × InTurn steps t (requests (cond (eqb b 10) (filter is_filled (without_return old ∷ [])) [])) replies u × Appends w v (concat replies) → Progress steps (xs ++ b ∷ []) wo v s u new
   progress_more xs b wo w v s t u old new p line q = record {
     replies = p.replies ++ q.0;
     written = subst (Appends wo v) (sym (concat-append p.replies q.0)) (Appends-trans wo w v _ _ p.written q.2);
@@ -65,10 +61,10 @@ module _ {S : Type 0} (steps : S → Option Request → List ℕ → S → Type 
   }
 
   -- a reply could not be written
-  pub cut_here : {X : Type 0} (xs ys : List ℕ) (b : ℕ) (wo w : Option (List ℕ)) (s t u : S) (old : List ℕ) → Progress steps xs wo w s t old → (replies : List (List ℕ)) × Run steps t (requests (cond (eqb b 10) (filter is_filled (without_return old ∷ [])) [])) replies u × X → Cut steps ((xs ++ b ∷ []) ++ ys) s u
+  pub cut_here : {X : Type 0} (xs ys : List ℕ) (b : ℕ) (wo w : Option (List ℕ)) (s t u : S) (old : List ℕ) → Progress steps xs wo w s t old → (replies : List (List ℕ)) × InTurn steps t (requests (cond (eqb b 10) (filter is_filled (without_return old ∷ [])) [])) replies u × X → Cut steps ((xs ++ b ∷ []) ++ ys) s u
   cut_here xs ys b wo w s t u old p q =
       let first = first_lines ys (xs ++ b ∷ []) in
-      record { done = whole_lines (xs ++ b ∷ []); missed = first.0; replies = p.replies ++ q.0; lines = first.1; run = run_byte xs b wo w s t u old p q.0 q.1 }
+      record { first = whole_lines (xs ++ b ∷ []); missed = first.0; replies = p.replies ++ q.0; lines = first.1; run = run_byte xs b wo w s t u old p q.0 q.1 }
 
   module _ (ro wo : Option (List ℕ)) (s : S) where
     -- a read that gave no byte, or failed
@@ -82,42 +78,58 @@ module _ {S : Type 0} (steps : S → Option Request → List ℕ → S → Type 
     pub going_more : (r n w v : Option (List ℕ)) (t u : S) (old new chunk : List ℕ) (p : Going steps ro r wo w s t old) → Consumes r n chunk → Progress steps (p.bytes ++ chunk) wo v s u new → Going steps ro n wo v s u new
     going_more r n w v t u old new chunk p got q = record { bytes = p.bytes ++ chunk; read = Consumes-trans ro r n p.bytes chunk p.read got; progress = q }
 
-    pub broken_chunk : (r n w : Option (List ℕ)) (t u : S) (old chunk : List ℕ) (p : Going steps ro r wo w s t old) → Consumes r n chunk → Cut steps (p.bytes ++ chunk) s u → Broken steps ro n s u
-    broken_chunk r n w t u old chunk p got q = record { bytes = p.bytes ++ chunk; done = q.done; missed = q.missed; replies = q.replies; read = Consumes-trans ro r n p.bytes chunk p.read got; lines = q.lines; run = q.run }
+    abbrev Done : S → List (Option Request) → List (List ℕ) → Type 0
+    Done t asked replies = InTurn steps s asked replies t
+
+    broken_chunk : (r n w v : Option (List ℕ)) (t u : S) (old chunk : List ℕ) (p : Going steps ro r wo w s t old) → Consumes r n chunk → Cut steps (p.bytes ++ chunk) s u → Broken (Done u) (record { input = ro; output = wo }) (record { input = n; output = v })
+    broken_chunk r n w v t u old chunk p got q = record { bytes = p.bytes ++ chunk; first = q.first; missed = q.missed; replies = q.replies; read = Consumes-trans ro r n p.bytes chunk p.read got; lines = inl q.lines; done_first = q.run }
+
+    -- a reply in the middle of a chunk could not be written
+    pub cut_ends : (e : EngineFault) (r n w v : Option (List ℕ)) (t u : S) (old chunk : List ℕ) (p : Going steps ro r wo w s t old) → Consumes r n chunk → (e ≡ Write) × Cut steps (p.bytes ++ chunk) s u → Ends (Done u) ⊥ (record { input = ro; output = wo }) (record { input = n; output = v }) (Err e)
+    cut_ends e r n w v t u old chunk p got cut = subst (λ f. Ends (Done u) ⊥ (record { input = ro; output = wo }) (record { input = n; output = v }) (Err f)) (sym cut.0) (broken_chunk r n w v t u old chunk p got cut.1)
 
     -- the whole lines are answered
-    pub served_whole : (n w : Option (List ℕ)) (t : S) (line : List ℕ) → Going steps ro n wo w s t line → Served steps whole_lines ro n wo w s t
-    served_whole n w t line p = record { bytes = p.bytes; replies = p.progress.replies; read = p.read; written = p.progress.written; run = p.progress.run }
+    pub served_whole : (n w : Option (List ℕ)) (t : S) (line : List ℕ) → Going steps ro n wo w s t line → Served (Done t) whole_lines (record { input = ro; output = wo }) (record { input = n; output = w })
+    served_whole n w t line p = record { bytes = p.bytes; replies = p.progress.replies; read = p.read; written = p.progress.written; done_all = p.progress.run }
 
     -- the end of the input
-    run_end : (n w : Option (List ℕ)) (t u : S) (line last : List ℕ) → last ≡ line → (p : Going steps ro n wo w s t line) (replies : List (List ℕ)) → Run steps t (requests (filter is_filled (last ∷ []))) replies u → Run steps s (requests (lines_in p.bytes)) (p.progress.replies ++ replies) u
+    run_end : (n w : Option (List ℕ)) (t u : S) (line last : List ℕ) → last ≡ line → (p : Going steps ro n wo w s t line) (replies : List (List ℕ)) → InTurn steps t (requests (filter is_filled (last ∷ []))) replies u → InTurn steps s (requests (lines_in p.bytes)) (p.progress.replies ++ replies) u
     run_end n w t u line last h p replies q =
         let told = ap (λ l. requests (filter is_filled (l ∷ []))) (h ∙ p.progress.line) ∙ asks_kept (parted p.bytes).1 in
-        run_lines s t u (whole_lines p.bytes) (filter is_filled ((parted p.bytes).1 ∷ [])) p.progress.replies replies p.progress.run (subst (λ asked. Run steps t asked replies u) told q)
+        run_lines s t u (whole_lines p.bytes) (filter is_filled ((parted p.bytes).1 ∷ [])) p.progress.replies replies p.progress.run (subst (λ asked. InTurn steps t asked replies u) told q)
 
-    pub served_end : {T E : Type 0} (result : Result T E) (n w v : Option (List ℕ)) (t u : S) (line last : List ℕ) → last ≡ line → Going steps ro n wo w s t line → (replies : List (List ℕ)) × Run steps t (requests (filter is_filled (last ∷ []))) replies u × OnOk result (Appends w v (concat replies)) → OnOk result (Served steps lines_in ro n wo v s u)
-    served_end result n w v t u line last h p q = on_ok_weaker result (λ told. record {
+    -- how the batch ends after the last line
+    pub ends : (result : Result ⊤ EngineFault) (n w v : Option (List ℕ)) (t u : S) (line last : List ℕ) → last ≡ line → IsAtEnd n → Going steps ro n wo w s t line
+        → (replies : List (List ℕ)) × InTurn steps t (requests (filter is_filled (last ∷ []))) replies u × OnOk result (Appends w v (concat replies)) → IfErr result (λ e. e ≡ Write)
+        → Ends (Done u) ⊥ (record { input = ro; output = wo }) (record { input = n; output = v }) result
+    ends (Ok x) n w v t u line last h end p q fault = (
+      record {
+        bytes = p.bytes;
+        replies = p.progress.replies ++ q.0;
+        read = p.read;
+        written = subst (Appends wo v) (sym (concat-append p.progress.replies q.0)) (Appends-trans wo w v _ _ p.progress.written q.2);
+        done_all = run_end n w t u line last h p q.0 q.1;
+      },
+      end,
+    )
+    ends (Err e) n w v t u line last h end p q fault = subst (λ f. Ends (Done u) ⊥ (record { input = ro; output = wo }) (record { input = n; output = v }) (Err f)) (sym fault) (record {
       bytes = p.bytes;
-      replies = p.progress.replies ++ q.0;
-      read = p.read;
-      written = subst (Appends wo v) (sym (concat-append p.progress.replies q.0)) (Appends-trans wo w v _ _ p.progress.written told);
-      run = run_end n w t u line last h p q.0 q.1;
-    }) q.2
-
-    pub broken_end : {T : Type 0} (result : Result T EngineFault) (n w v : Option (List ℕ)) (t u : S) (line last : List ℕ) → last ≡ line → Going steps ro n wo w s t line → (replies : List (List ℕ)) × Run steps t (requests (filter is_filled (last ∷ []))) replies u × OnOk result (Appends w v (concat replies)) → IfErr result (λ e. e ≡ Write) → IfErr result (Leaves steps ro n wo v s u ⊥)
-    broken_end result n w v t u line last h p q = IfErr-weaker result _ _ (λ e k. subst (Leaves steps ro n wo v s u ⊥) (sym k) (record {
-      bytes = p.bytes;
-      done = lines_in p.bytes;
+      first = lines_in p.bytes;
       missed = [];
       replies = p.progress.replies ++ q.0;
       read = p.read;
-      lines = sym (append-nil (lines_in p.bytes));
-      run = run_end n w t u line last h p q.0 q.1;
-    }))
+      lines = inr (end, sym (append-nil (lines_in p.bytes)));
+      done_first = run_end n w t u line last h p q.0 q.1;
+    })
 
-    -- a fault of the loop itself is never want of memory
-    pub leaves_room : (n v : Option (List ℕ)) (u : S) (X : Type 0) (e : EngineFault) → Leaves steps ro n wo v s u ⊥ e → Leaves steps ro n wo v s u X e
-    leaves_room n v u X Read p = p
-    leaves_room n v u X TooManyReads p = p
-    leaves_room n v u X Write p = p
-    leaves_room n v u X WantOfMemory p = absurd p
+-- what is said of requests and replies may be said in other words, and so may what is not touched
+module _ (done other : List (Option Request) → List (List ℕ) → Type 0) {X Y : Type 0} (so : (asked : List (Option Request)) (replies : List (List ℕ)) → done asked replies → other asked replies) (less : X → Y) where
+  pub served_as : (lines : List ℕ → List (List ℕ)) (old new : Streams) → Served done lines old new → Served other lines old new
+  served_as lines old new p = record { bytes = p.bytes; replies = p.replies; read = p.read; written = p.written; done_all = so _ _ p.done_all }
+
+  pub ends_as : (old new : Streams) (result : Result ⊤ EngineFault) → Ends done X old new result → Ends other Y old new result
+  ends_as old new (Ok x) p = (served_as lines_in old new p.0, p.1)
+  ends_as old new (Err Read) p = served_as whole_lines old new p
+  ends_as old new (Err TooManyReads) p = served_as whole_lines old new p
+  ends_as old new (Err Write) p = record { bytes = p.bytes; first = p.first; missed = p.missed; replies = p.replies; read = p.read; lines = p.lines; done_first = so _ _ p.done_first }
+  ends_as old new (Err WantOfMemory) p = less p

@@ -1,7 +1,7 @@
 -- The fields of a batch line: AT METHOD PATH KEY BODY, parted by one space each.
 use Rattle.std.specs.Prelude.{ℕ, ◌+◌, ◌-◌, ◌*◌, ◌==◌, ◌&&◌, nat_lt, nat_le, if◌then◌else◌, List, [], ◌∷◌, length, take, drop, position, bytes_eq, codes, Option, Some, None, option_map}
 use Rattle.std.specs.Str.{is_utf8}
-use Rattle.hq_lines.specs.declared.fields.Line.{Line}
+use Rattle.hq_lines.specs.declared.fields.RequestLine.{RequestLine}
 
 infixl 10 ◌>>=◌
 abbrev pub ◌>>=◌ : {A B : Type 0} → Option A → (A → Option B) → Option B
@@ -68,5 +68,5 @@ unfoldable pub request_in : List ℕ → Option Request
 request_in line = if nat_le (length line) 300000 then fields_in line else None
 
 -- a line as the code holds it, as a request
-abbrev pub shown : Line → Request
+abbrev pub shown : RequestLine → Request
 shown line = record { at = line.at; method = line.method.now; path = line.path.now; key = option_map (λ k. k.now) line.key; body = line.body.now }

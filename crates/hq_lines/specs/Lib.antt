@@ -1,4 +1,4 @@
 pub mod Fields
-pub mod Leaves
+pub mod Ends
 pub mod Lines
 pub mod Progress

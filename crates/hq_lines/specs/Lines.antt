@@ -1,8 +1,8 @@
 -- The lines of an input, and what it is to answer them in order.
-use Rattle.std.specs.Prelude.{◌≡◌, ℕ, nat_lt, nat_le, ◌==◌, Bool, if◌then◌else◌, List, [], ◌∷◌, ◌++◌, length, map, Option}
+use Rattle.std.specs.Prelude.{◌≡◌, ◌⊎◌, ℕ, nat_lt, nat_le, ◌==◌, Bool, if◌then◌else◌, List, [], ◌∷◌, ◌++◌, length, map, Option}
 use Rattle.std.specs.List.{filter, concat}
 use Rattle.std.specs.Io.BufRead.{strip_last}
-use Rattle.std.specs.Io.KnownBytes.{Consumes, Appends}
+use Rattle.std.specs.Io.KnownBytes.{Consumes, Appends, IsAtEnd}
 use Rattle.hq_lines.specs.Fields.{Request, request_in}
 
 -- a byte put before the first line, or before what follows the last LF where no LF is there
@@ -35,27 +35,33 @@ lines_in input = whole_lines input ++ filter is_filled ((parted input).1 ∷ [])
 abbrev pub requests : List (List ℕ) → List (Option Request)
 requests lines = map request_in lines
 
--- One step for each request, in order, and the reply of each: from the state before the first to that after the last.
-abbrev pub Run : {S : Type 0} → (S → Option Request → List ℕ → S → Type 0) → S → List (Option Request) → List (List ℕ) → S → Type 0
-Run steps old [] [] new = new ≡ old
-Run steps old [] (reply ∷ replies) new = ⊥
-Run steps old (request ∷ requests) [] new = ⊥
-Run {S} steps old (request ∷ requests) (reply ∷ replies) new = (next : S) × steps old request reply next × Run steps next requests replies new
+-- ---- what is done with lines
+
+-- What is seen of an input and an output: the bytes that are left to be read, and those that were written, where they
+-- are known.
+pub record Streams : Type 0 where
+  pub input : Option (List ℕ)
+  pub output : Option (List ℕ)
 
 -- Some bytes were read, and of those the lines (all, or the whole ones) were answered in order, each by its reply.
-pub record Served {S : Type 0} (steps : S → Option Request → List ℕ → S → Type 0) (lines : List ℕ → List (List ℕ)) (read_old read_new write_old write_new : Option (List ℕ)) (old new : S) : Type 0 where
+-- `done` says what these requests and their replies did.
+pub record Served (done : List (Option Request) → List (List ℕ) → Type 0) (lines : List ℕ → List (List ℕ)) (old new : Streams) : Type 0 where
   pub bytes : List ℕ
   pub replies : List (List ℕ)
-  pub read : Consumes read_old read_new bytes
-  pub written : Appends write_old write_new (concat replies)
-  pub run : Run steps old (requests (lines bytes)) replies new
+  pub read : Consumes old.input new.input bytes
+  pub written : Appends old.output new.output (concat replies)
+  pub done_all : done (requests (lines bytes)) replies
 
--- Some bytes were read, and the steps of the first lines of those were done; of what was written nothing is said.
-pub record Broken {S : Type 0} (steps : S → Option Request → List ℕ → S → Type 0) (read_old read_new : Option (List ℕ)) (old new : S) : Type 0 where
+-- the lines that are whole so far; or, where the input was read to its end, all its lines
+abbrev pub AreRead : Option (List ℕ) → List ℕ → List (List ℕ) → Type 0
+AreRead rest bytes lines = (whole_lines bytes ≡ lines) ⊎ (IsAtEnd rest × (lines_in bytes ≡ lines))
+
+-- Some bytes were read, and the first of those lines were done; of what was written nothing is said.
+pub record Broken (done : List (Option Request) → List (List ℕ) → Type 0) (old new : Streams) : Type 0 where
   pub bytes : List ℕ
-  pub done : List (List ℕ)
+  pub first : List (List ℕ)
   pub missed : List (List ℕ)
   pub replies : List (List ℕ)
-  pub read : Consumes read_old read_new bytes
-  pub lines : lines_in bytes ≡ done ++ missed
-  pub run : Run steps old (requests done) replies new
+  pub read : Consumes old.input new.input bytes
+  pub lines : AreRead new.input bytes (first ++ missed)
+  pub done_first : done (requests first) replies

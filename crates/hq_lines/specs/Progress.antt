@@ -1,9 +1,10 @@
--- How far the loop over an input is, for its own functions.
+-- How far the loop over an input is: words of its own functions. No claim rests on them.
 use Rattle.std.specs.Prelude.{◌≡◌, ℕ, List, ◌++◌, take, Option}
 use Rattle.std.specs.List.{concat}
 use Rattle.std.specs.Io.KnownBytes.{Consumes, Appends}
 use Rattle.hq_lines.specs.Fields.{Request}
-use Rattle.hq_lines.specs.Lines.{parted, whole_lines, lines_in, requests, Run}
+use Rattle.hq_base.specs.Turns.{InTurn}
+use Rattle.hq_lines.specs.Lines.{parted, whole_lines, requests}
 
 -- what is kept of a line that is begun: enough to see that it is too long
 unfoldable pub kept : List ℕ → List ℕ
@@ -13,16 +14,16 @@ kept line = take 300001 line
 pub record Progress {S : Type 0} (steps : S → Option Request → List ℕ → S → Type 0) (bytes : List ℕ) (write_old write_new : Option (List ℕ)) (old new : S) (begun : List ℕ) : Type 0 where
   pub replies : List (List ℕ)
   pub written : Appends write_old write_new (concat replies)
-  pub run : Run steps old (requests (whole_lines bytes)) replies new
+  pub run : InTurn steps old (requests (whole_lines bytes)) replies new
   pub line : begun ≡ kept (parted bytes).1
 
--- The steps of the first lines of these bytes are done.
+-- The steps of the first whole lines of these bytes are done.
 pub record Cut {S : Type 0} (steps : S → Option Request → List ℕ → S → Type 0) (bytes : List ℕ) (old new : S) : Type 0 where
-  pub done : List (List ℕ)
+  pub first : List (List ℕ)
   pub missed : List (List ℕ)
   pub replies : List (List ℕ)
-  pub lines : lines_in bytes ≡ done ++ missed
-  pub run : Run steps old (requests done) replies new
+  pub lines : whole_lines bytes ≡ first ++ missed
+  pub run : InTurn steps old (requests first) replies new
 
 -- Some bytes were read, and so far the loop is.
 pub record Going {S : Type 0} (steps : S → Option Request → List ℕ → S → Type 0) (read_old read_new write_old write_new : Option (List ℕ)) (old new : S) (begun : List ℕ) : Type 0 where

@@ -1,4 +1,5 @@
-//! Room for one line, taken once. Of a line that is too long only so much is kept as shows that it is.
+//! Room for one line, taken once. Of a line that is too long only so much is kept as shows that it
+//! is.
 
 ghost use Rattle.std.specs.Prelude.{◌≡◌, ◌≤◌, ◌++◌, ◌∷◌, [], IfOk, length, nat_lt, vec_capacity, if◌then◌else◌};
 ghost use Rattle.hq_lines.specs.Lines.{without_return};
@@ -27,7 +28,9 @@ impl LineBuffer {
 
     /// Adds a byte, or passes it over where the line is too long already.
     pub fn push(&mut self, byte: u8)
-        ensures { self.new.bytes.items ≡ (if nat_lt (length self.old.bytes.items) 300001 then self.old.bytes.items ++ byte ∷ [] else self.old.bytes.items) }
+        ensures { self.new.bytes.items
+            ≡ (if nat_lt (length self.old.bytes.items) 300001 then self.old.bytes.items ++ byte ∷ []
+            else self.old.bytes.items) }
     {
         if self.bytes.len() < ROOM_BYTES {
             self.bytes.push(byte).unwrap();
@@ -41,7 +44,8 @@ impl LineBuffer {
         self.bytes.clear();
     }
 
-    /// The line that a line feed ended: without one carriage return at its end, unless it is too long.
+    /// The line that a line feed ended: without one carriage return at its end, unless it is too
+    /// long.
     #[tactic(auto, unfolding(crate::specs::Lines::without_return))]
     pub fn ended(&self) -> &[u8]
         ensures { result.now ≡ without_return self.now.bytes.items }

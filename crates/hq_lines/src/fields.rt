@@ -1,9 +1,10 @@
-//! The fields of a batch line: `AT METHOD PATH KEY BODY`. Where a line begins and ends is not told here.
+//! The fields of a batch line: `AT METHOD PATH KEY BODY`. Where a line begins and ends is not told
+//! here.
 
 ghost use Rattle.std.specs.Prelude.{◌≡◌, ◌<◌, ◌≤◌, ◌==◌, length, position, IfSome, option_map};
 ghost use Rattle.hq_lines.specs.Fields.{cut, number_from, moment_in, text_in, key_in, fields_in, request_in, shown};
 
-use hq_envelope::Moment;
+use hq_base::Moment;
 
 /// The most bytes of a line that is read, a carriage return before its line feed among them.
 pub(crate) const MOST_LINE_BYTES: usize = 300_000;
@@ -13,7 +14,7 @@ const MOST_MOMENT_DIGITS: usize = 10;
 
 /// The fields of a batch line.
 #[derive(Clone, Copy)]
-pub struct Line<'b> {
+pub struct RequestLine<'b> {
     /// The moment of the request.
     pub at: Moment,
     /// The method, not empty.
@@ -94,7 +95,7 @@ fn key_of(field: &str) -> Option<&str>
 
 /// The four fields and the rest of a line that is not too long.
 #[tactic(auto, unfolding(crate::specs::Fields::fields_in))]
-fn read_fields(line: &[u8]) -> Option<Line<'_>>
+fn read_fields(line: &[u8]) -> Option<RequestLine<'_>>
     ensures { option_map shown result ≡ fields_in line.now }
 {
     let (at, rest) = cut(line);
@@ -106,7 +107,7 @@ fn read_fields(line: &[u8]) -> Option<Line<'_>>
     let (key, rest) = cut(rest?);
     let key = key_of(read_text(key)?);
     let body = rest.unwrap_or(&[]);
-    Some(Line {
+    Some(RequestLine {
         at,
         method,
         path,
@@ -115,11 +116,11 @@ fn read_fields(line: &[u8]) -> Option<Line<'_>>
     })
 }
 
-/// Reads a line without its line feed: `AT METHOD PATH KEY BODY`, fields parted by one space. Nothing
-/// where it has more than 300,000 bytes, fewer than four fields or an empty one among the four, an AT
-/// that is not 1 to 10 digits of a moment, or bytes that are not UTF-8 before the body.
+/// Reads a line without its line feed: `AT METHOD PATH KEY BODY`, fields parted by one space.
+/// Nothing where it has more than 300,000 bytes, fewer than four fields or an empty one among the
+/// four, an AT that is not 1 to 10 digits of a moment, or bytes that are not UTF-8 before the body.
 #[tactic(auto, unfolding(crate::specs::Fields::request_in))]
-pub fn read_line(bytes: &[u8]) -> Option<Line<'_>>
+pub fn read_line(bytes: &[u8]) -> Option<RequestLine<'_>>
     ensures { option_map shown result ≡ request_in bytes.now }
 {
     if bytes.len() <= MOST_LINE_BYTES {

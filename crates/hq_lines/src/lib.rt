@@ -7,4 +7,4 @@ mod buffer;
 mod fields;
 
 pub use batch::{Answers, EngineFault, serve_lines};
-pub use fields::{Line, read_line};
+pub use fields::{RequestLine, read_line};

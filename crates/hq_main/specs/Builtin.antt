@@ -1,16 +1,22 @@
 -- What the program serves as long as it reads no directory: two customers, from an empty desk.
-use Rattle.std.specs.Prelude.{◌≡◌, ℕ, List, [], ◌∷◌, codes, Option}
-use Rattle.hq_envelope.specs.Refusals.{fail_shown, no_memory, no_memory_fail}
+use Rattle.std.specs.Prelude.{◌≡◌, ⊤, ℕ, List, [], ◌∷◌, true, codes, map, Option, Result, Ok, Err}
+use Rattle.hq_base.specs.Refusals.{fail_shown, no_memory, no_memory_fail}
 use Rattle.hq_queue.specs.declared.account.Customer.{Customer}
 use Rattle.hq_store.specs.Tables.{Tables, no_tables}
 use Rattle.hq_wire.specs.Directories.{relay_of, customers_of}
+use Rattle.hq_wire.specs.Replies.{SeenReply, store_faults}
+use Rattle.hq_wire.specs.Runs.{AllReplied, Alone}
 use Rattle.hq_wire.specs.declared.directory.Directory.{Directory}
-use Rattle.hq_lines.specs.Lines.{whole_lines}
+use Rattle.hq_lines.specs.Ends.{Ends}
+use Rattle.hq_lines.specs.Fields.{Request}
+use Rattle.hq_lines.specs.Lines.{Streams}
 use Rattle.hq_lines.specs.declared.batch.EngineFault.{EngineFault}
 use Rattle.hq_lines.specs.declared.batch.EngineFault.TheVariants.{Read, Write, TooManyReads, WantOfMemory}
-use Rattle.hq_batch.specs.Batches.{Batched, BrokenOff}
+use Rattle.hq_batch.specs.Batches.{ask_in, reply_line}
 use Rattle.hq_main.specs.declared.command.Trouble.{Trouble}
 use Rattle.hq_main.specs.declared.command.Trouble.TheVariants.{Input, Output, Desk}
+
+-- ---- what is built in
 
 abbrev pub host : List ℕ
 host = codes "relay.example"
@@ -21,35 +27,43 @@ relay_key = codes "relaykey00000001"
 -- a customer with small quotas
 abbrev pub acme : Customer
 acme = record {
-  entry = record { name = codes "acme"; quota = record { messages = 2; bytes = 10000; lines = 10; notices = 5 }; delay = 3600 };
+  entry = record {
+    name = codes "acme";
+    quota = record { messages = 2; bytes = 10000; lines = 10; notices = 5; limits = λ _. true };
+    delay = 3600;
+    limit = λ _. true;
+  };
   key = codes "acmekey000000001";
 }
 
 -- a customer with large ones
 abbrev pub birch : Customer
 birch = record {
-  entry = record { name = codes "birch"; quota = record { messages = 100; bytes = 1000000; lines = 100; notices = 10 }; delay = 0 };
+  entry = record {
+    name = codes "birch";
+    quota = record { messages = 100; bytes = 1000000; lines = 100; notices = 10; limits = λ _. true };
+    delay = 0;
+    limit = λ _. true;
+  };
   key = codes "birchkey00000001";
 }
 
 abbrev pub IsBuiltin : Directory → Type 0
 IsBuiltin d = (relay_of d ≡ relay_key) × (customers_of d ≡ acme ∷ birch ∷ [])
 
--- Some bytes were read, and the lines of those (all, or the whole ones) were replied to as a batch of these customers
--- from empty tables, with no fault but want of memory.
-pub record Serves (lines : List ℕ → List (List ℕ)) (read_old read_new write_old write_new : Option (List ℕ)) : Type 0 where
-  pub directory : Directory
-  pub is_builtin : IsBuiltin directory
-  pub tables : Tables
-  pub batched : Batched (λ fault. fault ≡ no_memory) host directory lines read_old read_new write_old write_new no_tables tables 0 0
+-- ---- what a run does
 
--- Some bytes were read, and the exchanges of the first lines of those were done as a batch of these customers from empty
--- tables; of what was written nothing is said.
-pub record BreaksOff (read_old read_new : Option (List ℕ)) : Type 0 where
+-- What lines ask for is replied to as a batch of these customers from empty tables, with no fault but want of memory; to
+-- each customer the desk is its own.
+pub record Serves (asked : List (Option Request)) (lines : List (List ℕ)) : Type 0 where
   pub directory : Directory
   pub is_builtin : IsBuiltin directory
+  pub replies : List SeenReply
+  pub lines_are : lines ≡ map reply_line replies
   pub tables : Tables
-  pub broken : BrokenOff (λ fault. fault ≡ no_memory) host directory read_old read_new no_tables tables 0 0
+  pub replied : AllReplied (λ fault. fault ≡ no_memory) host directory no_tables (map (ask_in directory) asked) replies tables
+  pub alone : Alone host directory (map (ask_in directory) asked) replies no_tables tables
+  pub no_faults : store_faults replies ≡ 0
 
 -- what a fault of a batch is told as
 abbrev pub trouble_of : EngineFault → Trouble
@@ -64,14 +78,13 @@ trouble_shown Input = codes "input"
 trouble_shown Output = codes "output"
 trouble_shown (Desk fail) = fail_shown fail
 
--- What a trouble leaves: where the input failed, the whole lines among the bytes read are replied to; where the output
--- did, the exchanges of the first lines are done; where the desk could not begin, memory ran out and nothing was touched.
-abbrev pub Leaves : Option (List ℕ) → Option (List ℕ) → Option (List ℕ) → Option (List ℕ) → Type 0 → Trouble → Type 0
-Leaves read_old read_new write_old write_new untouched Input = Serves whole_lines read_old read_new write_old write_new
-Leaves read_old read_new write_old write_new untouched Output = BreaksOff read_old read_new
-Leaves read_old read_new write_old write_new untouched (Desk fail) = (fail ≡ no_memory_fail) × untouched
+-- the exit status of a run
+abbrev pub status : Result ⊤ EngineFault → ℕ
+status (Ok _) = 0
+status (Err fault) = 1
 
--- A trouble, and what it leaves.
-pub record Fails (read_old read_new write_old write_new : Option (List ℕ)) (untouched : Type 0) : Type 0 where
-  pub trouble : Trouble
-  pub leaves : Leaves read_old read_new write_old write_new untouched trouble
+-- A run ends so, and with the status of this end.
+pub record Runs (untouched : Type 0) (old new : Streams) (exit_status : ℕ) : Type 0 where
+  pub end : Result ⊤ EngineFault
+  pub ends : Ends Serves untouched old new end
+  pub status_is : exit_status ≡ status end

@@ -1,7 +1,7 @@
 //! The customers that the program serves as long as it reads no directory.
 
 ghost use Rattle.std.specs.Prelude.{◌≡◌, MatchResult};
-ghost use Rattle.hq_envelope.specs.Refusals.{no_memory_fail};
+ghost use Rattle.hq_base.specs.Refusals.{no_memory_fail};
 ghost use Rattle.hq_main.specs.Builtin as builtin;
 
 use hq_envelope::{Fail, Host, Key, Name};
@@ -23,7 +23,8 @@ pub fn host(alloc: Global) -> Result<Host, Fail>
 }
 
 fn acme(alloc: Global) -> Result<Customer, Fail>
-    ensures { MatchResult result (λ customer. customer ≡ builtin.acme) (λ fail. fail ≡ no_memory_fail) }
+    ensures { MatchResult result (λ customer. customer ≡ builtin.acme)
+        (λ fail. fail ≡ no_memory_fail) }
 {
     let entry = Entry {
         name: Name::parse(alloc, "acme")?,
@@ -40,7 +41,8 @@ fn acme(alloc: Global) -> Result<Customer, Fail>
 }
 
 fn birch(alloc: Global) -> Result<Customer, Fail>
-    ensures { MatchResult result (λ customer. customer ≡ builtin.birch) (λ fail. fail ≡ no_memory_fail) }
+    ensures { MatchResult result (λ customer. customer ≡ builtin.birch)
+        (λ fail. fail ≡ no_memory_fail) }
 {
     let entry = Entry {
         name: Name::parse(alloc, "birch")?,

@@ -1,10 +1,10 @@
 //! What the program does, over any input and outputs, and what it tells of its end.
 
-ghost use Rattle.std.specs.Prelude.{◌≡◌, ◌⊎◌, [], Some, OnOk, IfErr};
-ghost use Rattle.std.specs.Io.KnownBytes.{IsAtEnd};
+ghost use Rattle.std.specs.Prelude.{◌≡◌, [], Some, Ok, Err, OnOk, IfErr};
 ghost use Rattle.std.specs.IoError.{error_kind};
-ghost use Rattle.hq_lines.specs.Lines.{lines_in};
-ghost use Rattle.hq_main.specs.Builtin.{Serves, Leaves, Fails, trouble_of, trouble_shown};
+ghost use Rattle.hq_lines.specs.Ends.{Ends};
+ghost use Rattle.hq_lines.specs.declared.batch.EngineFault.{EngineFault};
+ghost use Rattle.hq_main.specs.Builtin.{Serves, Runs, trouble_of, trouble_shown};
 ghost use Rattle.hq_main.specs.declared.command.Trouble.TheVariants.{Desk};
 
 use crate::builtin::{directory, host};
@@ -69,9 +69,13 @@ impl From<EngineFault> for Trouble {
 
 /// Serves the customers from an empty desk in memory.
 fn serve<R: Read, W: Write>(rt: &HostRuntime, input: &mut R, output: &mut W) -> Result<(), Trouble>
-    ensures served { OnOk result (Serves lines_in (R.remaining input.old) (R.remaining input.new) (W.contents output.old) (W.contents output.new)) }
-    ensures end { OnOk result (IsAtEnd (R.remaining input.new)) }
-    ensures fault { IfErr result (Leaves (R.remaining input.old) (R.remaining input.new) (W.contents output.old) (W.contents output.new) ((input.new ≡ input.old) × (output.new ≡ output.old))) }
+    ensures served { OnOk result (Ends Serves ⊥
+        (record { input = R.remaining input.old; output = W.contents output.old })
+        (record { input = R.remaining input.new; output = W.contents output.new }) (Ok tt)) }
+    ensures failed { IfErr result (λ trouble. (fault : EngineFault) × (trouble ≡ trouble_of fault)
+        × Ends Serves ((input.new ≡ input.old) × (output.new ≡ output.old))
+        (record { input = R.remaining input.old; output = W.contents output.old })
+        (record { input = R.remaining input.new; output = W.contents output.new }) (Err fault)) }
 {
     let alloc = rt.alloc();
     let mut desk = Desk::new(ListShelf::new(alloc), host(alloc)?);
@@ -80,12 +84,13 @@ fn serve<R: Read, W: Write>(rt: &HostRuntime, input: &mut R, output: &mut W) -> 
     Ok(())
 }
 
-/// Runs the program with the words after its name, and answers its exit status: 0 when the input has ended, 1 for
-/// a refusal or a fault, 2 for any word, since none is taken yet. Each of the last two is told in one line of
-/// `errors`; where that cannot be written, the status tells it alone.
+/// Runs the program with the words after its name, and answers its exit status: 0 when the input
+/// has ended, 1 for a refusal or a fault, 2 for any word, since none is taken yet. Each of the last
+/// two is told in one line of `errors`; where that cannot be written, the status tells it alone.
 ///
-/// After a failed input the whole lines before are replied to; after a failed output the exchanges of the first lines
-/// are done; where the desk could not begin for want of memory, nothing is read or written.
+/// After a failed input the whole lines before are replied to; after a failed output the exchanges
+/// of the first lines are done; where the desk could not begin for want of memory, nothing is read
+/// or written.
 pub fn command<R: Read, W: Write, E: Write>(
     rt: &HostRuntime,
     words: &[String],
@@ -93,11 +98,11 @@ pub fn command<R: Read, W: Write, E: Write>(
     output: &mut W,
     errors: &mut E,
 ) -> u8
-    ensures words { (words.now ≡ [] → ⊥) → (result ≡ 2) × (input.new ≡ input.old) × (output.new ≡ output.old) }
-    ensures status { words.now ≡ [] → (result ≡ 0) ⊎ (result ≡ 1) }
-    ensures served { result ≡ 0 → Serves lines_in (R.remaining input.old) (R.remaining input.new) (W.contents output.old) (W.contents output.new) }
-    ensures end { result ≡ 0 → IsAtEnd (R.remaining input.new) }
-    ensures fault { result ≡ 1 → Fails (R.remaining input.old) (R.remaining input.new) (W.contents output.old) (W.contents output.new) ((input.new ≡ input.old) × (output.new ≡ output.old)) }
+    ensures words { (words.now ≡ [] → ⊥) → (result ≡ 2) × (input.new ≡ input.old)
+        × (output.new ≡ output.old) }
+    ensures run { words.now ≡ [] → Runs ((input.new ≡ input.old) × (output.new ≡ output.old))
+        (record { input = R.remaining input.old; output = W.contents output.old })
+        (record { input = R.remaining input.new; output = W.contents output.new }) result }
 {
     if !words.is_empty() {
         let _told = errors.write_all(
@@ -114,8 +119,8 @@ pub fn command<R: Read, W: Write, E: Write>(
     }
 }
 
-/// Tells why the program could not begin, and answers its exit status: 1 for want of memory, and 2 for a word that is
-/// not UTF-8.
+/// Tells why the program could not begin, and answers its exit status: 1 for want of memory, and 2
+/// for a word that is not UTF-8.
 pub fn not_begun<E: Write>(error: &io::Error, errors: &mut E) -> u8
     ensures memory { error_kind error.now ≡ ErrorKind.OutOfMemory → result ≡ 1 }
     ensures word { (error_kind error.now ≡ ErrorKind.OutOfMemory → ⊥) → result ≡ 2 }

@@ -22,7 +22,8 @@ fn words(rt: &HostRuntime) -> io::Result<Vec<String>> {
     Ok(words)
 }
 
-/// Runs the program over the process's input and outputs. A reply is gathered, and written at once when it is whole.
+/// Runs the program over the process's input and outputs. A reply is gathered, and written at once
+/// when it is whole.
 fn run(rt: &HostRuntime) -> io::Result<u8> {
     let words = words(rt)?;
     let mut output = BufWriter::new(rt.alloc(), rt.stdout())?;

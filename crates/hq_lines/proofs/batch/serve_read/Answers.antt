@@ -1,15 +1,12 @@
-use Rattle.std.proofs.Common.{sym, subst}
 use Rattle.std.proofs.lemmas.Result.{err_from_is_err_and}
-use Rattle.hq_lines.specs.Leaves.{Leaves}
-use Rattle.hq_lines.proofs.Steps.{going_more, broken_chunk}
+use Rattle.hq_lines.proofs.Steps.{going_more, cut_ends}
 use Rattle.hq_lines.proofs.batch.serve_read.Goals as goal
 
 pub returns-in_err-take_chunk-in-Ok-clause-fault : goal.returns-in_err-take_chunk-in-Ok-clause-fault
 returns-in_err-take_chunk-in-Ok-clause-fault g c =
     let q = err_from_is_err_and c.from_residual.result c.from_residual.ensures.1 in
     rw (q.1, q.2) (λ ro wo old p.
-    let cut = c.in_err-take_chunk-in-Ok.ensures.cut p.bytes wo old p.progress in
-    subst (Leaves g.A.Answers.steps ro _ wo _ old _ ⊥) (sym cut.0) (broken_chunk g.A.Answers.steps ro wo old _ _ _ _ _ _ _ p c.in-Ok.ensures.bytes.0 cut.1))
+    cut_ends g.A.Answers.steps ro wo old _ _ _ _ _ _ _ _ _ p c.in-Ok.ensures.bytes.0 (c.in_err-take_chunk-in-Ok.ensures.cut p.bytes wo old p.progress))
 
 pub returns-in_ok-take_chunk-in-Ok-clause-going : goal.returns-in_ok-take_chunk-in-Ok-clause-going
 returns-in_ok-take_chunk-in-Ok-clause-going g c = λ ro wo old p.

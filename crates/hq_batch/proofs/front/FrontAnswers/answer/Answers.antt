@@ -5,15 +5,5 @@ use Rattle.hq_batch.proofs.front.FrontAnswers.answer.Goals as goal
 
 pub returns : goal.returns
 returns g c =
-    let done = c.line_reply-reply.ensures in
-    let told = seen c.line_reply-reply.result in (
-      reply_line told,
-      record {
-        directory = refl;
-        same_desk = refl;
-        told = told;
-        line_is = refl;
-        step = record { replied = done.replied; sound = done.sound; stays = done.stays; grows = done.grows };
-      },
-      c.write_reply.ensures,
-    )
+    let reply = seen c.line_reply-reply.result in
+    (reply_line reply, record { directory = refl; same_desk = refl; reply = reply; line_is = refl; done = c.line_reply-reply.ensures }, c.write_reply.ensures)

@@ -1,0 +1,49 @@
+-- What a batch over plain lists does from empty tables.
+use Rattle.std.proofs.Common.{◌≡◌, ℕ, false, List, Option, sym, subst, refl, arith, lit<, map}
+use Rattle.std.specs.Bool.{⊤}
+use Rattle.hq_base.specs.Refusals.{no_memory}
+use Rattle.hq_base.specs.declared.failure.Fault.TheVariants.{WantOfMemory}
+use Rattle.hq_store.specs.Listed.{tables_of}
+use Rattle.hq_store.specs.Shelves.{Sight}
+use Rattle.hq_store.specs.Sound.{Sound}
+use Rattle.hq_store.specs.Tables.{no_tables}
+use Rattle.hq_store.specs.declared.list_rows.ListRows.{ListRows}
+use Rattle.hq_store.proofs.Empty.{empty_sound}
+use Rattle.hq_desk.specs.Desks.{host_of, shelf_of}
+use Rattle.hq_desk.specs.declared.desk.Desk.{Desk}
+use Rattle.hq_wire.specs.Runs.{AllReplied, Alone}
+use Rattle.hq_wire.specs.declared.directory.Directory.{Directory}
+use Rattle.hq_wire.proofs.Serving.{all_replied}
+use Rattle.hq_lines.specs.Fields.{Request}
+use Rattle.hq_batch.specs.Batches.{ask_in, Replied}
+use Rattle.hq_main.specs.Builtin.{IsBuiltin, Serves, host}
+
+-- what is seen of the shelf of plain lists
+abbrev pub plain : Sight ListRows
+plain = record {
+  tables = tables_of;
+  is_closed = λ _. false;
+  fault_count = λ _. 0;
+  is_clean = λ _. ⊤;
+  is_ours = λ _. ⊤;
+  may_answer = λ fault. fault ≡ WantOfMemory;
+}
+
+pub serves : (d : Directory) (old new : Desk ListRows) → IsBuiltin d → host_of old ≡ host → tables_of (shelf_of old) ≡ no_tables → (asked : List (Option Request)) (lines : List (List ℕ)) → Replied plain d old asked lines new → Serves asked lines
+serves d old new builtin named empty asked lines p =
+    let after = tables_of (shelf_of new) in
+    let asks = map (ask_in d) asked in
+    let sound = subst Sound (sym empty) empty_sound in
+    let all = all_replied plain d old new asks p.0 p.2.each tt tt refl sound in
+    let alone = p.2.alone tt tt refl sound in
+    let few = p.2.counted (lit< tt) in
+    record {
+      directory = d;
+      is_builtin = builtin;
+      replies = p.0;
+      lines_are = p.1;
+      tables = after;
+      replied = subst (λ n. AllReplied (λ fault. fault ≡ no_memory) n d no_tables asks p.0 after) named (subst (λ t. AllReplied (λ fault. fault ≡ no_memory) (host_of old) d t asks p.0 after) empty all);
+      alone = subst (λ n. Alone n d asks p.0 no_tables after) named (subst (λ t. Alone (host_of old) d asks p.0 t after) empty alone);
+      no_faults = omega (arith, few);
+    }
