@@ -76,15 +76,15 @@ fn recipients(alloc: Global, line: &str) -> Result<Vec<Address>, Fail> {
     for text in line.split(' ').skip(6) {
         recipients.push(Address::parse(alloc, text)?)?;
     }
-    if recipients.is_empty() || recipients.len() > 100 {
-        return Err(Fail::new("a submission has 1 to 100 recipients"));
-    }
     Ok(recipients)
 }
 
 /// `SPOOL SIZE SENDER RECIPIENT ..` from the fourth word on.
 fn submission(alloc: Global, line: &str) -> Result<Submission, Fail> {
     let recipients = recipients(alloc, line)?;
+    if !(1..=100).contains(&recipients.len()) {
+        return Err(Fail::new("a submission has 1 to 100 recipients"));
+    }
     Ok(Submission {
         spool: Spool::parse(alloc, word(line, 3))?,
         sender: sender(alloc, word(line, 5))?,
