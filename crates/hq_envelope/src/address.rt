@@ -30,7 +30,8 @@ fn is_label_byte(byte: u8) -> bool
     byte.is_ascii_alphanumeric() || byte == b'-' || byte == b'_'
 }
 
-fn is_local(text: &[u8]) -> bool
+/// Whether a text is a local part: one or more bytes that may stand in one.
+pub fn is_local(text: &[u8]) -> bool
     ensures { result ≡ is_local text.now }
 {
     !text.is_empty() && text.iter().all(|byte| is_local_byte(*byte))
@@ -43,7 +44,7 @@ fn is_domain_label(text: &[u8]) -> bool
 }
 
 /// Whether a text is one or more labels joined by dots.
-pub(crate) fn is_domain(text: &str) -> bool
+pub fn is_domain(text: &str) -> bool
     ensures { result ≡ is_domain text.now }
 {
     text.split('.')
@@ -58,7 +59,8 @@ fn parts(text: &str) -> Option<(&str, &str)>
     text.rsplit_once('@')
 }
 
-fn is_address(text: &str) -> bool
+/// Whether a text is an address.
+pub fn is_address(text: &str) -> bool
     ensures { result ≡ is_address text.now }
 {
     text.len() <= ADDRESS_BYTES

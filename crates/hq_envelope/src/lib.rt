@@ -11,7 +11,7 @@ mod name;
 mod spool;
 mod text;
 
-pub use address::{Address, Sender};
+pub use address::{Address, Sender, is_address, is_domain, is_local};
 pub use host::Host;
 pub use hq_base::{Fail, Fault, Items, Moment, Refusal, Serial, TryCopy, copy_all};
 pub use key::Key;
