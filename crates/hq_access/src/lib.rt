@@ -1,0 +1,11 @@
+//! Access tables, as access(5) has them: address keys, patterns, actions, first match, and the
+//! verdict on a submission. It knows no store, no desk and no JSON.
+#![tactic(auto)]
+
+mod action;
+mod keys;
+mod pattern;
+
+pub use action::Action;
+pub use keys::{LookupKey, keys_of};
+pub use pattern::{Class, Line, Pattern};
