@@ -1,3 +1,4 @@
+pub mod Asking
 pub mod Domains
 pub mod Folds
 pub mod Spaces

@@ -1,3 +1,4 @@
 pub mod Actions
 pub mod Keys
+pub mod Lookups
 pub mod Patterns

@@ -4,8 +4,10 @@
 
 mod action;
 mod keys;
+mod lookups;
 mod pattern;
 
 pub use action::Action;
 pub use keys::{LookupKey, keys_of};
+pub use lookups::{Lines, lookup};
 pub use pattern::{Class, Line, Pattern};
