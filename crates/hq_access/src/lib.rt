@@ -6,8 +6,10 @@ mod action;
 mod keys;
 mod lookups;
 mod pattern;
+mod verdicts;
 
 pub use action::Action;
 pub use keys::{LookupKey, keys_of};
 pub use lookups::{Lines, lookup};
 pub use pattern::{Class, Line, Pattern};
+pub use verdicts::{Refused, Verdict, decide};

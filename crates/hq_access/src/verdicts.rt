@@ -1,0 +1,263 @@
+//! The verdict on a submission, by what was found for its sender and its recipients.
+
+ghost use Rattle.std.specs.Prelude.{◌≡◌, IfOk, map, option_map};
+ghost use Rattle.std.specs.List.{list_any};
+ghost use Rattle.hq_access.specs.Verdicts as rules;
+
+use crate::action::Action;
+use hq_envelope::{Address, Items, Sender, Text, TryCopy};
+use std::alloc::{AllocError, Global};
+
+/// The code with which `REJECT` refuses.
+const REJECT_CODE: u16 = 554;
+
+/// What a rejection says whose line has no text.
+const DENIED: &str = "Access denied";
+
+/// A sender or a recipient that is refused.
+#[derive(Debug, Drop)]
+pub struct Refused {
+    /// Who is refused.
+    pub address: Sender,
+    /// The code of the reply (RFC 5321, 4.2).
+    pub code: u16,
+    /// Its text.
+    pub text: Text,
+}
+
+impl TryCopy for Refused {
+    fn copy(&self, alloc: Global) -> Result<Refused, AllocError> {
+        let address = self.address.copy(alloc)?;
+        let text = self.text.copy(alloc)?;
+        Ok(Refused {
+            address,
+            code: self.code,
+            text,
+        })
+    }
+}
+
+/// What becomes of a submission.
+#[derive(Drop)]
+pub enum Verdict {
+    /// Nothing of it is taken.
+    Rejected {
+        /// The sender alone, or all recipients.
+        refused: Items<Refused>,
+    },
+    /// It is taken, and nobody gets it.
+    Discarded {
+        /// The recipients that are refused.
+        refused: Items<Refused>,
+    },
+    /// It is queued.
+    Queue {
+        /// The recipients that are not refused: at least one.
+        kept: Items<Address>,
+        /// The recipients that are.
+        refused: Items<Refused>,
+        /// Who gets it in place of all that are kept.
+        redirect: Option<Address>,
+        /// The text of the first hold, where it is put on hold.
+        held: Option<Text>,
+    },
+}
+
+/// The text of a rejection, or `Access denied` where its line has none.
+fn or_denied(alloc: Global, text: &Text) -> Result<Text, AllocError>
+    ensures { IfOk result (λ told. told ≡ rules.or_denied text.now) }
+{
+    if text.as_str().is_empty() {
+        // That text is one, so nothing but memory can be wanting.
+        Text::parse(alloc, DENIED).map_err(|_| AllocError)
+    } else {
+        text.copy(alloc)
+    }
+}
+
+/// The code and the text with which an action refuses.
+fn refusal(alloc: Global, found: Option<&Action>) -> Result<Option<(u16, Text)>, AllocError>
+    ensures { IfOk result (λ why. why ≡ rules.refusal (option_map (λ a. a.now) found.entry)) }
+{
+    match found {
+        Some(Action::Reject(text)) => Ok(Some((REJECT_CODE, or_denied(alloc, text)?))),
+        _ => Ok(None),
+    }
+}
+
+fn refuses(found: Option<&Action>) -> bool
+    ensures { result ≡ rules.refuses (option_map (λ a. a.now) found.entry) }
+{
+    matches!(found, Some(Action::Reject(_)))
+}
+
+fn discards(found: Option<&Action>) -> bool
+    ensures { result ≡ rules.discards (option_map (λ a. a.now) found.entry) }
+{
+    matches!(found, Some(Action::Discard(_)))
+}
+
+fn redirection(found: Option<&Action>) -> Option<&Address>
+    ensures { option_map (λ a. a.now) result ≡ rules.redirection (option_map (λ a. a.now) found.entry) }
+{
+    match found {
+        Some(Action::Redirect(address)) => Some(address),
+        _ => None,
+    }
+}
+
+/// The text of a hold.
+fn holding(found: Option<&Action>) -> Option<&Text>
+    ensures { option_map (λ t. t.now) result ≡ rules.holding (option_map (λ a. a.now) found.entry) }
+{
+    match found {
+        Some(Action::Hold(text)) => Some(text),
+        _ => None,
+    }
+}
+
+fn told(who: Sender, why: (u16, Text)) -> Refused
+    ensures { result ≡ rules.told who why }
+{
+    let (code, text) = why;
+    Refused {
+        address: who,
+        code,
+        text,
+    }
+}
+
+/// The recipient, where it is refused.
+fn refused_one(
+    alloc: Global,
+    recipient: &(Address, Option<Action>),
+) -> Result<Option<Refused>, AllocError>
+    ensures { IfOk result (λ refused. refused ≡ rules.refused_one recipient.now) }
+{
+    match refusal(alloc, recipient.1.as_ref())? {
+        Some(why) => {
+            let address = recipient.0.copy(alloc)?;
+            Ok(Some(told(Sender::From(address), why)))
+        }
+        None => Ok(None),
+    }
+}
+
+/// The recipients that are refused, in order.
+fn refused_in(
+    alloc: Global,
+    recipients: &[(Address, Option<Action>)],
+) -> Result<Vec<Refused>, AllocError>
+    ensures { IfOk result (λ refused. refused.items ≡ rules.refused_in recipients.now) }
+{
+    let mut refused = Vec::new(alloc);
+    for recipient in recipients {
+        if let Some(one) = refused_one(alloc, recipient)? {
+            refused.push(one)?;
+        }
+    }
+    Ok(refused)
+}
+
+/// The recipients that are not, in order.
+fn kept_in(
+    alloc: Global,
+    recipients: &[(Address, Option<Action>)],
+) -> Result<Vec<Address>, AllocError>
+    ensures { IfOk result (λ kept. kept.items
+        ≡ map (λ r. r.0) (rules.kept_in recipients.now)) }
+{
+    let mut kept = Vec::new(alloc);
+    for recipient in recipients {
+        if !refuses(recipient.1.as_ref()) {
+            kept.push(recipient.0.copy(alloc)?)?;
+        }
+    }
+    Ok(kept)
+}
+
+/// Whether the sender's action or a recipient's discards the message.
+fn is_discarded(found: Option<&Action>, recipients: &[(Address, Option<Action>)]) -> bool
+    ensures { result ≡ list_any rules.discards (rules.found_in (option_map (λ a. a.now) found.entry)
+        recipients.now) }
+{
+    discards(found) || recipients.iter().any(|it| discards(it.1.as_ref()))
+}
+
+/// The last redirection of the sender's action and those of the recipients.
+fn redirect_of<'a>(
+    found: Option<&'a Action>,
+    recipients: &'a [(Address, Option<Action>)],
+) -> Option<&'a Address>
+    ensures { option_map (λ a. a.now) result
+        ≡ rules.redirect_of (rules.found_in (option_map (λ a. a.now) found.entry) recipients.now) }
+{
+    let mut last = redirection(found);
+    for recipient in recipients {
+        last = redirection(recipient.1.as_ref()).or(last);
+    }
+    last
+}
+
+/// The text of the first hold among the sender's action and those of the recipients.
+fn held_by<'a>(
+    found: Option<&'a Action>,
+    recipients: &'a [(Address, Option<Action>)],
+) -> Option<&'a Text>
+    ensures { option_map (λ t. t.now) result
+        ≡ rules.held_by (rules.found_in (option_map (λ a. a.now) found.entry) recipients.now) }
+{
+    let mut first = holding(found);
+    for recipient in recipients {
+        first = first.or(holding(recipient.1.as_ref()));
+    }
+    first
+}
+
+/// A copy of what is there.
+fn copied<T: TryCopy>(alloc: Global, value: Option<&T>) -> Result<Option<T>, AllocError>
+    ensures { IfOk result (λ copy. copy ≡ option_map (λ it. it.now) value.entry) }
+{
+    match value {
+        Some(value) => Ok(Some(value.copy(alloc)?)),
+        None => Ok(None),
+    }
+}
+
+/// The verdict, by the action found for the sender and those found for the recipients, which are
+/// all different:
+/// - A rejected sender: rejected, and the sender alone is refused.
+/// - Else all recipients rejected: rejected, and they are refused.
+/// - Else some `DISCARD` of the sender or of a recipient: discarded.
+/// - Else queued for the recipients that are kept, or for the address of the last `REDIRECT`; on
+///   hold, where there is a `HOLD`.
+pub fn decide(
+    alloc: Global,
+    found: Option<&Action>,
+    sender: &Sender,
+    recipients: &[(Address, Option<Action>)],
+) -> Result<Verdict, AllocError>
+    ensures { IfOk result (λ verdict. verdict
+        ≡ rules.verdict (option_map (λ a. a.now) found.entry) sender.now recipients.now) }
+{
+    if let Some(why) = refusal(alloc, found)? {
+        let refused = vec![in alloc; told(sender.copy(alloc)?, why)]?;
+        return Ok(Verdict::Rejected {
+            refused: Items::from_vec(refused),
+        });
+    }
+    let kept = kept_in(alloc, recipients)?;
+    let refused = Items::from_vec(refused_in(alloc, recipients)?);
+    if kept.is_empty() {
+        return Ok(Verdict::Rejected { refused });
+    }
+    if is_discarded(found, recipients) {
+        return Ok(Verdict::Discarded { refused });
+    }
+    Ok(Verdict::Queue {
+        kept: Items::from_vec(kept),
+        refused,
+        redirect: copied(alloc, redirect_of(found, recipients))?,
+        held: copied(alloc, held_by(found, recipients))?,
+    })
+}
