@@ -14,7 +14,8 @@ pub enum Action {
     Okay(Text),
     /// `REJECT`: the address is refused, with the text or `Access denied`.
     Reject(Text),
-    /// `DUNNO`: as if there were no line, save that no further key is tried. Its text has no effect.
+    /// `DUNNO`: as if there were no line, save that no further key is tried. Its text has no
+    /// effect.
     Dunno(Text),
     /// `DISCARD`: the whole message is discarded. Its text has no effect.
     Discard(Text),

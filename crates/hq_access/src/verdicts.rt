@@ -98,7 +98,8 @@ fn discards(found: Option<&Action>) -> bool
 }
 
 fn redirection(found: Option<&Action>) -> Option<&Address>
-    ensures { option_map (λ a. a.now) result ≡ rules.redirection (option_map (λ a. a.now) found.entry) }
+    ensures { option_map (λ a. a.now) result
+        ≡ rules.redirection (option_map (λ a. a.now) found.entry) }
 {
     match found {
         Some(Action::Redirect(address)) => Some(address),
