@@ -9,4 +9,6 @@ mod asked;
 #[cfg(test)]
 mod keys;
 #[cfg(test)]
+mod lookups;
+#[cfg(test)]
 mod patterns;
