@@ -12,3 +12,5 @@ mod keys;
 mod lookups;
 #[cfg(test)]
 mod patterns;
+#[cfg(test)]
+mod verdicts;
