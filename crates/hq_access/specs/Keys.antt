@@ -1,5 +1,5 @@
--- The keys under which an address is looked up, in the order in which they are tried (access(5), EMAIL ADDRESS PATTERNS;
--- the base and its place in the order are this product's own). All are folded.
+-- The keys under which an address is looked up, in the order in which they are tried. All are folded.
+-- (access(5), EMAIL ADDRESS PATTERNS and EMAIL ADDRESS EXTENSION, under the delimiter +)
 use Rattle.std.specs.Prelude.{ℕ, Bool, ◌&&◌, ◌==◌, nat_lt, List, [], ◌∷◌, ◌++◌, length, map, if◌then◌else◌, Option, Some, None}
 use Rattle.std.specs.List.{before_first, cons_option, join_with_byte, position_or_len, slice_split}
 use Rattle.hq_envelope.specs.Addresses.{is_dot, local_of, domain_of, folded}
