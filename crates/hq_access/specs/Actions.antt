@@ -1,4 +1,4 @@
--- Actions: what a line of an access table does (access(5), ACTIONS).
+-- Actions: what a line of an access table does (access(5), ACCEPT ACTIONS, REJECT ACTIONS, OTHER ACTIONS).
 use Rattle.std.specs.Prelude.{ℕ, Bool, ◌==◌, List, [], ◌∷◌, ◌++◌, codes, reverse, if◌then◌else◌, Result, Err}
 use Rattle.std.specs.List.{after_first, before_first}
 use Rattle.std.specs.Str.{str_eq_ignore_ascii_case}

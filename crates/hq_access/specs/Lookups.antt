@@ -1,4 +1,5 @@
--- Lookup in an access table: the first key that has a line (access(5), TABLE SEARCH ORDER).
+-- Lookup in an access table: the first key that has a line. (access(5), EMAIL ADDRESS PATTERNS: they are tried in order; DUNNO
+-- ends the trying.)
 use Rattle.std.specs.Prelude.{◌≡◌, ℕ, List, [], ◌∷◌, Option, Some, None, ◌⊎◌, Result, Ok, Err}
 use Rattle.hq_base.specs.declared.failure.Fault.{Fault}
 use Rattle.hq_base.specs.Refusals.{no_memory}

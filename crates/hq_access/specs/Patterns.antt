@@ -1,5 +1,5 @@
 -- Patterns: what a line of an access table is for (access(5), EMAIL ADDRESS PATTERNS).
-use Rattle.std.specs.Prelude.{ℕ, Bool, false, ◌&&◌, ◌||◌, ◌==◌, nat_le, List, [], ◌∷◌, length, Option, Some, None, Result}
+use Rattle.std.specs.Prelude.{ℕ, Bool, false, ◌&&◌, ◌||◌, ◌==◌, nat_le, List, [], ◌∷◌, codes, length, Option, Some, None, Result}
 use Rattle.std.specs.Str.{bytes_eq}
 use Rattle.hq_base.specs.Readers.{checked}
 use Rattle.hq_base.specs.declared.failure.Refusal.{Refusal}
@@ -8,6 +8,11 @@ use Rattle.hq_envelope.specs.Addresses.{is_dot, is_address, is_domain, is_local,
 use Rattle.hq_access.specs.Keys.{null_key}
 use Rattle.hq_access.specs.declared.pattern.Class.{Class}
 use Rattle.hq_access.specs.declared.pattern.Class.TheVariants.{SenderSide, RecipientSide}
+
+-- the name of a class, as tables are told apart by it
+abbrev pub class_name : Class → List ℕ
+class_name SenderSide = codes "sender"
+class_name RecipientSide = codes "recipient"
 
 -- .domain
 abbrev pub is_subdomains : List ℕ → Bool

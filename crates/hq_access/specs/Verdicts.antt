@@ -1,4 +1,4 @@
--- The verdict on a submission (access(5), ACTIONS; which of several actions counts is this product's own).
+-- The verdict on a submission (access(5), ACCEPT ACTIONS, REJECT ACTIONS, OTHER ACTIONS; which of several actions counts is this product's own).
 use Rattle.std.specs.Prelude.{ℕ, Bool, true, false, not, List, [], ◌∷◌, codes, map, filter, if◌then◌else◌, Option, Some, None, option_map, is_some}
 use Rattle.std.specs.List.{filter_map, last_or, list_any}
 use Rattle.hq_envelope.specs.declared.address.Sender.{Sender}

@@ -2,7 +2,7 @@
 
 ghost use Rattle.std.specs.Prelude.{◌≡◌, IfOk};
 ghost use Rattle.hq_base.specs.Readers.{Reads};
-ghost use Rattle.hq_access.specs.Patterns.{is_subdomains, is_user, is_null, is_pattern, pattern_in};
+ghost use Rattle.hq_access.specs.Patterns.{class_name, is_subdomains, is_user, is_null, is_pattern, pattern_in};
 
 use crate::action::Action;
 use crate::keys::{LookupKey, NULL_KEY};
@@ -20,6 +20,18 @@ pub enum Class {
     SenderSide,
     /// The line is for recipients.
     RecipientSide,
+}
+
+impl Class {
+    /// Its name, `sender` or `recipient`. It takes no memory.
+    pub fn name(self) -> &'static str
+        ensures { result.now ≡ class_name self }
+    {
+        match self {
+            Class::SenderSide => "sender",
+            Class::RecipientSide => "recipient",
+        }
+    }
 }
 
 /// Whether a text is `.domain`.
