@@ -1,17 +1,20 @@
 -- Sums over the values of a finite map, when one key is put or removed.
-use Rattle.std.proofs.Common.{◌≡◌, ℕ, ◌+◌, Bool, true, false, cond, not, T, List, [], ◌∷◌, map, sym, refl, ap, ◌∙◌, subst, Some, None, arith}
+use Rattle.std.proofs.Common.{◌≡◌, ℕ, ◌+◌, ◌-◌, ◌≤◌, Bool, true, false, cond, not, T, List, [], ◌∷◌, map, sym, refl, ap, ◌∙◌, subst, Some, None, Option, arith}
 use Rattle.std.specs.List.{sum_by}
 use Rattle.std.proofs.lemmas.List.Sums.{sum_by-cons}
 use Rattle.std.specs.declared.cmp.Ordering.{Ordering}
 use Rattle.std.specs.declared.cmp.Ordering.TheVariants.{Less, Equal, Greater}
 use Rattle.std.specs.Ordering.{is_lt, is_eq, eq_by_cmp}
-use Rattle.std.specs.Cmp.{IsTotalOrder}
+use Rattle.std.specs.Cmp.{IsTotalOrder, eq_by_cmp_equiv}
 use Rattle.std.proofs.lemmas.Map.Lookups.{CmpEqualImpliesEq}
 use Rattle.std.specs.FinMap.{FinMap, entries, entries_sorted, values, get, insert, remove, retain_keys, from_sorted, entries-insert, get-entries, get-retain_keys, get-from_sorted, entries-from_sorted, same_map, find, put, is_sorted}
 use Rattle.std.specs.FinMap.Entries.{by_order, below_all, where_key, is_sorted-where_key, find-where_key}
 use Rattle.hq_tables.specs.Owned.{given}
 use Rattle.hq_tables.proofs.Lists.{remove_is}
 use Rattle.hq_tables.proofs.Cases.{first, second, less, equal, both}
+
+none_some : {A : Type 0} (a : A) → ◌≡◌ {A = Option A} None (Some a) → ⊥
+none_some a e = cc
 
 module _ {K X : Type 0} (f : X → ℕ) where
   abbrev weight : List (K × X) → ℕ
@@ -78,3 +81,44 @@ module _ {K X : Type 0} {R : K → K → Ordering} (r : IsTotalOrder R) (re : Cm
   total-remove f m k =
       (λ i. (ap (λ es. sum_by f (map (λ (e : K × X). e.1) es)) (ap entries (remove_is r re m k) ∙ entries-retain_keys m (λ x. not (eq_by_cmp R k x))) ∙ weight_is f (where_key R (λ x. not (eq_by_cmp R k x)) (entries m))) i + given 0 f (get-entries m k i))
       ∙ weight_without R r f k (entries m) (entries_sorted m) ∙ sym (weight_is f (entries m))
+
+  -- a sum after a put: what stood at the key counts no more
+  pub total_put : (f : X → ℕ) (m : FinMap R X) (k : K) (v : X) → sum_by f (values (insert m k v)) ≡ given (sum_by f (values m)) (λ o. sum_by f (values m) - f o) (get m k) + f v
+  total_put f m k v = cases (get m k) (total-insert f m k v) (total-remove f m k) where
+    cases : (o : Option X) → sum_by f (values (insert m k v)) + given 0 f o ≡ sum_by f (values m) + f v → sum_by f (values (remove m k)) + given 0 f o ≡ sum_by f (values m)
+        → sum_by f (values (insert m k v)) ≡ given (sum_by f (values m)) (λ o. sum_by f (values m) - f o) o + f v
+    cases None put drop = omega arith
+    cases (Some o) put drop = omega arith
+
+  pub total_drop : (f : X → ℕ) (m : FinMap R X) (k : K) → sum_by f (values (remove m k)) ≡ given (sum_by f (values m)) (λ o. sum_by f (values m) - f o) (get m k)
+  total_drop f m k = cases (get m k) (total-remove f m k) where
+    cases : (o : Option X) → sum_by f (values (remove m k)) + given 0 f o ≡ sum_by f (values m) → sum_by f (values (remove m k)) ≡ given (sum_by f (values m)) (λ o. sum_by f (values m) - f o) o
+    cases None drop = omega arith
+    cases (Some o) drop = omega arith
+
+  -- how many there are after a put: as many where the key is old
+  pub many_put : (m : FinMap R X) (k : K) (v : X) → sum_by (λ (x : X). 1) (values (insert m k v)) ≡ given (sum_by (λ (x : X). 1) (values m) + 1) (λ o. sum_by (λ (x : X). 1) (values m)) (get m k)
+  many_put m k v = cases (get m k) (total-insert (λ (x : X). 1) m k v) where
+    cases : (o : Option X) → sum_by (λ (x : X). 1) (values (insert m k v)) + given 0 (λ (x : X). 1) o ≡ sum_by (λ (x : X). 1) (values m) + 1
+        → sum_by (λ (x : X). 1) (values (insert m k v)) ≡ given (sum_by (λ (x : X). 1) (values m) + 1) (λ o. sum_by (λ (x : X). 1) (values m)) o
+    cases None put = omega arith
+    cases (Some o) put = omega arith
+
+-- one sum is at most another where each value weighs at most as much
+module _ {K X : Type 0} {R : K → K → Ordering} (r : IsTotalOrder R) (f g : X → ℕ) where
+  weight_at_most : (es : List (K × X)) → T (is_sorted R es) → ((k : K) (x : X) → find R k es ≡ Some x → f x ≤ g x) → weight f es ≤ weight g es
+  weight_at_most [] s h = omega arith
+  weight_at_most (e ∷ es) s h =
+      let here : f e.1 ≤ g e.1 = h e.0 e.1 (ap (λ b. cond b (Some e.1) (find R e.0 es)) ((eq_by_cmp_equiv r).refl e.0)) in
+      let rest : weight f es ≤ weight g es = weight_at_most es (second _ _ s) (λ k x p. h k x (behind k x p (eq_by_cmp R k e.0) refl)) in
+      omega arith where
+        behind : (k : K) (x : X) → find R k es ≡ Some x → (b : Bool) → eq_by_cmp R k e.0 ≡ b → cond b (Some e.1) (find R k es) ≡ Some x
+        behind k x p true t = absurd (none_some x (sym (none_below R k es (below_equal R r f k e.0 es (equal _ (subst T (sym t) tt)) (first _ _ s))) ∙ p))
+        behind k x p false t = p
+
+  pub total_at_most : (m : FinMap R X) → ((k : K) (x : X) → get m k ≡ Some x → f x ≤ g x) → sum_by f (values m) ≤ sum_by g (values m)
+  total_at_most m h =
+      let some : weight f (entries m) ≤ weight g (entries m) = weight_at_most (entries m) (entries_sorted m) (λ k x p. h k x (get-entries m k ∙ p)) in
+      let here = weight_is f (entries m) in
+      let there = weight_is g (entries m) in
+      omega arith
