@@ -1,36 +1,42 @@
 -- Empty tables are sound, and have the opening state of everybody.
-use Rattle.std.proofs.Common.{◌≡◌, ℕ, ◌+◌, ◌^◌, ◌<◌, ◌≤◌, List, [], map, sym, refl, ap, ◌∙◌, subst, Some, arith}
+use Rattle.std.proofs.Common.{◌≡◌, ℕ, ◌+◌, ◌^◌, ◌<◌, ◌≤◌, List, [], map, sym, refl, ap, ◌∙◌, subst, Some, None, arith}
 use Rattle.std.specs.Prelude.{option_map, unwrap_or}
 use Rattle.std.specs.List.{IsDistinct}
 use Rattle.std.specs.Ordering.{nat_cmp}
 use Rattle.std.specs.declared.cmp.Ordering.{Ordering}
-use Rattle.std.specs.Cmp.{nat_cmp_total, IsTotalOrder}
-use Rattle.std.specs.Cmp.Lexicographic.{nat_list_cmp_total}
+use Rattle.std.specs.Cmp.{nat_cmp_total}
 use Rattle.std.specs.FinMap.{empty, entries, get, len, values, get-empty, len-empty, same_map}
-use Rattle.std.proofs.lemmas.Map.Lookups.{CmpEqualImpliesEq, exact_unsigned}
+use Rattle.std.proofs.lemmas.Map.Lookups.{exact_unsigned}
+use Rattle.hq_access.specs.declared.action.Action.{Action}
 use Rattle.hq_queue.specs.declared.message.Message.{Message}
-use Rattle.hq_tables.specs.Owned.{by_both, part_of, map_values}
+use Rattle.hq_queue.specs.declared.message.Pending.{Pending}
+use Rattle.hq_tables.specs.Owned.{by_both, part_of, rows_of, map_values}
 use Rattle.hq_tables.specs.Rows.{table}
 use Rattle.hq_tables.proofs.Parts.{get_part, get-map_values, both_total, both_exact}
 use Rattle.hq_tables.proofs.Pages.{no_entries}
-use Rattle.hq_store.specs.Tables.{text_cmp, opening, opening_head, no_tables, own, joined, pending_of, message_cmp, recipient_cmp}
-use Rattle.hq_store.specs.Sound.{IsNext, SoundState, Sound, numbered, pending_count}
-use Rattle.hq_store.specs.Listed.{head_key, head_value, message_key, message_value, recipient_key, recipient_value, recipients_of, heads_of, messages_of}
-use Rattle.hq_store.specs.Lookups.{AreUnique, AreDealt}
+use Rattle.hq_store.specs.Tables.{Account, Row, text_cmp, line_cmp, lines_cmp, account, opening, opening_head, no_tables, own, joined, pending_of, message_cmp, recipient_cmp}
+use Rattle.hq_store.specs.Readings.{kept_of, kept_in}
+use Rattle.hq_store.proofs.Customers.{none_own}
+use Rattle.hq_store.proofs.LineOrder.{line_total, line_exact}
+use Rattle.hq_store.specs.Sound.{IsNext, SoundState, Sound, AreCounted, numbered, pending_count}
+use Rattle.hq_store.specs.Listed.{head_key, head_value, message_key, message_value, recipient_key, recipient_value, recipients_of, heads_of, messages_of, line_row_key, line_row_value, lines_of}
+use Rattle.hq_store.specs.Lookups.{AreUnique, AreDealt, AreUniqueLines}
 use Rattle.hq_store.proofs.States.{none_some}
 
-module _ {N K X : Type 0} {S : N → N → Ordering} {R : K → K → Ordering} (s : IsTotalOrder S) (r : IsTotalOrder R) (re : CmpEqualImpliesEq R) where
-  part_empty : (c : N) → part_of S c (empty {X = X} {R = by_both S R}) ≡ empty
-  part_empty c = same_map r re _ _ (λ k. get_part R s c empty k ∙ get-empty (by_both S R) (c, k) ∙ sym (get-empty R k))
+part_empty : (serial : ℕ) → part_of nat_cmp serial (empty {X = Pending} {R = by_both nat_cmp nat_cmp}) ≡ empty
+part_empty serial = same_map nat_cmp_total exact_unsigned _ _ (λ k. get_part nat_cmp nat_cmp_total serial empty k ∙ get-empty (by_both nat_cmp nat_cmp) (serial, k) ∙ sym (get-empty nat_cmp k))
 
 no_message : (customer : List ℕ) → map_values (joined customer no_tables.recipients) (part_of text_cmp customer no_tables.messages) ≡ empty
 no_message customer = same_map nat_cmp_total exact_unsigned _ _ (λ k.
     get-map_values nat_cmp (joined customer no_tables.recipients) exact_unsigned (part_of text_cmp customer no_tables.messages) k
-    ∙ ap (λ m. option_map (joined customer no_tables.recipients k) (get m k)) (part_empty nat_list_cmp_total nat_cmp_total exact_unsigned customer)
+    ∙ ap (λ m. option_map (joined customer no_tables.recipients k) (get m k)) (none_own nat_cmp_total exact_unsigned customer)
     ∙ ap (option_map (joined customer no_tables.recipients k)) (get-empty nat_cmp k) ∙ sym (get-empty nat_cmp k))
 
+no_account : (customer : List ℕ) → account no_tables.heads customer ≡ unwrap_or None (record { head = opening_head; counts = record { messages = 0; bytes = 0; lines = 0 } })
+no_account customer = ap (λ o. unwrap_or o (record { head = opening_head; counts = record { messages = 0; bytes = 0; lines = 0 } })) (get-empty text_cmp customer)
+
 pub own_opening : (customer : List ℕ) → own customer no_tables ≡ opening
-own_opening customer = λ i. record { head = unwrap_or (get-empty text_cmp customer i) opening_head; messages = no_message customer i }
+own_opening customer = λ i. record { head = (no_account customer i).head; messages = no_message customer i; lines = none_own line_total line_exact customer i }
 
 -- stated for any number, since the limits are large
 next_one : (n : ℕ) → 1 ≤ n → (0 < 1) × (1 ≤ n)
@@ -53,6 +59,7 @@ opening_sound = record {
     messages = λ k m h. absurd (nothing k m h);
     spools = λ k l m n h g e. absurd (nothing k m h);
     few_messages = let none : len opening.messages ≡ 0 = len-empty nat_cmp Message in omega arith;
+    few_lines = let none : len opening.lines ≡ 0 = len-empty line_cmp Action in omega arith;
   };
   conserved = ap (λ ms. pending_count ms + 0 + 0 + 0 + 0) (sym no_values);
   bounded = omega arith;
@@ -60,12 +67,18 @@ opening_sound = record {
 
 no_recipients : (customer : List ℕ) (serial : ℕ) → entries (part_of nat_cmp serial (part_of text_cmp customer no_tables.recipients)) ≡ []
 no_recipients customer serial =
-    ap (λ m. entries (part_of nat_cmp serial m)) (part_empty nat_list_cmp_total (both_total nat_cmp_total nat_cmp_total) (both_exact exact_unsigned exact_unsigned) customer)
-    ∙ ap entries (part_empty nat_cmp_total nat_cmp_total exact_unsigned serial) ∙ no_entries nat_cmp
+    ap (λ m. entries (part_of nat_cmp serial m)) (none_own (both_total nat_cmp_total nat_cmp_total) (both_exact exact_unsigned exact_unsigned) customer)
+    ∙ ap entries (part_empty serial) ∙ no_entries nat_cmp
 
 no_pending : (customer : List ℕ) (serial : ℕ) → pending_of customer serial no_tables.recipients ≡ []
 unfolding pending_of
 no_pending customer serial = ap (map (λ e. e.1)) (no_recipients customer serial)
+
+nothing_kept : (customer : List ℕ) → kept_in customer no_tables ≡ record { messages = 0; bytes = 0; lines = 0 }
+nothing_kept customer = λ i. kept_of (λ (e : ℕ × Row). e.1.size) (rows_of text_cmp customer (no_entries {X = Row} message_cmp i)) (rows_of text_cmp customer (no_entries {X = Action} lines_cmp i))
+
+pub none_counted : AreCounted no_tables
+none_counted customer = ap (λ (a : Account). a.counts) (no_account customer) ∙ sym (nothing_kept customer)
 
 pub empty_sound : Sound no_tables
 empty_sound = record {
@@ -74,6 +87,7 @@ empty_sound = record {
     placed = λ customer serial. no_recipients customer serial ∙ ap (numbered 1) (sym (no_pending customer serial));
     no_orphans = λ customer serial h. no_pending customer serial;
   };
+  counts = none_counted;
 }
 
 -- ---- no rows at all
@@ -90,5 +104,9 @@ pub none_dealt : AreDealt []
 unfolding AreDealt
 none_dealt customer serial = sym (ap (pending_of customer serial) (table_nothing recipient_cmp recipient_key recipient_value) ∙ no_pending customer serial)
 
-pub no_rows : record { heads = heads_of []; messages = messages_of []; recipients = recipients_of [] } ≡ no_tables
-no_rows = λ i. record { heads = table_nothing text_cmp head_key head_value i; messages = table_nothing message_cmp message_key message_value i; recipients = table_nothing recipient_cmp recipient_key recipient_value i }
+pub none_unique_lines : AreUniqueLines []
+unfolding AreUniqueLines IsDistinct
+none_unique_lines = tt
+
+pub no_rows : record { heads = heads_of []; messages = messages_of []; recipients = recipients_of []; lines = lines_of [] } ≡ no_tables
+no_rows = λ i. record { heads = table_nothing text_cmp head_key head_value i; messages = table_nothing message_cmp message_key message_value i; recipients = table_nothing recipient_cmp recipient_key recipient_value i; lines = table_nothing lines_cmp line_row_key line_row_value i }

@@ -6,14 +6,17 @@ use Rattle.std.specs.Cmp.{IsTotalOrder, nat_cmp_total}
 use Rattle.std.specs.Cmp.Lexicographic.{nat_list_cmp_total}
 use Rattle.std.proofs.lemmas.Map.Lookups.{CmpEqualImpliesEq, exact_bytes, exact_unsigned}
 use Rattle.std.specs.FinMap.{get, insert, remove}
-use Rattle.hq_store.specs.Tables.{message_cmp}
+use Rattle.hq_store.specs.Tables.{message_cmp, lines_cmp}
+use Rattle.hq_store.proofs.LineOrder.{line_total, line_exact}
 use Rattle.hq_tables.proofs.Parts.{both_total, both_exact}
 use Rattle.hq_tables.proofs.Lists.{get_table, table_drop, table_put}
 use Rattle.hq_tables.proofs.Unique.{unique_filter, unique_put}
+use Rattle.hq_access.specs.declared.pattern.Class.{Class}
 use Rattle.hq_store.specs.declared.rows.HeadRow.{HeadRow}
+use Rattle.hq_store.specs.declared.rows.LineRow.{LineRow}
 use Rattle.hq_store.specs.declared.rows.MessageRow.{MessageRow}
-use Rattle.hq_store.specs.Listed.{head_key, head_value, message_key, message_value, heads_of, messages_of}
-use Rattle.hq_store.specs.Lookups.{is_head, is_message, AreUnique}
+use Rattle.hq_store.specs.Listed.{head_key, head_value, message_key, message_value, heads_of, messages_of, line_row_key, line_row_value, lines_of}
+use Rattle.hq_store.specs.Lookups.{is_head, is_message, AreUnique, is_line, AreUniqueLines}
 
 pub message_total : IsTotalOrder message_cmp
 message_total = both_total nat_list_cmp_total nat_cmp_total
@@ -25,7 +28,7 @@ pub head_found : (rows : List HeadRow) (c : List ℕ) → option_map head_value 
 unfolding is_head
 head_found rows c = sym (get_table nat_list_cmp_total exact_bytes head_key head_value rows c)
 
-pub head_put : (rows : List HeadRow) (r : HeadRow) → heads_of (filter (λ x. not (is_head r.customer x)) rows ++ r ∷ []) ≡ insert (heads_of rows) r.customer r.head
+pub head_put : (rows : List HeadRow) (r : HeadRow) → heads_of (filter (λ x. not (is_head r.customer x)) rows ++ r ∷ []) ≡ insert (heads_of rows) r.customer (head_value r)
 unfolding is_head
 head_put rows r = table_put nat_list_cmp_total exact_bytes head_key head_value rows r
 
@@ -48,3 +51,29 @@ unique_drop rows c serial u = unique_filter message_cmp message_key _ rows u
 pub unique_message : (rows : List MessageRow) (r : MessageRow) → AreUnique rows → AreUnique (filter (λ x. not (is_message r.customer r.serial x)) rows ++ r ∷ [])
 unfolding AreUnique is_message
 unique_message rows r u = unique_put message_total message_key rows r u
+
+pub lines_total : IsTotalOrder lines_cmp
+lines_total = both_total nat_list_cmp_total line_total
+
+pub lines_exact : CmpEqualImpliesEq lines_cmp
+lines_exact = both_exact exact_bytes line_exact
+
+pub line_found : (rows : List LineRow) (c : List ℕ) (p : Class × List ℕ) → option_map line_row_value (list.find (is_line c p) rows) ≡ get (lines_of rows) (c, p)
+unfolding is_line
+line_found rows c p = sym (get_table lines_total lines_exact line_row_key line_row_value rows (c, p))
+
+pub line_drop : (rows : List LineRow) (c : List ℕ) (p : Class × List ℕ) → lines_of (filter (λ x. not (is_line c p x)) rows) ≡ remove (lines_of rows) (c, p)
+unfolding is_line
+line_drop rows c p = table_drop lines_total lines_exact line_row_key line_row_value (c, p) rows
+
+pub line_put : (rows : List LineRow) (r : LineRow) → lines_of (filter (λ x. not (is_line r.customer r.line.pattern x)) rows ++ r ∷ []) ≡ insert (lines_of rows) (r.customer, r.line.pattern) r.line.action
+unfolding is_line
+line_put rows r = table_put lines_total lines_exact line_row_key line_row_value rows r
+
+pub unique_line_drop : (rows : List LineRow) (c : List ℕ) (p : Class × List ℕ) → AreUniqueLines rows → AreUniqueLines (filter (λ x. not (is_line c p x)) rows)
+unfolding AreUniqueLines
+unique_line_drop rows c p u = unique_filter lines_cmp line_row_key _ rows u
+
+pub unique_line_put : (rows : List LineRow) (r : LineRow) → AreUniqueLines rows → AreUniqueLines (filter (λ x. not (is_line r.customer r.line.pattern x)) rows ++ r ∷ [])
+unfolding AreUniqueLines is_line
+unique_line_put rows r u = unique_put lines_total line_row_key rows r u

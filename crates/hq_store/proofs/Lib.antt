@@ -1,9 +1,13 @@
+pub mod Accounts
 pub mod Conserved
 pub mod Counted
+pub mod Customers
 pub mod Dealt
 pub mod DealtRows
 pub mod Empty
 pub mod Keys
+pub mod LineOrder
+pub mod LinePages
 pub mod Many
 pub mod Own
 pub mod Read

@@ -1,6 +1,6 @@
 -- A change of one customer's rows is that change of the customer's state, and changes no other.
 use Rattle.std.proofs.Common.{◌≡◌, ◌≢◌, ℕ, Bool, true, false, cond, List, [], ◌∷◌, sym, refl, ap, ◌∙◌, Some, None}
-use Rattle.std.specs.Prelude.{Option, option_map, unwrap_or}
+use Rattle.std.specs.Prelude.{Option, option_map}
 use Rattle.std.specs.Ordering.{nat_cmp, eq_by_cmp}
 use Rattle.std.specs.Cmp.{nat_cmp_total}
 use Rattle.std.specs.Cmp.Lexicographic.{nat_list_cmp_total}
@@ -9,13 +9,15 @@ use Rattle.std.proofs.lemmas.Map.Lookups.{exact_unsigned, exact_bytes}
 use Rattle.std.proofs.lemmas.Map.Views.{tells_apart}
 use Rattle.std.proofs.lemmas.Bool.{both_ways}
 use Rattle.hq_store.specs.declared.change.Change.{Change}
-use Rattle.hq_store.specs.declared.change.Change.TheVariants.{PutHead, PutMessage, DropMessage}
-use Rattle.hq_queue.specs.declared.account.Head.{Head}
+use Rattle.hq_store.specs.declared.change.Change.TheVariants.{PutHead, PutMessage, DropMessage, PutLine, DropLine}
 use Rattle.hq_queue.specs.declared.message.Message.{Message}
 use Rattle.hq_queue.specs.declared.message.Pending.{Pending}
 use Rattle.hq_tables.specs.Owned.{part_of, map_values}
-use Rattle.hq_store.specs.Tables.{text_cmp, message_cmp, Tables, Row, opening_head, change, change_all, write, write_all, row_of, message_of, pending_of, joined, deal, own}
-use Rattle.hq_tables.proofs.Parts.{part_insert, part_insert_other, part_remove, part_remove_other, tied_true, tied_false, get-map_values}
+use Rattle.hq_store.specs.Tables.{text_cmp, message_cmp, Tables, Row, with_line, without_line, change, change_all, write, write_all, row_of, message_of, pending_of, joined, deal, own}
+use Rattle.hq_tables.proofs.Parts.{part_insert, part_remove, tied_true, get-map_values}
+use Rattle.hq_store.proofs.Customers.{put_own, put_other, drop_own, drop_other}
+use Rattle.hq_store.proofs.Accounts.{headed_own, message_head, uncounted_head, line_head, no_line_head, account_other}
+use Rattle.hq_store.proofs.LineOrder.{line_total, line_exact}
 use Rattle.hq_store.proofs.Dealt.{Recipients, pending_same, pending_other_message, pending_other_owner}
 
 abbrev Messages : Type 0
@@ -63,23 +65,24 @@ queue_drop c ms rs serial = same_map nat_cmp_total exact_unsigned _ _ (λ q.
 queue_other : (c d : List ℕ) (ms new : Messages) (rs : Recipients) (serial : ℕ) (ps : List Pending) → d ≢ c → part_of text_cmp d new ≡ part_of text_cmp d ms → queue d new (deal c serial ps rs) ≡ queue d ms rs
 queue_other c d ms new rs serial ps apart e = λ i. map_values (λ k r. message_of k r (pending_other_owner c d serial k ps rs apart i)) (e i)
 
-head_own : (c : List ℕ) (t : Tables) (head : Head) → unwrap_or (get (insert t.heads c head) c) opening_head ≡ head
-head_own c t head = ap (λ o. unwrap_or o opening_head) (get-insert nat_list_cmp_total t.heads c head c ∙ ap (λ b. cond b (Some head) (get t.heads c)) (tied_true nat_list_cmp_total c))
-
-head_other : (c d : List ℕ) (t : Tables) (head : Head) → d ≢ c → unwrap_or (get (insert t.heads c head) d) opening_head ≡ unwrap_or (get t.heads d) opening_head
-head_other c d t head apart = ap (λ o. unwrap_or o opening_head) (get-insert nat_list_cmp_total t.heads c head d ∙ ap (λ b. cond b (Some head) (get t.heads d)) (tied_false exact_bytes d c apart))
-
 -- each change, for the customer who makes it
 pub own_write : (c : List ℕ) (ch : Change) (t : Tables) → own c (write c ch t) ≡ change ch (own c t)
-own_write c (PutHead head) t = λ i. record (own c t) { head = head_own c t head i }
-own_write c (PutMessage m) t = λ i. record (own c t) { messages = queue_put c t.messages t.recipients m i }
-own_write c (DropMessage serial) t = λ i. record (own c t) { messages = queue_drop c t.messages t.recipients serial i }
+own_write c (PutHead head) t = λ i. record (own c t) { head = (headed_own c head t.heads i).head }
+own_write c (PutMessage m) t = λ i. record (own c t) { head = message_head c m.size m.serial t i; messages = queue_put c t.messages t.recipients m i }
+own_write c (DropMessage serial) t = λ i. record (own c t) { head = uncounted_head c serial t i; messages = queue_drop c t.messages t.recipients serial i }
+own_write c (PutLine line) t = λ i. record (own c t) { head = line_head c with_line t (get t.lines (c, line.pattern)) i; lines = put_own line_total line_exact c t.lines line.pattern line.action i }
+own_write c (DropLine pattern) t = λ i. record (own c t) { head = no_line_head c without_line t (get t.lines (c, pattern)) i; lines = drop_own line_total line_exact c t.lines pattern i }
 
--- and for each other customer
+-- and for each other customer: head and rows
+other_rows : (c d : List ℕ) (ch : Change) (t : Tables) → d ≢ c → record (own d t) { messages = (own d (write c ch t)).messages; lines = (own d (write c ch t)).lines } ≡ own d t
+other_rows c d (PutHead head) t apart = refl
+other_rows c d (PutMessage m) t apart = λ i. record (own d t) { messages = queue_other c d t.messages _ t.recipients m.serial m.pending apart (put_other nat_cmp_total exact_unsigned c d t.messages m.serial (row_of m) apart) i }
+other_rows c d (DropMessage serial) t apart = λ i. record (own d t) { messages = queue_other c d t.messages _ t.recipients serial [] apart (drop_other nat_cmp_total exact_unsigned c d t.messages serial apart) i }
+other_rows c d (PutLine line) t apart = λ i. record (own d t) { lines = put_other line_total line_exact c d t.lines line.pattern line.action apart i }
+other_rows c d (DropLine pattern) t apart = λ i. record (own d t) { lines = drop_other line_total line_exact c d t.lines pattern apart i }
+
 pub other_write : (c d : List ℕ) (ch : Change) (t : Tables) → d ≢ c → own d (write c ch t) ≡ own d t
-other_write c d (PutHead head) t apart = λ i. record (own d t) { head = head_other c d t head apart i }
-other_write c d (PutMessage m) t apart = λ i. record (own d t) { messages = queue_other c d t.messages _ t.recipients m.serial m.pending apart (part_insert_other nat_list_cmp_total nat_cmp_total exact_bytes exact_unsigned c d t.messages m.serial (row_of m) apart) i }
-other_write c d (DropMessage serial) t apart = λ i. record (own d t) { messages = queue_other c d t.messages _ t.recipients serial [] apart (part_remove_other nat_list_cmp_total nat_cmp_total exact_bytes exact_unsigned c d t.messages serial apart) i }
+other_write c d ch t apart = (λ i. record (own d (write c ch t)) { head = (account_other c d ch t apart i).head }) ∙ other_rows c d ch t apart
 
 -- any list of changes
 pub own_write_all : (c : List ℕ) (chs : List Change) (t : Tables) → own c (write_all c chs t) ≡ change_all chs (own c t)

@@ -33,7 +33,7 @@ module _ {K X : Type 0} (R : K → K → Ordering) where
   below k [] h = tt
   below k (e ∷ es) h = (less _ (first _ _ h), below k es (second _ _ h))
 
-  ascending : (es : List (K × X)) → T (is_sorted R es) → IsAscending (λ (a b : K × X). R a.0 b.0 ≡ Less) es
+  pub ascending : (es : List (K × X)) → T (is_sorted R es) → IsAscending (λ (a b : K × X). R a.0 b.0 ≡ Less) es
   ascending [] h = tt
   ascending (e ∷ es) h = (below e.0 es (first _ _ h), ascending es (second _ _ h))
 

@@ -1,16 +1,15 @@
 -- Tables stay shaped by changes that fit: of the recipients' table, places and orphans; of each customer's state, the rest.
-use Rattle.std.proofs.Common.{◌≡◌, ◌≢◌, ◌⊎◌, inl, inr, ⊎_elim, ℕ, true, false, cond, List, [], ◌∷◌, Some, None, Option, sym, refl, ap, ◌∙◌, subst}
-use Rattle.std.proofs.lemmas.Bool.{cases_eq, both_ways}
+use Rattle.std.proofs.Common.{◌≡◌, ◌≢◌, ⊎_elim, ℕ, true, cond, List, [], ◌∷◌, Some, None, Option, sym, ap, ◌∙◌, subst}
+use Rattle.std.proofs.lemmas.Bool.{cases_eq}
 use Rattle.std.specs.Ordering.{nat_cmp, eq_by_cmp}
 use Rattle.std.specs.Cmp.{nat_cmp_total}
 use Rattle.std.specs.Cmp.Lexicographic.{nat_list_cmp_total}
 use Rattle.std.proofs.lemmas.Map.Lookups.{exact_unsigned, exact_bytes}
-use Rattle.std.proofs.lemmas.Map.Views.{tells_apart}
 use Rattle.std.specs.FinMap.{get, insert, remove, get-insert, get-remove}
 use Rattle.hq_queue.specs.declared.message.Message.{Message}
 use Rattle.hq_queue.specs.declared.message.Pending.{Pending}
 use Rattle.hq_store.specs.declared.change.Change.{Change}
-use Rattle.hq_store.specs.declared.change.Change.TheVariants.{PutHead, PutMessage, DropMessage}
+use Rattle.hq_store.specs.declared.change.Change.TheVariants.{PutMessage, DropMessage}
 use Rattle.hq_tables.specs.Owned.{part_of}
 use Rattle.hq_tables.proofs.Parts.{get_part, part_insert, part_insert_other, part_remove, part_remove_other, tied_true, tied_false}
 use Rattle.hq_store.specs.Tables.{State, Tables, Row, text_cmp, own, change, change_all, write, write_all, row_of, pending_of, deal}
@@ -18,13 +17,9 @@ use Rattle.hq_store.specs.Sound.{ShapedState, SoundState, ShapedRecipients, Shap
 use Rattle.hq_store.specs.Fits.{AllFit}
 use Rattle.hq_store.proofs.Dealt.{Recipients, IsPlaced, placed_same, placed_other_message, placed_other_owner, pending_same, pending_other_message, pending_other_owner}
 use Rattle.hq_store.proofs.Own.{own_write_all, other_write_all}
+use Rattle.hq_store.proofs.Customers.{cases_name}
+use Rattle.hq_store.proofs.Counted.{counts_stay}
 use Rattle.hq_store.proofs.States.{change_shaped}
-
-cases_name : (d c : List ℕ) → (d ≡ c) ⊎ (d ≢ c)
-cases_name d c = elim (eq_by_cmp text_cmp d c) as (λ b. eq_by_cmp text_cmp d c ≡ b → (d ≡ c) ⊎ (d ≢ c)) [
-  | true ↦ λ h. inl (tells_apart exact_bytes d c h)
-  | false ↦ λ h. inr (λ e. both_ways _ h (ap (eq_by_cmp text_cmp d) (sym e) ∙ tied_true nat_list_cmp_total d))
-] refl
 
 placed_deal : (c : List ℕ) (k : ℕ) (ps : List Pending) (rs : Recipients) → ((d : List ℕ) (serial : ℕ) → IsPlaced d serial rs) → (d : List ℕ) (serial : ℕ) → IsPlaced d serial (deal c k ps rs)
 placed_deal c k ps rs h d serial = ⊎_elim
@@ -101,7 +96,7 @@ orphans_drop c k t h d serial none = ⊎_elim
 dealt_write : (c : List ℕ) (ch : Change) (t : Tables) → ShapedRecipients t → ShapedRecipients (write c ch t)
 dealt_write c (PutMessage m) t h = record { placed = placed_deal c m.serial m.pending t.recipients h.placed; no_orphans = orphans_put c m t h.no_orphans }
 dealt_write c (DropMessage k) t h = record { placed = placed_deal c k [] t.recipients h.placed; no_orphans = orphans_drop c k t h.no_orphans }
-dealt_write c (PutHead head) t h = record { placed = h.placed; no_orphans = h.no_orphans }
+dealt_write c _ t h = record { placed = h.placed; no_orphans = h.no_orphans }
 
 dealt_write_all : (c : List ℕ) (chs : List Change) (t : Tables) → ShapedRecipients t → ShapedRecipients (write_all c chs t)
 dealt_write_all c [] t h = h
@@ -124,8 +119,9 @@ pub stays_shaped : (c : List ℕ) (chs : List Change) (t : Tables) → Shaped t 
 stays_shaped c chs t h fit = record {
   states = each ShapedState c chs t (changes_shaped chs (own c t) (h.states c) fit) h.states;
   recipients = dealt_write_all c chs t h.recipients;
+  counts = counts_stay c chs t h.counts;
 }
 
 -- tables stay sound where the customer's own state does
 pub stays_sound : (c : List ℕ) (chs : List Change) (t : Tables) → Sound t → SoundState (change_all chs (own c t)) → Sound (write_all c chs t)
-stays_sound c chs t h mine = record { states = each SoundState c chs t mine h.states; recipients = dealt_write_all c chs t h.recipients }
+stays_sound c chs t h mine = record { states = each SoundState c chs t mine h.states; recipients = dealt_write_all c chs t h.recipients; counts = counts_stay c chs t h.counts }

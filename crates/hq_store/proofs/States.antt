@@ -2,16 +2,19 @@
 use Rattle.std.proofs.Common.{◌≡◌, ◌⊎◌, inl, inr, ⊎_elim, ℕ, ◌+◌, ◌-◌, ◌<◌, ◌≤◌, Bool, true, false, cond, sym, refl, ap, ◌∙◌, subst, Some, None, Option, arith}
 use Rattle.std.specs.Prelude.{is_some}
 use Rattle.std.specs.Ordering.{nat_cmp, eq_by_cmp}
-use Rattle.std.specs.Cmp.{nat_cmp_total}
+use Rattle.std.specs.declared.cmp.Ordering.{Ordering}
+use Rattle.std.specs.Cmp.{IsTotalOrder, nat_cmp_total}
 use Rattle.std.proofs.lemmas.Map.Lookups.{exact_unsigned}
 use Rattle.std.proofs.lemmas.Map.Views.{tells_apart}
 use Rattle.std.specs.FinMap.{FinMap, get, insert, remove, len, contains_key, get-insert, get-remove, len-insert, len-remove}
+use Rattle.hq_access.specs.declared.action.Action.{Action}
 use Rattle.hq_queue.specs.declared.account.Head.{Head}
 use Rattle.hq_queue.specs.declared.message.Message.{Message}
 use Rattle.hq_store.specs.declared.change.Change.{Change}
-use Rattle.hq_store.specs.declared.change.Change.TheVariants.{PutHead, PutMessage, DropMessage}
-use Rattle.hq_store.specs.Tables.{State, change}
+use Rattle.hq_store.specs.declared.change.Change.TheVariants.{PutHead, PutMessage, DropMessage, PutLine, DropLine}
+use Rattle.hq_store.specs.Tables.{State, change, line_cmp}
 use Rattle.hq_store.specs.Sound.{ShapedState, IsQueued}
+use Rattle.hq_store.proofs.LineOrder.{line_total}
 use Rattle.hq_store.specs.Fits.{Fits, HeadFits, MessageFits}
 
 pub same_some : {A : Type 0} (a b : A) → ◌≡◌ {A = Option A} (Some a) (Some b) → a ≡ b
@@ -41,12 +44,22 @@ head_shaped s head h fit = record {
   messages = λ serial m f. let q = h.messages serial m f in record { own_serial = q.own_serial; positive = q.positive; below = fit.above serial m f; some_pending = q.some_pending; apart = q.apart };
   spools = h.spools;
   few_messages = h.few_messages;
+  few_lines = h.few_lines;
 }
 
--- an old serial leaves the number of messages, a new one has room
-put_few : (o : Option Message) (n : ℕ) → n ≤ 1000 → (o ≡ None → n < 1000) → cond (is_some o) n (n + 1) ≤ 1000
-put_few None n h room = let r = room refl in omega arith
-put_few (Some m) n h room = h
+-- a put keeps within a limit where a new key has room, and a drop does
+module _ {K X : Type 0} {R : K → K → Ordering} (r : IsTotalOrder R) (limit : ℕ) (m : FinMap R X) (h : len m ≤ limit) where
+  pub few_put : (k : K) (v : X) → (get m k ≡ None → len m < limit) → len (insert m k v) ≤ limit
+  few_put k v room = subst (λ x. x ≤ limit) (sym (len-insert r m k v)) (cases (get m k) room) where
+    cases : (o : Option X) → (o ≡ None → len m < limit) → cond (is_some o) (len m) (len m + 1) ≤ limit
+    cases None room = let r = room refl in omega arith
+    cases (Some x) room = h
+
+  pub few_drop : (k : K) → len (remove m k) ≤ limit
+  few_drop k = subst (λ x. x ≤ limit) (sym (len-remove r m k)) (cases (contains_key m k)) where
+    cases : (b : Bool) → cond b (len m - 1) (len m) ≤ limit
+    cases true = omega arith
+    cases false = h
 
 message_shaped : (s : State) (n : Message) → ShapedState s → MessageFits s n → ShapedState (change (PutMessage n) s)
 message_shaped s n h fit = record {
@@ -65,12 +78,9 @@ message_shaped s n h fit = record {
       (λ (q : get s.messages l ≡ Some m'). h.spools k l m m' p q e)
       (found s.messages n.serial n l m' f'))
       (found s.messages n.serial n k m f);
-  few_messages = subst (λ x. x ≤ 1000) (sym (len-insert nat_cmp_total s.messages n.serial n)) (put_few (get s.messages n.serial) (len s.messages) h.few_messages fit.room);
+  few_messages = few_put nat_cmp_total 1000 s.messages h.few_messages n.serial n fit.room;
+  few_lines = h.few_lines;
 }
-
-fewer : (b : Bool) (n : ℕ) → n ≤ 1000 → cond b (n - 1) n ≤ 1000
-fewer true n h = omega arith
-fewer false n h = h
 
 drop_shaped : (s : State) (k : ℕ) → ShapedState s → ShapedState (change (DropMessage k) s)
 drop_shaped s k h = record {
@@ -78,10 +88,17 @@ drop_shaped s k h = record {
   next_notice = h.next_notice;
   messages = λ serial m f. h.messages serial m (left s.messages k serial m f);
   spools = λ x y m m' f f' e. h.spools x y m m' (left s.messages k x m f) (left s.messages k y m' f') e;
-  few_messages = subst (λ x. x ≤ 1000) (sym (len-remove nat_cmp_total s.messages k)) (fewer (contains_key s.messages k) (len s.messages) h.few_messages);
+  few_messages = few_drop nat_cmp_total 1000 s.messages h.few_messages k;
+  few_lines = h.few_lines;
 }
+
+-- lines are bound by their number alone
+lines_shaped : (s : State) (lines : FinMap line_cmp Action) → ShapedState s → len lines ≤ 5000 → ShapedState (record s { lines = lines })
+lines_shaped s lines h few = record { next_serial = h.next_serial; next_notice = h.next_notice; messages = h.messages; spools = h.spools; few_messages = h.few_messages; few_lines = few }
 
 pub change_shaped : (s : State) (ch : Change) → ShapedState s → Fits s ch → ShapedState (change ch s)
 change_shaped s (PutHead head) h fit = head_shaped s head h fit
 change_shaped s (PutMessage m) h fit = message_shaped s m h fit
 change_shaped s (DropMessage serial) h fit = drop_shaped s serial h
+change_shaped s (PutLine line) h fit = lines_shaped s _ h (few_put line_total 5000 s.lines h.few_lines line.pattern line.action fit)
+change_shaped s (DropLine pattern) h fit = lines_shaped s _ h (few_drop line_total 5000 s.lines h.few_lines pattern)

@@ -1,13 +1,15 @@
 -- What plain lists of rows stand for, in whatever order the rows lie.
 use Rattle.std.specs.Prelude.{ℕ, List}
 use Rattle.std.specs.FinMap.{FinMap}
-use Rattle.hq_queue.specs.declared.account.Head.{Head}
 use Rattle.hq_queue.specs.declared.message.Pending.{Pending}
+use Rattle.hq_access.specs.declared.action.Action.{Action}
+use Rattle.hq_access.specs.declared.pattern.Class.{Class}
 use Rattle.hq_store.specs.declared.rows.HeadRow.{HeadRow}
+use Rattle.hq_store.specs.declared.rows.LineRow.{LineRow}
 use Rattle.hq_store.specs.declared.rows.MessageRow.{MessageRow}
 use Rattle.hq_store.specs.declared.rows.RecipientRow.{RecipientRow}
 use Rattle.hq_store.specs.declared.list_rows.ListRows.{ListRows}
-use Rattle.hq_store.specs.Tables.{Tables, Row, text_cmp, message_cmp, recipient_cmp}
+use Rattle.hq_store.specs.Tables.{Tables, Account, Row, text_cmp, message_cmp, recipient_cmp, lines_cmp}
 use Rattle.hq_tables.specs.Rows.{table}
 
 -- ---- keys and values of rows
@@ -15,8 +17,8 @@ use Rattle.hq_tables.specs.Rows.{table}
 abbrev pub head_key : HeadRow → List ℕ
 head_key r = r.customer
 
-abbrev pub head_value : HeadRow → Head
-head_value r = r.head
+abbrev pub head_value : HeadRow → Account
+head_value r = record { head = r.head; counts = r.counts }
 
 abbrev pub message_key : MessageRow → List ℕ × ℕ
 message_key r = (r.customer, r.serial)
@@ -30,9 +32,15 @@ recipient_key r = (r.customer, (r.serial, r.place))
 abbrev pub recipient_value : RecipientRow → Pending
 recipient_value r = r.pending
 
+abbrev pub line_row_key : LineRow → List ℕ × (Class × List ℕ)
+line_row_key r = (r.customer, r.line.pattern)
+
+abbrev pub line_row_value : LineRow → Action
+line_row_value r = r.line.action
+
 -- ---- the tables that rows stand for: of rows with one key the first counts
 
-abbrev pub heads_of : List HeadRow → FinMap text_cmp Head
+abbrev pub heads_of : List HeadRow → FinMap text_cmp Account
 heads_of rows = table text_cmp head_key head_value rows
 
 abbrev pub messages_of : List MessageRow → FinMap message_cmp Row
@@ -41,5 +49,8 @@ messages_of rows = table message_cmp message_key message_value rows
 abbrev pub recipients_of : List RecipientRow → FinMap recipient_cmp Pending
 recipients_of rows = table recipient_cmp recipient_key recipient_value rows
 
+abbrev pub lines_of : List LineRow → FinMap lines_cmp Action
+lines_of rows = table lines_cmp line_row_key line_row_value rows
+
 abbrev pub tables_of : ListRows → Tables
-tables_of s = record { heads = heads_of s.heads.items; messages = messages_of s.messages.items; recipients = recipients_of s.recipients.items }
+tables_of s = record { heads = heads_of s.heads.items; messages = messages_of s.messages.items; recipients = recipients_of s.recipients.items; lines = lines_of s.lines.items }

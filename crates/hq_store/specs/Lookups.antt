@@ -1,17 +1,20 @@
 -- The words of the functions of the plain lists: tests of rows, rows made, their order, pages. No claim rests on them.
 use Rattle.std.specs.Prelude.{◌≡◌, ℕ, suc, Bool, true, nat_lt, None, Some, ◌&&◌, List, [], ◌∷◌, map, filter, Option, option_map}
-use Rattle.std.specs.Ordering.{nat_cmp, eq_by_cmp}
+use Rattle.std.specs.Ordering.{nat_cmp, eq_by_cmp, is_lt}
 use Rattle.std.specs.FinMap.{entries, get}
 use Rattle.hq_queue.specs.declared.message.Message.{Message}
 use Rattle.hq_queue.specs.declared.message.Pending.{Pending}
+use Rattle.hq_access.specs.declared.action.Action.{Action}
+use Rattle.hq_access.specs.declared.pattern.Class.{Class}
 use Rattle.hq_store.specs.declared.rows.HeadRow.{HeadRow}
+use Rattle.hq_store.specs.declared.rows.LineRow.{LineRow}
 use Rattle.hq_store.specs.declared.rows.MessageRow.{MessageRow}
 use Rattle.hq_store.specs.declared.rows.RecipientRow.{RecipientRow}
 use Rattle.hq_store.specs.declared.list_rows.ListRows.{ListRows}
-use Rattle.hq_store.specs.Tables.{Row, text_cmp, message_cmp, joined, pending_of}
+use Rattle.hq_store.specs.Tables.{Row, text_cmp, message_cmp, line_cmp, lines_cmp, joined, pending_of}
 use Rattle.hq_tables.specs.Owned.{rows_of}
 use Rattle.hq_tables.specs.Rows.{HasUniqueKeys}
-use Rattle.hq_store.specs.Listed.{message_key, recipient_value, messages_of, recipients_of}
+use Rattle.hq_store.specs.Listed.{message_key, recipient_value, line_row_key, messages_of, recipients_of, lines_of}
 
 -- ---- tests of rows
 
@@ -35,6 +38,18 @@ is_past customer after r = eq_by_cmp text_cmp customer r.customer && is_after af
 -- a message of the customer with a spool name
 unfoldable pub has_spool : List ℕ → List ℕ → MessageRow → Bool
 has_spool customer spool r = eq_by_cmp text_cmp customer r.customer && eq_by_cmp text_cmp spool r.spool
+
+-- the line of a pattern
+unfoldable pub is_line : List ℕ → Class × List ℕ → LineRow → Bool
+is_line customer pattern r = eq_by_cmp lines_cmp (customer, pattern) (r.customer, r.line.pattern)
+
+abbrev pub is_after_pattern : Option (Class × List ℕ) → Class × List ℕ → Bool
+is_after_pattern None pattern = true
+is_after_pattern (Some first) pattern = is_lt (line_cmp first pattern)
+
+-- a line of the customer after a pattern, or any of its lines
+unfoldable pub is_line_past : List ℕ → Option (Class × List ℕ) → LineRow → Bool
+is_line_past customer after r = eq_by_cmp text_cmp customer r.customer && is_after_pattern after r.line.pattern
 
 -- ---- rows made
 
@@ -60,8 +75,12 @@ AreDealt rows = (customer : List ℕ) (serial : ℕ) → pending_in customer ser
 unfoldable pub AreUnique : List MessageRow → Type 0
 AreUnique rows = HasUniqueKeys message_cmp message_key rows
 
+-- no line stands twice
+unfoldable pub AreUniqueLines : List LineRow → Type 0
+AreUniqueLines rows = HasUniqueKeys lines_cmp line_row_key rows
+
 abbrev pub AreInOrder : ListRows → Type 0
-AreInOrder s = AreUnique s.messages.items × AreDealt s.recipients.items
+AreInOrder s = AreUnique s.messages.items × AreDealt s.recipients.items × AreUniqueLines s.lines.items
 
 -- ---- pages
 
@@ -80,6 +99,10 @@ serials_after after es = map (λ (e : ℕ × Row). e.0) (filter (λ (e : ℕ × 
 -- the serials with a spool name, in order
 abbrev pub serials_with_spool : List ℕ → List (ℕ × Row) → List ℕ
 serials_with_spool spool es = map (λ (e : ℕ × Row). e.0) (filter (λ (e : ℕ × Row). eq_by_cmp text_cmp spool e.1.spool) es)
+
+-- the customer's rows of lines, by class and pattern
+abbrev pub line_rows_with : List ℕ → List LineRow → List ((Class × List ℕ) × Action)
+line_rows_with customer rows = rows_of text_cmp customer (entries (lines_of rows))
 
 abbrev pub message_at : List ℕ → List MessageRow → List RecipientRow → ℕ → Option Message
 message_at customer messages recipients serial = option_map (joined customer (recipients_of recipients) serial) (get (messages_of messages) (customer, serial))

@@ -1,12 +1,15 @@
 -- What can be read of one customer: from its state alone, and from the tables of all.
-use Rattle.std.specs.Prelude.{ℕ, ◌-◌, ◌^◌, min, nat_lt, List, map, filter, take, length, Option, None, Some, option_map, unwrap_or}
+use Rattle.std.specs.Prelude.{ℕ, ◌-◌, ◌^◌, min, nat_lt, List, map, filter, take, length, Option, None, Some, option_map}
 use Rattle.std.specs.List.{find, sum_by}
-use Rattle.std.specs.Ordering.{eq_by_cmp}
+use Rattle.std.specs.Ordering.{eq_by_cmp, is_lt}
 use Rattle.std.specs.FinMap.{get, entries, values}
 use Rattle.hq_queue.specs.declared.account.Counts.{Counts}
 use Rattle.hq_queue.specs.declared.account.Head.{Head}
 use Rattle.hq_queue.specs.declared.message.Message.{Message}
-use Rattle.hq_store.specs.Tables.{State, Tables, Row, text_cmp, opening_head, joined}
+use Rattle.hq_access.specs.declared.action.Action.{Action}
+use Rattle.hq_access.specs.declared.pattern.Class.{Class}
+use Rattle.hq_access.specs.declared.pattern.Line.{Line}
+use Rattle.hq_store.specs.Tables.{State, Tables, Row, text_cmp, line_cmp, account, joined}
 use Rattle.hq_tables.specs.Owned.{rows_of}
 
 -- what can be read of one customer
@@ -16,14 +19,29 @@ pub record Readings : Type 0 where
   pub message : ℕ → Option Message  -- at a serial
   pub by_spool : List ℕ → Option Message  -- with a spool name
   pub messages : List Message  -- in order of serial
+  pub line : Class → List ℕ → Option Action  -- of a class, at a key
+  pub lines : List Line  -- in order of class and pattern
 
 -- a sum that stays at the greatest number of 64 bits
 abbrev pub saturated : ℕ → ℕ
 saturated n = min n (2 ^ 64 - 1)
 
--- how many messages, and their bytes together; there are no lines yet
-abbrev pub counts_of : {X : Type 0} → (X → ℕ) → List X → Counts
-counts_of size xs = record { messages = length xs; bytes = saturated (sum_by size xs); lines = 0 }
+-- how many messages, their bytes together, and how many lines
+abbrev pub kept_of : {X Y : Type 0} → (X → ℕ) → List X → List Y → Counts
+kept_of size xs ls = record { messages = length xs; bytes = sum_by size xs; lines = length ls }
+
+-- counts as they are told: bytes stay at the greatest number of 64 bits
+abbrev pub told : Counts → Counts
+told n = record { messages = n.messages; bytes = saturated n.bytes; lines = n.lines }
+
+-- a line of a pattern and its action
+abbrev pub line_of : (Class × List ℕ) × Action → Line
+line_of e = record { pattern = e.0; action = e.1 }
+
+-- the lines after a pattern, or all
+abbrev pub after_pattern : Option (Class × List ℕ) → List Line → List Line
+after_pattern None ls = ls
+after_pattern (Some pattern) ls = filter (λ (l : Line). is_lt (line_cmp pattern l.pattern)) ls
 
 -- the first message with that spool name
 abbrev pub with_spool : List ℕ → List Message → Option Message
@@ -42,22 +60,30 @@ page_of after limit ms = take limit (after_serial after ms)
 abbrev pub read_state : State → Readings
 read_state s = record {
   head = s.head;
-  counts = counts_of (λ (m : Message). m.size) (values s.messages);
+  counts = told (kept_of (λ (m : Message). m.size) (values s.messages) (entries s.lines));
   message = get s.messages;
   by_spool = λ spool. with_spool spool (values s.messages);
   messages = values s.messages;
+  line = λ class key. get s.lines (class, key);
+  lines = map line_of (entries s.lines);
 }
 
 -- the customer's rows of messages with their recipients, in order of serial
 abbrev pub messages_in : List ℕ → Tables → List Message
 messages_in customer t = map (λ e. joined customer t.recipients e.0 e.1) (rows_of text_cmp customer (entries t.messages))
 
+-- how much the customer keeps, counted by the rows that have its name
+abbrev pub kept_in : List ℕ → Tables → Counts
+kept_in customer t = kept_of (λ (e : ℕ × Row). e.1.size) (rows_of text_cmp customer (entries t.messages)) (rows_of text_cmp customer (entries t.lines))
+
 -- the tables of all, read at keys that begin with the customer's name, and by the rows that have this name
 abbrev pub read_tables : List ℕ → Tables → Readings
 read_tables customer t = record {
-  head = unwrap_or (get t.heads customer) opening_head;
-  counts = counts_of (λ (e : ℕ × Row). e.1.size) (rows_of text_cmp customer (entries t.messages));
+  head = (account t.heads customer).head;
+  counts = told (kept_in customer t);
   message = λ serial. option_map (joined customer t.recipients serial) (get t.messages (customer, serial));
   by_spool = λ spool. with_spool spool (messages_in customer t);
   messages = messages_in customer t;
+  line = λ class key. get t.lines (customer, (class, key));
+  lines = map line_of (rows_of text_cmp customer (entries t.lines));
 }

@@ -6,7 +6,8 @@ use Rattle.std.specs.FinMap.{get, len, entries, values}
 use Rattle.hq_envelope.specs.Addresses.{folded}
 use Rattle.hq_queue.specs.declared.message.Message.{Message}
 use Rattle.hq_queue.specs.declared.message.Pending.{Pending}
-use Rattle.hq_store.specs.Tables.{State, Tables, text_cmp, own, pending_of}
+use Rattle.hq_store.specs.Tables.{State, Tables, text_cmp, own, account, pending_of}
+use Rattle.hq_store.specs.Readings.{kept_in}
 use Rattle.hq_tables.specs.Owned.{part_of}
 
 -- equal but for the case of ASCII letters
@@ -37,6 +38,7 @@ pub record ShapedState (s : State) : Type 0 where
   -- a spool name stands once
   pub spools : (k l : ℕ) (m n : Message) → get s.messages k ≡ Some m → get s.messages l ≡ Some n → m.spool ≡ n.spool → k ≡ l
   pub few_messages : len s.messages ≤ 1000
+  pub few_lines : len s.lines ≤ 5000
 
 -- recipients with the places from i on
 abbrev pub numbered : ℕ → List Pending → List (ℕ × Pending)
@@ -48,10 +50,15 @@ pub record ShapedRecipients (t : Tables) : Type 0 where
   pub placed : (customer : List ℕ) (serial : ℕ) → entries (part_of nat_cmp serial (part_of text_cmp customer t.recipients)) ≡ numbered 1 (pending_of customer serial t.recipients)
   pub no_orphans : (customer : List ℕ) (serial : ℕ) → get t.messages (customer, serial) ≡ None → pending_of customer serial t.recipients ≡ []
 
+-- the counts in each customer's head row are those of its rows; all are 0 where it has no head row
+abbrev pub AreCounted : Tables → Type 0
+AreCounted t = (customer : List ℕ) → (account t.heads customer).counts ≡ kept_in customer t
+
 -- shaped tables: keys are unique, as those of finite maps are, and each customer's state is shaped
 pub record Shaped (t : Tables) : Type 0 where
   pub states : (customer : List ℕ) → ShapedState (own customer t)
   pub recipients : ShapedRecipients t
+  pub counts : AreCounted t
 
 -- how many recipients are pending
 abbrev pub pending_count : List Message → ℕ
@@ -75,3 +82,4 @@ pub record SoundState (s : State) : Type 0 where
 pub record Sound (t : Tables) : Type 0 where
   pub states : (customer : List ℕ) → SoundState (own customer t)
   pub recipients : ShapedRecipients t
+  pub counts : AreCounted t

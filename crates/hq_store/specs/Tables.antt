@@ -1,17 +1,21 @@
 -- One customer's state, the tables of all customers, and what a change does to each.
-use Rattle.std.specs.Prelude.{ℕ, suc, Bool, not, ◌&&◌, List, [], ◌∷◌, unwrap_or}
+use Rattle.std.specs.Prelude.{ℕ, suc, ◌+◌, ◌-◌, Bool, not, ◌&&◌, List, [], ◌∷◌, unwrap_or}
 use Rattle.std.specs.declared.cmp.Ordering.{Ordering}
 use Rattle.std.specs.Ordering.{nat_cmp, eq_by_cmp}
 use Rattle.std.specs.Cmp.Lexicographic.{slice_cmp}
 use Rattle.std.specs.FinMap.{FinMap, empty, get, insert, remove, retain_keys, values}
 use Rattle.hq_envelope.specs.declared.address.Sender.{Sender}
+use Rattle.hq_access.specs.Patterns.{class_name}
+use Rattle.hq_access.specs.declared.action.Action.{Action}
+use Rattle.hq_access.specs.declared.pattern.Class.{Class}
+use Rattle.hq_queue.specs.declared.account.Counts.{Counts}
 use Rattle.hq_queue.specs.declared.account.Head.{Head}
 use Rattle.hq_queue.specs.declared.message.Message.{Message}
 use Rattle.hq_queue.specs.declared.message.Pending.{Pending}
 use Rattle.hq_queue.specs.declared.message.QueueState.{QueueState}
 use Rattle.hq_store.specs.declared.change.Change.{Change}
-use Rattle.hq_store.specs.declared.change.Change.TheVariants.{PutHead, PutMessage, DropMessage}
-use Rattle.hq_tables.specs.Owned.{by_both, part_of, map_values}
+use Rattle.hq_store.specs.declared.change.Change.TheVariants.{PutHead, PutMessage, DropMessage, PutLine, DropLine}
+use Rattle.hq_tables.specs.Owned.{by_both, part_of, map_values, given}
 
 -- names and texts in the order of their bytes
 abbrev pub text_cmp : List ℕ → List ℕ → Ordering
@@ -25,12 +29,25 @@ message_cmp = by_both text_cmp nat_cmp
 abbrev pub recipient_cmp : List ℕ × (ℕ × ℕ) → List ℕ × (ℕ × ℕ) → Ordering
 recipient_cmp = by_both text_cmp (by_both nat_cmp nat_cmp)
 
+-- classes in the order of their names
+abbrev pub class_cmp : Class → Class → Ordering
+class_cmp a b = text_cmp (class_name a) (class_name b)
+
+-- by class, then by the pattern's text
+abbrev pub line_cmp : Class × List ℕ → Class × List ℕ → Ordering
+line_cmp = by_both class_cmp text_cmp
+
+-- by customer, then by class, then by the pattern's text
+abbrev pub lines_cmp : List ℕ × (Class × List ℕ) → List ℕ × (Class × List ℕ) → Ordering
+lines_cmp = by_both text_cmp line_cmp
+
 -- ---- one customer
 
--- a customer's state: its head, and its messages by serial
+-- a customer's state: its head, its messages by serial, and the actions of its lines by pattern
 pub record State : Type 0 where
   pub head : Head
   pub messages : FinMap nat_cmp Message
+  pub lines : FinMap line_cmp Action
 
 -- the head of a customer of whom nothing is kept yet: both next numbers are 1
 abbrev pub opening_head : Head
@@ -38,13 +55,15 @@ opening_head = record { next_serial = 1; next_notice = 1; tally = record { accep
 
 -- a customer of whom nothing is kept yet
 abbrev pub opening : State
-opening = record { head = opening_head; messages = empty }
+opening = record { head = opening_head; messages = empty; lines = empty }
 
 -- a change of one customer's state; a message stands at its serial
 abbrev pub change : Change → State → State
 change (PutHead head) s = record s { head = head }
 change (PutMessage message) s = record s { messages = insert s.messages message.serial message }
 change (DropMessage serial) s = record s { messages = remove s.messages serial }
+change (PutLine line) s = record s { lines = insert s.lines line.pattern line.action }
+change (DropLine pattern) s = record s { lines = remove s.lines pattern }
 
 -- all changes in order
 abbrev pub change_all : List Change → State → State
@@ -64,15 +83,21 @@ pub record Row : Type 0 where
   pub attempts : ℕ
   pub warned : Bool
 
+-- a row of heads, beside its key: the head, and how much the customer keeps
+pub record Account : Type 0 where
+  pub head : Head
+  pub counts : Counts
+
 -- every key begins with the customer's name; recipients have a table of their own, by serial and place
 pub record Tables : Type 0 where
-  pub heads : FinMap text_cmp Head
+  pub heads : FinMap text_cmp Account
   pub messages : FinMap message_cmp Row
   pub recipients : FinMap recipient_cmp Pending
+  pub lines : FinMap lines_cmp Action
 
 -- tables of nobody
 abbrev pub no_tables : Tables
-no_tables = record { heads = empty; messages = empty; recipients = empty }
+no_tables = record { heads = empty; messages = empty; recipients = empty; lines = empty }
 
 -- the row of a message
 abbrev pub row_of : Message → Row
@@ -99,11 +124,58 @@ place_all customer serial i (p ∷ ps) rs = place_all customer serial (suc i) ps
 unfoldable pub deal : List ℕ → ℕ → List Pending → FinMap recipient_cmp Pending → FinMap recipient_cmp Pending
 deal customer serial ps rs = place_all customer serial 1 ps (retain_keys rs (λ k. not (eq_by_cmp text_cmp customer k.0 && eq_by_cmp nat_cmp serial k.1.0)))
 
--- a change of one customer's rows in the tables
+-- ---- how much a customer keeps, beside its head
+
+-- one message more is kept, or one fewer; one line more, or one fewer
+abbrev pub with_message : ℕ → Counts → Counts
+with_message size n = record { messages = n.messages + 1; bytes = n.bytes + size; lines = n.lines }
+
+abbrev pub without_message : ℕ → Counts → Counts
+without_message size n = record { messages = n.messages - 1; bytes = n.bytes - size; lines = n.lines }
+
+abbrev pub with_line : Counts → Counts
+with_line n = record { messages = n.messages; bytes = n.bytes; lines = n.lines + 1 }
+
+abbrev pub without_line : Counts → Counts
+without_line n = record { messages = n.messages; bytes = n.bytes; lines = n.lines - 1 }
+
+-- the customer's head row; that of a customer of whom nothing is kept, where it has none
+abbrev pub account : FinMap text_cmp Account → List ℕ → Account
+account heads customer = unwrap_or (get heads customer) (record { head = opening_head; counts = record { messages = 0; bytes = 0; lines = 0 } })
+
+-- the heads after another head was put: the counts stay
+unfoldable pub headed : List ℕ → Head → FinMap text_cmp Account → FinMap text_cmp Account
+headed customer head heads = insert heads customer (record { head = head; counts = (account heads customer).counts })
+
+-- the heads with the counts of one customer changed: the head stays
+unfoldable pub counted : (Counts → Counts) → List ℕ → FinMap text_cmp Account → FinMap text_cmp Account
+counted f customer heads = insert heads customer (record { head = (account heads customer).head; counts = f (account heads customer).counts })
+
+-- the heads once the message of a serial is not counted any more; the same, where there is none
+abbrev pub uncounted_message : List ℕ → ℕ → Tables → FinMap text_cmp Account
+uncounted_message customer serial t = given t.heads (λ (r : Row). counted (without_message r.size) customer t.heads) (get t.messages (customer, serial))
+
+-- a change of one customer's rows in the tables; the counts in its head row follow
 abbrev pub write : List ℕ → Change → Tables → Tables
-write customer (PutHead head) t = record t { heads = insert t.heads customer head }
-write customer (PutMessage m) t = record t { messages = insert t.messages (customer, m.serial) (row_of m); recipients = deal customer m.serial m.pending t.recipients }
-write customer (DropMessage serial) t = record t { messages = remove t.messages (customer, serial); recipients = deal customer serial [] t.recipients }
+write customer (PutHead head) t = record t { heads = headed customer head t.heads }
+write customer (PutMessage m) t = record t {
+  heads = counted (with_message m.size) customer (uncounted_message customer m.serial t);
+  messages = insert t.messages (customer, m.serial) (row_of m);
+  recipients = deal customer m.serial m.pending t.recipients;
+}
+write customer (DropMessage serial) t = record t {
+  heads = uncounted_message customer serial t;
+  messages = remove t.messages (customer, serial);
+  recipients = deal customer serial [] t.recipients;
+}
+write customer (PutLine line) t = record t {
+  heads = given (counted with_line customer t.heads) (λ _. t.heads) (get t.lines (customer, line.pattern));
+  lines = insert t.lines (customer, line.pattern) line.action;
+}
+write customer (DropLine pattern) t = record t {
+  heads = given t.heads (λ _. counted without_line customer t.heads) (get t.lines (customer, pattern));
+  lines = remove t.lines (customer, pattern);
+}
 
 -- all changes in order
 abbrev pub write_all : List ℕ → List Change → Tables → Tables
@@ -113,6 +185,7 @@ write_all customer (c ∷ cs) t = write_all customer cs (write customer c t)
 -- what the tables have of one customer: its state
 abbrev pub own : List ℕ → Tables → State
 own customer t = record {
-  head = unwrap_or (get t.heads customer) opening_head;
+  head = (account t.heads customer).head;
   messages = map_values (joined customer t.recipients) (part_of text_cmp customer t.messages);
+  lines = part_of text_cmp customer t.lines;
 }

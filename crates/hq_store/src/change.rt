@@ -2,6 +2,7 @@
 
 ghost use Rattle.std.specs.Prelude.{◌≡◌};
 
+use hq_access::{Line, Pattern};
 use hq_envelope::{Serial, TryCopy};
 use hq_queue::{Head, Message};
 use std::alloc::{AllocError, Global};
@@ -15,6 +16,10 @@ pub enum Change {
     PutMessage(Message),
     /// Drops the message of this serial and all its recipients; nothing where there is none.
     DropMessage(Serial),
+    /// Sets the line of its pattern.
+    PutLine(Line),
+    /// Drops the line of this pattern; nothing where there is none.
+    DropLine(Pattern),
 }
 
 impl TryCopy for Change {
@@ -23,6 +28,8 @@ impl TryCopy for Change {
             Change::PutHead(head) => Ok(Change::PutHead(*head)),
             Change::PutMessage(message) => Ok(Change::PutMessage(message.copy(alloc)?)),
             Change::DropMessage(serial) => Ok(Change::DropMessage(*serial)),
+            Change::PutLine(line) => Ok(Change::PutLine(line.copy(alloc)?)),
+            Change::DropLine(pattern) => Ok(Change::DropLine(pattern.copy(alloc)?)),
         }
     }
 }

@@ -5,6 +5,7 @@
 mod change;
 mod heads;
 pub mod laws;
+mod lines;
 mod list_rows;
 mod list_shelf;
 mod messages;

@@ -4,11 +4,14 @@ ghost use Rattle.std.specs.Prelude.{◌≡◌, IfOk, OnOk};
 ghost use Rattle.hq_store.specs.Tables.{write, write_all};
 ghost use Rattle.hq_store.specs.Listed.{tables_of};
 ghost use Rattle.hq_store.specs.Lookups.{AreInOrder};
+ghost use Rattle.hq_store.specs.declared.change.Change.TheVariants.{PutMessage, DropMessage, PutLine, DropLine};
 
 use crate::change::Change;
-use crate::rows::{HeadRow, MessageRow, RecipientRow};
-use crate::{heads, messages, recipients};
-use hq_envelope::{Name, TryCopy, copy_all};
+use crate::rows::{HeadRow, LineRow, MessageRow, RecipientRow};
+use crate::{heads, lines, messages, recipients};
+use hq_access::{Line, Pattern};
+use hq_envelope::{Name, Serial, TryCopy, copy_all};
+use hq_queue::Message;
 use std::alloc::{AllocError, Global};
 
 /// The rows of all tables.
@@ -17,6 +20,7 @@ pub(crate) struct ListRows {
     pub(crate) heads: Vec<HeadRow>,
     pub(crate) messages: Vec<MessageRow>,
     pub(crate) recipients: Vec<RecipientRow>,
+    pub(crate) lines: Vec<LineRow>,
 }
 
 impl ListRows {
@@ -28,11 +32,104 @@ impl ListRows {
         let heads = copy_all(alloc, self.heads.as_slice())?;
         let messages = copy_all(alloc, self.messages.as_slice())?;
         let recipients = copy_all(alloc, self.recipients.as_slice())?;
+        let lines = copy_all(alloc, self.lines.as_slice())?;
         Ok(ListRows {
             heads,
             messages,
             recipients,
+            lines,
         })
+    }
+
+    /// Puts a message, and counts it. After an error the rows are given up.
+    fn put_message(
+        &mut self,
+        alloc: Global,
+        customer: &Name,
+        message: &Message,
+    ) -> Result<(), AllocError>
+        ensures made { OnOk result (tables_of self.new
+            ≡ write customer.now (PutMessage message.now) (tables_of self.old)) }
+        ensures order { AreInOrder self.old → OnOk result (AreInOrder self.new) }
+    {
+        let serial = message.serial;
+        heads::uncount_message(
+            alloc,
+            &mut self.heads,
+            self.messages.as_slice(),
+            customer,
+            serial,
+        )?;
+        heads::count_message(alloc, &mut self.heads, customer, message.size)?;
+        messages::put_message(alloc, &mut self.messages, customer, message)?;
+        recipients::put_recipients(
+            alloc,
+            &mut self.recipients,
+            customer,
+            serial,
+            message.pending.as_slice(),
+        )
+    }
+
+    /// Drops a message, and counts it no more. After an error the rows are given up.
+    fn drop_message(
+        &mut self,
+        alloc: Global,
+        customer: &Name,
+        serial: Serial,
+    ) -> Result<(), AllocError>
+        ensures made { OnOk result (tables_of self.new
+            ≡ write customer.now (DropMessage serial) (tables_of self.old)) }
+        ensures order { AreInOrder self.old → OnOk result (AreInOrder self.new) }
+    {
+        heads::uncount_message(
+            alloc,
+            &mut self.heads,
+            self.messages.as_slice(),
+            customer,
+            serial,
+        )?;
+        messages::drop_message(&mut self.messages, customer, serial);
+        recipients::drop_recipients(&mut self.recipients, customer, serial);
+        Ok(())
+    }
+
+    /// Puts a line, and counts it where its pattern is new. After an error the rows are given up.
+    fn put_line(&mut self, alloc: Global, customer: &Name, line: &Line) -> Result<(), AllocError>
+        ensures made { OnOk result (tables_of self.new
+            ≡ write customer.now (PutLine line.now) (tables_of self.old)) }
+        ensures order { AreInOrder self.old → OnOk result (AreInOrder self.new) }
+    {
+        heads::count_line(
+            alloc,
+            &mut self.heads,
+            self.lines.as_slice(),
+            customer,
+            &line.pattern,
+        )?;
+        lines::put_line(alloc, &mut self.lines, customer, line)
+    }
+
+    /// Drops the line of a pattern, and counts it no more. After an error the rows are given up.
+    fn drop_line(
+        &mut self,
+        alloc: Global,
+        customer: &Name,
+        pattern: &Pattern,
+    ) -> Result<(), AllocError>
+        ensures made { OnOk result (tables_of self.new
+            ≡ write customer.now (DropLine pattern.now) (tables_of self.old)) }
+        ensures order { AreInOrder self.old → OnOk result (AreInOrder self.new) }
+    {
+        heads::uncount_line(
+            alloc,
+            &mut self.heads,
+            self.lines.as_slice(),
+            customer,
+            pattern,
+        )?;
+        lines::drop_line(&mut self.lines, customer, pattern);
+        Ok(())
     }
 
     /// Makes one change. After an error the rows are given up.
@@ -42,23 +139,12 @@ impl ListRows {
         ensures order { AreInOrder self.old → OnOk result (AreInOrder self.new) }
     {
         match change {
-            Change::PutHead(head) => heads::put_head(alloc, &mut self.heads, customer, *head)?,
-            Change::PutMessage(message) => {
-                messages::put_message(alloc, &mut self.messages, customer, message)?;
-                recipients::put_recipients(
-                    alloc,
-                    &mut self.recipients,
-                    customer,
-                    message.serial,
-                    message.pending.as_slice(),
-                )?;
-            }
-            Change::DropMessage(serial) => {
-                messages::drop_message(&mut self.messages, customer, *serial);
-                recipients::drop_recipients(&mut self.recipients, customer, *serial);
-            }
+            Change::PutHead(head) => heads::put_head(alloc, &mut self.heads, customer, *head),
+            Change::PutMessage(message) => self.put_message(alloc, customer, message),
+            Change::DropMessage(serial) => self.drop_message(alloc, customer, *serial),
+            Change::PutLine(line) => self.put_line(alloc, customer, line),
+            Change::DropLine(pattern) => self.drop_line(alloc, customer, pattern),
         }
-        Ok(())
     }
 
     /// Makes all changes in order. After an error the rows are given up.

@@ -7,7 +7,8 @@ ghost use Rattle.hq_store.specs.Listed.{tables_of};
 use crate::change::Change;
 use crate::list_rows::ListRows;
 use crate::shelf::Shelf;
-use crate::{heads, messages};
+use crate::{heads, lines, messages};
+use hq_access::{Action, Class, Line, LookupKey, Pattern};
 use hq_envelope::{Fault, Items, Name, Serial, Spool};
 use hq_queue::{Counts, Head, Message};
 use std::alloc::Global;
@@ -21,17 +22,19 @@ pub struct ListShelf {
     rows: ListRows,
 }
 
-/// Seen as its rows. They lie so that no message stands twice, and recipients in the order of their
-/// places.
+/// Seen as its rows. They lie so that no message and no line stands twice, and recipients in the
+/// order of their places; the counts in the rows of heads are those of the rows.
 impl Model for ListShelf {
     ghost use Rattle.hq_store.specs.declared.list_rows.ListRows.{ListRows};
+    ghost use Rattle.hq_store.specs.Listed.{tables_of};
     ghost use Rattle.hq_store.specs.Lookups.{AreInOrder};
+    ghost use Rattle.hq_store.specs.Sound.{AreCounted};
 
     ghost Value = { ListRows };
 
     ghost view = { λ s. s.rows };
 
-    ghost invariant = { λ s. AreInOrder s.rows };
+    ghost invariant = { λ s. AreInOrder s.rows × AreCounted (tables_of s.rows) };
 }
 
 impl ListShelf {
@@ -43,6 +46,7 @@ impl ListShelf {
             heads: Vec::new(alloc),
             messages: Vec::new(alloc),
             recipients: Vec::new(alloc),
+            lines: Vec::new(alloc),
         };
         ListShelf { alloc, rows }
     }
@@ -68,7 +72,7 @@ impl Shelf for ListShelf {
     }
 
     fn counts(&mut self, customer: &Name) -> Result<Counts, Fault> {
-        Ok(messages::counts_in(self.rows.messages.as_slice(), customer))
+        Ok(heads::counts_in(self.rows.heads.as_slice(), customer))
     }
 
     fn message(&mut self, customer: &Name, serial: Serial) -> Result<Option<Message>, Fault> {
@@ -101,6 +105,30 @@ impl Shelf for ListShelf {
             self.alloc,
             self.rows.messages.as_slice(),
             self.rows.recipients.as_slice(),
+            customer,
+            after,
+            limit,
+        )?)
+    }
+
+    fn line(
+        &mut self,
+        customer: &Name,
+        class: Class,
+        key: &LookupKey,
+    ) -> Result<Option<Action>, Fault> {
+        Ok(lines::line_in(self.alloc, self.rows.lines.as_slice(), customer, class, key)?)
+    }
+
+    fn lines(
+        &mut self,
+        customer: &Name,
+        after: Option<&Pattern>,
+        limit: usize,
+    ) -> Result<Items<Line>, Fault> {
+        Ok(lines::page_in(
+            self.alloc,
+            self.rows.lines.as_slice(),
             customer,
             after,
             limit,

@@ -7,14 +7,14 @@ ghost use Rattle.std.specs.List.{filter_map, cons_option};
 ghost use Rattle.std.specs.FinMap as maps;
 ghost use Rattle.hq_queue.specs.declared.message.Message.{Message};
 ghost use Rattle.hq_store.specs.Tables.{Row, row_of, message_of, joined};
-ghost use Rattle.hq_store.specs.Readings.{counts_of, page_of, with_spool};
+ghost use Rattle.hq_store.specs.Readings.{page_of, with_spool};
 ghost use Rattle.hq_store.specs.Listed.{messages_of, recipients_of, message_value};
 ghost use Rattle.hq_store.specs.Lookups.{is_message, is_past, message_row, pending_in, serials_where, serials_after, serials_with_spool, rows_with, has_spool, message_at, AreUnique, AreDealt};
 
 use crate::recipients;
 use crate::rows::{MessageRow, RecipientRow};
 use hq_envelope::{Items, Name, Serial, Spool, TryCopy};
-use hq_queue::{Counts, Message};
+use hq_queue::Message;
 use std::alloc::{AllocError, Global};
 
 fn find_message<'a>(
@@ -127,23 +127,15 @@ pub(crate) fn message_in(
     }
 }
 
-/// How many messages the customer has, and their bytes together.
-pub(crate) fn counts_in(rows: &[MessageRow], customer: &Name) -> Counts
-    ensures { AreUnique rows.now → result ≡ counts_of (λ (e : ℕ × Row). e.1.size)
-        (rows_with customer.now rows.now) }
+/// The size of the customer's message of this serial.
+pub(crate) fn size_in(rows: &[MessageRow], customer: &Name, serial: Serial) -> Option<u32>
+    ensures { result ≡ option_map (λ (r : Row). r.size)
+        (maps.get (messages_of rows.now) (customer.now, serial)) }
 {
-    let mut counts = Counts {
-        messages: 0,
-        bytes: 0,
-        lines: 0,
-    };
-    for row in rows {
-        if row.is_past(customer, None) {
-            counts.messages += 1;
-            counts.bytes = counts.bytes.saturating_add(u64::from(row.size));
-        }
+    match find_message(rows, customer, serial) {
+        Some(row) => Some(row.size),
+        None => None,
     }
-    counts
 }
 
 /// The number of a serial, where there is one.

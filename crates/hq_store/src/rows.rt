@@ -1,19 +1,22 @@
 //! The rows of the plain lists, one type for each table, and the tests of their keys.
 
-ghost use Rattle.std.specs.Prelude.{◌≡◌, not};
+ghost use Rattle.std.specs.Prelude.{◌≡◌, not, option_map};
 ghost use Rattle.std.specs.Ordering.{nat_cmp, eq_by_cmp};
-ghost use Rattle.hq_store.specs.Tables.{text_cmp};
-ghost use Rattle.hq_store.specs.Lookups.{is_head, is_message, is_recipient, is_past, has_spool};
+ghost use Rattle.hq_store.specs.Tables.{text_cmp, line_cmp};
+ghost use Rattle.hq_store.specs.Lookups.{is_head, is_message, is_recipient, is_past, has_spool, is_line, is_line_past};
 
+use hq_access::{Class, Line, Pattern};
 use hq_envelope::{Moment, Name, Sender, Serial, Spool, TryCopy};
-use hq_queue::{Head, Pending, QueueState};
+use hq_queue::{Counts, Head, Pending, QueueState};
 use std::alloc::{AllocError, Global};
+use std::cmp::Ordering;
 
-/// A row of heads.
+/// A row of heads: the head, and how much the customer keeps.
 #[derive(Drop)]
 pub(crate) struct HeadRow {
     pub(crate) customer: Name,
     pub(crate) head: Head,
+    pub(crate) counts: Counts,
 }
 
 /// A row of messages.
@@ -38,6 +41,13 @@ pub(crate) struct RecipientRow {
     pub(crate) serial: Serial,
     pub(crate) place: u64,
     pub(crate) pending: Pending,
+}
+
+/// A row of lines.
+#[derive(Drop)]
+pub(crate) struct LineRow {
+    pub(crate) customer: Name,
+    pub(crate) line: Line,
 }
 
 /// Whether two names are the same.
@@ -130,12 +140,59 @@ impl RecipientRow {
     }
 }
 
+/// The order of a class and a text beside a pattern: by the name of the class, then by the text.
+pub(crate) fn order(class: Class, text: &str, other: &Pattern) -> Ordering
+    ensures { result ≡ line_cmp (class, text.now) other.now }
+{
+    class
+        .name()
+        .cmp(other.class().name())
+        .then(text.cmp(other.as_str()))
+}
+
+impl LineRow {
+    /// Whether it is the customer's line of this class, at this key.
+    #[tactic(auto, unfolding(crate::specs::Lookups::is_line))]
+    pub(crate) fn is_at(&self, customer: &Name, class: Class, key: &str) -> bool
+        ensures { result ≡ is_line customer.now (class, key.now) self.now }
+    {
+        customer
+            .as_str()
+            .cmp(self.customer.as_str())
+            .then(order(class, key, &self.line.pattern))
+            .is_eq()
+    }
+
+    /// Whether it is another line than that of the customer's pattern.
+    pub(crate) fn is_other(&self, customer: &Name, pattern: &Pattern) -> bool
+        ensures { result ≡ not (is_line customer.now pattern.now self.now) }
+    {
+        !self.is_at(customer, pattern.class(), pattern.as_str())
+    }
+
+    /// Whether it is a line of the customer after a pattern, or any of its lines where there is
+    /// none.
+    #[tactic(auto, unfolding(crate::specs::Lookups::is_line_past))]
+    pub(crate) fn is_past(&self, customer: &Name, after: Option<&Pattern>) -> bool
+        ensures { result ≡ is_line_past customer.now (option_map (λ p. p.now) after.entry) self.now }
+    {
+        is_name(customer, &self.customer)
+            && match after {
+                None => true,
+                Some(pattern) => {
+                    order(pattern.class(), pattern.as_str(), &self.line.pattern).is_lt()
+                }
+            }
+    }
+}
+
 impl TryCopy for HeadRow {
     fn copy(&self, alloc: Global) -> Result<HeadRow, AllocError> {
         let customer = self.customer.copy(alloc)?;
         Ok(HeadRow {
             customer,
             head: self.head,
+            counts: self.counts,
         })
     }
 }
@@ -170,5 +227,13 @@ impl TryCopy for RecipientRow {
             place: self.place,
             pending,
         })
+    }
+}
+
+impl TryCopy for LineRow {
+    fn copy(&self, alloc: Global) -> Result<LineRow, AllocError> {
+        let customer = self.customer.copy(alloc)?;
+        let line = self.line.copy(alloc)?;
+        Ok(LineRow { customer, line })
     }
 }

@@ -1,11 +1,12 @@
 //! What every store of the tables does, whichever way it keeps them.
 
-ghost use Rattle.std.specs.Prelude.{◌≡◌, OnOk};
+ghost use Rattle.std.specs.Prelude.{◌≡◌, OnOk, take, option_map};
 ghost use Rattle.hq_store.specs.Tables.{write_all};
-ghost use Rattle.hq_store.specs.Readings.{page_of};
+ghost use Rattle.hq_store.specs.Readings.{page_of, after_pattern};
 ghost use Rattle.hq_store.specs.Shelves.{Sight, OnClean, Finds, Keeps, KeepsOnErr};
 
 use crate::change::Change;
+use hq_access::{Action, Class, Line, LookupKey, Pattern};
 use hq_envelope::{Fault, Items, Name, Serial, Spool};
 use hq_queue::{Counts, Head, Message};
 
@@ -28,8 +29,8 @@ pub trait Shelf {
         ensures found { Finds sight self.old self.new result customer.now (λ rows. rows.head) }
         ensures kept { Keeps sight self.old self.new result };
 
-    /// How many messages the customer has, and their bytes together, which stay at the greatest
-    /// `u64`. Lines are not kept yet, and are 0.
+    /// How much the customer keeps: how many messages, their bytes together, which stay at the
+    /// greatest `u64`, and how many lines. It reads the counts in the head row, and counts no rows.
     fn counts(&mut self, customer: &Name) -> Result<Counts, Fault>
         ensures found { Finds sight self.old self.new result customer.now (λ rows. rows.counts) }
         ensures kept { Keeps sight self.old self.new result };
@@ -56,6 +57,29 @@ pub trait Shelf {
     ) -> Result<Items<Message>, Fault>
         ensures found { Finds sight self.old self.new result customer.now
             (λ rows. page_of after limit rows.messages) }
+        ensures kept { Keeps sight self.old self.new result };
+
+    /// The action of the customer's line of this class, at this key.
+    fn line(
+        &mut self,
+        customer: &Name,
+        class: Class,
+        key: &LookupKey,
+    ) -> Result<Option<Action>, Fault>
+        ensures found { Finds sight self.old self.new result customer.now
+            (λ rows. rows.line class key.now) }
+        ensures kept { Keeps sight self.old self.new result };
+
+    /// The customer's lines in the order of the bytes of the class's name and then of the pattern:
+    /// the first `limit` after the pattern, or of all.
+    fn lines(
+        &mut self,
+        customer: &Name,
+        after: Option<&Pattern>,
+        limit: usize,
+    ) -> Result<Items<Line>, Fault>
+        ensures found { Finds sight self.old self.new result customer.now (λ rows. take limit
+            (after_pattern (option_map (λ p. p.now) after.entry) rows.lines)) }
         ensures kept { Keeps sight self.old self.new result };
 
     /// Makes all changes of the customer's rows, in order, or none.

@@ -1,10 +1,11 @@
-use Rattle.std.proofs.Common.{ℕ, List, ap, ◌∙◌, ◌++◌, ◌∷◌, []}
-use Rattle.hq_store.specs.declared.rows.HeadRow.{HeadRow}
+use Rattle.std.proofs.Common.{ap, ◌∙◌}
+use Rattle.hq_store.specs.Tables.{account}
 use Rattle.hq_store.specs.Listed.{heads_of}
-use Rattle.hq_store.proofs.Keys.{head_put}
+use Rattle.hq_store.proofs.Accounts.{is_headed}
 use Rattle.hq_store.proofs.heads.put_head.Goals as goal
 
 pub returns : goal.returns
 returns c =
-    let row : List ℕ → HeadRow = λ name. record { customer = name; head = c.args.head } in
-    ap heads_of (c.in_ok-push.ensures.items ∙ (λ i. c.drop_head.ensures i ++ row (c.in_ok-copy.ensures i) ∷ [])) ∙ head_put c.args.rows.now.items (row c.args.customer.now)
+    let heads = heads_of c.args.rows.now.items in
+    c.in_ok-put_row.ensures
+    ∙ is_headed c.args.customer.now heads c.args.head c.counts_in-kept.result (c.counts_in-kept.ensures ∙ ap (λ rows. (account (heads_of rows) c.args.customer.now).counts) c.as_slice.ensures.value)
