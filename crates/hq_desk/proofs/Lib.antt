@@ -1,4 +1,9 @@
 pub mod Isolation
+pub mod Kept
+pub mod NoLines
 pub mod Pages
+pub mod Queued
+pub mod Reading
 pub mod SameAddresses
+pub mod ShelfLines
 pub mod Soundness

@@ -3,10 +3,12 @@ use Rattle.std.proofs.Common.{◌≡◌, ℕ, ◌+◌, Bool, List, length, take,
 use Rattle.std.specs.Prelude.{nat_lt}
 use Rattle.std.proofs.lemmas.Bool.Decides.{nat_tests}
 use Rattle.std.proofs.lemmas.List.{take-take, length-take}
+use Rattle.hq_access.specs.declared.pattern.Line.{Line}
 use Rattle.hq_queue.specs.declared.message.Message.{Message}
 use Rattle.std.proofs.Common.{[]}
 use Rattle.hq_desk.specs.declared.answer.Answer.TheVariants as answer
-use Rattle.hq_desk.specs.Decision.{page}
+use Rattle.hq_desk.specs.AccessLines.{line_page}
+use Rattle.hq_desk.specs.Messages.{page}
 
 more_is : (l n : ℕ) → nat_lt l (min (l + 1) n) ≡ nat_lt l n
 more_is l n = grind (arith, nat_tests)
@@ -20,3 +22,6 @@ page_is f l xs ys e =
 -- the page of all is that of the first hundred and one
 pub page_of_more : (ms found : List Message) → found ≡ take 101 ms → page found ≡ page ms
 page_of_more ms found e = page_is (λ shown more. record { answer = answer.Listed shown more; changes = [] }) 100 ms found e
+
+pub line_page_of_more : (ls found : List Line) → found ≡ take 101 ls → line_page found ≡ line_page ls
+line_page_of_more ls found e = page_is (λ shown more. record { answer = answer.LinesListed shown more; changes = [] }) 100 ls found e

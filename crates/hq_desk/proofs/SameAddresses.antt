@@ -12,7 +12,7 @@ use Rattle.hq_envelope.specs.Addresses.{folded}
 use Rattle.hq_store.specs.Tables.{text_cmp}
 use Rattle.hq_store.specs.Sound.{same_address}
 use Rattle.hq_tables.proofs.Parts.{tied_true, tied_false}
-use Rattle.hq_desk.specs.Decision.{distinct}
+use Rattle.hq_desk.specs.Submissions.{distinct}
 
 -- a test that holds exactly where the folded texts are equal is the test of sameness
 pub same_is : (r : Bool) (a b : List ℕ) → (IsTrue r ↔ (folded a ≡ folded b)) → r ≡ same_address a b

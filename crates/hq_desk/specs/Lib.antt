@@ -1,5 +1,10 @@
+pub mod AccessLines
+pub mod Answering
 pub mod Answers
 pub mod Decision
 pub mod Desks
-pub mod Machine
 pub mod Limits
+pub mod Machine
+pub mod Messages
+pub mod ShelfLines
+pub mod Submissions

@@ -3,24 +3,49 @@
 ghost use Rattle.std.specs.Prelude.{◌≡◌};
 ghost use Rattle.hq_desk.specs.Answers.{answer_number};
 
+use hq_access::{Action, Line, LookupKey, Refused};
 use hq_envelope::{Items, Refusal, Serial};
 use hq_queue::Message;
+
+/// What putting a line did.
+#[derive(Clone, Copy, Debug, PartialEq, Eq, Drop)]
+pub enum LinePut {
+    /// There was no line of its pattern.
+    Added,
+    /// The line of its pattern had another action.
+    Changed,
+    /// The line of its pattern had this action already, as actions are written.
+    Same,
+}
 
 /// The answer to a call.
 #[derive(Drop)]
 pub enum Answer {
     /// The call was refused, and nothing was changed.
     Refused(Refusal),
-    /// The message is in the queue.
-    Queued(Message),
+    /// The message is in the queue, without the recipients that are refused.
+    Queued(Message, Items<Refused>),
     /// A message of that spool name is queued already, under this serial.
     Repeated(Serial),
+    /// The access tables refuse the submission: its sender alone, or all its recipients.
+    Rejected(Items<Refused>),
+    /// The access tables discard the submission; these recipients are refused.
+    Discarded(Items<Refused>),
     /// The first messages, in order of serial, and whether more follow.
     Listed(Items<Message>, bool),
     /// The message whole.
     Shown(Message),
     /// How many messages were changed.
     Changed(u64),
+    /// The first lines, in order of class and pattern, and whether more follow.
+    LinesListed(Items<Line>, bool),
+    /// What putting the line did.
+    LinePut(LinePut),
+    /// The line is dropped.
+    LineDropped,
+    /// The keys of the address in the order in which they are tried, and the first of them that
+    /// has a line, with its action.
+    Checked(Items<LookupKey>, Option<(LookupKey, Action)>),
 }
 
 impl Answer {

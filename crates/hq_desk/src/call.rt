@@ -3,6 +3,7 @@
 ghost use Rattle.std.specs.Prelude.{IsTrue, length};
 ghost use Rattle.hq_desk.specs.Limits.{is_recipient_count};
 
+use hq_access::{Class, Line, Pattern};
 use hq_envelope::{Address, Items, Sender, Serial, Spool};
 
 /// A message that a relay worker hands in.
@@ -23,7 +24,7 @@ pub struct Submission {
 /// A call.
 #[derive(Drop)]
 pub enum Call {
-    /// Takes a message into the queue.
+    /// Takes a message into the queue, as the customer's access tables judge it.
     Submit(Submission),
     /// Lists the first 100 messages after a serial, or from the start.
     List(Option<Serial>),
@@ -35,4 +36,12 @@ pub enum Call {
     Release(Serial),
     /// Deletes a message.
     Delete(Serial),
+    /// Lists the first 100 lines of the access tables after a pattern, or from the start.
+    Lines(Option<Pattern>),
+    /// Sets the line of its pattern.
+    PutLine(Line),
+    /// Drops the line of a pattern.
+    DropLine(Pattern),
+    /// Tells which keys an address is looked up by, and what is found for it.
+    Check(Class, Sender),
 }

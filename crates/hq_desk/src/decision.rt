@@ -1,17 +1,17 @@
-//! What is answered and changed, by what was read. Nothing is read or written here.
+//! What is answered and changed, by what was read of a message or of a page. Nothing is read or
+//! written here.
 
-ghost use Rattle.std.specs.Prelude.{◌≡◌, IfOk, Some, map};
-ghost use Rattle.hq_desk.specs.Decision as rules;
+ghost use Rattle.std.specs.Prelude.{◌≡◌, IfOk, Some};
+ghost use Rattle.hq_desk.specs.Answering as answering;
+ghost use Rattle.hq_desk.specs.Messages as rules;
 
 use crate::answer::Answer;
-use crate::call::Submission;
-use crate::distinct::distinct;
-use hq_envelope::{Address, Items, Moment, Refusal, Serial, Text, TryCopy};
-use hq_queue::{Head, Message, Pending, QueueState, hold, release};
+use hq_envelope::{Items, Moment, Refusal};
+use hq_queue::{Head, Message, hold, release};
 use hq_store::Change;
 use std::alloc::{AllocError, Global};
 
-/// How many messages a page has at most.
+/// How many messages or lines a page has at most.
 pub(crate) const PAGE: usize = 100;
 
 /// An answer, and the changes that are made with it.
@@ -25,7 +25,7 @@ pub struct Decision {
 
 /// An answer that changes nothing.
 pub(crate) fn tell(alloc: Global, answer: Answer) -> Decision
-    ensures { result ≡ rules.tell answer }
+    ensures { result ≡ answering.tell answer }
 {
     Decision {
         answer,
@@ -34,7 +34,7 @@ pub(crate) fn tell(alloc: Global, answer: Answer) -> Decision
 }
 
 pub(crate) fn refuse(alloc: Global, refusal: Refusal) -> Decision
-    ensures { result ≡ rules.refuse refusal }
+    ensures { result ≡ answering.refuse refusal }
 {
     tell(alloc, Answer::Refused(refusal))
 }
@@ -117,80 +117,4 @@ pub(crate) fn page(alloc: Global, messages: Items<Message>) -> Decision
     let more = messages.len() > PAGE;
     messages.truncate(PAGE);
     tell(alloc, Answer::Listed(Items::from_vec(messages), more))
-}
-
-/// The recipients of a new message.
-fn not_tried(alloc: Global, addresses: Vec<Address>) -> Result<Vec<Pending>, AllocError>
-    ensures { IfOk result (λ pending. pending.items ≡ map rules.not_tried addresses.items) }
-{
-    let mut pending = Vec::with_capacity(alloc, addresses.len())?;
-    for address in addresses {
-        pending.push(Pending {
-            address,
-            status: None,
-            text: Text::empty(alloc),
-        })?;
-    }
-    Ok(pending)
-}
-
-/// The message that a submission becomes.
-fn new_message(
-    alloc: Global,
-    serial: Serial,
-    at: Moment,
-    submission: Submission,
-) -> Result<Message, AllocError>
-    ensures { IfOk result (λ message. message ≡ rules.new_message serial at submission) }
-{
-    let recipients = distinct(alloc, submission.recipients.into_vec())?;
-    let pending = not_tried(alloc, recipients)?;
-    Ok(Message {
-        serial,
-        sender: submission.sender,
-        spool: submission.spool,
-        size: submission.size,
-        arrival: at,
-        state: QueueState::Incoming,
-        next_try: at,
-        attempts: 0,
-        warned: false,
-        pending: Items::from_vec(pending),
-    })
-}
-
-/// Takes a message into the queue.
-fn enqueue(alloc: Global, mut head: Head, message: Message) -> Result<Decision, AllocError>
-    requires { message.serial ≡ head.next_serial }
-    ensures { IfOk result (λ decision. decision ≡ rules.enqueued head message) }
-{
-    let recipients = message.pending.len() as u64;
-    head.next_serial = message.serial.get() + 1;
-    head.tally.accepted = head.tally.accepted.saturating_add(recipients);
-    let answer = Answer::Queued(message.copy(alloc)?);
-    let changes = vec![in alloc; Change::PutHead(head), Change::PutMessage(message)]?;
-    Ok(Decision {
-        answer,
-        changes: Items::from_vec(changes),
-    })
-}
-
-/// Takes a submission in under its serial, or refuses it.
-pub(crate) fn admit(
-    alloc: Global,
-    head: Head,
-    at: Moment,
-    submission: Submission,
-    serial: Result<Serial, Refusal>,
-) -> Result<Decision, AllocError>
-    requires { IfOk serial (λ serial. serial ≡ head.next_serial) }
-    ensures { IfOk result (λ decision. decision ≡ rules.admit head at submission serial) }
-{
-    match serial {
-        Err(refusal) => Ok(refuse(alloc, refusal)),
-        Ok(serial) => {
-            let message = new_message(alloc, serial, at, submission)?;
-            enqueue(alloc, head, message)
-        }
-    }
 }

@@ -1,19 +1,26 @@
-//! The desk over any shelf: what a call reads, and what it does.
+//! The desk over any shelf: what a call reads, and what it does. The shelf is asked before memory
+//! is wanted, since a closed one answers 93 alone.
 
-ghost use Rattle.std.specs.Prelude.{◌≡◌, None, IfOk, OnOk};
-ghost use Rattle.hq_store.specs.Readings.{after_serial};
+ghost use Rattle.std.specs.Prelude.{◌≡◌, IfOk, OnOk, option_map};
+ghost use Rattle.hq_store.specs.Readings.{after_pattern, after_serial};
 ghost use Rattle.hq_store.specs.Shelves.{Finds, FindsSound, Keeps, KeepsOnErr, OnSound, OnOpenSound};
 ghost use Rattle.hq_store.specs.Sound.{Sound};
+ghost use Rattle.hq_desk.specs.AccessLines as lines;
 ghost use Rattle.hq_desk.specs.Decision as rules;
 ghost use Rattle.hq_desk.specs.Desks.{shelf_of, host_of, with_memory, on, stepped, IsRendered};
+ghost use Rattle.hq_desk.specs.Messages as messages;
 
 use crate::answer::Answer;
-use crate::call::{Call, Submission};
+use crate::call::Call;
+use crate::customer_lines::look_up;
 use crate::decision::{
-    Decision, PAGE, admit, delete, hold_found, page, refuse, release_found, show, tell,
+    Decision, PAGE, delete, hold_found, page, refuse, release_found, show, tell,
 };
-use hq_envelope::{Fault, Host, Moment, Refusal, Serial};
-use hq_queue::{Entry, admit as admitted};
+use crate::lines::{drop_line, line_page, put_new, put_over};
+use crate::submit::decide_submit;
+use hq_access::{Class, Line, Pattern, keys_of};
+use hq_envelope::{Fault, Host, Items, Moment, Refusal, Sender, Serial};
+use hq_queue::Entry;
 use hq_store::Shelf;
 use std::alloc::{AllocError, Global};
 
@@ -39,43 +46,6 @@ pub struct Rendered {
     pub bytes: Vec<u8>,
 }
 
-/// What a submission of a new spool name is answered and changes.
-fn decide_new<S: Shelf>(
-    shelf: &mut S,
-    alloc: Global,
-    at: Moment,
-    entry: &Entry,
-    submission: Submission,
-) -> Result<Decision, Fault>
-    ensures found { FindsSound S.sight shelf.old shelf.new result entry.now.name
-        (λ rows. rules.submit entry.now rows at submission None) }
-    ensures kept { Keeps (with_memory S.sight) shelf.old shelf.new result }
-{
-    let head = shelf.head(&entry.name)?;
-    let counts = shelf.counts(&entry.name)?;
-    let serial = admitted(&head, &entry.quota, &counts, submission.size);
-    let decision = admit(alloc, head, at, submission, serial)?;
-    Ok(decision)
-}
-
-/// What a submission is answered and changes.
-fn decide_submit<S: Shelf>(
-    shelf: &mut S,
-    alloc: Global,
-    at: Moment,
-    entry: &Entry,
-    submission: Submission,
-) -> Result<Decision, Fault>
-    ensures found { FindsSound S.sight shelf.old shelf.new result entry.now.name
-        (λ rows. rules.submit entry.now rows at submission (rows.by_spool submission.spool)) }
-    ensures kept { Keeps (with_memory S.sight) shelf.old shelf.new result }
-{
-    match shelf.by_spool(&entry.name, &submission.spool)? {
-        Some(known) => Ok(tell(alloc, Answer::Repeated(known.serial))),
-        None => decide_new(shelf, alloc, at, entry, submission),
-    }
-}
-
 /// What the deletion of a message is answered and changes.
 fn decide_delete<S: Shelf>(
     shelf: &mut S,
@@ -84,7 +54,7 @@ fn decide_delete<S: Shelf>(
     serial: Serial,
 ) -> Result<Decision, Fault>
     ensures found { Finds S.sight shelf.old shelf.new result entry.now.name
-        (λ rows. rules.delete rows.head (rows.message serial)) }
+        (λ rows. messages.delete rows.head (rows.message serial)) }
     ensures kept { Keeps (with_memory S.sight) shelf.old shelf.new result }
 {
     let Some(message) = shelf.message(&entry.name, serial)? else {
@@ -103,11 +73,88 @@ fn decide_list<S: Shelf>(
     after: Option<Serial>,
 ) -> Result<Decision, Fault>
     ensures found { Finds S.sight shelf.old shelf.new result entry.now.name
-        (λ rows. rules.page (after_serial after rows.messages)) }
+        (λ rows. messages.page (after_serial after rows.messages)) }
     ensures kept { Keeps (with_memory S.sight) shelf.old shelf.new result }
 {
     let found = shelf.messages(&entry.name, after, PAGE + 1)?;
     Ok(page(alloc, found))
+}
+
+/// What a list of lines is answered.
+fn decide_lines<S: Shelf>(
+    shelf: &mut S,
+    alloc: Global,
+    entry: &Entry,
+    after: Option<&Pattern>,
+) -> Result<Decision, Fault>
+    ensures found { Finds S.sight shelf.old shelf.new result entry.now.name
+        (λ rows. lines.line_page
+        (after_pattern (option_map (λ p. p.now) after.entry) rows.lines)) }
+    ensures kept { Keeps (with_memory S.sight) shelf.old shelf.new result }
+{
+    let found = shelf.lines(&entry.name, after, PAGE + 1)?;
+    Ok(line_page(alloc, found))
+}
+
+/// What a put of a line is answered and changes.
+fn decide_put_line<S: Shelf>(
+    shelf: &mut S,
+    alloc: Global,
+    entry: &Entry,
+    line: Line,
+) -> Result<Decision, Fault>
+    ensures found { Finds S.sight shelf.old shelf.new result entry.now.name
+        (λ rows. lines.put_line entry.now.quota.lines rows.counts.lines line
+        (rows.line line.pattern.0 line.pattern.1)) }
+    ensures kept { Keeps (with_memory S.sight) shelf.old shelf.new result }
+{
+    let counts = shelf.counts(&entry.name)?;
+    let key = line.pattern.key(alloc)?;
+    if let Some(known) = shelf.line(&entry.name, line.pattern.class(), &key)? {
+        return Ok(put_over(alloc, &known, line)?);
+    }
+    Ok(put_new(alloc, entry.quota.lines, counts.lines, line)?)
+}
+
+/// What a drop of a line is answered and changes.
+fn decide_drop_line<S: Shelf>(
+    shelf: &mut S,
+    alloc: Global,
+    entry: &Entry,
+    pattern: Pattern,
+) -> Result<Decision, Fault>
+    ensures found { Finds S.sight shelf.old shelf.new result entry.now.name
+        (λ rows. lines.drop_line pattern (rows.line pattern.0 pattern.1)) }
+    ensures kept { Keeps (with_memory S.sight) shelf.old shelf.new result }
+{
+    if shelf.counts(&entry.name)?.lines == 0 {
+        return Ok(refuse(alloc, Refusal::NoLine));
+    }
+    let key = pattern.key(alloc)?;
+    let known = shelf.line(&entry.name, pattern.class(), &key)?;
+    Ok(drop_line(alloc, pattern, known)?)
+}
+
+/// What the check of an address is answered.
+fn decide_check<S: Shelf>(
+    shelf: &mut S,
+    alloc: Global,
+    entry: &Entry,
+    class: Class,
+    who: &Sender,
+) -> Result<Decision, Fault>
+    ensures found { Finds S.sight shelf.old shelf.new result entry.now.name
+        (λ rows. lines.check rows class who.now) }
+    ensures kept { Keeps (with_memory S.sight) shelf.old shelf.new result }
+{
+    let counts = shelf.counts(&entry.name)?;
+    let keys = Items::from_vec(keys_of(alloc, who)?);
+    let found = if counts.lines == 0 {
+        None
+    } else {
+        look_up(shelf, alloc, &entry.name, class, who)?
+    };
+    Ok(tell(alloc, Answer::Checked(keys, found)))
 }
 
 /// What a call is answered and changes, by what the shelf has.
@@ -140,6 +187,10 @@ fn decide<S: Shelf>(
             Ok(release_found(alloc, at, found)?)
         }
         Call::Delete(serial) => decide_delete(shelf, alloc, entry, serial),
+        Call::Lines(after) => decide_lines(shelf, alloc, entry, after.as_ref()),
+        Call::PutLine(line) => decide_put_line(shelf, alloc, entry, line),
+        Call::DropLine(pattern) => decide_drop_line(shelf, alloc, entry, pattern),
+        Call::Check(class, who) => decide_check(shelf, alloc, entry, class, &who),
     }
 }
 

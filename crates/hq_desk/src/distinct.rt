@@ -3,7 +3,7 @@
 ghost use Rattle.std.specs.Prelude.{◌≡◌, ◌++◌, ◌∷◌, [], IfOk, OnOk, if◌then◌else◌};
 ghost use Rattle.std.specs.List.{list_any};
 ghost use Rattle.hq_store.specs.Sound.{same_address};
-ghost use Rattle.hq_desk.specs.Decision as rules;
+ghost use Rattle.hq_desk.specs.Submissions as rules;
 
 use hq_envelope::Address;
 use std::alloc::{AllocError, Global};

@@ -5,12 +5,16 @@
 
 mod answer;
 mod call;
+mod customer_lines;
 mod decision;
 mod desk;
 mod distinct;
 pub mod laws;
+mod lines;
+mod submissions;
+mod submit;
 
-pub use answer::Answer;
+pub use answer::{Answer, LinePut};
 pub use call::{Call, Submission};
 pub use decision::Decision;
 pub use desk::{Desk, Render, Rendered};

@@ -1,5 +1,5 @@
 use Rattle.std.proofs.Common.{◌≡◌}
-use Rattle.hq_desk.specs.Decision.{distinct}
+use Rattle.hq_desk.specs.Submissions.{distinct}
 use Rattle.hq_desk.proofs.distinct.distinct.Given as goal
 
 abbrev pub invariant-loop-address : goal.invariant-loop-address

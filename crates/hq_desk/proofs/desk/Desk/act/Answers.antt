@@ -1,6 +1,8 @@
-use Rattle.std.proofs.Common.{rules, sym, subst, ap, ◌∙◌}
+use Rattle.std.proofs.Common.{Err, sym, subst, ap, ◌∙◌}
+use Rattle.std.proofs.lemmas.Result.{err_from_is_err_and}
 use Rattle.hq_store.specs.Sound.{Sound}
 use Rattle.hq_store.specs.Tables.{write_all}
+use Rattle.hq_desk.proofs.Reading.{changes_on}
 use Rattle.hq_desk.proofs.Soundness.{shared_sound}
 use Rattle.hq_desk.proofs.desk.Desk.act.Goals as goal
 
@@ -17,4 +19,7 @@ returns-clause-sound g c = λ clean ours open_ sound.
     (shared_sound c.args.self.now.host c.args.entry.now t c.args.at c.args.call sound)
 
 pub returns-in_err-apply-clause-kept : goal.returns-in_err-apply-clause-kept
-returns-in_err-apply-clause-kept g c = record { none = search rules; ours = search rules; quiet = search rules; tally = search rules; cause = search rules }
+returns-in_err-apply-clause-kept g c =
+    let fault = err_from_is_err_and c.from_residual-in_err-apply.result c.from_residual-in_err-apply.ensures.1 in
+    let both = changes_on g.S.Shelf.sight _ _ _ _ c.in_err-apply.field-0.0 c.from_residual-in_err-apply.result (fault.1 ∙ ap Err fault.2) c.in_ok-decision.ensures.kept c.in_err-apply.ensures.kept in
+    record { none = both.none; ours = both.ours; quiet = both.quiet; tally = both.tally; cause = both.cause }
