@@ -1,0 +1,60 @@
+-- The bodies that speak of lines of an access table: of a pattern {"class", "pattern"}, of a line {"class", "pattern",
+-- "action"}, and of an address to look up {"class", "address"}.
+use Rattle.std.specs.Prelude.{ℕ, List, [], ◌∷◌, codes, bytes_eq, Option, Some, None, option_and_then, Result, Ok, if◌then◌else◌}
+use Rattle.serde_json.specs.Data.{Data}
+use Rattle.serde_json.specs.Find.{as_object}
+use Rattle.hq_base.specs.Readers.{◌>>=◌, guard, or_refuse, seen_by}
+use Rattle.hq_base.specs.declared.failure.Refusal.{Refusal}
+use Rattle.hq_base.specs.declared.failure.Refusal.TheVariants.{BadJson, BadField}
+use Rattle.hq_envelope.specs.Addresses.{address_in}
+use Rattle.hq_envelope.specs.Senders.{sender_in}
+use Rattle.hq_envelope.specs.declared.address.Sender.{Sender}
+use Rattle.hq_envelope.specs.declared.address.Sender.TheVariants.{From}
+use Rattle.hq_access.specs.Actions.{action_in}
+use Rattle.hq_access.specs.Patterns.{class_name, pattern_in}
+use Rattle.hq_access.specs.declared.pattern.Class.{Class}
+use Rattle.hq_access.specs.declared.pattern.Class.TheVariants.{SenderSide, RecipientSide}
+use Rattle.hq_access.specs.declared.pattern.Line.{Line}
+use Rattle.hq_bodies.specs.Reading.{json_of, has_only_members, text_at}
+
+-- the class of a name
+abbrev pub class_in : List ℕ → Option Class
+class_in name = if bytes_eq name (class_name SenderSide) then Some SenderSide else if bytes_eq name (class_name RecipientSide) then Some RecipientSide else None
+
+-- a member that is the name of a class
+abbrev pub class_at : Data → Option Class
+class_at d = option_and_then class_in (text_at (codes "class") d)
+
+-- who an address is: on the side of senders the empty text is the null sender
+abbrev pub party_in : Class → List ℕ → Result Sender Refusal
+party_in SenderSide text = sender_in text
+party_in RecipientSide text = seen_by (λ address. From address) (address_in text)
+
+-- each reading: JSON, then every member of its kind and no other, then the values in the order of the members
+unfoldable pub read_pattern : List ℕ → Result (Class × List ℕ) Refusal
+read_pattern bytes = do
+  d ← or_refuse BadJson (json_of bytes)
+  known ← guard (has_only_members (codes "class" ∷ codes "pattern" ∷ []) (as_object d)) BadField
+  class ← or_refuse BadField (class_at d)
+  pattern ← or_refuse BadField (text_at (codes "pattern") d)
+  pattern_in class pattern
+
+unfoldable pub read_line : List ℕ → Result Line Refusal
+read_line bytes = do
+  d ← or_refuse BadJson (json_of bytes)
+  known ← guard (has_only_members (codes "class" ∷ codes "pattern" ∷ codes "action" ∷ []) (as_object d)) BadField
+  class ← or_refuse BadField (class_at d)
+  pattern ← or_refuse BadField (text_at (codes "pattern") d)
+  action ← or_refuse BadField (text_at (codes "action") d)
+  key ← pattern_in class pattern
+  verb ← action_in action
+  Ok (record { pattern = key; action = verb })
+
+unfoldable pub read_check : List ℕ → Result (Class × Sender) Refusal
+read_check bytes = do
+  d ← or_refuse BadJson (json_of bytes)
+  known ← guard (has_only_members (codes "class" ∷ codes "address" ∷ []) (as_object d)) BadField
+  class ← or_refuse BadField (class_at d)
+  address ← or_refuse BadField (text_at (codes "address") d)
+  who ← party_in class address
+  Ok (class, who)

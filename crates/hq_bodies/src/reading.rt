@@ -1,0 +1,96 @@
+//! The members of a JSON body.
+
+ghost use Rattle.std.specs.Prelude.{◌≡◌, ◌≤◌, List, ℕ, IfOk, length, bytes_eq, option_map, option_and_then, map as map_list, string_bytes};
+ghost use Rattle.std.specs.List.{list_any};
+ghost use Rattle.serde_json.specs.View.{view, members_view, items_view};
+ghost use Rattle.hq_base.specs.declared.failure.Refusal.TheVariants.{BadJson, BadField};
+ghost use Rattle.hq_base.specs.Readers.{Reads, seen_by, or_refuse};
+ghost use Rattle.hq_bodies.specs.Reading.{json_of, has_only, text_at, number_at, texts_of, texts_at};
+
+use hq_envelope::{Fail, Fault, Refusal};
+use serde_json::{Map, Value};
+use std::alloc::Global;
+
+/// The JSON value of a body, or 7 `BadJson`.
+pub fn json_value(alloc: Global, bytes: &[u8]) -> Result<Value, Fail>
+    ensures { Reads (seen_by view result) (or_refuse BadJson (json_of bytes.now)) }
+{
+    match Value::from_slice(alloc, bytes) {
+        Ok(value) => Ok(value),
+        Err(error) => {
+            if error.is_memory() {
+                Err(Fail::Fault(Fault::WantOfMemory))
+            } else {
+                Err(Fail::Refused(Refusal::BadJson))
+            }
+        }
+    }
+}
+
+/// A member that is a text.
+pub fn text_member<'v>(value: &'v Value, name: &str) -> Option<&'v str>
+    ensures { option_map (λ s. s.now) result ≡ text_at name.now (view value.now) }
+{
+    match value.get(name) {
+        Some(member) => member.as_str(),
+        None => None,
+    }
+}
+
+/// A member that is a number of digits alone, from `low` to `high`.
+pub fn number_member(value: &Value, name: &str, low: u64, high: u64) -> Option<u64>
+    ensures { result ≡ number_at name.now low high (view value.now) }
+{
+    match value.get(name).and_then(Value::as_u64) {
+        Some(number) if low <= number && number <= high => Some(number),
+        _ => None,
+    }
+}
+
+fn is_known(name: &str, names: &[&str]) -> bool
+    ensures { result ≡ list_any (bytes_eq name.now) (map_list (λ n. n.now) names.now) }
+{
+    for known in names {
+        if name == *known {
+            return true;
+        }
+    }
+    false
+}
+
+/// Whether each member has one of these names.
+pub fn has_only(map: &Map<String, Value>, names: &[&str]) -> bool
+    ensures { result ≡ has_only (map_list (λ n. n.now) names.now) (members_view map.now.entries) }
+{
+    for (key, _) in map.iter() {
+        if !is_known(key.as_str(), names) {
+            return false;
+        }
+    }
+    true
+}
+
+fn texts(alloc: Global, values: &[Value]) -> Result<Vec<String>, Fail>
+    ensures { Reads (seen_by (λ v. map_list string_bytes v.items) result)
+        (or_refuse BadField (texts_of (items_view values.now))) }
+{
+    let mut found = Vec::new(alloc);
+    for value in values {
+        let Some(text) = value.as_str() else {
+            return Err(Fail::Refused(Refusal::BadField));
+        };
+        found.push(String::from_str(alloc, text)?)?;
+    }
+    Ok(found)
+}
+
+/// A member that is a list of texts, or 8 `BadField`.
+pub fn texts_member(alloc: Global, value: &Value, name: &str) -> Result<Vec<String>, Fail>
+    ensures { Reads (seen_by (λ v. map_list string_bytes v.items) result)
+        (or_refuse BadField (texts_at name.now (view value.now))) }
+{
+    match value.get(name).and_then(Value::as_array) {
+        Some(list) => texts(alloc, list),
+        None => Err(Fail::Refused(Refusal::BadField)),
+    }
+}

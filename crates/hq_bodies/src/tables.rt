@@ -1,0 +1,103 @@
+//! The bodies that speak of lines of an access table.
+
+ghost use Rattle.std.specs.Prelude.{◌≡◌, codes, map as map_list};
+ghost use Rattle.serde_json.specs.Find.{as_object};
+ghost use Rattle.serde_json.specs.View.{view};
+ghost use Rattle.hq_base.specs.Readers.{Reads, or_refuse};
+ghost use Rattle.hq_base.specs.declared.failure.Refusal.TheVariants.{BadField};
+ghost use Rattle.hq_bodies.specs.Reading.{has_only_members};
+ghost use Rattle.hq_bodies.specs.Tables.{class_in, class_at, party_in, read_pattern, read_line, read_check};
+
+use crate::reading::{has_only, json_value, text_member};
+use hq_access::{Action, Class, Line, Pattern};
+use hq_envelope::{Address, Fail, Refusal, Sender};
+use serde_json::Value;
+use std::alloc::Global;
+
+/// Whether a body is an object whose members have these names alone.
+fn has_only_members(value: &Value, names: &[&str]) -> bool
+    ensures { result ≡ has_only_members (map_list (λ n. n.now) names.now)
+        (as_object (view value.now)) }
+{
+    match value.as_object() {
+        Some(map) => has_only(map, names),
+        None => false,
+    }
+}
+
+/// The class of a name.
+fn class_in(name: &str) -> Option<Class>
+    ensures { result ≡ class_in name.now }
+{
+    match name {
+        "sender" => Some(Class::SenderSide),
+        "recipient" => Some(Class::RecipientSide),
+        _ => None,
+    }
+}
+
+/// The member `class`, or 8 `BadField`.
+fn class_member(value: &Value) -> Option<Class>
+    ensures { result ≡ class_at (view value.now) }
+{
+    text_member(value, "class").and_then(class_in)
+}
+
+/// Who an address is, on one side of a message; or 20 `BadAddress`.
+fn party(alloc: Global, class: Class, text: &str) -> Result<Sender, Fail>
+    ensures { Reads result (party_in class text.now) }
+{
+    match class {
+        Class::SenderSide => Sender::parse(alloc, text),
+        Class::RecipientSide => Ok(Sender::From(Address::parse(alloc, text)?)),
+    }
+}
+
+/// Reads a body that names a line: 7 `BadJson` where it is not JSON, 8 `BadField` where a member is
+/// missing, unknown or of the wrong kind, or the class is none, then 24 for the pattern.
+#[tactic(auto, unfolding(crate::specs::Tables::read_pattern))]
+pub fn read_pattern(alloc: Global, body: &[u8]) -> Result<Pattern, Fail>
+    ensures { Reads result (read_pattern body.now) }
+{
+    let value = json_value(alloc, body)?;
+    if !has_only_members(&value, &["class", "pattern"]) {
+        return Err(Fail::Refused(Refusal::BadField));
+    }
+    let class = class_member(&value).ok_or(Refusal::BadField)?;
+    let pattern = text_member(&value, "pattern").ok_or(Refusal::BadField)?;
+    Pattern::parse(alloc, class, pattern)
+}
+
+/// Reads a body that sets a line: 7 and 8 as for a pattern, then 24 for the pattern and 25 for the
+/// action.
+#[tactic(auto, unfolding(crate::specs::Tables::read_line))]
+pub fn read_line(alloc: Global, body: &[u8]) -> Result<Line, Fail>
+    ensures { Reads result (read_line body.now) }
+{
+    let value = json_value(alloc, body)?;
+    if !has_only_members(&value, &["class", "pattern", "action"]) {
+        return Err(Fail::Refused(Refusal::BadField));
+    }
+    let class = class_member(&value).ok_or(Refusal::BadField)?;
+    let pattern = text_member(&value, "pattern").ok_or(Refusal::BadField)?;
+    let action = text_member(&value, "action").ok_or(Refusal::BadField)?;
+    let pattern = Pattern::parse(alloc, class, pattern)?;
+    let action = Action::parse(alloc, action)?;
+    Ok(Line { pattern, action })
+}
+
+/// Reads a body that asks for a lookup: 7 and 8 as for a pattern, then 20 for the address. The empty
+/// text is the null sender, on the side of senders alone.
+#[tactic(auto, unfolding(crate::specs::Tables::read_check))]
+pub fn read_check(alloc: Global, body: &[u8]) -> Result<(Class, Sender), Fail>
+    ensures { Reads result (read_check body.now) }
+{
+    let value = json_value(alloc, body)?;
+    if !has_only_members(&value, &["class", "address"]) {
+        return Err(Fail::Refused(Refusal::BadField));
+    }
+    let class = class_member(&value).ok_or(Refusal::BadField)?;
+    let address = text_member(&value, "address").ok_or(Refusal::BadField)?;
+    let who = party(alloc, class, address)?;
+    Ok((class, who))
+}
