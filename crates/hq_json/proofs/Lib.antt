@@ -1,4 +1,3 @@
-pub mod JsonBodies
 pub mod NoFloats
 pub mod QueueIds
 pub mod Submitted

@@ -1,3 +1,4 @@
-pub mod Reading
+pub mod Objects
+pub mod TableReplies
 pub mod Replies
 pub mod Submissions

@@ -1,34 +1,22 @@
 -- The body of each answer, as a JSON value with its members in the order of their names; its bytes are the compact
 -- text of the value, as `serde_json` writes it.
 use Rattle.std.specs.Prelude.{ℕ, Bool, List, [], ◌∷◌, map, length, codes, Option, None, Some}
-use Rattle.serde_json.specs.Data.{Data, boolean, number, string, array, object, unsigned, Members, no_members, member}
+use Rattle.serde_json.specs.Data.{Data, boolean, string, array}
 use Rattle.serde_json.specs.View.{items_of}
 use Rattle.serde_json.specs.Written.{compact_text}
 use Rattle.hq_base.specs.Refusals.{refusal_number, refusal_name}
 use Rattle.hq_envelope.specs.Senders.{sender_text}
-use Rattle.hq_base.specs.Serials.{serial_text}
 use Rattle.hq_base.specs.declared.failure.Refusal.{Refusal}
 use Rattle.hq_base.specs.declared.failure.Refusal.TheVariants.{AttemptAhead, BadCsv, DoubledPattern, BadDirectory, DoubledName, DoubledKey}
+use Rattle.hq_access.specs.declared.verdicts.Refused.{Refused}
 use Rattle.hq_queue.specs.declared.message.Message.{Message}
 use Rattle.hq_queue.specs.declared.message.Pending.{Pending}
 use Rattle.hq_queue.specs.declared.message.QueueState.{QueueState}
 use Rattle.hq_queue.specs.declared.message.QueueState.TheVariants.{Incoming, Deferred, Hold}
 use Rattle.hq_desk.specs.declared.answer.Answer.{Answer}
 use Rattle.hq_desk.specs.declared.answer.Answer.TheVariants as answer
-
-abbrev pub members_in : List (List ℕ × Data) → Members
-members_in [] = no_members
-members_in (m ∷ ms) = member m.0 m.1 (members_in ms)
-
--- an object with these members
-abbrev pub having : List (List ℕ × Data) → Data
-having ms = object (members_in ms)
-
-abbrev pub count : ℕ → Data
-count n = number (unsigned n)
-
-abbrev pub id : ℕ → Data
-id serial = string (serial_text serial)
+use Rattle.hq_json.specs.Objects.{having, count, id}
+use Rattle.hq_json.specs.TableReplies.{refused_list, lines_listed, line_put, line_dropped, checked}
 
 -- ---- refusals
 
@@ -123,18 +111,23 @@ listed ms more = having (
 abbrev pub addresses : List Pending → Data
 addresses ps = array (items_of (map (λ (p : Pending). string p.address) ps))
 
--- no recipient is refused: there are no access tables yet
-unfoldable pub queued : Message → Data
-queued m = having (
+unfoldable pub queued : Message → List Refused → Data
+queued m refused = having (
     (codes "id", id m.serial) ∷
     (codes "recipients", addresses m.pending) ∷
-    (codes "refused", array (items_of [])) ∷
+    (codes "refused", refused_list refused) ∷
     (codes "state", string (state_name m.state)) ∷
     (codes "verdict", string (codes "queued")) ∷
     [])
 
 abbrev pub repeated : ℕ → Data
 repeated serial = having ((codes "id", id serial) ∷ (codes "verdict", string (codes "repeat")) ∷ [])
+
+abbrev pub rejected : List Refused → Data
+rejected refused = having ((codes "refused", refused_list refused) ∷ (codes "verdict", string (codes "rejected")) ∷ [])
+
+abbrev pub discarded : List Refused → Data
+discarded refused = having ((codes "refused", refused_list refused) ∷ (codes "verdict", string (codes "discarded")) ∷ [])
 
 abbrev pub changed : ℕ → Data
 changed n = having ((codes "changed", count n) ∷ [])
@@ -143,11 +136,17 @@ changed n = having ((codes "changed", count n) ∷ [])
 
 abbrev pub answer_data : Answer → Data
 answer_data (answer.Refused r) = refusal_data r
-answer_data (answer.Queued m) = queued m
+answer_data (answer.Queued m refused) = queued m refused
 answer_data (answer.Repeated serial) = repeated serial
 answer_data (answer.Listed ms more) = listed ms more
 answer_data (answer.Shown m) = shown m
 answer_data (answer.Changed n) = changed n
+answer_data (answer.Rejected refused) = rejected refused
+answer_data (answer.Discarded refused) = discarded refused
+answer_data (answer.LinesListed lines more) = lines_listed lines more
+answer_data (answer.LinePut done) = line_put done
+answer_data answer.LineDropped = line_dropped
+answer_data (answer.Checked keys found) = checked keys found
 
 -- the bytes of an answer
 unfoldable pub answer_text : Answer → List ℕ

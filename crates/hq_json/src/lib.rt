@@ -3,9 +3,9 @@
 #![tactic(auto)]
 
 mod members;
-mod reading;
 mod replies;
 mod submission;
+mod table_replies;
 
 pub use replies::{Json, refusal_text};
 pub use submission::read_submission;

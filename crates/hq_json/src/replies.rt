@@ -6,7 +6,12 @@ ghost use Rattle.serde_json.specs.View.{view, items_of, items_view};
 ghost use Rattle.serde_json.specs.Written.{compact_text};
 ghost use Rattle.hq_queue.specs.declared.message.Pending.{Pending};
 ghost use Rattle.hq_json.specs.Replies as replies;
+ghost use Rattle.hq_json.specs.Objects as objects;
 
+use crate::table_replies::{
+    checked_value, line_dropped_value, line_put_value, lines_value, refused_list,
+};
+use hq_access::Refused;
 use hq_desk::{Answer, Render};
 use hq_envelope::{Refusal, Serial};
 use hq_queue::{Message, Pending, QueueState, Status};
@@ -16,7 +21,7 @@ use std::str;
 
 /// A queue ID.
 fn id_value(alloc: Global, serial: Serial) -> Result<Value, AllocError>
-    ensures { IfOk result (λ v. view v ≡ replies.id serial) }
+    ensures { IfOk result (λ v. view v ≡ objects.id serial) }
 {
     let text = serial.text();
     match str::from_utf8(&text) {
@@ -161,12 +166,12 @@ fn address_list(alloc: Global, list: &[Pending]) -> Result<Value, AllocError>
 }
 
 #[tactic(auto, unfolding(crate::specs::Replies::queued))]
-fn queued_value(alloc: Global, message: &Message) -> Result<Value, AllocError>
-    ensures { IfOk result (λ v. view v ≡ replies.queued message.now) }
+fn queued_value(alloc: Global, message: &Message, refused: &[Refused]) -> Result<Value, AllocError>
+    ensures { IfOk result (λ v. view v ≡ replies.queued message.now refused.now) }
 {
     let id = id_value(alloc, message.serial)?;
     let recipients = address_list(alloc, message.pending.as_slice())?;
-    let refused = Value::Array(Vec::new(alloc));
+    let refused = refused_list(alloc, refused)?;
     json!(in alloc; {
         "id": id, "recipients": recipients, "refused": refused,
         "state": state_name(message.state), "verdict": "queued"
@@ -178,6 +183,20 @@ fn repeated_value(alloc: Global, serial: Serial) -> Result<Value, AllocError>
 {
     let id = id_value(alloc, serial)?;
     json!(in alloc; {"id": id, "verdict": "repeat"})
+}
+
+fn rejected_value(alloc: Global, refused: &[Refused]) -> Result<Value, AllocError>
+    ensures { IfOk result (λ v. view v ≡ replies.rejected refused.now) }
+{
+    let refused = refused_list(alloc, refused)?;
+    json!(in alloc; {"refused": refused, "verdict": "rejected"})
+}
+
+fn discarded_value(alloc: Global, refused: &[Refused]) -> Result<Value, AllocError>
+    ensures { IfOk result (λ v. view v ≡ replies.discarded refused.now) }
+{
+    let refused = refused_list(alloc, refused)?;
+    json!(in alloc; {"refused": refused, "verdict": "discarded"})
 }
 
 fn changed_value(alloc: Global, count: u64) -> Result<Value, AllocError>
@@ -193,11 +212,17 @@ fn answer_value(alloc: Global, answer: &Answer) -> Result<Value, AllocError>
 {
     match answer {
         Answer::Refused(refusal) => refusal_value(alloc, refusal),
-        Answer::Queued(message) => queued_value(alloc, message),
+        Answer::Queued(message, refused) => queued_value(alloc, message, refused.as_slice()),
         Answer::Repeated(serial) => repeated_value(alloc, *serial),
         Answer::Listed(messages, more) => list_value(alloc, messages.as_slice(), *more),
         Answer::Shown(message) => shown_value(alloc, message),
         Answer::Changed(count) => changed_value(alloc, *count),
+        Answer::Rejected(refused) => rejected_value(alloc, refused.as_slice()),
+        Answer::Discarded(refused) => discarded_value(alloc, refused.as_slice()),
+        Answer::LinesListed(lines, more) => lines_value(alloc, lines.as_slice(), *more),
+        Answer::LinePut(done) => line_put_value(alloc, *done),
+        Answer::LineDropped => line_dropped_value(alloc),
+        Answer::Checked(keys, found) => checked_value(alloc, keys.as_slice(), found),
     }
 }
 

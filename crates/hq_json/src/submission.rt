@@ -6,7 +6,7 @@ ghost use Rattle.hq_base.specs.Readers.{Reads, seen_by};
 ghost use Rattle.hq_json.specs.Submissions.{recipients_of, fields_of, addresses_in, submission_of, read_submission, shown_recipients, shown};
 
 use crate::members::{RecipientTexts, SubmissionTexts};
-use crate::reading::{has_only, json_value, number_member, text_member, texts_member};
+use hq_bodies::{has_only, json_value, number_member, text_member, texts_member};
 use hq_desk::Submission;
 use hq_envelope::{Address, Fail, Items, Refusal, Sender, Spool};
 use serde_json::Value;

@@ -1,9 +1,0 @@
-use Rattle.std.proofs.Common.{◌≡◌, ◌++◌, map, drop, option_map, string_bytes}
-use Rattle.serde_json.specs.View.{items_view}
-use Rattle.hq_json.specs.Reading.{texts_of}
-use Rattle.hq_json.proofs.reading.texts.Given as goal
-
--- the texts so far, and those of the values that are left
-abbrev pub invariant-loop-value : goal.invariant-loop-value
-invariant-loop-value l =
-    option_map (λ rest. map string_bytes l.found.items ++ rest) (texts_of (items_view (drop l.value-index l.values))) ≡ texts_of (items_view l.values)
