@@ -23,17 +23,32 @@ pub enum Path {
     Hold,
     /// `/v1/release/{id}`
     Release,
+    /// `/v1/lines`
+    Lines,
+    /// `/v1/lines-after`
+    LinesAfter,
+    /// `/v1/line-put`
+    LinePut,
+    /// `/v1/line-drop`
+    LineDrop,
+    /// `/v1/check`
+    Check,
     /// `/relay/submit/{customer}`
     Submit,
 }
 
 /// Every path of the desk, as the router spells it.
-const PATHS: [(&str, Path); 6] = [
+const PATHS: [(&str, Path); 11] = [
     ("/v1/messages", Path::Messages),
     ("/v1/messages-after/{id}", Path::MessagesAfter),
     ("/v1/message/{id}", Path::Message),
     ("/v1/hold/{id}", Path::Hold),
     ("/v1/release/{id}", Path::Release),
+    ("/v1/lines", Path::Lines),
+    ("/v1/lines-after", Path::LinesAfter),
+    ("/v1/line-put", Path::LinePut),
+    ("/v1/line-drop", Path::LineDrop),
+    ("/v1/check", Path::Check),
     ("/relay/submit/{customer}", Path::Submit),
 ];
 

@@ -6,6 +6,7 @@ use Rattle.hq_base.specs.declared.failure.Refusal.{Refusal}
 use Rattle.hq_base.specs.declared.failure.Refusal.TheVariants.{BodyTooLong, NoRoute, WrongMethod, BadField}
 use Rattle.hq_desk.specs.declared.call.Call.{Call}
 use Rattle.hq_desk.specs.declared.call.Call.TheVariants as call
+use Rattle.hq_bodies.specs.Tables.{read_pattern, read_line, read_check}
 use Rattle.hq_json.specs.Submissions.{read_submission}
 use Rattle.hq_routes.specs.Routes.{path_of, last_segment}
 use Rattle.hq_routes.specs.declared.Path.{Path}
@@ -29,6 +30,11 @@ route_of path.MessagesAfter method = at_method method (codes "GET") (route.About
 route_of path.Message method = at_method method (codes "GET") (route.About about.Show) (at_method method (codes "DELETE") (route.About about.Delete) None)
 route_of path.Hold method = at_method method (codes "POST") (route.About about.Hold) None
 route_of path.Release method = at_method method (codes "POST") (route.About about.Release) None
+route_of path.Lines method = at_method method (codes "GET") route.Lines None
+route_of path.LinesAfter method = at_method method (codes "POST") route.LinesAfter None
+route_of path.LinePut method = at_method method (codes "POST") route.PutLine None
+route_of path.LineDrop method = at_method method (codes "POST") route.DropLine None
+route_of path.Check method = at_method method (codes "POST") route.Check None
 route_of path.Submit method = at_method method (codes "POST") route.Submit None
 
 abbrev pub is_for_relay : Route → Bool
@@ -49,6 +55,19 @@ asked_of route.List segment body = Ok (call.List None)
 asked_of (route.About about) segment body = do
   serial ← or_refuse BadField (serial_in segment)
   Ok (call_about about serial)
+asked_of route.Lines segment body = Ok (call.Lines None)
+asked_of route.LinesAfter segment body = do
+  pattern ← read_pattern body
+  Ok (call.Lines (Some pattern))
+asked_of route.PutLine segment body = do
+  line ← read_line body
+  Ok (call.PutLine line)
+asked_of route.DropLine segment body = do
+  pattern ← read_pattern body
+  Ok (call.DropLine pattern)
+asked_of route.Check segment body = do
+  asked ← read_check body
+  Ok (call.Check asked.0 asked.1)
 asked_of route.Submit segment body = do
   submission ← read_submission body
   Ok (call.Submit submission)

@@ -9,6 +9,7 @@ ghost use Rattle.hq_wire.specs.Calls as calls;
 
 use crate::asked::Exchange;
 use crate::directory::Directory;
+use hq_bodies::{read_check, read_line, read_pattern};
 use hq_desk::Call;
 use hq_envelope::{Fail, Refusal, Serial};
 use hq_json::read_submission;
@@ -41,6 +42,16 @@ pub(crate) enum Route {
     List,
     /// Something about the message whose queue ID is the parameter.
     About(MessageRoute),
+    /// The lines from the start.
+    Lines,
+    /// The lines after the pattern of the body.
+    LinesAfter,
+    /// The line of the body, set.
+    PutLine,
+    /// The line of the pattern of the body, gone.
+    DropLine,
+    /// What is found for the address of the body.
+    Check,
     /// A message for the queue.
     Submit,
 }
@@ -57,6 +68,11 @@ fn route_of(path: Path, method: &str) -> Option<Route>
         Path::Message if method == "DELETE" => Some(Route::About(MessageRoute::Delete)),
         Path::Hold if method == "POST" => Some(Route::About(MessageRoute::Hold)),
         Path::Release if method == "POST" => Some(Route::About(MessageRoute::Release)),
+        Path::Lines if method == "GET" => Some(Route::Lines),
+        Path::LinesAfter if method == "POST" => Some(Route::LinesAfter),
+        Path::LinePut if method == "POST" => Some(Route::PutLine),
+        Path::LineDrop if method == "POST" => Some(Route::DropLine),
+        Path::Check if method == "POST" => Some(Route::Check),
         Path::Submit if method == "POST" => Some(Route::Submit),
         _ => None,
     }
@@ -95,6 +111,14 @@ fn asked_of(alloc: Global, route: Route, segment: &str, body: &[u8]) -> Result<C
         Route::About(about) => {
             let serial = Serial::parse(segment).ok_or(Refusal::BadField)?;
             Ok(call_about(about, serial))
+        }
+        Route::Lines => Ok(Call::Lines(None)),
+        Route::LinesAfter => Ok(Call::Lines(Some(read_pattern(alloc, body)?))),
+        Route::PutLine => Ok(Call::PutLine(read_line(alloc, body)?)),
+        Route::DropLine => Ok(Call::DropLine(read_pattern(alloc, body)?)),
+        Route::Check => {
+            let (class, who) = read_check(alloc, body)?;
+            Ok(Call::Check(class, who))
         }
         Route::Submit => Ok(Call::Submit(read_submission(alloc, body)?)),
     }
