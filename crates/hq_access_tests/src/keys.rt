@@ -9,8 +9,9 @@ use std::test::Fail as TestFail;
 /// The keys of an address, or of the null sender, each after a space.
 fn keys_text(alloc: Global, who: &str) -> Result<String, Fail> {
     let who = Sender::parse(alloc, who)?;
+    let keys = keys_of(alloc, &who)?;
     let mut text = String::new(alloc);
-    for key in keys_of(alloc, &who)? {
+    for key in keys.as_slice() {
         text.push_str(" ")?;
         text.push_str(key.copy(alloc)?.as_str())?;
     }

@@ -46,7 +46,7 @@ impl Lines for Listed {
 }
 
 /// The lines of these tests.
-const LINES: [(Class, &str, &str); 5] = [
+const LINES: &[(Class, &str, &str)] = &[
     (Class::SenderSide, "a.example", "DUNNO"),
     (Class::SenderSide, "ann@", "REJECT"),
     (Class::SenderSide, "<>", "HOLD"),
@@ -54,12 +54,16 @@ const LINES: [(Class, &str, &str); 5] = [
     (Class::RecipientSide, "bob@b.example", "DISCARD"),
 ];
 
+fn line(alloc: Global, class: Class, pattern: &str, action: &str) -> Result<Line, Fail> {
+    let pattern = Pattern::parse(alloc, class, pattern)?;
+    let action = Action::parse(alloc, action)?;
+    Ok(Line { pattern, action }.copy(alloc)?)
+}
+
 fn lines_of_these_tests(alloc: Global) -> Result<Vec<Line>, Fail> {
     let mut lines = Vec::new(alloc);
     for (class, pattern, action) in LINES {
-        let pattern = Pattern::parse(alloc, class, pattern)?;
-        let action = Action::parse(alloc, action)?;
-        lines.push(Line { pattern, action }.copy(alloc)?)?;
+        lines.push(line(alloc, *class, pattern, action)?)?;
     }
     Ok(lines)
 }
@@ -79,6 +83,16 @@ fn found_text(
     }
 }
 
+/// A lookup, in a function of its own: its callers need nothing of its contract.
+fn looked_up(
+    alloc: Global,
+    lines: &mut Listed,
+    class: Class,
+    who: &Sender,
+) -> Result<Option<(LookupKey, Action)>, Fault> {
+    lookup(alloc, lines, class, who)
+}
+
 /// What was found, and then the keys that were asked for.
 fn shown(alloc: Global, good_calls: u32, class: Class, who: &str) -> Result<String, Fail> {
     let mut listed = Listed {
@@ -88,7 +102,7 @@ fn shown(alloc: Global, good_calls: u32, class: Class, who: &str) -> Result<Stri
         good_calls,
     };
     let who = Sender::parse(alloc, who)?;
-    let found = lookup(alloc, &mut listed, class, &who);
+    let found = looked_up(alloc, &mut listed, class, &who);
     let found = found_text(alloc, found)?;
     Ok(format!(in alloc; "{found}:{}", listed.asked)?)
 }

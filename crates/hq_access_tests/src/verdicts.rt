@@ -13,14 +13,24 @@ fn found(alloc: Global, text: &str) -> Result<Option<Action>, Fail> {
     Ok(Some(Action::parse(alloc, text)?))
 }
 
-/// Who is refused, with code and text.
-fn refused_text(alloc: Global, refused: &[Refused]) -> Result<String, AllocError> {
-    let mut text = String::new(alloc);
+/// Adds a word and what follows it.
+fn push_part(text: &mut String, word: &str, part: &str) -> Result<(), AllocError> {
+    text.push_str(word)?;
+    text.push_str(part)
+}
+
+fn refused_one(alloc: Global, refused: &Refused) -> Result<String, AllocError> {
+    let one = refused.copy(alloc)?;
+    let who = one.address.as_str();
+    format!(in alloc; "[{who} {} {}]", one.code, one.text.as_str())
+}
+
+/// A word, and then who is refused, with code and text.
+fn with_refused(alloc: Global, word: &str, refused: &[Refused]) -> Result<String, AllocError> {
+    let mut text = String::from_str(alloc, word)?;
     for one in refused {
-        let one = one.copy(alloc)?;
-        let who = one.address.as_str();
-        let told = format!(in alloc; " [{who} {} {}]", one.code, one.text.as_str())?;
-        text.push_str(told.as_str())?;
+        let told = refused_one(alloc, one)?;
+        push_part(&mut text, " ", told.as_str())?;
     }
     Ok(text)
 }
@@ -32,32 +42,23 @@ fn queued_text(
     redirect: Option<&Address>,
     held: Option<&Text>,
 ) -> Result<String, AllocError> {
-    let mut text = String::new(alloc);
+    let mut text = String::from_str(alloc, "queue")?;
     for address in kept {
-        text.push_str(" ")?;
-        text.push_str(address.as_str())?;
+        push_part(&mut text, " ", address.as_str())?;
     }
     if let Some(address) = redirect {
-        text.push_str(" to ")?;
-        text.push_str(address.as_str())?;
+        push_part(&mut text, " to ", address.as_str())?;
     }
     if let Some(reason) = held {
-        text.push_str(" held ")?;
-        text.push_str(reason.as_str())?;
+        push_part(&mut text, " held ", reason.as_str())?;
     }
     Ok(text)
 }
 
 fn verdict_text(alloc: Global, verdict: &Verdict) -> Result<String, AllocError> {
     match verdict {
-        Verdict::Rejected { refused } => {
-            let refused = refused_text(alloc, refused.as_slice())?;
-            format!(in alloc; "rejected{refused}")
-        }
-        Verdict::Discarded { refused } => {
-            let refused = refused_text(alloc, refused.as_slice())?;
-            format!(in alloc; "discarded{refused}")
-        }
+        Verdict::Rejected { refused } => with_refused(alloc, "rejected", refused.as_slice()),
+        Verdict::Discarded { refused } => with_refused(alloc, "discarded", refused.as_slice()),
         Verdict::Queue {
             kept,
             refused,
@@ -65,8 +66,7 @@ fn verdict_text(alloc: Global, verdict: &Verdict) -> Result<String, AllocError> 
             held,
         } => {
             let queued = queued_text(alloc, kept.as_slice(), redirect.as_ref(), held.as_ref())?;
-            let refused = refused_text(alloc, refused.as_slice())?;
-            format!(in alloc; "queue{queued}{refused}")
+            with_refused(alloc, queued.as_str(), refused.as_slice())
         }
     }
 }
@@ -79,10 +79,21 @@ fn recipients_with(
     z: &str,
 ) -> Result<Vec<(Address, Option<Action>)>, Fail> {
     let mut recipients = Vec::new(alloc);
-    recipients.push((Address::parse(alloc, "x@r")?, found(alloc, x)?))?;
-    recipients.push((Address::parse(alloc, "y@r")?, found(alloc, y)?))?;
-    recipients.push((Address::parse(alloc, "z@r")?, found(alloc, z)?))?;
+    for (who, action) in [("x@r", x), ("y@r", y), ("z@r", z)] {
+        let action = found(alloc, action)?;
+        recipients.push((Address::parse(alloc, who)?, action))?;
+    }
     Ok(recipients)
+}
+
+/// A decision, in a function of its own: its callers need nothing of its contract.
+fn decided(
+    alloc: Global,
+    action: Option<&Action>,
+    sender: &Sender,
+    recipients: &[(Address, Option<Action>)],
+) -> Result<Verdict, AllocError> {
+    decide(alloc, action, sender, recipients)
 }
 
 /// The verdict under the sender's action and those of the recipients x, y and z.
@@ -90,12 +101,12 @@ fn shown(alloc: Global, sender: &str, x: &str, y: &str, z: &str) -> Result<Strin
     let action = found(alloc, sender)?;
     let ann = Sender::parse(alloc, "ann@a")?;
     let recipients = recipients_with(alloc, x, y, z)?;
-    let verdict = decide(alloc, action.as_ref(), &ann, recipients.as_slice())?;
+    let verdict = decided(alloc, action.as_ref(), &ann, recipients.as_slice())?;
     Ok(verdict_text(alloc, &verdict)?)
 }
 
 /// What was found for the sender and for the recipients x, y and z, and the verdict.
-const VERDICTS: [(&str, &str, &str, &str, &str); 12] = [
+const VERDICTS: &[(&str, &str, &str, &str, &str)] = &[
     ("", "", "", "", "queue x@r y@r z@r"),
     ("OK", "OK x", "DUNNO", "", "queue x@r y@r z@r"),
     (
@@ -143,7 +154,7 @@ const VERDICTS: [(&str, &str, &str, &str, &str); 12] = [
 #[test]
 fn verdicts(rt: HostRuntime) -> Result<(), TestFail> {
     for (sender, x, y, z, want) in VERDICTS {
-        assert_eq!(rt; shown(rt.alloc(), sender, x, y, z)?.as_str(), want);
+        assert_eq!(rt; shown(rt.alloc(), sender, x, y, z)?.as_str(), *want);
     }
     Ok(())
 }

@@ -72,11 +72,22 @@ struct Ended {
     errors: Vec<u8>,
 }
 
+/// The exit status of the program, whose contract these tests do not need.
+fn status_of<R: Read, W: Write>(
+    rt: &HostRuntime,
+    words: &[String],
+    input: &mut R,
+    output: &mut W,
+    errors: &mut Vec<u8>,
+) -> u8 {
+    command(rt, words, input, output, errors)
+}
+
 /// The program with these words over this input.
 fn run_over<R: Read>(rt: &HostRuntime, words: &[String], input: &mut R) -> Ended {
     let mut output = Vec::new(rt.alloc());
     let mut errors = Vec::new(rt.alloc());
-    let status = command(rt, words, input, &mut output, &mut errors);
+    let status = status_of(rt, words, input, &mut output, &mut errors);
     Ended {
         status,
         output,
@@ -149,7 +160,7 @@ fn reader_that_fails_in_the_second_line(rt: HostRuntime) -> Result<(), Fail> {
 #[test]
 fn writer_that_takes_nothing(rt: HostRuntime) {
     let mut errors = Vec::new(rt.alloc());
-    let status = command(&rt, &[], &mut LIST.as_bytes(), &mut Full {}, &mut errors);
+    let status = status_of(&rt, &[], &mut LIST.as_bytes(), &mut Full {}, &mut errors);
     assert_eq!(rt;
         (status, errors.as_slice()),
         (1, b"hq: output\n".as_slice())
@@ -161,7 +172,7 @@ fn each_reply_is_flushed(rt: HostRuntime) {
     let mut input = "1 GET /v1/messages -\n\nx\n2 GET /v1/messages -".as_bytes();
     let mut output = Flushed { flushes: 0 };
     let mut errors = Vec::new(rt.alloc());
-    let status = command(&rt, &[], &mut input, &mut output, &mut errors);
+    let status = status_of(&rt, &[], &mut input, &mut output, &mut errors);
     assert_eq!(rt; (status, output.flushes), (0, 3));
 }
 

@@ -3,6 +3,10 @@
 #![tactic(auto)]
 
 #[cfg(test)]
+mod left;
+#[cfg(test)]
+mod lines;
+#[cfg(test)]
 mod messages;
 #[cfg(test)]
 mod refusals;

@@ -13,13 +13,18 @@ use std::test::Fail;
 /// The moment at which the messages of these tests were queued: 2026-01-01T00:00:00Z.
 const QUEUED: u64 = 1_767_225_600;
 
-/// A message of one recipient that was tried three times, in this state.
-fn message_in(alloc: Global, state: QueueState) -> Result<Message, Fail> {
-    let pending = Pending {
+/// One recipient, who was tried.
+fn pending(alloc: Global) -> Result<Pending, Fail> {
+    Ok(Pending {
         address: Address::parse(alloc, "bob@far.example")?,
         status: Some(Status::parse("4.2.0")?),
         text: Text::parse(alloc, "mailbox busy")?,
-    };
+    })
+}
+
+/// A message of one recipient that was tried three times, in this state.
+fn message_in(alloc: Global, state: QueueState) -> Result<Message, Fail> {
+    let pending = vec![in alloc; pending(alloc)?]?;
     let queued = Moment::new(QUEUED).ok_or("a moment")?;
     Ok(Message {
         serial: Serial::new(7).ok_or("a serial")?,
@@ -31,7 +36,7 @@ fn message_in(alloc: Global, state: QueueState) -> Result<Message, Fail> {
         next_try: queued,
         attempts: 3,
         warned: true,
-        pending: Items::from_vec(vec![in alloc; pending]?),
+        pending: Items::from_vec(pending),
     })
 }
 

@@ -6,7 +6,7 @@ use std::process::Abort;
 use std::test::Fail as TestFail;
 
 /// Every refusal, with its number and name.
-const REFUSALS: [(Refusal, u16, &str); 36] = [
+const REFUSALS: &[(Refusal, u16, &str)] = &[
     (Refusal::BadRequest, 1, "BadRequest"),
     (Refusal::NoKey, 2, "NoKey"),
     (Refusal::WrongRole, 3, "WrongRole"),
@@ -48,7 +48,7 @@ const REFUSALS: [(Refusal, u16, &str); 36] = [
 #[test]
 fn refusals(rt: HostRuntime) {
     for (refusal, number, name) in REFUSALS {
-        assert_eq!(rt; (refusal.number(), refusal.name()), (number, name));
+        assert_eq!(rt; (refusal.number(), refusal.name()), (*number, *name));
     }
 }
 

@@ -1,10 +1,11 @@
-//! The shelf of plain lists beside a slow plain program, which goes through all steps again for
-//! each answer.
+//! The shelf of plain lists beside a slow plain model, which goes through all steps again for each
+//! answer.
 
-use hq_envelope::{Address, Items, Moment, Name, Sender, Serial, Spool, Text};
+use crate::left::{are_told, is_found, left, left_counts, left_page, left_with, word};
+use hq_envelope::{Address, Fault, Items, Moment, Name, Sender, Serial, Spool, Text};
 use hq_queue::{Counts, Head, Message, Pending, QueueState, Tally};
 use hq_store::{Change, ListShelf, Shelf};
-use std::alloc::{AllocError, Global};
+use std::alloc::Global;
 use std::process::Abort;
 use std::test::Fail;
 
@@ -28,12 +29,15 @@ const ARRIVAL: u64 = 1_767_225_600;
 /// The moment of their next try.
 const NEXT_TRY: u64 = 1_767_225_900;
 
+/// The serials that are asked for.
+const SERIALS: &[&str] = &["1", "2", "3", "4", "5", "6", "7", "8", "9"];
+
 /// The spool names that are asked for: those of the steps, and one that nobody has.
-const SPOOLS: [&str; 4] = ["s1", "s2", "s3", "s4"];
+const SPOOLS: &[&str] = &["s1", "s2", "s3", "s4"];
 
 /// The pages that are asked for: the serial that one begins after, 0 for none, and how many
 /// messages it has at most.
-const PAGES: [(u64, usize); 8] = [
+const PAGES: &[(u64, usize)] = &[
     (0, 0),
     (0, 1),
     (0, 9),
@@ -44,11 +48,6 @@ const PAGES: [(u64, usize); 8] = [
     (9, 9),
 ];
 
-/// A word of a line; one that is missing is empty.
-fn word<'a>(line: &'a str, index: usize) -> &'a str {
-    line.split(' ').nth(index).unwrap_or("")
-}
-
 fn serial(number: u64) -> Result<Serial, Fail> {
     Ok(Serial::new(number).ok_or("no serial")?)
 }
@@ -57,15 +56,20 @@ fn moment(seconds: u64) -> Result<Moment, Fail> {
     Ok(Moment::new(seconds).ok_or("no moment")?)
 }
 
+/// A recipient who was not tried yet.
+fn recipient(alloc: Global, address: &str) -> Result<Pending, Fail> {
+    Ok(Pending {
+        address: Address::parse(alloc, address)?,
+        status: None,
+        text: Text::parse(alloc, "")?,
+    })
+}
+
 /// The recipients of a step, from its fifth word on.
 fn pending(alloc: Global, step: &str) -> Result<Vec<Pending>, Fail> {
     let mut pending = Vec::new(alloc);
-    for recipient in step.split(' ').skip(4) {
-        pending.push(Pending {
-            address: Address::parse(alloc, recipient)?,
-            status: None,
-            text: Text::parse(alloc, "")?,
-        })?;
+    for address in step.split(' ').skip(4) {
+        pending.push(recipient(alloc, address)?)?;
     }
     Ok(pending)
 }
@@ -96,160 +100,86 @@ fn change(alloc: Global, step: &str) -> Result<Change, Fail> {
     }
 }
 
-fn apply(alloc: Global, shelf: &mut ListShelf, step: &str) -> Result<(), Fail> {
-    let customer = Name::parse(alloc, word(step, 0))?;
-    shelf.apply(&customer, &[change(alloc, step)?])?;
-    Ok(())
+// Calls of the shelf, each in a function of its own: their callers need nothing of its contract.
+
+fn make(shelf: &mut ListShelf, customer: &Name, changes: &[Change]) -> Result<(), Fault> {
+    shelf.apply(customer, changes)
 }
 
-/// A message as a step has it, without the customer.
-fn told(alloc: Global, message: &Message) -> Result<String, AllocError> {
-    let spool = message.spool.as_str();
-    let mut text = format!(in alloc; "{} {spool} {}", message.serial.get(), message.size)?;
-    for recipient in message.pending.as_slice() {
-        text.push_str(" ")?;
-        text.push_str(recipient.address.as_str())?;
-    }
-    Ok(text)
+fn found_at(
+    shelf: &mut ListShelf,
+    customer: &Name,
+    serial: Serial,
+) -> Result<Option<Message>, Fault> {
+    shelf.message(customer, serial)
 }
 
-/// The same of a message that was looked for; empty where it is not there.
-fn told_found(alloc: Global, found: Option<Message>) -> Result<String, AllocError> {
-    match found {
-        None => Ok(String::new(alloc)),
-        Some(message) => told(alloc, &message),
-    }
+fn found_by(
+    shelf: &mut ListShelf,
+    customer: &Name,
+    spool: &Spool,
+) -> Result<Option<Message>, Fault> {
+    shelf.by_spool(customer, spool)
 }
 
-/// The same of several messages, a line each.
-fn told_all(alloc: Global, messages: &[Message]) -> Result<String, AllocError> {
-    let mut text = String::new(alloc);
-    for message in messages {
-        text.push_str(told(alloc, message)?.as_str())?;
-        text.push_str("\n")?;
-    }
-    Ok(text)
-}
-
-/// What the steps leave at a customer's serial: the last put of it, where no drop follows.
-fn left<'a>(steps: &'a [&'a str], customer: &str, number: u64) -> Option<&'a str> {
-    let mut found = None;
-    for step in steps {
-        if let Some((owner, rest)) = step.split_once(' ') {
-            if owner == customer && word(rest, 0).parse::<u64>() == Ok(number) {
-                found = rest.contains(' ').then_some(rest);
-            }
-        }
-    }
-    found
-}
-
-/// The message of a spool name that the steps leave.
-fn left_spool<'a>(steps: &'a [&'a str], customer: &str, spool: &str) -> Option<&'a str> {
-    for number in 1..10 {
-        if let Some(text) = left(steps, customer, number) {
-            if word(text, 1) == spool {
-                return Some(text);
-            }
-        }
-    }
-    None
-}
-
-/// The messages that the steps leave after a serial, in order, at most so many, a line each.
-fn left_page<'a>(
-    alloc: Global,
-    steps: &'a [&'a str],
-    customer: &str,
+fn page_of(
+    shelf: &mut ListShelf,
+    customer: &Name,
     after: u64,
     limit: usize,
-) -> Result<String, AllocError> {
-    let mut page = String::new(alloc);
-    let mut count = 0usize;
-    for number in after.saturating_add(1)..10 {
-        if let Some(text) = left(steps, customer, number) {
-            if count < limit {
-                page.push_str(text)?;
-                page.push_str("\n")?;
-                count = count.saturating_add(1);
-            }
-        }
-    }
-    Ok(page)
+) -> Result<Items<Message>, Fault> {
+    shelf.messages(customer, Serial::new(after), limit)
 }
 
-/// How much the steps leave.
-fn left_counts<'a>(steps: &'a [&'a str], customer: &str) -> Counts {
-    let mut counts = Counts {
-        messages: 0,
-        bytes: 0,
-        lines: 0,
-    };
-    for number in 1..10 {
-        if let Some(text) = left(steps, customer, number) {
-            let size = word(text, 2).parse::<u64>().unwrap_or(0);
-            counts.messages = counts.messages.saturating_add(1);
-            counts.bytes = counts.bytes.saturating_add(size);
-        }
-    }
-    counts
+fn counts_of(shelf: &mut ListShelf, customer: &Name) -> Result<Counts, Fault> {
+    shelf.counts(customer)
 }
 
-fn expect_messages(
-    rt: &(impl Abort + AllocGlobal),
-    shelf: &mut ListShelf,
-    customer: &Name,
-    steps: &[&str],
-) -> Result<(), Fail> {
-    for number in 1..10 {
-        let found = shelf.message(customer, serial(number)?)?;
-        let told = told_found(rt.alloc(), found)?;
-        let want = left(steps, customer.as_str(), number).unwrap_or("");
-        assert_eq!(rt;
-            told.as_str(),
-            want,
-            "{number} of {customer:?} after {steps:?}"
-        );
-    }
+fn apply(alloc: Global, shelf: &mut ListShelf, step: &str) -> Result<(), Fail> {
+    let customer = Name::parse(alloc, word(step, 0))?;
+    make(shelf, &customer, &[change(alloc, step)?])?;
     Ok(())
 }
 
-fn expect_spools(
-    rt: &(impl Abort + AllocGlobal),
+fn has_messages(shelf: &mut ListShelf, customer: &Name, left: &[&str]) -> Result<bool, Fail> {
+    for number in SERIALS {
+        let found = found_at(shelf, customer, serial(number.parse::<u64>()?)?)?;
+        if !is_found(found.as_ref(), left_with(left, 0, number)) {
+            return Ok(false);
+        }
+    }
+    Ok(true)
+}
+
+fn has_spools(
+    alloc: Global,
     shelf: &mut ListShelf,
     customer: &Name,
-    steps: &[&str],
-) -> Result<(), Fail> {
+    left: &[&str],
+) -> Result<bool, Fail> {
     for spool in SPOOLS {
-        let found = shelf.by_spool(customer, &Spool::parse(rt.alloc(), spool)?)?;
-        let told = told_found(rt.alloc(), found)?;
-        let want = left_spool(steps, customer.as_str(), spool).unwrap_or("");
-        assert_eq!(rt;
-            told.as_str(),
-            want,
-            "{spool} of {customer:?} after {steps:?}"
-        );
+        let found = found_by(shelf, customer, &Spool::parse(alloc, spool)?)?;
+        if !is_found(found.as_ref(), left_with(left, 1, spool)) {
+            return Ok(false);
+        }
     }
-    Ok(())
+    Ok(true)
 }
 
-fn expect_pages(
-    rt: &(impl Abort + AllocGlobal),
+fn has_pages(
+    alloc: Global,
     shelf: &mut ListShelf,
     customer: &Name,
-    steps: &[&str],
-) -> Result<(), Fail> {
+    left: &[&str],
+) -> Result<bool, Fail> {
     for (after, limit) in PAGES {
-        let page = shelf.messages(customer, Serial::new(after), limit)?;
-        let told = told_all(rt.alloc(), page.as_slice())?;
-        let want = left_page(rt.alloc(), &*steps, customer.as_str(), after, limit)?;
-        assert_eq!(rt;
-            told,
-            want,
-            "{limit} after {after} of {customer:?} after {steps:?}"
-        );
+        let page = page_of(shelf, customer, *after, *limit)?;
+        let texts = left_page(alloc, left, *after, *limit)?;
+        if !are_told(page.as_slice(), texts.as_slice()) {
+            return Ok(false);
+        }
     }
-    Ok(())
+    Ok(true)
 }
 
 /// All readings of a customer are what the steps leave.
@@ -259,11 +189,19 @@ fn expect_left(
     customer: &str,
     steps: &[&str],
 ) -> Result<(), Fail> {
-    let name = Name::parse(rt.alloc(), customer)?;
-    expect_messages(rt, shelf, &name, steps)?;
-    expect_spools(rt, shelf, &name, steps)?;
-    expect_pages(rt, shelf, &name, steps)?;
-    assert_eq!(rt; shelf.counts(&name)?, left_counts(steps, customer));
+    let alloc = rt.alloc();
+    let name = Name::parse(alloc, customer)?;
+    let left = left(alloc, steps, customer)?;
+    let left = left.as_slice();
+    let messages = has_messages(shelf, &name, left)?;
+    let spools = has_spools(alloc, shelf, &name, left)?;
+    let pages = has_pages(alloc, shelf, &name, left)?;
+    let counts = counts_of(shelf, &name)?;
+    assert_eq!(rt;
+        (messages, spools, pages, counts),
+        (true, true, true, left_counts(left)),
+        "{customer} after {steps:?}"
+    );
     Ok(())
 }
 
@@ -309,28 +247,27 @@ const OPENING_HEAD: Head = Head {
     },
 };
 
+/// The messages that are put at once, behind a head.
+const PUTS: [&str; 2] = [
+    "acme 1 s1 900 bob@far.example cat@far.example",
+    "acme 2 s2 11 fay@far.example",
+];
+
 /// A head and two messages, as one list of changes.
 fn three_changes(alloc: Global) -> Result<Vec<Change>, Fail> {
-    let first = change(alloc, "acme 1 s1 900 bob@far.example cat@far.example")?;
-    let second = change(alloc, "acme 2 s2 11 fay@far.example")?;
+    let first = change(alloc, PUTS[0])?;
+    let second = change(alloc, PUTS[1])?;
     Ok(vec![in alloc; Change::PutHead(LATER_HEAD), first, second]?)
 }
 
-fn expect_customer(
+fn expect_head(
     rt: &(impl Abort + AllocGlobal),
     shelf: &mut ListShelf,
     customer: &str,
     head: Head,
-    messages: &str,
 ) -> Result<(), Fail> {
     let name = Name::parse(rt.alloc(), customer)?;
-    let all = shelf.messages(&name, None, 100)?;
     assert_eq!(rt; shelf.head(&name)?, head, "of {customer}");
-    assert_eq!(rt;
-        told_all(rt.alloc(), all.as_slice())?.as_str(),
-        messages,
-        "of {customer}"
-    );
     Ok(())
 }
 
@@ -339,10 +276,11 @@ fn expect_customer(
 fn three_changes_at_once(rt: HostRuntime) -> Result<(), Fail> {
     let mut shelf = ListShelf::new(rt.alloc());
     let changes = three_changes(rt.alloc())?;
-    shelf.apply(&Name::parse(rt.alloc(), "acme")?, changes.as_slice())?;
-    let put = "1 s1 900 bob@far.example cat@far.example\n2 s2 11 fay@far.example\n";
-    for (customer, head, messages) in [("acme", LATER_HEAD, put), ("birch", OPENING_HEAD, "")] {
-        expect_customer(&rt, &mut shelf, customer, head, messages)?;
+    let acme = Name::parse(rt.alloc(), "acme")?;
+    make(&mut shelf, &acme, changes.as_slice())?;
+    for (customer, head) in [("acme", LATER_HEAD), ("birch", OPENING_HEAD)] {
+        expect_head(&rt, &mut shelf, customer, head)?;
+        expect_left(&rt, &mut shelf, customer, &PUTS)?;
     }
     assert_eq!(rt; shelf.faults(), 0);
     Ok(())
@@ -375,9 +313,8 @@ fn every_part_comes_back(rt: HostRuntime) -> Result<(), Fail> {
     let mut shelf = ListShelf::new(rt.alloc());
     apply(rt.alloc(), &mut shelf, "acme 1 s1 900 bob@far.example")?;
     let acme = Name::parse(rt.alloc(), "acme")?;
-    let message = shelf
-        .message(&acme, serial(1)?)?
-        .ok_or("the message is missing")?;
+    let found = found_at(&mut shelf, &acme, serial(1)?)?;
+    let message = found.ok_or("the message is missing")?;
     expect_whole(&rt, &message);
     Ok(())
 }

@@ -4,7 +4,7 @@ use hq_envelope::{
     Address, Fail, Host, Items, Key, Label, Moment, Name, Sender, Serial, Spool, Text, TryCopy,
     copy_all,
 };
-use std::alloc::Global;
+use std::alloc::{AllocError, Global};
 use std::process::Abort;
 use std::test::Fail as TestFail;
 
@@ -51,6 +51,32 @@ fn text(alloc: Global, text: &str) -> Kept {
     Ok(String::from_str(alloc, copy.as_str())?)
 }
 
+/// The readers of texts.
+#[derive(Clone, Copy)]
+enum Kind {
+    Address,
+    Sender,
+    Spool,
+    Label,
+    Name,
+    Key,
+    Host,
+    Text,
+}
+
+fn kept(alloc: Global, kind: Kind, given: &str) -> Kept {
+    match kind {
+        Kind::Address => address(alloc, given),
+        Kind::Sender => sender(alloc, given),
+        Kind::Spool => spool(alloc, given),
+        Kind::Label => label(alloc, given),
+        Kind::Name => name(alloc, given),
+        Kind::Key => key(alloc, given),
+        Kind::Host => host(alloc, given),
+        Kind::Text => text(alloc, given),
+    }
+}
+
 fn number_of(fail: &Fail) -> u16 {
     match fail {
         Fail::Refused(refusal) => refusal.number(),
@@ -59,35 +85,92 @@ fn number_of(fail: &Fail) -> u16 {
 }
 
 /// A text reads back as it was given where the number is 0, and is else refused with that number.
-fn expect_kept(rt: &impl Abort, given: &str, kept: &Kept, number: u16) {
-    let told = match kept {
+fn expect_kept(rt: &(impl Abort + AllocGlobal), kind: Kind, given: &str, number: u16) {
+    let kept = kept(rt.alloc(), kind, given);
+    let told = match &kept {
         Ok(text) => (text.as_str(), 0),
         Err(fail) => (given, number_of(fail)),
     };
     assert_eq!(rt; told, (given, number));
 }
 
+/// Texts, and the number of the refusal of each, 0 where it is taken.
+const TEXTS: &[(Kind, &str, u16)] = &[
+    (Kind::Address, "", 20),
+    (Kind::Address, "a@b@c", 20),
+    (Kind::Address, "ann@a..example", 20),
+    (Kind::Address, "@a.example", 20),
+    (Kind::Address, "ann@", 20),
+    (Kind::Address, "ann", 20),
+    (Kind::Address, "an n@a", 20),
+    (Kind::Address, "an(n@a", 20),
+    (Kind::Address, "ann@a.", 20),
+    (Kind::Address, "ann@a!", 20),
+    (Kind::Address, "ann@a", 0),
+    (Kind::Address, "A/b@x_y.example", 0),
+    (Kind::Sender, "", 0),
+    (Kind::Sender, "ann@a.example", 0),
+    (Kind::Sender, "ann", 20),
+    (Kind::Sender, "<>", 20),
+    (Kind::Spool, "a.b-c_1", 0),
+    (Kind::Spool, "", 23),
+    (Kind::Spool, "a b", 23),
+    (Kind::Label, "jan", 0),
+    (Kind::Label, "a b", 27),
+    (Kind::Label, "", 27),
+    (Kind::Name, "acme-2", 0),
+    (Kind::Name, "Acme", 8),
+    (Kind::Name, "", 8),
+    (Kind::Name, "a_b", 8),
+    (Kind::Key, "acmekey000000001", 0),
+    (Kind::Key, "acmekey00000001", 8),
+    (Kind::Key, "acme-key00000001", 8),
+    (Kind::Host, "relay.example", 0),
+    (Kind::Host, ".example", 56),
+    (Kind::Host, "", 56),
+    (Kind::Host, "a..b", 56),
+    (Kind::Text, "", 0),
+    (Kind::Text, "mailbox busy ~", 0),
+    (Kind::Text, "\t", 28),
+    (Kind::Text, "\u{7f}", 28),
+];
+
 #[test]
-fn addresses(rt: HostRuntime) -> Result<(), TestFail> {
-    let longest = format!(in rt.alloc(); "ann@{:x>250}", "")?;
-    let too_long = format!(in rt.alloc(); "ann@{:x>251}", "")?;
-    for (given, number) in [
-        ("", 20),
-        ("a@b@c", 20),
-        ("ann@a..example", 20),
-        ("@a.example", 20),
-        ("ann@", 20),
-        ("ann", 20),
-        ("an n@a", 20),
-        ("an(n@a", 20),
-        ("ann@a.", 20),
-        ("ann@a!", 20),
-        ("ann@a", 0),
-        ("A/b@x_y.example", 0),
-        (longest.as_str(), 0),
-        (too_long.as_str(), 20),
-    ] {
-        expect_kept(&rt, given, &address(rt.alloc(), given), number);
+fn texts(rt: HostRuntime) {
+    for (kind, given, number) in TEXTS {
+        expect_kept(&rt, *kind, given, *number);
+    }
+}
+
+/// A text, and behind it another so many times.
+fn filled(alloc: Global, begin: &str, filler: &str, count: usize) -> Result<String, AllocError> {
+    let mut text = String::from_str(alloc, begin)?;
+    text.push_str(filler.repeat(alloc, count)?.as_str())?;
+    Ok(text)
+}
+
+/// The longest text of each kind, and one byte more: what it begins with, what fills it how many
+/// times, and the number of its refusal.
+const LONGEST: &[(Kind, &str, &str, usize, u16)] = &[
+    (Kind::Address, "ann@", "x", 250, 0),
+    (Kind::Address, "ann@", "x", 251, 20),
+    (Kind::Spool, "", "a", 64, 0),
+    (Kind::Spool, "", "a", 65, 23),
+    (Kind::Name, "", "z", 32, 0),
+    (Kind::Name, "", "z", 33, 8),
+    (Kind::Key, "", "k", 64, 0),
+    (Kind::Key, "", "k", 65, 8),
+    (Kind::Host, "", "h", 254, 0),
+    (Kind::Host, "", "h", 255, 56),
+    (Kind::Text, "", " ", 1000, 0),
+    (Kind::Text, "", " ", 1001, 28),
+];
+
+#[test]
+fn longest_texts(rt: HostRuntime) -> Result<(), TestFail> {
+    for (kind, begin, filler, count, number) in LONGEST {
+        let given = filled(rt.alloc(), begin, filler, *count)?;
+        expect_kept(&rt, *kind, given.as_str(), *number);
     }
     Ok(())
 }
@@ -115,13 +198,6 @@ fn the_same_address(rt: HostRuntime) -> Result<(), TestFail> {
         assert_eq!(rt; one.same(&other), want);
     }
     Ok(())
-}
-
-#[test]
-fn senders(rt: HostRuntime) {
-    for (given, number) in [("", 0), ("ann@a.example", 0), ("ann", 20), ("<>", 20)] {
-        expect_kept(&rt, given, &sender(rt.alloc(), given), number);
-    }
 }
 
 #[test]
@@ -180,100 +256,10 @@ fn moments(rt: HostRuntime) {
 }
 
 #[test]
-fn spools(rt: HostRuntime) -> Result<(), TestFail> {
-    let longest = "a".repeat(rt.alloc(), 64)?;
-    let too_long = "a".repeat(rt.alloc(), 65)?;
-    for (given, number) in [
-        ("a.b-c_1", 0),
-        ("", 23),
-        ("a b", 23),
-        (longest.as_str(), 0),
-        (too_long.as_str(), 23),
-    ] {
-        expect_kept(&rt, given, &spool(rt.alloc(), given), number);
-    }
-    Ok(())
-}
-
-#[test]
-fn labels(rt: HostRuntime) {
-    for (given, number) in [("jan", 0), ("a b", 27), ("", 27)] {
-        expect_kept(&rt, given, &label(rt.alloc(), given), number);
-    }
-}
-
-#[test]
-fn names(rt: HostRuntime) -> Result<(), TestFail> {
-    let longest = "z".repeat(rt.alloc(), 32)?;
-    let too_long = "z".repeat(rt.alloc(), 33)?;
-    for (given, number) in [
-        ("acme-2", 0),
-        ("Acme", 8),
-        ("", 8),
-        ("a_b", 8),
-        (longest.as_str(), 0),
-        (too_long.as_str(), 8),
-    ] {
-        expect_kept(&rt, given, &name(rt.alloc(), given), number);
-    }
-    Ok(())
-}
-
-#[test]
-fn keys(rt: HostRuntime) -> Result<(), TestFail> {
-    let longest = "k".repeat(rt.alloc(), 64)?;
-    let too_long = "k".repeat(rt.alloc(), 65)?;
-    for (given, number) in [
-        ("acmekey000000001", 0),
-        ("acmekey00000001", 8),
-        ("acme-key00000001", 8),
-        (longest.as_str(), 0),
-        (too_long.as_str(), 8),
-    ] {
-        expect_kept(&rt, given, &key(rt.alloc(), given), number);
-    }
-    Ok(())
-}
-
-#[test]
 fn a_key_stays_out_of_logs(rt: HostRuntime) -> Result<(), TestFail> {
     let key = Key::parse(rt.alloc(), "acmekey000000001")?;
     let shown = format!(in rt.alloc(); "{key:?}")?;
     assert_eq!(rt; shown.as_str(), "Key(..)");
-    Ok(())
-}
-
-#[test]
-fn hosts(rt: HostRuntime) -> Result<(), TestFail> {
-    let longest = "h".repeat(rt.alloc(), 254)?;
-    let too_long = "h".repeat(rt.alloc(), 255)?;
-    for (given, number) in [
-        ("relay.example", 0),
-        (".example", 56),
-        ("", 56),
-        ("a..b", 56),
-        (longest.as_str(), 0),
-        (too_long.as_str(), 56),
-    ] {
-        expect_kept(&rt, given, &host(rt.alloc(), given), number);
-    }
-    Ok(())
-}
-
-#[test]
-fn texts(rt: HostRuntime) -> Result<(), TestFail> {
-    let longest = " ".repeat(rt.alloc(), 1000)?;
-    let too_long = " ".repeat(rt.alloc(), 1001)?;
-    for (given, number) in [
-        ("", 0),
-        ("mailbox busy ~", 0),
-        ("\t", 28),
-        ("\u{7f}", 28),
-        (longest.as_str(), 0),
-        (too_long.as_str(), 28),
-    ] {
-        expect_kept(&rt, given, &text(rt.alloc(), given), number);
-    }
     Ok(())
 }
 

@@ -1,13 +1,20 @@
 -- Answers as one line of plain text.
-use Rattle.std.specs.Prelude.{ℕ, Bool, true, false, List, ◌++◌, codes, decimal, flat_map}
+use Rattle.std.specs.Prelude.{ℕ, Bool, true, false, List, ◌++◌, codes, decimal, flat_map, Option, Some, None}
 use Rattle.hq_base.specs.Refusals.{refusal_shown}
 use Rattle.hq_envelope.specs.Senders.{sender_text}
+use Rattle.hq_access.specs.Actions.{action_text}
+use Rattle.hq_access.specs.Patterns.{class_name}
+use Rattle.hq_access.specs.declared.action.Action.{Action}
+use Rattle.hq_access.specs.declared.pattern.Line.{Line}
+use Rattle.hq_access.specs.declared.verdicts.Refused.{Refused}
 use Rattle.hq_queue.specs.declared.message.Message.{Message}
 use Rattle.hq_queue.specs.declared.message.Pending.{Pending}
 use Rattle.hq_queue.specs.declared.message.QueueState.{QueueState}
 use Rattle.hq_queue.specs.declared.message.QueueState.TheVariants.{Incoming, Deferred, Hold}
 use Rattle.hq_desk.specs.declared.answer.Answer.{Answer}
-use Rattle.hq_desk.specs.declared.answer.Answer.TheVariants.{Refused, Queued, Repeated, Listed, Shown, Changed}
+use Rattle.hq_desk.specs.declared.answer.Answer.TheVariants as answers
+use Rattle.hq_desk.specs.declared.answer.LinePut.{LinePut}
+use Rattle.hq_desk.specs.declared.answer.LinePut.TheVariants as put
 
 abbrev pub state_word : QueueState → List ℕ
 state_word Incoming = codes "incoming"
@@ -47,10 +54,46 @@ message front m = times (front ++ number m.serial ++ word (state_word m.state) +
 abbrev pub list : List Message → Bool → List ℕ
 list ms more = codes "listed" ++ flat_map serial ms ++ word (end_word more)
 
+-- who is refused, with code and text
+abbrev pub refused : Refused → List ℕ
+refused r = word (sender_text r.address) ++ number r.code ++ word r.text
+
+abbrev pub all_refused : List ℕ → List Refused → List ℕ
+all_refused front rs = front ++ flat_map refused rs
+
+-- ---- lines of access tables
+
+abbrev pub line : Line → List ℕ
+line l = word (class_name l.pattern.0) ++ word l.pattern.1 ++ word (action_text l.action)
+
+abbrev pub lines : List Line → Bool → List ℕ
+lines ls more = codes "lines" ++ flat_map line ls ++ word (end_word more)
+
+abbrev pub put_word : LinePut → List ℕ
+put_word put.Added = codes "added"
+put_word put.Changed = codes "changed"
+put_word put.Same = codes "same"
+
+-- the key that has a line, and its action
+abbrev pub match_shown : Option (List ℕ × Action) → List ℕ
+match_shown None = codes " nothing"
+match_shown (Some found) = codes " found" ++ word found.0 ++ word (action_text found.1)
+
+abbrev pub checked : List (List ℕ) → Option (List ℕ × Action) → List ℕ
+checked keys found = codes "keys" ++ flat_map word keys ++ match_shown found
+
+-- ---- every answer
+
 abbrev pub answer : Answer → List ℕ
-answer (Refused refusal) = codes "refused " ++ refusal_shown refusal
-answer (Queued m) = message (codes "queued") m
-answer (Repeated n) = codes "repeated " ++ decimal n
-answer (Listed ms more) = list ms more
-answer (Shown m) = message (codes "shown") m
-answer (Changed count) = codes "changed " ++ decimal count
+answer (answers.Refused refusal) = codes "refused " ++ refusal_shown refusal
+answer (answers.Queued m rs) = all_refused (message (codes "queued") m) rs
+answer (answers.Repeated n) = codes "repeated " ++ decimal n
+answer (answers.Rejected rs) = all_refused (codes "rejected") rs
+answer (answers.Discarded rs) = all_refused (codes "discarded") rs
+answer (answers.Listed ms more) = list ms more
+answer (answers.Shown m) = message (codes "shown") m
+answer (answers.Changed count) = codes "changed " ++ decimal count
+answer (answers.LinesListed ls more) = lines ls more
+answer (answers.LinePut done) = codes "put " ++ put_word done
+answer answers.LineDropped = codes "dropped"
+answer (answers.Checked keys found) = checked keys found

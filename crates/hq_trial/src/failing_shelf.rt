@@ -5,6 +5,7 @@ ghost use Rattle.hq_trial.specs.Trials.{opening};
 ghost use Rattle.hq_trial.specs.Shelves.{inner_of, trial_of};
 
 use crate::failure::{Failure, Trial};
+use hq_access::{Action, Class, Line, LookupKey, Pattern};
 use hq_envelope::{Fault, Items, Name, Serial, Spool};
 use hq_queue::{Counts, Head, Message};
 use hq_store::{Change, Shelf};
@@ -102,6 +103,32 @@ impl<S: Shelf> Shelf for FailingShelf<S> {
         let answer = match self.trial.count() {
             Some(fault) => Err(fault),
             None => self.inner.messages(customer, after, limit),
+        };
+        self.trial.answer(answer)
+    }
+
+    fn line(
+        &mut self,
+        customer: &Name,
+        class: Class,
+        key: &LookupKey,
+    ) -> Result<Option<Action>, Fault> {
+        let answer = match self.trial.count() {
+            Some(fault) => Err(fault),
+            None => self.inner.line(customer, class, key),
+        };
+        self.trial.answer(answer)
+    }
+
+    fn lines(
+        &mut self,
+        customer: &Name,
+        after: Option<&Pattern>,
+        limit: usize,
+    ) -> Result<Items<Line>, Fault> {
+        let answer = match self.trial.count() {
+            Some(fault) => Err(fault),
+            None => self.inner.lines(customer, after, limit),
         };
         self.trial.answer(answer)
     }

@@ -1,9 +1,11 @@
 //! Answers as one line of plain text, for tests to compare.
 
 ghost use Rattle.std.specs.Prelude.{◌≡◌, ◌++◌, IfOk, OnOk, codes, flat_map, string_bytes};
+ghost use Rattle.hq_access.specs.Actions.{action_text};
 ghost use Rattle.hq_trial.specs.Texts as texts;
 
-use hq_desk::{Answer, Render};
+use hq_access::{Action, Line, LookupKey, Refused};
+use hq_desk::{Answer, LinePut, Render};
 use hq_queue::{Message, Pending, QueueState};
 use std::alloc::{AllocError, Global};
 
@@ -111,13 +113,136 @@ fn list_text(alloc: Global, messages: &[Message], more: bool) -> Result<String, 
     Ok(text)
 }
 
+/// Adds who is refused, with code and text.
+fn push_refused(alloc: Global, text: &mut String, list: &[Refused]) -> Result<(), AllocError>
+    ensures { OnOk result (string_bytes text.new ≡ texts.all_refused
+        (string_bytes text.old) list.now) }
+{
+    for refused in list {
+        push_word(text, refused.address.as_str())?;
+        push_number(alloc, text, u64::from(refused.code))?;
+        push_word(text, refused.text.as_str())?;
+    }
+    Ok(())
+}
+
+/// A message in the queue, and who is refused.
+fn queued_text(alloc: Global, message: &Message, refused: &[Refused]) -> Result<String, AllocError>
+    ensures { IfOk result (λ text. string_bytes text ≡ texts.all_refused
+        (texts.message (codes "queued") message.now) refused.now) }
+{
+    let mut text = message_text(alloc, "queued", message)?;
+    push_refused(alloc, &mut text, refused)?;
+    Ok(text)
+}
+
+/// Who is refused, behind a word.
+fn refused_text(alloc: Global, front: &str, refused: &[Refused]) -> Result<String, AllocError>
+    ensures { IfOk result (λ text. string_bytes text
+        ≡ texts.all_refused front.now refused.now) }
+{
+    let mut text = String::from_str(alloc, front)?;
+    push_refused(alloc, &mut text, refused)?;
+    Ok(text)
+}
+
+/// Adds a word and an action, as it is written.
+fn push_action(
+    alloc: Global,
+    text: &mut String,
+    key: &str,
+    action: &Action,
+) -> Result<(), AllocError>
+    ensures { OnOk result (string_bytes text.new ≡ string_bytes text.old
+        ++ texts.word key.now ++ texts.word (action_text action.now)) }
+{
+    let written = action.text(alloc)?;
+    push_word(text, key)?;
+    push_word(text, written.as_str())
+}
+
+/// Adds lines.
+fn push_lines(alloc: Global, text: &mut String, lines: &[Line]) -> Result<(), AllocError>
+    ensures { OnOk result (string_bytes text.new ≡ string_bytes text.old
+        ++ flat_map texts.line lines.now) }
+{
+    for line in lines {
+        push_word(text, line.pattern.class().name())?;
+        push_action(alloc, text, line.pattern.as_str(), &line.action)?;
+    }
+    Ok(())
+}
+
+/// A page of lines.
+fn lines_text(alloc: Global, lines: &[Line], more: bool) -> Result<String, AllocError>
+    ensures { IfOk result (λ text. string_bytes text ≡ texts.lines lines.now more) }
+{
+    let mut text = String::from_str(alloc, "lines")?;
+    push_lines(alloc, &mut text, lines)?;
+    push_word(&mut text, end_word(more))?;
+    Ok(text)
+}
+
+fn put_word(done: LinePut) -> &'static str
+    ensures { result.now ≡ texts.put_word done }
+{
+    match done {
+        LinePut::Added => "added",
+        LinePut::Changed => "changed",
+        LinePut::Same => "same",
+    }
+}
+
+/// Adds keys.
+fn push_keys(text: &mut String, keys: &[LookupKey]) -> Result<(), AllocError>
+    ensures { OnOk result (string_bytes text.new ≡ string_bytes text.old
+        ++ flat_map texts.word keys.now) }
+{
+    for key in keys {
+        push_word(text, key.as_str())?;
+    }
+    Ok(())
+}
+
+/// Adds what was found.
+fn push_found(
+    alloc: Global,
+    text: &mut String,
+    found: &Option<(LookupKey, Action)>,
+) -> Result<(), AllocError>
+    ensures { OnOk result (string_bytes text.new ≡ string_bytes text.old
+        ++ texts.match_shown found.now) }
+{
+    match found {
+        None => text.push_str(" nothing"),
+        Some((key, action)) => {
+            text.push_str(" found")?;
+            push_action(alloc, text, key.as_str(), action)
+        }
+    }
+}
+
+/// The keys of an address, and what was found.
+fn checked_text(
+    alloc: Global,
+    keys: &[LookupKey],
+    found: &Option<(LookupKey, Action)>,
+) -> Result<String, AllocError>
+    ensures { IfOk result (λ text. string_bytes text ≡ texts.checked keys.now found.now) }
+{
+    let mut text = String::from_str(alloc, "keys")?;
+    push_keys(&mut text, keys)?;
+    push_found(alloc, &mut text, found)?;
+    Ok(text)
+}
+
 /// An answer in words.
 fn answer_text(alloc: Global, answer: &Answer) -> Result<String, AllocError>
     ensures { IfOk result (λ text. string_bytes text ≡ texts.answer answer.now) }
 {
     match answer {
         Answer::Refused(refusal) => format!(in alloc; "refused {refusal}"),
-        Answer::Queued(message) => message_text(alloc, "queued", message),
+        Answer::Queued(message, refused) => queued_text(alloc, message, refused.as_slice()),
         Answer::Repeated(serial) => {
             let serial = serial.get();
             format!(in alloc; "repeated {serial}")
@@ -125,6 +250,12 @@ fn answer_text(alloc: Global, answer: &Answer) -> Result<String, AllocError>
         Answer::Listed(messages, more) => list_text(alloc, messages.as_slice(), *more),
         Answer::Shown(message) => message_text(alloc, "shown", message),
         Answer::Changed(count) => format!(in alloc; "changed {count}"),
+        Answer::Rejected(refused) => refused_text(alloc, "rejected", refused.as_slice()),
+        Answer::Discarded(refused) => refused_text(alloc, "discarded", refused.as_slice()),
+        Answer::LinesListed(lines, more) => lines_text(alloc, lines.as_slice(), *more),
+        Answer::LinePut(done) => format!(in alloc; "put {}", put_word(*done)),
+        Answer::LineDropped => String::from_str(alloc, "dropped"),
+        Answer::Checked(keys, found) => checked_text(alloc, keys.as_slice(), found),
     }
 }
 

@@ -3,14 +3,16 @@
 
 mod answers;
 mod failures;
+mod tables;
 
 use crate::PlainText;
 use crate::plain_text::message_text;
+use hq_access::{Action, Class, Line, Pattern};
 use hq_desk::{Call, Desk, Rendered, Submission};
 use hq_envelope::{Address, Fault, Host, Items, Moment, Name, Sender, Serial, Spool};
-use hq_queue::{Entry, Quota};
+use hq_queue::{Counts, Entry, Head, Message, Quota};
 use hq_store::Shelf;
-use std::alloc::Global;
+use std::alloc::{AllocError, Global};
 use std::test::Fail;
 
 /// 2026-01-01T00:00:00Z.
@@ -97,8 +99,36 @@ fn call(alloc: Global, line: &str) -> Result<Call, Fail> {
     match word(line, 2) {
         "submit" => Ok(Call::Submit(submission(alloc, line)?)),
         "list" => Ok(Call::List(None)),
+        "lines" => Ok(Call::Lines(None)),
+        "lines-after" => Ok(Call::Lines(Some(pattern(alloc, line)?))),
+        "put" => Ok(Call::PutLine(table_line(alloc, line)?)),
+        "drop" => Ok(Call::DropLine(pattern(alloc, line)?)),
+        "check" => Ok(Call::Check(class(line), sender(alloc, word(line, 4))?)),
         kind => call_at(kind, serial(word(line, 3))?),
     }
+}
+
+/// The class that the fourth word names.
+fn class(line: &str) -> Class {
+    if word(line, 3) == "sender" {
+        Class::SenderSide
+    } else {
+        Class::RecipientSide
+    }
+}
+
+/// `CLASS PATTERN` from the fourth word on.
+fn pattern(alloc: Global, line: &str) -> Result<Pattern, Fail> {
+    Ok(Pattern::parse(alloc, class(line), word(line, 4))?)
+}
+
+/// `CLASS PATTERN ACTION` from the fourth word on.
+fn table_line(alloc: Global, line: &str) -> Result<Line, Fail> {
+    let action = line.splitn(6, ' ').nth(5).unwrap_or("");
+    Ok(Line {
+        pattern: pattern(alloc, line)?,
+        action: Action::parse(alloc, action)?,
+    })
 }
 
 fn call_at(kind: &str, serial: Serial) -> Result<Call, Fail> {
@@ -123,15 +153,35 @@ fn shown(alloc: Global, answered: Result<Rendered, Fault>) -> Result<String, Fai
     }
 }
 
+/// What a call is answered; the contract of the desk is not needed by these tests.
+fn answered<S: Shelf + Drop>(
+    alloc: Global,
+    desk: &mut Desk<S>,
+    at: Moment,
+    entry: &Entry,
+    call: Call,
+) -> Result<Rendered, Fault> {
+    desk.act(alloc, at, entry, call, &PlainText)
+}
+
 /// What the line is answered over a desk on the shelf, and the shelf again.
 fn told<S: Shelf + Drop>(alloc: Global, shelf: S, line: &str) -> Result<(S, String), Fail> {
     let at = moment(word(line, 0))?;
     let entry = entry(alloc, word(line, 1))?;
     let call = call(alloc, line)?;
     let mut desk = Desk::new(shelf, Host::parse(alloc, "relay.example")?);
-    let answered = desk.act(alloc, at, &entry, call, &PlainText);
+    let answered = answered(alloc, &mut desk, at, &entry, call);
     let text = shown(alloc, answered)?;
     Ok((desk.into_shelf(), text))
+}
+
+/// Messages whole, each behind a word.
+fn messages_text(alloc: Global, messages: &[Message]) -> Result<String, AllocError> {
+    let mut text = String::new(alloc);
+    for message in messages {
+        text.push_str(message_text(alloc, " message", message)?.as_str())?;
+    }
+    Ok(text)
 }
 
 /// All that a shelf keeps of a customer, read back.
@@ -139,9 +189,27 @@ fn kept<S: Shelf>(alloc: Global, shelf: &mut S, customer: &str) -> Result<String
     let name = Name::parse(alloc, customer)?;
     let head = shelf.head(&name)?;
     let counts = shelf.counts(&name)?;
-    let mut text = format!(in alloc; "{head:?} {counts:?}")?;
-    for message in shelf.messages(&name, None, 1_000)?.as_slice() {
-        text.push_str(message_text(alloc, " message", message)?.as_str())?;
-    }
+    let messages = shelf.messages(&name, None, 1_000)?;
+    let messages = messages_text(alloc, messages.as_slice())?;
+    Ok(format!(in alloc; "{head:?} {counts:?}{messages}")?)
+}
+
+/// How much a shelf keeps of a customer, by its head and its counts.
+fn counted<S: Shelf>(alloc: Global, shelf: &mut S, customer: &str) -> Result<String, Fail> {
+    let name = Name::parse(alloc, customer)?;
+    let Head {
+        next_serial,
+        tally,
+        ..
+    } = shelf.head(&name)?;
+    let Counts {
+        messages,
+        bytes,
+        lines,
+    } = shelf.counts(&name)?;
+    let accepted = tally.accepted;
+    let text = format!(in alloc;
+        "next {next_serial} accepted {accepted} messages {messages} bytes {bytes} lines {lines}"
+    )?;
     Ok(text)
 }

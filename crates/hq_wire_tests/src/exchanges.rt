@@ -1,6 +1,8 @@
 //! Exchanges one by one.
 
-use crate::relay::{asked, desk_over, directory_under, exchange_of, expect_reply, expect_rows};
+use crate::relay::{
+    asked, desk_over, directory_under, exchange_of, expect_first_reply, expect_rows,
+};
 use hq_desk::Desk;
 use hq_envelope::{Fail as Failure, Name};
 use hq_queue::{Head, Tally};
@@ -18,7 +20,6 @@ const BODY_TOO_LONG: &str = "413 {\"error\":6,\"name\":\"BodyTooLong\"}";
 /// A body may have 262,144 bytes; one more is told before all else.
 #[test]
 fn bodies_of_spaces(rt: HostRuntime) -> Result<(), Fail> {
-    let mut desk = desk_over(rt.alloc(), ListShelf::new(rt.alloc()))?;
     for (line, length, want) in [
         (
             "POST /relay/submit/acme relaykey00000001",
@@ -34,7 +35,7 @@ fn bodies_of_spaces(rt: HostRuntime) -> Result<(), Fail> {
     ] {
         let mut asked = asked(rt.alloc(), line)?;
         asked.body = vec![in rt.alloc(); b' '; length]?;
-        expect_reply(&rt, &mut desk, &asked, want)?;
+        expect_first_reply(&rt, &asked, want)?;
     }
     Ok(())
 }
@@ -50,7 +51,6 @@ const BAD_FIELD: &str = "400 {\"error\":8,\"name\":\"BadField\"}";
 /// A key that is `-` or empty, a method that is empty, spaces in a path.
 #[test]
 fn words_that_no_line_has(rt: HostRuntime) -> Result<(), Fail> {
-    let mut desk = desk_over(rt.alloc(), ListShelf::new(rt.alloc()))?;
     for (method, path, key, want) in [
         ("GET", "/v1/messages", "-", NO_KEY),
         ("GET", "/v1/messages", "", NO_KEY),
@@ -64,7 +64,7 @@ fn words_that_no_line_has(rt: HostRuntime) -> Result<(), Fail> {
         ),
     ] {
         let asked = exchange_of(rt.alloc(), method, path, Some(key), "")?;
-        expect_reply(&rt, &mut desk, &asked, want)?;
+        expect_first_reply(&rt, &asked, want)?;
     }
     Ok(())
 }

@@ -42,9 +42,14 @@ fn customer(alloc: Global, name: &str, key: &str, quota: Quota) -> Result<Custom
 }
 
 fn customers(alloc: Global) -> Result<Vec<Customer>, Failure> {
-    let acme = customer(alloc, "acme", "acmekey000000001", acme_quota())?;
-    let birch = customer(alloc, "birch", "birchkey00000001", birch_quota())?;
-    Ok(vec![in alloc; acme, birch]?)
+    let mut customers = Vec::new(alloc);
+    for (name, key, quota) in [
+        ("acme", "acmekey000000001", acme_quota()),
+        ("birch", "birchkey00000001", birch_quota()),
+    ] {
+        customers.push(customer(alloc, name, key, quota)?)?;
+    }
+    Ok(customers)
 }
 
 /// The directory of both customers under this key of the relay, or its refusal.
@@ -111,6 +116,16 @@ pub fn line_of(alloc: Global, reply: &Reply) -> Result<String, Fail> {
     Ok(format!(in alloc; "{} {body}", reply.status)?)
 }
 
+/// A reply, in a function of its own: its callers need nothing of the contract of an exchange.
+fn replied(
+    alloc: Global,
+    desk: &mut Desk<ListShelf>,
+    directory: &Directory,
+    asked: &Exchange,
+) -> Reply {
+    exchange(alloc, desk, directory, asked)
+}
+
 /// Asks, and compares what is replied.
 pub fn expect_reply(
     rt: &(impl Abort + AllocGlobal),
@@ -119,9 +134,19 @@ pub fn expect_reply(
     want: &str,
 ) -> Result<(), Fail> {
     let directory = directory(rt)?;
-    let reply = exchange(rt.alloc(), desk, &directory, asked);
+    let reply = replied(rt.alloc(), desk, &directory, asked);
     assert_eq!(rt; line_of(rt.alloc(), &reply)?.as_str(), want);
     Ok(())
+}
+
+/// Asks an empty desk, and compares what is replied.
+pub fn expect_first_reply(
+    rt: &(impl Abort + AllocGlobal),
+    asked: &Exchange,
+    want: &str,
+) -> Result<(), Fail> {
+    let mut desk = desk_over(rt.alloc(), ListShelf::new(rt.alloc()))?;
+    expect_reply(rt, &mut desk, asked, want)
 }
 
 /// Asks each line in turn, and compares what is replied.

@@ -1,10 +1,11 @@
 //! Many exchanges in one run.
 
 use crate::relay::{asked, desk_over, directory, expect_rows, line_of};
+use hq_desk::Desk;
 use hq_store::ListShelf;
-use hq_wire::{Exchange, run};
+use hq_wire::{Directory, Exchange, Reply, run};
 use linked_list_allocator::LocalHeap;
-use std::alloc::Global;
+use std::alloc::{AllocError, Allocator, Global};
 use std::process::Abort;
 use std::test::Fail;
 
@@ -28,18 +29,38 @@ const LISTED_BIRCH: &str =
     "200 {\"messages\":[{\"arrival\":1767225600,\"id\":\"0000000001\",\"recipients\":1,\
      \"sender\":\"ann@a.example\",\"size\":900,\"state\":\"incoming\"}],\"more\":false}";
 
-/// The replies of one run over an empty desk.
+/// The replies of one run, in this room.
+fn replies_in<A: Allocator>(
+    alloc: Global,
+    room: A,
+    desk: &mut Desk<ListShelf>,
+    directory: &Directory,
+    exchanges: &[Exchange],
+) -> Result<Vec<Reply, A>, AllocError> {
+    run(alloc, room, desk, directory, exchanges)
+}
+
+/// The replies are those of the rows, in order.
+fn expect_replies(
+    rt: &(impl Abort + AllocGlobal),
+    replies: &[Reply],
+    rows: &[(&str, &str)],
+) -> Result<(), Fail> {
+    assert_eq!(rt; replies.len(), rows.len());
+    for (reply, (_, want)) in replies.iter().zip(rows) {
+        assert_eq!(rt; line_of(rt.alloc(), reply)?.as_str(), *want);
+    }
+    Ok(())
+}
+
+/// The rows are replied to in one run over an empty desk.
 fn expect_run(rt: &(impl Abort + AllocGlobal), rows: &[(&str, &str)]) -> Result<(), Fail> {
     let alloc = rt.alloc();
     let directory = directory(rt)?;
-    let mut desk = desk_over(alloc, ListShelf::new(alloc))?;
     let exchanges = exchanges(alloc, rows)?;
-    let replies = run(alloc, alloc, &mut desk, &directory, exchanges.as_slice())?;
-    assert_eq!(rt; replies.len(), rows.len());
-    for (reply, (_, want)) in replies.iter().zip(rows) {
-        assert_eq!(rt; line_of(alloc, reply)?.as_str(), *want);
-    }
-    Ok(())
+    let mut desk = desk_over(alloc, ListShelf::new(alloc))?;
+    let replies = replies_in(alloc, alloc, &mut desk, &directory, exchanges.as_slice())?;
+    expect_replies(rt, replies.as_slice(), rows)
 }
 
 fn exchanges(alloc: Global, rows: &[(&str, &str)]) -> Result<Vec<Exchange>, Fail> {
@@ -78,6 +99,7 @@ fn a_run_without_room(rt: HostRuntime) -> Result<(), Fail> {
     let directory = directory(&rt)?;
     let mut desk = desk_over(alloc, ListShelf::new(alloc))?;
     let exchanges = exchanges(alloc, &[(SUBMIT_ACME, QUEUED_FIRST); 40])?;
-    assert!(rt; run(alloc, &heap, &mut desk, &directory, exchanges.as_slice()).is_err());
+    let replies = replies_in(alloc, &heap, &mut desk, &directory, exchanges.as_slice());
+    assert!(rt; replies.is_err());
     expect_rows(&rt, &mut desk, &[(SUBMIT_ACME, QUEUED_FIRST)])
 }

@@ -1,7 +1,7 @@
 //! Each kind of call over the plain lists, in lines and answers.
 
-use super::{kept, told, word};
-use hq_envelope::Name;
+use super::{counted, kept, told, word};
+use hq_envelope::{Fault, Name};
 use hq_queue::{Head, Tally};
 use hq_store::{Change, ListShelf, Shelf};
 use std::alloc::Global;
@@ -186,19 +186,28 @@ fn head_from(next_serial: u64) -> Head {
     }
 }
 
+fn put_head(shelf: &mut ListShelf, customer: &Name, head: Head) -> Result<(), Fault> {
+    shelf.apply(customer, &[Change::PutHead(head)])
+}
+
 /// A shelf on which acme's next serial is this.
 fn shelf_from(alloc: Global, next_serial: u64) -> Result<ListShelf, Fail> {
     let mut shelf = ListShelf::new(alloc);
     let acme = Name::parse(alloc, "acme")?;
-    shelf.apply(&acme, &[Change::PutHead(head_from(next_serial))])?;
+    put_head(&mut shelf, &acme, head_from(next_serial))?;
     Ok(shelf)
 }
 
-/// What the line is answered, or all that is kept where it asks so; and the shelf again.
+/// What the line is answered, or all that is kept, or how much, where it asks so; and the shelf
+/// again.
 fn answer(alloc: Global, mut shelf: ListShelf, line: &str) -> Result<(ListShelf, String), Fail> {
     match word(line, 2) {
         "kept" => {
             let text = kept(alloc, &mut shelf, word(line, 1))?;
+            Ok((shelf, text))
+        }
+        "count" => {
+            let text = counted(alloc, &mut shelf, word(line, 1))?;
             Ok((shelf, text))
         }
         _ => told(alloc, shelf, line),
@@ -206,7 +215,7 @@ fn answer(alloc: Global, mut shelf: ListShelf, line: &str) -> Result<(ListShelf,
 }
 
 /// The answers are those of the table.
-fn expect_answers(
+pub(super) fn expect_answers(
     rt: &(impl Abort + AllocGlobal),
     mut shelf: ListShelf,
     rows: &[(&str, &str)],
@@ -244,22 +253,19 @@ fn after_submits(alloc: Global, count: u64, line: &str) -> Result<String, Fail> 
 }
 
 /// The serials 1 to 100, each after a space.
-fn hundred(alloc: Global) -> Result<String, Fail> {
-    let mut text = String::new(alloc);
-    for number in 1..=100 {
-        text.push_str(format!(in alloc; " {number}")?.as_str())?;
-    }
-    Ok(text)
-}
+const HUNDRED: &str =
+    " 1 2 3 4 5 6 7 8 9 10 11 12 13 14 15 16 17 18 19 20 21 22 23 24 25 26 27 28 29 30 31 32 \
+    33 34 35 36 37 38 39 40 41 42 43 44 45 46 47 48 49 50 51 52 53 54 55 56 57 58 59 60 61 \
+    62 63 64 65 66 67 68 69 70 71 72 73 74 75 76 77 78 79 80 81 82 83 84 85 86 87 88 89 90 \
+    91 92 93 94 95 96 97 98 99 100";
 
 /// A hundred messages are one page; of one more the page tells.
 #[test]
 fn a_page_is_a_hundred(rt: HostRuntime) -> Result<(), Fail> {
     let alloc = rt.alloc();
-    let hundred = hundred(alloc)?;
     for (count, line, page, end) in [
-        (100, "0 cedar list", hundred.as_str(), "end"),
-        (101, "0 cedar list", hundred.as_str(), "more"),
+        (100, "0 cedar list", HUNDRED, "end"),
+        (101, "0 cedar list", HUNDRED, "more"),
         (101, "0 cedar list-after 100", " 101", "end"),
     ] {
         let want = format!(in alloc; "0 listed{page} {end}")?;

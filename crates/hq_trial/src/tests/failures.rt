@@ -27,9 +27,10 @@ const CALLS: [&str; 8] = [
     "3 acme delete 2",
 ];
 
-fn before(alloc: Global) -> Result<ListShelf, Fail> {
+/// A shelf after these lines.
+fn after_lines(alloc: Global, lines: &[&str]) -> Result<ListShelf, Fail> {
     let mut shelf = ListShelf::new(alloc);
-    for line in BEFORE {
+    for line in lines {
         (shelf, _) = told(alloc, shelf, line)?;
     }
     Ok(shelf)
@@ -50,8 +51,13 @@ struct Outcome {
     kept: String,
 }
 
-fn over_failing(alloc: Global, line: &str, failure: Failure) -> Result<Outcome, Fail> {
-    let shelf = FailingShelf::new(before(alloc)?, failure);
+fn over_failing(
+    alloc: Global,
+    before: &[&str],
+    line: &str,
+    failure: Failure,
+) -> Result<Outcome, Fail> {
+    let shelf = FailingShelf::new(after_lines(alloc, before)?, failure);
     let (shelf, text) = told(alloc, shelf, line)?;
     let faults = shelf.faults();
     let kept = kept_all(alloc, &mut shelf.into_inner())?;
@@ -74,19 +80,24 @@ fn expect_outcome(rt: &impl Abort, outcome: &Outcome, text: &str, kept: &str) {
     );
 }
 
-/// The line with each of the shelf's calls failing in turn, until none does: the answer is that
-/// fault and all is kept as before, or the answer is the plain one and all is done.
-fn expect_failures(
+/// No line of these tests makes as many calls of the shelf.
+const TOO_MANY_CALLS: u64 = 17;
+
+/// The line, after those before it, with each of the shelf's calls failing in turn, until none
+/// does: the answer is that fault and all is kept as before, or the answer is the plain one and all
+/// is done.
+pub(super) fn expect_failures(
     rt: &(impl Abort + AllocGlobal),
+    before: &[&str],
     line: &str,
     closes: bool,
     fault: &str,
 ) -> Result<(), Fail> {
-    let untouched = kept_all(rt.alloc(), &mut before(rt.alloc())?)?;
-    let plain = over_failing(rt.alloc(), line, Failure::DiskOnce { at: 0 })?;
+    let untouched = kept_all(rt.alloc(), &mut after_lines(rt.alloc(), before)?)?;
+    let plain = over_failing(rt.alloc(), before, line, Failure::DiskOnce { at: 0 })?;
     let mut total = 0u64;
-    for at in 1..7 {
-        let failed = over_failing(rt.alloc(), line, failure(at, closes))?;
+    for at in 1..=TOO_MANY_CALLS {
+        let failed = over_failing(rt.alloc(), before, line, failure(at, closes))?;
         if failed.faults == 0 {
             expect_outcome(rt, &failed, plain.text.as_str(), plain.kept.as_str());
         } else {
@@ -94,7 +105,7 @@ fn expect_failures(
         }
         total = total.saturating_add(failed.faults);
     }
-    assert!(rt; 0 < total && total < 6, "{line}");
+    assert!(rt; 0 < total && total < TOO_MANY_CALLS, "{line}");
     Ok(())
 }
 
@@ -102,7 +113,7 @@ fn expect_failures(
 fn each_call_of_the_shelf_fails(rt: HostRuntime) -> Result<(), Fail> {
     for line in CALLS {
         for (closes, fault) in [(false, "fault 91 Disk"), (true, "fault 93 Closed")] {
-            expect_failures(&rt, line, closes, fault)?;
+            expect_failures(&rt, &BEFORE, line, closes, fault)?;
         }
     }
     Ok(())
@@ -112,7 +123,7 @@ fn each_call_of_the_shelf_fails(rt: HostRuntime) -> Result<(), Fail> {
 #[test]
 fn every_call_after_closing(rt: HostRuntime) -> Result<(), Fail> {
     let alloc = rt.alloc();
-    let mut shelf = FailingShelf::new(before(alloc)?, Failure::ClosedFrom { at: 2 });
+    let mut shelf = FailingShelf::new(after_lines(alloc, &BEFORE)?, Failure::ClosedFrom { at: 2 });
     for line in CALLS {
         let (next, text) = told(alloc, shelf, line)?;
         shelf = next;

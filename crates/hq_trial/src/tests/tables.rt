@@ -1,0 +1,135 @@
+//! Calls on access tables, and submissions that they judge: over the plain lists, and over a shelf
+//! that fails at each of its calls in turn.
+
+use super::answers::expect_answers;
+use super::failures::expect_failures;
+use hq_store::ListShelf;
+use std::test::Fail;
+
+/// What acme keeps after each step: lines put, the same again, with another action, dropped; a
+/// message queued, held, deleted. Submissions that are rejected or discarded use no serial.
+const COUNTED: &[(&str, &str)] = &[
+    ("0 acme put sender a.example HOLD", "0 put added"),
+    (
+        "0 acme count",
+        "next 1 accepted 0 messages 0 bytes 0 lines 1",
+    ),
+    ("0 acme put sender a.example HOLD", "0 put same"),
+    (
+        "0 acme count",
+        "next 1 accepted 0 messages 0 bytes 0 lines 1",
+    ),
+    ("0 acme put sender A.example REJECT", "0 put changed"),
+    (
+        "0 acme count",
+        "next 1 accepted 0 messages 0 bytes 0 lines 1",
+    ),
+    ("0 acme put recipient x@r DISCARD", "0 put added"),
+    (
+        "0 acme count",
+        "next 1 accepted 0 messages 0 bytes 0 lines 2",
+    ),
+    (
+        "0 acme submit s1 900 ann@a.example bob@far.example",
+        "0 rejected ann@a.example 554 Access denied",
+    ),
+    ("0 acme submit s1 900 bob@b.example x@r", "0 discarded"),
+    (
+        "0 acme count",
+        "next 1 accepted 0 messages 0 bytes 0 lines 2",
+    ),
+    ("0 acme drop sender a.example", "0 dropped"),
+    ("0 acme drop sender a.example", "11 refused 11 NoLine"),
+    (
+        "0 acme count",
+        "next 1 accepted 0 messages 0 bytes 0 lines 1",
+    ),
+    (
+        "0 acme submit s1 900 ann@a.example bob@far.example",
+        "0 queued 1 incoming s1 900 1767225600 1767225600 0 unwarned ann@a.example bob@far.example",
+    ),
+    (
+        "0 acme count",
+        "next 2 accepted 1 messages 1 bytes 900 lines 1",
+    ),
+    ("0 acme hold 1", "0 changed 1"),
+    (
+        "0 acme count",
+        "next 2 accepted 1 messages 1 bytes 900 lines 1",
+    ),
+    ("0 acme delete 1", "0 changed 1"),
+    (
+        "0 acme count",
+        "next 2 accepted 1 messages 0 bytes 0 lines 1",
+    ),
+    (
+        "0 birch count",
+        "next 1 accepted 0 messages 0 bytes 0 lines 0",
+    ),
+];
+
+/// Of three redirections the last one gets the message, which counts one recipient.
+const REDIRECTED: &[(&str, &str)] = &[
+    ("0 acme put recipient x@r REJECT no thanks", "0 put added"),
+    ("0 acme put recipient y@r REDIRECT one@r", "0 put added"),
+    ("0 acme put recipient z@r REDIRECT two@r", "0 put added"),
+    (
+        "0 acme submit s1 900 ann@a.example x@r y@r z@r X@R",
+        "0 queued 1 incoming s1 900 1767225600 1767225600 0 unwarned ann@a.example two@r \
+         x@r 554 no thanks",
+    ),
+    (
+        "0 acme count",
+        "next 2 accepted 1 messages 1 bytes 900 lines 3",
+    ),
+    (
+        "0 acme check recipient X@r",
+        "0 keys x@r r x@ found x@r REJECT no thanks",
+    ),
+    ("0 acme check sender <>", "0 keys <> nothing"),
+    (
+        "0 acme lines",
+        "0 lines recipient x@r REJECT no thanks recipient y@r REDIRECT one@r recipient z@r \
+         REDIRECT two@r end",
+    ),
+    (
+        "0 acme lines-after recipient y@r",
+        "0 lines recipient z@r REDIRECT two@r end",
+    ),
+];
+
+#[test]
+fn tables(rt: HostRuntime) -> Result<(), Fail> {
+    for rows in [COUNTED, REDIRECTED] {
+        expect_answers(&rt, ListShelf::new(rt.alloc()), rows)?;
+    }
+    Ok(())
+}
+
+/// What is there before each call that is made to fail: lines for the recipients of the submission.
+const BEFORE: &[&str] = &[
+    "0 acme put recipient x@r REJECT",
+    "0 acme put recipient r HOLD",
+    "0 birch put recipient y@r DISCARD",
+];
+
+/// A submission with three recipients, which makes 15 calls of the shelf, and a call of each kind on
+/// the lines.
+const CALLS: &[&str] = &[
+    "3 acme submit s2 11 ann@a.example x@r y@r fay@far.example",
+    "3 acme put sender a.example OK",
+    "3 acme put recipient r DISCARD",
+    "3 acme drop recipient r",
+    "3 acme lines",
+    "3 acme check recipient y@r",
+];
+
+#[test]
+fn each_call_of_the_shelf_fails(rt: HostRuntime) -> Result<(), Fail> {
+    for line in CALLS {
+        for (closes, fault) in [(false, "fault 91 Disk"), (true, "fault 93 Closed")] {
+            expect_failures(&rt, BEFORE, line, closes, fault)?;
+        }
+    }
+    Ok(())
+}
