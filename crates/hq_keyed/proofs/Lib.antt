@@ -1,0 +1,9 @@
+pub mod Select
+pub mod Rows
+pub mod Writes
+pub mod Keyed
+pub mod Pages
+pub mod Terms
+pub mod Left
+pub mod Making
+pub mod Stops

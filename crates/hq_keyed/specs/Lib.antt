@@ -1,0 +1,5 @@
+pub mod Stored
+pub mod Changed
+pub mod Made
+pub mod Left
+pub mod Values
