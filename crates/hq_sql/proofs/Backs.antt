@@ -1,0 +1,62 @@
+-- A row can be read back from its columns.
+use Rattle.std.proofs.Common.{◌≡◌, ℤ, Bool, true, false, [], ◌∷◌, refl}
+use Rattle.hq_access.specs.Actions.{action_text}
+use Rattle.hq_access.specs.Patterns.{class_name}
+use Rattle.hq_access.specs.declared.action.Action.{Action}
+use Rattle.hq_access.specs.declared.action.Action.TheVariants.{Okay, Reject, Dunno, Discard, Hold, Redirect}
+use Rattle.hq_access.specs.declared.pattern.Class.{Class}
+use Rattle.hq_access.specs.declared.pattern.Class.TheVariants.{SenderSide, RecipientSide}
+use Rattle.hq_queue.specs.declared.message.QueueState.{QueueState}
+use Rattle.hq_queue.specs.declared.message.QueueState.TheVariants as state
+use Rattle.hq_store.specs.declared.rows.LineRow.{LineRow}
+use Rattle.hq_store.specs.declared.rows.MessageRow.{MessageRow}
+use Rattle.hq_envelope.specs.Senders.{sender_text}
+use Rattle.hq_sql.specs.Rows.{sender_of, state_of, state_code, truth, truth_in, class_of, action_of, line_stored, line_read, message_stored, message_read}
+
+state_back : (s : QueueState) → state_of (state_code s) ≡ s
+state_back state.Incoming = refl
+state_back state.Deferred = refl
+state_back state.Hold = refl
+
+truth_back : (b : Bool) → truth_in (truth b) ≡ b
+truth_back true = refl
+truth_back false = refl
+
+class_back : (c : Class) → class_of (class_name c) ≡ c
+class_back SenderSide = refl
+class_back RecipientSide = refl
+
+action_back : (a : Action) → action_of (action_text a) ≡ a
+action_back (Okay []) = refl
+action_back (Okay (b ∷ text)) = refl
+action_back (Reject []) = refl
+action_back (Reject (b ∷ text)) = refl
+action_back (Dunno []) = refl
+action_back (Dunno (b ∷ text)) = refl
+action_back (Discard []) = refl
+action_back (Discard (b ∷ text)) = refl
+action_back (Hold []) = refl
+action_back (Hold (b ∷ text)) = refl
+action_back (Redirect []) = refl
+action_back (Redirect (b ∷ text)) = refl
+
+pub line_back : (r : LineRow) (n : ℤ) → line_read (line_stored (n, r)) ≡ r
+line_back r n = λ i. record { customer = r.customer; line = record { pattern = (class_back r.line.pattern.0 i, r.line.pattern.1); action = action_back r.line.action i } }
+
+-- the sender can be read from its text
+abbrev pub IsReadable : MessageRow → Type 0
+IsReadable r = sender_of (sender_text r.sender) ≡ r.sender
+
+pub message_back : (r : MessageRow) (n : ℤ) → IsReadable r → message_read (message_stored (n, r)) ≡ r
+message_back r n sender = λ i. record {
+  customer = r.customer;
+  serial = r.serial;
+  sender = sender i;
+  spool = r.spool;
+  size = r.size;
+  arrival = r.arrival;
+  state = state_back r.state i;
+  next_try = r.next_try;
+  attempts = r.attempts;
+  warned = truth_back r.warned i;
+}

@@ -1,0 +1,47 @@
+-- What statements keep, whichever they are: from what the library says of a query and of a command.
+use Rattle.std.proofs.Common.{◌≡◌, ℕ, false, List, Result, Ok, Err, IsErr, IsTrue, sym, subst}
+use Rattle.sqlite.specs.Order.{Row}
+use Rattle.sqlite.specs.declared.error.Error.{Error}
+use Rattle.sqlite.specs.Listing.{understood}
+use Rattle.sqlite.specs.State.{State, HasCleanDisk, KeepsCommit, Survives, CommitsBy, CommitsShowing, Shown, FailsToQuery, Executes}
+use Rattle.sqlite.proofs.Callers.{IsPlain, command_of}
+use Rattle.hq_keyed.proofs.Left.{shown_unchanged, query_left, execute_left, left_keeps}
+use Rattle.hq_keyed.proofs.Stops.{may_end, query_leaves_no_more, write_leaves_no_more}
+use Rattle.hq_schema.specs.Schema.{desk_schema}
+use Rattle.hq_sql.specs.Tables.{IsDesk}
+use Rattle.hq_sql.specs.Kept.{Keeps, KeepsCommitted}
+
+module _ (old new : State) (text : List ℕ) (params : Row) (plain : IsPlain (understood desk_schema text)) (survives : Survives old new (CommitsShowing text params old)) where
+  plain_here : IsDesk old.now → IsPlain (understood old.now.schema text)
+  plain_here desk = subst (λ s. IsPlain (understood s text)) (sym desk.schema_is) plain
+
+  -- a query that failed
+  pub query_failed : {X : Type 0} (e : Error) (result : Result X Error) → IsErr result → (HasCleanDisk new → FailsToQuery text params old new e) → Keeps old new result
+  query_failed e (Ok x) is h = absurd (let f = is in cc)
+  query_failed e (Err other) is h = record {
+    same = λ clean desk. tt;
+    kept = λ clean desk. left_keeps old new (query_left old new text params e (h clean));
+    quiet = survives.clean;
+    stops = λ desk. query_leaves_no_more old new text params (plain_here desk) survives;
+  }
+
+  -- a query that was answered
+  pub query_answered : {X : Type 0} (rows : List Row) (x : X) → (HasCleanDisk new → Shown text params old new rows) → Keeps old new (Ok x)
+  query_answered rows x h = record {
+    same = λ clean desk. shown_unchanged old new text params rows (plain_here desk) (h clean);
+    kept = λ clean desk. tt;
+    quiet = survives.clean;
+    stops = λ desk. query_leaves_no_more old new text params (plain_here desk) survives;
+  }
+
+module _ (old new : State) (text : List ℕ) (params : Row) (goes_on : may_end (command_of (understood desk_schema text)) ≡ false) (survives : Survives old new (CommitsBy text params old)) where
+  -- a write that was made or failed
+  pub write_keeps : (HasCleanDisk new → IsDesk old.now → IsTrue old.in_transaction → KeepsCommit old new) → KeepsCommitted old new
+  write_keeps h = record {
+    kept = h;
+    quiet = survives.clean;
+    stops = λ desk within. write_leaves_no_more old new text params (subst (λ s. may_end (command_of (understood s text)) ≡ false) (sym desk.schema_is) goes_on) within survives;
+  }
+
+  pub write_failed : (e : Error) → (HasCleanDisk new → Executes text params old new (Err e)) → KeepsCommitted old new
+  write_failed e h = write_keeps (λ clean desk within. left_keeps old new (execute_left old new text params e (h clean)))

@@ -1,0 +1,6 @@
+pub mod Tables
+pub mod Texts
+pub mod Backs
+pub mod OnHeads
+pub mod OnLines
+pub mod Keeping

@@ -1,0 +1,6 @@
+pub mod Rows
+pub mod Bound
+pub mod Tables
+pub mod Kept
+pub mod Heads
+pub mod Lines

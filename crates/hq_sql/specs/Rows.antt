@@ -1,0 +1,171 @@
+-- Typed rows, and the columns that keep them: a row stands behind its rowid, its columns in the order of its table.
+use Rattle.std.specs.Prelude.{ℕ, zero, suc, ℤ, pos, Option, Some, None, Bool, false, not, List, [], ◌∷◌, codes, if◌then◌else◌}
+use Rattle.std.specs.List.{after_first, before_first}
+use Rattle.std.specs.Ordering.{int_eq}
+use Rattle.std.specs.Str.{bytes_eq}
+use Rattle.sqlite.specs.declared.types.Value.{Value}
+use Rattle.sqlite.specs.declared.types.Value.TheVariants.{Null, Int, Text}
+use Rattle.sqlite.specs.Order.{Row, column}
+use Rattle.hq_envelope.specs.Senders.{sender_text}
+use Rattle.hq_envelope.specs.declared.address.Sender.{Sender}
+use Rattle.hq_envelope.specs.declared.address.Sender.TheVariants as sender
+use Rattle.hq_access.specs.Actions.{is_space, action_text}
+use Rattle.hq_access.specs.Patterns.{class_name}
+use Rattle.hq_access.specs.declared.action.Action.{Action}
+use Rattle.hq_access.specs.declared.action.Action.TheVariants as action
+use Rattle.hq_access.specs.declared.pattern.Class.{Class}
+use Rattle.hq_access.specs.declared.pattern.Class.TheVariants.{SenderSide, RecipientSide}
+use Rattle.hq_queue.specs.declared.message.QueueState.{QueueState}
+use Rattle.hq_queue.specs.declared.message.QueueState.TheVariants.{Incoming, Deferred, Hold}
+use Rattle.hq_store.specs.declared.rows.HeadRow.{HeadRow}
+use Rattle.hq_store.specs.declared.rows.LineRow.{LineRow}
+use Rattle.hq_store.specs.declared.rows.MessageRow.{MessageRow}
+use Rattle.hq_store.specs.declared.rows.RecipientRow.{RecipientRow}
+use Rattle.hq_keyed.specs.Values.{number}
+
+-- ---- values
+
+abbrev pub text_in : Value → List ℕ
+text_in (Text t) = t
+text_in _ = []
+
+abbrev pub number_in : Value → ℕ
+number_in (Int (pos n)) = n
+number_in _ = 0
+
+abbrev pub truth_in : Value → Bool
+truth_in (Int n) = not (int_eq n (pos 0))
+truth_in _ = false
+
+abbrev pub truth : Bool → Value
+truth b = Int (if b then pos 1 else pos 0)
+
+-- the empty text stands for the null sender
+abbrev pub sender_of : List ℕ → Sender
+sender_of [] = sender.Null
+sender_of (b ∷ bs) = sender.From (b ∷ bs)
+
+-- 0 incoming, 1 deferred, 2 hold
+abbrev pub state_code : QueueState → ℕ
+state_code Incoming = 0
+state_code Deferred = 1
+state_code Hold = 2
+
+abbrev pub state_of : ℕ → QueueState
+state_of zero = Incoming
+state_of (suc zero) = Deferred
+state_of (suc (suc n)) = Hold
+
+-- the empty text stands for no status
+abbrev pub status_text : Option (List ℕ) → List ℕ
+status_text None = []
+status_text (Some s) = s
+
+abbrev pub status_of : List ℕ → Option (List ℕ)
+status_of [] = None
+status_of (b ∷ bs) = Some (b ∷ bs)
+
+abbrev pub class_of : List ℕ → Class
+class_of name = if bytes_eq name (codes "recipient") then RecipientSide else SenderSide
+
+-- the action of a verb and an argument, as they stand
+abbrev pub action_of_verb : List ℕ → List ℕ → Action
+action_of_verb verb argument =
+    if bytes_eq verb (codes "OK") then action.Okay argument
+    else if bytes_eq verb (codes "REJECT") then action.Reject argument
+    else if bytes_eq verb (codes "DUNNO") then action.Dunno argument
+    else if bytes_eq verb (codes "DISCARD") then action.Discard argument
+    else if bytes_eq verb (codes "HOLD") then action.Hold argument
+    else action.Redirect argument
+
+-- the action of a written form: the verb ends at the first space, and the rest is the argument
+abbrev pub action_of : List ℕ → Action
+action_of text = action_of_verb (before_first is_space text) (after_first is_space text)
+
+-- ---- rows
+
+abbrev pub tail : Row → Row
+tail [] = []
+tail (v ∷ vs) = vs
+
+abbrev pub head_columns : HeadRow → Row
+head_columns r =
+    Text r.customer ∷ number r.head.next_serial ∷ number r.head.next_notice
+    ∷ number r.head.tally.accepted ∷ number r.head.tally.delivered ∷ number r.head.tally.failed ∷ number r.head.tally.deleted ∷ number r.head.tally.expired
+    ∷ number r.counts.messages ∷ number r.counts.bytes ∷ number r.counts.lines ∷ []
+
+abbrev pub head_stored : ℤ × HeadRow → Row
+head_stored k = Int k.0 ∷ head_columns k.1
+
+abbrev pub head_read : Row → HeadRow
+head_read r = record {
+  customer = text_in (column r 1);
+  head = record {
+    next_serial = number_in (column r 2);
+    next_notice = number_in (column r 3);
+    tally = record { accepted = number_in (column r 4); delivered = number_in (column r 5); failed = number_in (column r 6); deleted = number_in (column r 7); expired = number_in (column r 8) };
+  };
+  counts = record { messages = number_in (column r 9); bytes = number_in (column r 10); lines = number_in (column r 11) };
+}
+
+abbrev pub message_columns : MessageRow → Row
+message_columns r =
+    Text r.customer ∷ number r.serial ∷ Text (sender_text r.sender) ∷ Text r.spool ∷ number r.size ∷ number r.arrival
+    ∷ number (state_code r.state) ∷ number r.next_try ∷ number r.attempts ∷ truth r.warned ∷ []
+
+abbrev pub message_stored : ℤ × MessageRow → Row
+message_stored k = Int k.0 ∷ message_columns k.1
+
+abbrev pub message_read : Row → MessageRow
+message_read r = record {
+  customer = text_in (column r 1);
+  serial = number_in (column r 2);
+  sender = sender_of (text_in (column r 3));
+  spool = text_in (column r 4);
+  size = number_in (column r 5);
+  arrival = number_in (column r 6);
+  state = state_of (number_in (column r 7));
+  next_try = number_in (column r 8);
+  attempts = number_in (column r 9);
+  warned = truth_in (column r 10);
+}
+
+abbrev pub recipient_columns : RecipientRow → Row
+recipient_columns r = Text r.customer ∷ number r.serial ∷ number r.place ∷ Text r.pending.address ∷ Text (status_text r.pending.status) ∷ Text r.pending.text ∷ []
+
+abbrev pub recipient_stored : ℤ × RecipientRow → Row
+recipient_stored k = Int k.0 ∷ recipient_columns k.1
+
+abbrev pub recipient_read : Row → RecipientRow
+recipient_read r = record {
+  customer = text_in (column r 1);
+  serial = number_in (column r 2);
+  place = number_in (column r 3);
+  pending = record { address = text_in (column r 4); status = status_of (text_in (column r 5)); text = text_in (column r 6) };
+}
+
+abbrev pub line_columns : LineRow → Row
+line_columns r = Text r.customer ∷ Text (class_name r.line.pattern.0) ∷ Text r.line.pattern.1 ∷ Text (action_text r.line.action) ∷ []
+
+abbrev pub line_stored : ℤ × LineRow → Row
+line_stored k = Int k.0 ∷ line_columns k.1
+
+abbrev pub line_read : Row → LineRow
+line_read r = record {
+  customer = text_in (column r 1);
+  line = record { pattern = (class_of (text_in (column r 2)), text_in (column r 3)); action = action_of (text_in (column r 4)) };
+}
+
+-- ---- rows of answers, which have no rowid
+
+abbrev pub head_shown : Row → HeadRow
+head_shown r = head_read (Null ∷ r)
+
+abbrev pub message_shown : Row → MessageRow
+message_shown r = message_read (Null ∷ r)
+
+abbrev pub recipient_shown : Row → RecipientRow
+recipient_shown r = recipient_read (Null ∷ r)
+
+abbrev pub line_shown : Row → LineRow
+line_shown r = line_read (Null ∷ r)

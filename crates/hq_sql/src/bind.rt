@@ -1,0 +1,117 @@
+//! Typed values as the parameters of statements.
+
+ghost use Rattle.std.specs.Prelude.{◌≡◌, pos, [], ◌∷◌, IfOk};
+ghost use Rattle.sqlite.specs.Values.{bound};
+ghost use Rattle.sqlite.specs.declared.types.Value.TheVariants.{Text};
+ghost use Rattle.hq_queue.specs.declared.account.Counts.{Counts};
+ghost use Rattle.hq_queue.specs.declared.account.Head.{Head};
+ghost use Rattle.hq_access.specs.Patterns.{class_name};
+ghost use Rattle.hq_sql.specs.Rows.{head_columns};
+ghost use Rattle.hq_sql.specs.Bound.{head_numbers};
+
+use hq_access::Class;
+use hq_envelope::Name;
+use hq_queue::{Counts, Head};
+use sqlite::Error;
+use sqlite::types::ValueRef;
+
+/// A number of 64 bits; one of 2^63 or more fits no column.
+fn large(number: u64) -> Result<i64, Error>
+    ensures { IfOk result (λ bound. bound ≡ pos number) }
+{
+    match i64::try_from(number) {
+        Ok(bound) => Ok(bound),
+        Err(_) => Err(Error::InvalidQuery),
+    }
+}
+
+/// The key of a head.
+pub(crate) fn customer<'a>(customer: &'a Name) -> [ValueRef<'a>; 1]
+    ensures { bound result ≡ Text customer.now ∷ [] }
+{
+    [ValueRef::Text(customer.as_str().as_bytes())]
+}
+
+/// The numbers of a head, as columns take them.
+#[derive(Clone, Copy, Debug, PartialEq, Eq, Drop)]
+pub(crate) struct HeadNumbers {
+    next_serial: i64,
+    next_notice: i64,
+    accepted: i64,
+    delivered: i64,
+    failed: i64,
+    deleted: i64,
+    expired: i64,
+    messages: i64,
+    bytes: i64,
+    lines: i64,
+}
+
+/// The numbers of a head; one of 2^63 or more fits no column.
+pub(crate) fn numbers(head: &Head, counts: &Counts) -> Result<HeadNumbers, Error>
+    ensures { IfOk result (λ bound. bound ≡ head_numbers head.now counts.now) }
+{
+    let tally = head.tally;
+    Ok(HeadNumbers {
+        next_serial: large(head.next_serial)?,
+        next_notice: large(head.next_notice)?,
+        accepted: large(tally.accepted)?,
+        delivered: large(tally.delivered)?,
+        failed: large(tally.failed)?,
+        deleted: large(tally.deleted)?,
+        expired: large(tally.expired)?,
+        messages: large(counts.messages)?,
+        bytes: large(counts.bytes)?,
+        lines: large(counts.lines)?,
+    })
+}
+
+/// The columns of a head, in the order of the table.
+pub(crate) fn head<'a>(customer: &'a Name, numbers: &HeadNumbers) -> [ValueRef<'a>; 11]
+    ensures { (head : Head) → (counts : Counts) → numbers.now ≡ head_numbers head counts
+        → bound result ≡ head_columns
+        (record { customer = customer.now; head = head; counts = counts }) }
+{
+    [
+        ValueRef::Text(customer.as_str().as_bytes()),
+        ValueRef::Int(numbers.next_serial),
+        ValueRef::Int(numbers.next_notice),
+        ValueRef::Int(numbers.accepted),
+        ValueRef::Int(numbers.delivered),
+        ValueRef::Int(numbers.failed),
+        ValueRef::Int(numbers.deleted),
+        ValueRef::Int(numbers.expired),
+        ValueRef::Int(numbers.messages),
+        ValueRef::Int(numbers.bytes),
+        ValueRef::Int(numbers.lines),
+    ]
+}
+
+/// The key of a line.
+pub(crate) fn line_key<'a>(customer: &'a Name, class: Class, key: &'a str) -> [ValueRef<'a>; 3]
+    ensures { bound result ≡ Text customer.now ∷ Text (class_name class) ∷ Text key.now ∷ [] }
+{
+    [
+        ValueRef::Text(customer.as_str().as_bytes()),
+        ValueRef::Text(class.name().as_bytes()),
+        ValueRef::Text(key.as_bytes()),
+    ]
+}
+
+/// The columns of a line, in the order of the table; its action is in its written form.
+pub(crate) fn line<'a>(
+    customer: &'a Name,
+    class: Class,
+    key: &'a str,
+    action: &'a str,
+) -> [ValueRef<'a>; 4]
+    ensures { bound result
+        ≡ Text customer.now ∷ Text (class_name class) ∷ Text key.now ∷ Text action.now ∷ [] }
+{
+    [
+        ValueRef::Text(customer.as_str().as_bytes()),
+        ValueRef::Text(class.name().as_bytes()),
+        ValueRef::Text(key.as_bytes()),
+        ValueRef::Text(action.as_bytes()),
+    ]
+}

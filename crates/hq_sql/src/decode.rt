@@ -1,0 +1,76 @@
+//! Rows of answers as typed values.
+
+ghost use Rattle.std.specs.Prelude.{◌≡◌, IfOk, option_map, slice_get};
+ghost use Rattle.hq_store.specs.Listed.{head_value, line_row_value};
+ghost use Rattle.hq_sql.specs.Rows.{head_shown, line_shown};
+
+use crate::read;
+use hq_access::Action;
+use hq_queue::{Counts, Head, Tally};
+use sqlite::{Error, Row};
+use std::alloc::Global;
+
+/// A head with its counts, without the customer.
+#[derive(Clone, Copy, Debug, PartialEq, Eq, Drop)]
+pub struct Account {
+    /// The head.
+    pub head: Head,
+    /// How much the customer keeps.
+    pub counts: Counts,
+}
+
+fn tally(row: &Row) -> Result<Tally, Error>
+    ensures { IfOk result (λ tally. tally ≡ (head_shown row.now).head.tally) }
+{
+    Ok(Tally {
+        accepted: read::number(row, 3)?,
+        delivered: read::number(row, 4)?,
+        failed: read::number(row, 5)?,
+        deleted: read::number(row, 6)?,
+        expired: read::number(row, 7)?,
+    })
+}
+
+fn counts(row: &Row) -> Result<Counts, Error>
+    ensures { IfOk result (λ counts. counts ≡ (head_shown row.now).counts) }
+{
+    Ok(Counts {
+        messages: read::number(row, 8)?,
+        bytes: read::number(row, 9)?,
+        lines: read::number(row, 10)?,
+    })
+}
+
+fn account_of(row: &Row) -> Result<Account, Error>
+    ensures { IfOk result (λ account. record { head = account.head; counts = account.counts }
+        ≡ head_value (head_shown row.now)) }
+{
+    let head = Head {
+        next_serial: read::number(row, 1)?,
+        next_notice: read::number(row, 2)?,
+        tally: tally(row)?,
+    };
+    let counts = counts(row)?;
+    Ok(Account { head, counts })
+}
+
+pub(crate) fn first_account(rows: &[Row]) -> Result<Option<Account>, Error>
+    ensures { IfOk result (λ found.
+        option_map (λ a. record { head = a.head; counts = a.counts }) found
+        ≡ option_map (λ r. head_value (head_shown r)) (slice_get rows.now 0)) }
+{
+    match rows.first() {
+        None => Ok(None),
+        Some(row) => Ok(Some(account_of(row)?)),
+    }
+}
+
+pub(crate) fn first_action(alloc: Global, rows: &[Row]) -> Result<Option<Action>, Error>
+    ensures { IfOk result (λ found. found
+        ≡ option_map (λ r. line_row_value (line_shown r)) (slice_get rows.now 0)) }
+{
+    match rows.first() {
+        None => Ok(None),
+        Some(row) => Ok(Some(read::action(alloc, row, 3)?)),
+    }
+}

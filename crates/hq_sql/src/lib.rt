@@ -1,0 +1,9 @@
+//! The statements of the store on `sqlite`, one function each: what a SELECT finds and what a write
+//! leaves, said of the tables of all customers as finite maps.
+#![tactic(auto)]
+
+mod bind;
+mod decode;
+pub mod heads;
+pub mod lines;
+mod read;
