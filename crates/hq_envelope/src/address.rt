@@ -1,6 +1,6 @@
 //! Mail addresses and senders: RFC 5321, 4.1.2, without quoted local parts and domain literals.
 
-ghost use Rattle.std.specs.Prelude.{◌≡◌, ◌↔◌, IsTrue, IfOk, MatchOption, Some, None, string_bytes};
+ghost use Rattle.std.specs.Prelude.{◌≡◌, ◌↔◌, IsTrue, IfOk, MatchOption, Some, None, Ok, string_bytes};
 ghost use Rattle.hq_envelope.specs.Addresses.{is_local_byte, is_label_byte, is_local, is_domain_label, is_domain, is_address, address_in, parts_of, local_of, domain_of, folded};
 ghost use Rattle.hq_base.specs.Readers.{Reads};
 ghost use Rattle.hq_envelope.specs.Senders.{sender_in, sender_text};
@@ -107,6 +107,13 @@ impl Address {
         self.text.as_str()
     }
 
+    /// Says that its text reads back as the address; it does nothing.
+    pub fn reads_back(&self)
+        ensures { address_in self.now ≡ Ok self.now }
+    {
+        let _ = &self.text;
+    }
+
     /// The text, on its own.
     pub fn text(&self, alloc: Global) -> Result<String, AllocError>
         ensures { IfOk result (λ text. string_bytes text ≡ self.now) }
@@ -176,6 +183,15 @@ impl Sender {
         match self {
             Sender::Null => "",
             Sender::From(address) => address.as_str(),
+        }
+    }
+
+    /// Says that its text reads back as the sender; it does nothing.
+    pub fn reads_back(&self)
+        ensures { sender_in (sender_text self.now) ≡ Ok self.now }
+    {
+        if let Sender::From(address) = self {
+            address.reads_back();
         }
     }
 }

@@ -1,6 +1,6 @@
 //! Status codes of RFC 3463, as written. Which class an outcome may have is not said here.
 
-ghost use Rattle.std.specs.Prelude.{◌≡◌, ◌≤◌, [], ◌∷◌, IfOk, MatchOption, string_bytes};
+ghost use Rattle.std.specs.Prelude.{◌≡◌, ◌≤◌, [], ◌∷◌, IfOk, MatchOption, Ok, string_bytes};
 ghost use Rattle.std.specs.List.{slice_split};
 ghost use Rattle.hq_envelope.specs.Addresses.{is_dot};
 ghost use Rattle.hq_queue.specs.Statuses.{is_class, is_number, is_status, status_in, first_digit};
@@ -95,6 +95,13 @@ impl Status {
             Ok(text) => text,
             Err(_) => unreachable!(),
         }
+    }
+
+    /// Says that its text reads back as the status; it does nothing.
+    pub fn reads_back(&self)
+        ensures { status_in self.now ≡ Ok self.now }
+    {
+        let _ = &self.bytes;
     }
 
     /// The text, on its own. The only error is want of memory.
