@@ -1,5 +1,6 @@
 -- What statements keep, whichever they are: from what the library says of a query and of a command.
-use Rattle.std.proofs.Common.{◌≡◌, ℕ, false, List, Result, Ok, Err, IsErr, IsTrue, sym, subst}
+use Rattle.std.proofs.Common.{◌≡◌, ◌⊎◌, inl, inr, ℕ, true, false, true≢false, not, List, Option, None, Result, Ok, Err, IsErr, IsTrue, sym, ap, ◌∙◌, subst}
+use Rattle.std.specs.Prelude.{nat_eq}
 use Rattle.sqlite.specs.Order.{Row}
 use Rattle.sqlite.specs.declared.error.Error.{Error}
 use Rattle.sqlite.specs.Listing.{understood}
@@ -8,8 +9,9 @@ use Rattle.sqlite.proofs.Callers.{IsPlain, command_of}
 use Rattle.hq_keyed.proofs.Left.{shown_unchanged, query_left, execute_left, left_keeps}
 use Rattle.hq_keyed.proofs.Stops.{may_end, query_leaves_no_more, write_leaves_no_more}
 use Rattle.hq_schema.specs.Schema.{desk_schema}
-use Rattle.hq_sql.specs.Tables.{IsDesk}
-use Rattle.hq_sql.specs.Kept.{Keeps, KeepsCommitted}
+use Rattle.hq_store.specs.Tables.{Tables}
+use Rattle.hq_sql.specs.Tables.{IsDesk, Leaves}
+use Rattle.hq_sql.specs.Kept.{Keeps, KeepsCommitted, Updated}
 
 module _ (old new : State) (text : List ℕ) (params : Row) (plain : IsPlain (understood desk_schema text)) (survives : Survives old new (CommitsShowing text params old)) where
   plain_here : IsDesk old.now → IsPlain (understood old.now.schema text)
@@ -45,3 +47,16 @@ module _ (old new : State) (text : List ℕ) (params : Row) (goes_on : may_end (
 
   pub write_failed : (e : Error) → (HasCleanDisk new → Executes text params old new (Err e)) → KeepsCommitted old new
   write_failed e h = write_keeps (λ clean desk within. left_keeps old new (execute_left old new text params e (h clean)))
+
+-- ---- what the number of changed rows tells of an UPDATE by key
+
+none_there : (count : ℕ) → count ≡ 0 → not (nat_eq count 0) ≡ true → ⊥
+none_there count none there = true≢false (sym there ∙ ap (λ n. not (nat_eq n 0)) none)
+
+one_there : (count : ℕ) → count ≡ 1 → not (nat_eq count 0) ≡ false → ⊥
+one_there count one absent = true≢false (sym (ap (λ n. not (nat_eq n 0)) one) ∙ absent)
+
+pub told_there : {V : Type 0} {count : ℕ} {old new : State} {before : Option V} {t after : Tables}
+    → ((count ≡ 0) × ((before ≡ None) × Leaves old new t)) ⊎ ((count ≡ 1) × Leaves old new after) → Updated (not (nat_eq count 0)) old new before t after
+told_there {count = count} (inl h) = record { made = λ there. absurd (none_there count h.0 there); untouched = λ absent. h.1.1; free = λ absent. h.1.0 }
+told_there {count = count} (inr h) = record { made = λ there. h.1; untouched = λ absent. absurd (one_there count h.0 absent); free = λ absent. absurd (one_there count h.0 absent) }

@@ -1,6 +1,5 @@
 -- What the statements on `heads` do.
-use Rattle.std.proofs.Common.{◌≡◌, ◌⊎◌, inl, inr, ℕ, ℤ, pos, Bool, true, false, true≢false, not, List, [], ◌∷◌, map, drop, slice_get, option_map, None, Ok, IsTrue, refl, sym, ap, ◌∙◌, subst}
-use Rattle.std.specs.Prelude.{nat_eq}
+use Rattle.std.proofs.Common.{◌≡◌, ◌⊎◌, inl, inr, ℕ, ℤ, pos, Bool, true, false, List, [], ◌∷◌, map, drop, slice_get, option_map, None, Ok, IsTrue, refl, sym, ap, ◌∙◌, subst}
 use Rattle.std.specs.List.{list_all}
 use Rattle.std.specs.Ordering.{eq_by_cmp}
 use Rattle.std.specs.FinMap.{get}
@@ -64,16 +63,16 @@ set_to r x = record r { customer = x.customer }
 
 set_row : (r : HeadRow) (k : ℤ × HeadRow) → cast_row heads_table (drop 1 (eval_all text.head_updated (head_columns r ∷ head_stored k ∷ []))) ≡ head_stored (k.0, set_to r k.1)
 set_row r k =
-    then_value (cast_int k.0) (then_value refl (then_value (cast_int (pos r.head.next_serial)) (then_value (cast_int (pos r.head.next_notice)) (then_value (cast_int (pos r.head.tally.accepted))
-    (then_value (cast_int (pos r.head.tally.delivered)) (then_value (cast_int (pos r.head.tally.failed)) (then_value (cast_int (pos r.head.tally.deleted)) (then_value (cast_int (pos r.head.tally.expired))
-    (then_value (cast_int (pos r.counts.messages)) (then_value (cast_int (pos r.counts.bytes)) (then_value (cast_int (pos r.counts.lines)) refl)))))))))))
+    then_value (cast_int k.0) (then_value refl (then_value (cast_int (pos r.account.head.next_serial)) (then_value (cast_int (pos r.account.head.next_notice)) (then_value (cast_int (pos r.account.head.tally.accepted))
+    (then_value (cast_int (pos r.account.head.tally.delivered)) (then_value (cast_int (pos r.account.head.tally.failed)) (then_value (cast_int (pos r.account.head.tally.deleted)) (then_value (cast_int (pos r.account.head.tally.expired))
+    (then_value (cast_int (pos r.account.counts.messages)) (then_value (cast_int (pos r.account.counts.bytes)) (then_value (cast_int (pos r.account.counts.lines)) refl)))))))))))
 
 module _ (old new : State) (r : HeadRow) (count : ℕ) (desk : IsDesk old.now) where
   abbrev is : ℤ × HeadRow → Bool
   is k = eq_by_cmp text_cmp r.customer (head_key k.1)
 
   pub head_updated : Executes text.head_update_text (head_columns r) old new (Ok count)
-      → ((count ≡ 0) × ((get (tables_in old.now).heads r.customer ≡ None) × Leaves old new (tables_in old.now))) ⊎ ((count ≡ 1) × Leaves old new (with_account r (tables_in old.now)))
+      → ((count ≡ 0) × ((get (tables_in old.now).heads r.customer ≡ None) × Leaves old new (tables_in old.now))) ⊎ ((count ≡ 1) × Leaves old new (with_account r.customer r.account (tables_in old.now)))
   head_updated h =
       let params = head_columns r in
       let w = runs_as text.head_update_text params old new desk_schema desk.schema_is _ text.head_update_is text.head_update_plain count h in
@@ -88,14 +87,14 @@ module _ (old new : State) (r : HeadRow) (count : ℕ) (desk : IsDesk old.now) w
         | inr some ↦ inr (done.1 ∙ some.0, subst (λ m. Leaves old new (record (tables_in old.now) { heads = m })) some.1.2 left)
       ]
 
-  pub head_inserted : get (tables_in old.now).heads r.customer ≡ None → Executes text.head_insert_text (head_columns r) old new (Ok count) → Leaves old new (with_account r (tables_in old.now))
+  pub head_inserted : get (tables_in old.now).heads r.customer ≡ None → Executes text.head_insert_text (head_columns r) old new (Ok count) → Leaves old new (with_account r.customer r.account (tables_in old.now))
   head_inserted free h =
       let params = head_columns r in
       let w = runs_as text.head_insert_text params old new desk_schema desk.schema_is _ text.head_insert_is text.head_insert_plain count h in
       let cast_new : (n : ℤ) → value.Int n ∷ drop 1 (cast_row heads_table (Null ∷ params)) ≡ head_stored (n, r) = λ n.
-      then_value refl (then_value refl (then_value (cast_int (pos r.head.next_serial)) (then_value (cast_int (pos r.head.next_notice)) (then_value (cast_int (pos r.head.tally.accepted))
-      (then_value (cast_int (pos r.head.tally.delivered)) (then_value (cast_int (pos r.head.tally.failed)) (then_value (cast_int (pos r.head.tally.deleted)) (then_value (cast_int (pos r.head.tally.expired))
-      (then_value (cast_int (pos r.counts.messages)) (then_value (cast_int (pos r.counts.bytes)) (then_value (cast_int (pos r.counts.lines)) refl))))))))))) in
+      then_value refl (then_value refl (then_value (cast_int (pos r.account.head.next_serial)) (then_value (cast_int (pos r.account.head.next_notice)) (then_value (cast_int (pos r.account.head.tally.accepted))
+      (then_value (cast_int (pos r.account.head.tally.delivered)) (then_value (cast_int (pos r.account.head.tally.failed)) (then_value (cast_int (pos r.account.head.tally.deleted)) (then_value (cast_int (pos r.account.head.tally.expired))
+      (then_value (cast_int (pos r.account.counts.messages)) (then_value (cast_int (pos r.account.counts.bytes)) (then_value (cast_int (pos r.account.counts.lines)) refl))))))))))) in
       let sets = inserted desk_schema head_stored (λ k. refl) 1 heads_table refl (λ db. refl) (λ olds news. refl) text.head_inserted 12 old new _ params count desk.heads.kept r (Null ∷ params) refl refl cast_null cast_new desk.schema_is desk.heads.rows_are desk.heads.rises w in
       let rows = old.now.trees 1 in
       let are = keyed.stored_insert head_stored head_read nat_list_cmp_total exact_bytes head_key head_value rows desk.heads r (λ n. refl) free in
@@ -107,25 +106,3 @@ head_update_keeps old new params count desk within h = write_keeps old new _ _ p
 
 pub head_insert_keeps : (old new : State) (params : Row) (count : ℕ) → IsDesk old.now → IsTrue old.in_transaction → Executes text.head_insert_text params old new (Ok count) → KeepsCommit old new
 head_insert_keeps old new params count desk within h = write_keeps old new _ _ params count (runs_as text.head_insert_text params old new desk_schema desk.schema_is _ text.head_insert_is text.head_insert_plain count h) within
-
--- what a count of changed rows tells
-found_one : (A B : Type 0) (count : ℕ) → not (nat_eq count 0) ≡ true → ((count ≡ 0) × A) ⊎ ((count ≡ 1) × B) → B
-found_one A B count some (inl h) = absurd (true≢false (sym some ∙ ap (λ n. not (nat_eq n 0)) h.0))
-found_one A B count some (inr h) = h.1
-
-found_none : (A B : Type 0) (count : ℕ) → not (nat_eq count 0) ≡ false → ((count ≡ 0) × A) ⊎ ((count ≡ 1) × B) → A
-found_none A B count none (inl h) = h.1
-found_none A B count none (inr h) = absurd (true≢false (sym (ap (λ n. not (nat_eq n 0)) h.0) ∙ none))
-
-module _ (old new : State) (r : HeadRow) (count : ℕ) (desk : IsDesk old.now) (h : Executes text.head_update_text (head_columns r) old new (Ok count)) where
-  abbrev Absent : Type 0
-  Absent = (get (tables_in old.now).heads r.customer ≡ None) × Leaves old new (tables_in old.now)
-
-  abbrev There : Type 0
-  There = Leaves old new (with_account r (tables_in old.now))
-
-  pub update_there : not (nat_eq count 0) ≡ true → There
-  update_there there = found_one Absent There count there (head_updated old new r count desk h)
-
-  pub update_absent : not (nat_eq count 0) ≡ false → Absent
-  update_absent absent = found_none Absent There count absent (head_updated old new r count desk h)

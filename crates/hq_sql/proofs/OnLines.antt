@@ -1,6 +1,5 @@
 -- What the statements on `lines` do.
-use Rattle.std.proofs.Common.{◌≡◌, ◌⊎◌, inl, inr, ◌&&◌, ℕ, ℤ, Bool, true, false, true≢false, not, List, [], ◌∷◌, map, drop, slice_get, option_map, None, Ok, IsTrue, refl, sym, ap, ◌∙◌, subst}
-use Rattle.std.specs.Prelude.{nat_eq}
+use Rattle.std.proofs.Common.{◌≡◌, ◌⊎◌, inl, inr, ◌&&◌, ℕ, ℤ, Bool, true, false, List, [], ◌∷◌, map, drop, slice_get, option_map, None, Ok, IsTrue, refl, sym, ap, ◌∙◌, subst}
 use Rattle.std.specs.List.{list_all}
 use Rattle.std.specs.Ordering.{eq_by_cmp}
 use Rattle.std.specs.Cmp.{tied_then}
@@ -119,25 +118,3 @@ line_insert_keeps old new params count desk within h = write_keeps old new _ _ p
 
 pub line_delete_keeps : (old new : State) (params : Row) (count : ℕ) → IsDesk old.now → IsTrue old.in_transaction → Executes text.line_delete_text params old new (Ok count) → KeepsCommit old new
 line_delete_keeps old new params count desk within h = write_keeps old new _ _ params count (runs_as text.line_delete_text params old new desk_schema desk.schema_is _ text.line_delete_is text.line_delete_plain count h) within
-
--- what a count of changed rows tells
-found_one : (A B : Type 0) (count : ℕ) → not (nat_eq count 0) ≡ true → ((count ≡ 0) × A) ⊎ ((count ≡ 1) × B) → B
-found_one A B count some (inl h) = absurd (true≢false (sym some ∙ ap (λ n. not (nat_eq n 0)) h.0))
-found_one A B count some (inr h) = h.1
-
-found_none : (A B : Type 0) (count : ℕ) → not (nat_eq count 0) ≡ false → ((count ≡ 0) × A) ⊎ ((count ≡ 1) × B) → A
-found_none A B count none (inl h) = h.1
-found_none A B count none (inr h) = absurd (true≢false (sym (ap (λ n. not (nat_eq n 0)) h.0) ∙ none))
-
-module _ (old new : State) (r : LineRow) (count : ℕ) (desk : IsDesk old.now) (h : Executes text.line_update_text (line_columns r) old new (Ok count)) where
-  abbrev Absent : Type 0
-  Absent = (get (tables_in old.now).lines (line_row_key r) ≡ None) × Leaves old new (tables_in old.now)
-
-  abbrev There : Type 0
-  There = Leaves old new (with_line r (tables_in old.now))
-
-  pub update_there : not (nat_eq count 0) ≡ true → There
-  update_there there = found_one Absent There count there (line_updated old new r count desk h)
-
-  pub update_absent : not (nat_eq count 0) ≡ false → Absent
-  update_absent absent = found_none Absent There count absent (line_updated old new r count desk h)

@@ -90,9 +90,9 @@ tail (v ∷ vs) = vs
 
 abbrev pub head_columns : HeadRow → Row
 head_columns r =
-    Text r.customer ∷ number r.head.next_serial ∷ number r.head.next_notice
-    ∷ number r.head.tally.accepted ∷ number r.head.tally.delivered ∷ number r.head.tally.failed ∷ number r.head.tally.deleted ∷ number r.head.tally.expired
-    ∷ number r.counts.messages ∷ number r.counts.bytes ∷ number r.counts.lines ∷ []
+    Text r.customer ∷ number r.account.head.next_serial ∷ number r.account.head.next_notice
+    ∷ number r.account.head.tally.accepted ∷ number r.account.head.tally.delivered ∷ number r.account.head.tally.failed ∷ number r.account.head.tally.deleted ∷ number r.account.head.tally.expired
+    ∷ number r.account.counts.messages ∷ number r.account.counts.bytes ∷ number r.account.counts.lines ∷ []
 
 abbrev pub head_stored : ℤ × HeadRow → Row
 head_stored k = Int k.0 ∷ head_columns k.1
@@ -100,12 +100,14 @@ head_stored k = Int k.0 ∷ head_columns k.1
 abbrev pub head_read : Row → HeadRow
 head_read r = record {
   customer = text_in (column r 1);
-  head = record {
-    next_serial = number_in (column r 2);
-    next_notice = number_in (column r 3);
-    tally = record { accepted = number_in (column r 4); delivered = number_in (column r 5); failed = number_in (column r 6); deleted = number_in (column r 7); expired = number_in (column r 8) };
+  account = record {
+    head = record {
+      next_serial = number_in (column r 2);
+      next_notice = number_in (column r 3);
+      tally = record { accepted = number_in (column r 4); delivered = number_in (column r 5); failed = number_in (column r 6); deleted = number_in (column r 7); expired = number_in (column r 8) };
+    };
+    counts = record { messages = number_in (column r 9); bytes = number_in (column r 10); lines = number_in (column r 11) };
   };
-  counts = record { messages = number_in (column r 9); bytes = number_in (column r 10); lines = number_in (column r 11) };
 }
 
 abbrev pub message_columns : MessageRow → Row

@@ -3,20 +3,20 @@
 ghost use Rattle.std.specs.Prelude.{◌≡◌, pos, [], ◌∷◌, IfOk};
 ghost use Rattle.sqlite.specs.Values.{bound};
 ghost use Rattle.sqlite.specs.declared.types.Value.TheVariants.{Text};
-ghost use Rattle.hq_queue.specs.declared.account.Counts.{Counts};
-ghost use Rattle.hq_queue.specs.declared.account.Head.{Head};
+ghost use Rattle.hq_store.specs.declared.account.Account.{Account};
 ghost use Rattle.hq_access.specs.Patterns.{class_name};
 ghost use Rattle.hq_sql.specs.Rows.{head_columns};
 ghost use Rattle.hq_sql.specs.Bound.{head_numbers};
 
 use hq_access::Class;
 use hq_envelope::Name;
-use hq_queue::{Counts, Head};
+use hq_queue::Head;
+use hq_store::Account;
 use sqlite::Error;
 use sqlite::types::ValueRef;
 
-/// A number of 64 bits; one of 2^63 or more fits no column.
-fn large(number: u64) -> Result<i64, Error>
+/// A number as a column takes it; an error for one of 2^63 or more.
+pub fn large(number: u64) -> Result<i64, Error>
     ensures { IfOk result (λ bound. bound ≡ pos number) }
 {
     match i64::try_from(number) {
@@ -48,13 +48,18 @@ pub(crate) struct HeadNumbers {
 }
 
 /// The numbers of a head; one of 2^63 or more fits no column.
-pub(crate) fn numbers(head: &Head, counts: &Counts) -> Result<HeadNumbers, Error>
-    ensures { IfOk result (λ bound. bound ≡ head_numbers head.now counts.now) }
+pub(crate) fn numbers(account: &Account) -> Result<HeadNumbers, Error>
+    ensures { IfOk result (λ bound. bound ≡ head_numbers account.now) }
 {
-    let tally = head.tally;
+    let Head {
+        next_serial,
+        next_notice,
+        tally,
+    } = account.head;
+    let counts = account.counts;
     Ok(HeadNumbers {
-        next_serial: large(head.next_serial)?,
-        next_notice: large(head.next_notice)?,
+        next_serial: large(next_serial)?,
+        next_notice: large(next_notice)?,
         accepted: large(tally.accepted)?,
         delivered: large(tally.delivered)?,
         failed: large(tally.failed)?,
@@ -68,9 +73,8 @@ pub(crate) fn numbers(head: &Head, counts: &Counts) -> Result<HeadNumbers, Error
 
 /// The columns of a head, in the order of the table.
 pub(crate) fn head<'a>(customer: &'a Name, numbers: &HeadNumbers) -> [ValueRef<'a>; 11]
-    ensures { (head : Head) → (counts : Counts) → numbers.now ≡ head_numbers head counts
-        → bound result ≡ head_columns
-        (record { customer = customer.now; head = head; counts = counts }) }
+    ensures { (account : Account) → numbers.now ≡ head_numbers account
+        → bound result ≡ head_columns (record { customer = customer.now; account = account }) }
 {
     [
         ValueRef::Text(customer.as_str().as_bytes()),

@@ -7,20 +7,12 @@ ghost use Rattle.hq_sql.specs.Rows.{head_shown, line_shown};
 use crate::read;
 use hq_access::Action;
 use hq_queue::{Counts, Head, Tally};
+use hq_store::Account;
 use sqlite::{Error, Row};
 use std::alloc::Global;
 
-/// A head with its counts, without the customer.
-#[derive(Clone, Copy, Debug, PartialEq, Eq, Drop)]
-pub struct Account {
-    /// The head.
-    pub head: Head,
-    /// How much the customer keeps.
-    pub counts: Counts,
-}
-
 fn tally(row: &Row) -> Result<Tally, Error>
-    ensures { IfOk result (λ tally. tally ≡ (head_shown row.now).head.tally) }
+    ensures { IfOk result (λ tally. tally ≡ (head_value (head_shown row.now)).head.tally) }
 {
     Ok(Tally {
         accepted: read::number(row, 3)?,
@@ -32,7 +24,7 @@ fn tally(row: &Row) -> Result<Tally, Error>
 }
 
 fn counts(row: &Row) -> Result<Counts, Error>
-    ensures { IfOk result (λ counts. counts ≡ (head_shown row.now).counts) }
+    ensures { IfOk result (λ counts. counts ≡ (head_value (head_shown row.now)).counts) }
 {
     Ok(Counts {
         messages: read::number(row, 8)?,
@@ -42,8 +34,7 @@ fn counts(row: &Row) -> Result<Counts, Error>
 }
 
 fn account_of(row: &Row) -> Result<Account, Error>
-    ensures { IfOk result (λ account. record { head = account.head; counts = account.counts }
-        ≡ head_value (head_shown row.now)) }
+    ensures { IfOk result (λ account. account ≡ head_value (head_shown row.now)) }
 {
     let head = Head {
         next_serial: read::number(row, 1)?,
@@ -55,8 +46,7 @@ fn account_of(row: &Row) -> Result<Account, Error>
 }
 
 pub(crate) fn first_account(rows: &[Row]) -> Result<Option<Account>, Error>
-    ensures { IfOk result (λ found.
-        option_map (λ a. record { head = a.head; counts = a.counts }) found
+    ensures { IfOk result (λ found. found
         ≡ option_map (λ r. head_value (head_shown r)) (slice_get rows.now 0)) }
 {
     match rows.first() {

@@ -1,30 +1,28 @@
 //! The table of heads: a customer's head, and how much it keeps.
 
-ghost use Rattle.std.specs.Prelude.{◌≡◌, true, false, None, IfOk, OnOk, option_map, slice_get};
+ghost use Rattle.std.specs.Prelude.{option_map, slice_get};
 ghost use Rattle.std.specs.FinMap.{get};
 ghost use Rattle.sqlite.specs.Held.{state};
-ghost use Rattle.sqlite.specs.State.{HasCleanDisk};
 ghost use Rattle.hq_store.specs.Listed.{head_value};
 ghost use Rattle.hq_sql.specs.Rows.{head_shown};
-ghost use Rattle.hq_sql.specs.Heads.{head_row, with_account};
-ghost use Rattle.hq_sql.specs.Kept.{Keeps, KeepsCommitted};
-ghost use Rattle.hq_sql.specs.Tables.{IsDesk, Leaves, tables_in};
+ghost use Rattle.hq_sql.specs.Heads.{with_account};
+ghost use Rattle.hq_sql.specs.Kept.{Shows, Finds, Makes, Inserts, Updates, Keeps, KeepsCommitted};
 
-use crate::bind;
-use crate::decode::{self, Account};
+use crate::{bind, decode};
 use hq_envelope::Name;
-use hq_queue::{Counts, Head};
+use hq_store::Account;
 use sqlite::{Alter, Connection, Error, Row};
 
 fn query<S: Alter>(conn: &mut Connection<S>, customer: &Name) -> Result<Vec<Row>, Error>
-    ensures found { HasCleanDisk (state S.Store conn.new) → IsDesk (state S.Store conn.old).now
-        → IfOk result (λ rows. option_map (λ r. head_value (head_shown r)) (slice_get rows.items 0)
-        ≡ get (tables_in (state S.Store conn.old).now).heads customer.now) }
+    ensures found { Shows (state S.Store conn.old) (state S.Store conn.new) result
+        (λ rows. option_map (λ r. head_value (head_shown r)) (slice_get rows.items 0))
+        (λ t. get t.heads customer.now) }
     ensures kept { Keeps (state S.Store conn.old) (state S.Store conn.new) result }
 {
     let params = bind::customer(customer);
     let rows = conn.query_all(
-        "SELECT customer, next_serial, next_notice, accepted, delivered, failed, deleted, expired, messages, bytes, lines FROM heads WHERE customer = ?1",
+        "SELECT customer, next_serial, next_notice, accepted, delivered, failed, deleted, expired, \
+         messages, bytes, lines FROM heads WHERE customer = ?1",
         &params,
     )?;
     Ok(rows)
@@ -35,10 +33,8 @@ pub fn account<S: Alter>(
     conn: &mut Connection<S>,
     customer: &Name,
 ) -> Result<Option<Account>, Error>
-    ensures found { HasCleanDisk (state S.Store conn.new) → IsDesk (state S.Store conn.old).now
-        → IfOk result (λ found.
-        option_map (λ a. record { head = a.head; counts = a.counts }) found
-        ≡ get (tables_in (state S.Store conn.old).now).heads customer.now) }
+    ensures found { Finds (state S.Store conn.old) (state S.Store conn.new) result
+        (λ t. get t.heads customer.now) }
     ensures kept { Keeps (state S.Store conn.old) (state S.Store conn.new) result }
 {
     let rows = query(conn, customer)?;
@@ -49,27 +45,18 @@ pub fn account<S: Alter>(
 fn update<S: Alter>(
     conn: &mut Connection<S>,
     customer: &Name,
-    head: &Head,
-    counts: &Counts,
+    account: &Account,
 ) -> Result<bool, Error>
-    ensures there { HasCleanDisk (state S.Store conn.new) → IsDesk (state S.Store conn.old).now
-        → IfOk result (λ there. there ≡ true
-        → Leaves (state S.Store conn.old) (state S.Store conn.new)
-        (with_account (head_row customer.now head.now counts.now)
-        (tables_in (state S.Store conn.old).now))) }
-    ensures absent { HasCleanDisk (state S.Store conn.new) → IsDesk (state S.Store conn.old).now
-        → IfOk result (λ there. there ≡ false
-        → Leaves (state S.Store conn.old) (state S.Store conn.new)
-        (tables_in (state S.Store conn.old).now)) }
-    ensures free { HasCleanDisk (state S.Store conn.new) → IsDesk (state S.Store conn.old).now
-        → IfOk result (λ there. there ≡ false
-        → get (tables_in (state S.Store conn.old).now).heads customer.now ≡ None) }
+    ensures made { Updates (state S.Store conn.old) (state S.Store conn.new) result
+        (λ t. get t.heads customer.now) (with_account customer.now account.now) }
     ensures kept { KeepsCommitted (state S.Store conn.old) (state S.Store conn.new) }
 {
-    let numbers = bind::numbers(head, counts)?;
+    let numbers = bind::numbers(account)?;
     let params = bind::head(customer, &numbers);
     let count = conn.execute(
-        "UPDATE heads SET next_serial = ?2, next_notice = ?3, accepted = ?4, delivered = ?5, failed = ?6, deleted = ?7, expired = ?8, messages = ?9, bytes = ?10, lines = ?11 WHERE customer = ?1",
+        "UPDATE heads SET next_serial = ?2, next_notice = ?3, accepted = ?4, delivered = ?5, \
+         failed = ?6, deleted = ?7, expired = ?8, messages = ?9, bytes = ?10, lines = ?11 \
+         WHERE customer = ?1",
         &params,
     )?;
     Ok(count != 0)
@@ -79,20 +66,18 @@ fn update<S: Alter>(
 fn insert<S: Alter>(
     conn: &mut Connection<S>,
     customer: &Name,
-    head: &Head,
-    counts: &Counts,
+    account: &Account,
 ) -> Result<(), Error>
-    ensures done { HasCleanDisk (state S.Store conn.new) → IsDesk (state S.Store conn.old).now
-        → get (tables_in (state S.Store conn.old).now).heads customer.now ≡ None
-        → OnOk result (Leaves (state S.Store conn.old) (state S.Store conn.new)
-        (with_account (head_row customer.now head.now counts.now)
-        (tables_in (state S.Store conn.old).now))) }
+    ensures made { Inserts (state S.Store conn.old) (state S.Store conn.new) result
+        (λ t. get t.heads customer.now) (with_account customer.now account.now) }
     ensures kept { KeepsCommitted (state S.Store conn.old) (state S.Store conn.new) }
 {
-    let numbers = bind::numbers(head, counts)?;
+    let numbers = bind::numbers(account)?;
     let params = bind::head(customer, &numbers);
     conn.execute(
-        "INSERT INTO heads (customer, next_serial, next_notice, accepted, delivered, failed, deleted, expired, messages, bytes, lines) VALUES (?1, ?2, ?3, ?4, ?5, ?6, ?7, ?8, ?9, ?10, ?11)",
+        "INSERT INTO heads (customer, next_serial, next_notice, accepted, delivered, failed, \
+         deleted, expired, messages, bytes, lines) \
+         VALUES (?1, ?2, ?3, ?4, ?5, ?6, ?7, ?8, ?9, ?10, ?11)",
         &params,
     )?;
     Ok(())
@@ -102,17 +87,14 @@ fn insert<S: Alter>(
 pub fn put<S: Alter>(
     conn: &mut Connection<S>,
     customer: &Name,
-    head: &Head,
-    counts: &Counts,
+    account: &Account,
 ) -> Result<(), Error>
-    ensures done { HasCleanDisk (state S.Store conn.new) → IsDesk (state S.Store conn.old).now
-        → OnOk result (Leaves (state S.Store conn.old) (state S.Store conn.new)
-        (with_account (head_row customer.now head.now counts.now)
-        (tables_in (state S.Store conn.old).now))) }
+    ensures made { Makes (state S.Store conn.old) (state S.Store conn.new) result
+        (with_account customer.now account.now) }
     ensures kept { KeepsCommitted (state S.Store conn.old) (state S.Store conn.new) }
 {
-    if !update(conn, customer, head, counts)? {
-        insert(conn, customer, head, counts)?;
+    if !update(conn, customer, account)? {
+        insert(conn, customer, account)?;
     }
     Ok(())
 }

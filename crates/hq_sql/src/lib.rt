@@ -2,8 +2,8 @@
 //! leaves, said of the tables of all customers as finite maps.
 #![tactic(auto)]
 
-mod bind;
+pub mod bind;
 mod decode;
 pub mod heads;
 pub mod lines;
-mod read;
+pub mod read;

@@ -1,15 +1,13 @@
 //! The table of lines: the access tables of all customers.
 
-ghost use Rattle.std.specs.Prelude.{◌≡◌, true, false, None, IfOk, OnOk, option_map, slice_get, string_bytes};
+ghost use Rattle.std.specs.Prelude.{◌≡◌, IfOk, option_map, slice_get, string_bytes};
 ghost use Rattle.std.specs.FinMap.{get};
 ghost use Rattle.sqlite.specs.Held.{state};
-ghost use Rattle.sqlite.specs.State.{HasCleanDisk};
 ghost use Rattle.hq_access.specs.Actions.{action_text};
 ghost use Rattle.hq_store.specs.Listed.{line_row_value};
-ghost use Rattle.hq_sql.specs.Kept.{Keeps, KeepsCommitted};
+ghost use Rattle.hq_sql.specs.Kept.{Shows, Finds, Makes, Inserts, Updates, Keeps, KeepsCommitted};
 ghost use Rattle.hq_sql.specs.Lines.{line_row, with_line, without_line};
 ghost use Rattle.hq_sql.specs.Rows.{line_shown};
-ghost use Rattle.hq_sql.specs.Tables.{IsDesk, Leaves, tables_in};
 
 use crate::{bind, decode};
 use hq_access::{Action, Class, Line, LookupKey, Pattern};
@@ -23,15 +21,15 @@ fn query<S: Alter>(
     class: Class,
     key: &LookupKey,
 ) -> Result<Vec<Row>, Error>
-    ensures found { HasCleanDisk (state S.Store conn.new) → IsDesk (state S.Store conn.old).now
-        → IfOk result (λ rows.
-        option_map (λ r. line_row_value (line_shown r)) (slice_get rows.items 0)
-        ≡ get (tables_in (state S.Store conn.old).now).lines (customer.now, (class, key.now))) }
+    ensures found { Shows (state S.Store conn.old) (state S.Store conn.new) result
+        (λ rows. option_map (λ r. line_row_value (line_shown r)) (slice_get rows.items 0))
+        (λ t. get t.lines (customer.now, (class, key.now))) }
     ensures kept { Keeps (state S.Store conn.old) (state S.Store conn.new) result }
 {
     let params = bind::line_key(customer, class, key.as_str());
     let rows = conn.query_all(
-        "SELECT customer, class, pattern, action FROM lines WHERE customer = ?1 AND class = ?2 AND pattern = ?3",
+        "SELECT customer, class, pattern, action FROM lines \
+         WHERE customer = ?1 AND class = ?2 AND pattern = ?3",
         &params,
     )?;
     Ok(rows)
@@ -45,9 +43,8 @@ pub fn line<S: Alter>(
     class: Class,
     key: &LookupKey,
 ) -> Result<Option<Action>, Error>
-    ensures found { HasCleanDisk (state S.Store conn.new) → IsDesk (state S.Store conn.old).now
-        → IfOk result (λ found. found
-        ≡ get (tables_in (state S.Store conn.old).now).lines (customer.now, (class, key.now))) }
+    ensures found { Finds (state S.Store conn.old) (state S.Store conn.new) result
+        (λ t. get t.lines (customer.now, (class, key.now))) }
     ensures kept { Keeps (state S.Store conn.old) (state S.Store conn.new) result }
 {
     let rows = query(conn, customer, class, key)?;
@@ -71,17 +68,9 @@ fn update<S: Alter>(
     customer: &Name,
     line: &Line,
 ) -> Result<bool, Error>
-    ensures there { HasCleanDisk (state S.Store conn.new) → IsDesk (state S.Store conn.old).now
-        → IfOk result (λ there. there ≡ true
-        → Leaves (state S.Store conn.old) (state S.Store conn.new)
-        (with_line (line_row customer.now line.now) (tables_in (state S.Store conn.old).now))) }
-    ensures absent { HasCleanDisk (state S.Store conn.new) → IsDesk (state S.Store conn.old).now
-        → IfOk result (λ there. there ≡ false
-        → Leaves (state S.Store conn.old) (state S.Store conn.new)
-        (tables_in (state S.Store conn.old).now)) }
-    ensures free { HasCleanDisk (state S.Store conn.new) → IsDesk (state S.Store conn.old).now
-        → IfOk result (λ there. there ≡ false
-        → get (tables_in (state S.Store conn.old).now).lines (customer.now, line.now.pattern) ≡ None) }
+    ensures made { Updates (state S.Store conn.old) (state S.Store conn.new) result
+        (λ t. get t.lines (customer.now, line.now.pattern))
+        (with_line (line_row customer.now line.now)) }
     ensures kept { KeepsCommitted (state S.Store conn.old) (state S.Store conn.new) }
 {
     let action = written(alloc, &line.action)?;
@@ -105,10 +94,9 @@ fn insert<S: Alter>(
     customer: &Name,
     line: &Line,
 ) -> Result<(), Error>
-    ensures done { HasCleanDisk (state S.Store conn.new) → IsDesk (state S.Store conn.old).now
-        → get (tables_in (state S.Store conn.old).now).lines (customer.now, line.now.pattern) ≡ None
-        → OnOk result (Leaves (state S.Store conn.old) (state S.Store conn.new)
-        (with_line (line_row customer.now line.now) (tables_in (state S.Store conn.old).now))) }
+    ensures made { Inserts (state S.Store conn.old) (state S.Store conn.new) result
+        (λ t. get t.lines (customer.now, line.now.pattern))
+        (with_line (line_row customer.now line.now)) }
     ensures kept { KeepsCommitted (state S.Store conn.old) (state S.Store conn.new) }
 {
     let action = written(alloc, &line.action)?;
@@ -132,9 +120,8 @@ pub fn put<S: Alter>(
     customer: &Name,
     line: &Line,
 ) -> Result<(), Error>
-    ensures done { HasCleanDisk (state S.Store conn.new) → IsDesk (state S.Store conn.old).now
-        → OnOk result (Leaves (state S.Store conn.old) (state S.Store conn.new)
-        (with_line (line_row customer.now line.now) (tables_in (state S.Store conn.old).now))) }
+    ensures made { Makes (state S.Store conn.old) (state S.Store conn.new) result
+        (with_line (line_row customer.now line.now)) }
     ensures kept { KeepsCommitted (state S.Store conn.old) (state S.Store conn.new) }
 {
     if !update(alloc, conn, customer, line)? {
@@ -149,9 +136,8 @@ pub fn remove<S: Alter>(
     customer: &Name,
     pattern: &Pattern,
 ) -> Result<(), Error>
-    ensures done { HasCleanDisk (state S.Store conn.new) → IsDesk (state S.Store conn.old).now
-        → OnOk result (Leaves (state S.Store conn.old) (state S.Store conn.new)
-        (without_line (customer.now, pattern.now) (tables_in (state S.Store conn.old).now))) }
+    ensures made { Makes (state S.Store conn.old) (state S.Store conn.new) result
+        (without_line (customer.now, pattern.now)) }
     ensures kept { KeepsCommitted (state S.Store conn.old) (state S.Store conn.new) }
 {
     let params = bind::line_key(customer, pattern.class(), pattern.as_str());

@@ -7,38 +7,30 @@ ghost use Rattle.std.specs.List.{after_first, before_first};
 ghost use Rattle.hq_sql.specs.Rows.{text_in, number_in, action_of, action_of_verb};
 
 use hq_access::Action;
-use hq_envelope::{Address, Fail, Name, Text};
+use hq_envelope::{Address, Fail, Text};
 use sqlite::{Error, ErrorCode, Row};
 use std::alloc::Global;
 
 /// The error of a text that is no value of its type, or of want of memory.
-fn unread(fail: Fail) -> Error {
+pub fn unread(fail: Fail) -> Error {
     match fail {
         Fail::Fault(_) => Error::SqliteFailure(ErrorCode::OutOfMemory),
         Fail::Refused(_) => Error::InvalidQuery,
     }
 }
 
-pub(crate) fn number(row: &Row, at: usize) -> Result<u64, Error>
+/// The number of a column; an error where its value is none, or is negative.
+pub fn number(row: &Row, at: usize) -> Result<u64, Error>
     ensures { IfOk result (λ n. n ≡ number_in (column row.now at)) }
 {
     row.get(at)
 }
 
-fn text(row: &Row, at: usize) -> Result<String, Error>
+/// The text of a column; an error where its value is none.
+pub fn text(row: &Row, at: usize) -> Result<String, Error>
     ensures { IfOk result (λ t. string_bytes t ≡ text_in (column row.now at)) }
 {
     row.get(at)
-}
-
-pub(crate) fn name(alloc: Global, row: &Row, at: usize) -> Result<Name, Error>
-    ensures { IfOk result (λ name. name ≡ text_in (column row.now at)) }
-{
-    let text = text(row, at)?;
-    match Name::parse(alloc, text.as_str()) {
-        Ok(name) => Ok(name),
-        Err(fail) => Err(unread(fail)),
-    }
 }
 
 /// The verb and the argument of a written form, which the first space parts.
@@ -56,18 +48,13 @@ fn parts(text: &str) -> (&str, &str)
 fn action_with(alloc: Global, verb: &str, argument: &str) -> Result<Action, Fail>
     ensures { IfOk result (λ action. action ≡ action_of_verb verb.now argument.now) }
 {
-    if verb == "OK" {
-        Ok(Action::Okay(Text::parse(alloc, argument)?))
-    } else if verb == "REJECT" {
-        Ok(Action::Reject(Text::parse(alloc, argument)?))
-    } else if verb == "DUNNO" {
-        Ok(Action::Dunno(Text::parse(alloc, argument)?))
-    } else if verb == "DISCARD" {
-        Ok(Action::Discard(Text::parse(alloc, argument)?))
-    } else if verb == "HOLD" {
-        Ok(Action::Hold(Text::parse(alloc, argument)?))
-    } else {
-        Ok(Action::Redirect(Address::parse(alloc, argument)?))
+    match verb {
+        "OK" => Ok(Action::Okay(Text::parse(alloc, argument)?)),
+        "REJECT" => Ok(Action::Reject(Text::parse(alloc, argument)?)),
+        "DUNNO" => Ok(Action::Dunno(Text::parse(alloc, argument)?)),
+        "DISCARD" => Ok(Action::Discard(Text::parse(alloc, argument)?)),
+        "HOLD" => Ok(Action::Hold(Text::parse(alloc, argument)?)),
+        _ => Ok(Action::Redirect(Address::parse(alloc, argument)?)),
     }
 }
 

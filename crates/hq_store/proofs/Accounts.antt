@@ -6,17 +6,18 @@ use Rattle.std.specs.FinMap.{FinMap, get, insert, get-insert}
 use Rattle.std.proofs.lemmas.Map.Lookups.{exact_bytes}
 use Rattle.hq_queue.specs.declared.account.Counts.{Counts}
 use Rattle.hq_queue.specs.declared.account.Head.{Head}
+use Rattle.hq_store.specs.declared.account.Account.{Account}
 use Rattle.hq_store.specs.declared.change.Change.{Change}
 use Rattle.hq_store.specs.declared.change.Change.TheVariants.{PutHead, PutMessage, DropMessage, PutLine, DropLine}
 use Rattle.hq_tables.specs.Owned.{given}
 use Rattle.hq_tables.proofs.Parts.{tied_true, tied_false}
-use Rattle.hq_store.specs.Tables.{Tables, Row, Account, text_cmp, opening_head, account, headed, counted, with_message, without_message, with_line, without_line, uncounted_message, write}
+use Rattle.hq_store.specs.Tables.{Tables, Row, text_cmp, opening_account, recounted, account, headed, counted, with_message, without_message, with_line, without_line, uncounted_message, write}
 
 abbrev pub Heads : Type 0
 Heads = FinMap text_cmp Account
 
 abbrev pub or_opening : Option Account → Account
-or_opening o = unwrap_or o (record { head = opening_head; counts = record { messages = 0; bytes = 0; lines = 0 } })
+or_opening o = unwrap_or o opening_account
 
 same_some : {A : Type 0} (a b : A) → ◌≡◌ {A = Option A} (Some a) (Some b) → a ≡ b
 same_some a b e = cc
@@ -30,11 +31,11 @@ put_here heads c v = ap or_opening (get-insert nat_list_cmp_total heads c v c �
 put_elsewhere : (heads : Heads) (c d : List ℕ) (v : Account) → d ≢ c → account (insert heads c v) d ≡ account heads d
 put_elsewhere heads c d v apart = ap or_opening (get-insert nat_list_cmp_total heads c v d ∙ ap (λ b. cond b (Some v) (get heads d)) (tied_false exact_bytes d c apart))
 
-pub headed_own : (c : List ℕ) (head : Head) (heads : Heads) → account (headed c head heads) c ≡ record { head = head; counts = (account heads c).counts }
+pub headed_own : (c : List ℕ) (head : Head) (heads : Heads) → account (headed c head heads) c ≡ record (account heads c) { head = head }
 unfolding headed
 headed_own c head heads = put_here heads c _
 
-pub counted_own : (f : Counts → Counts) (c : List ℕ) (heads : Heads) → account (counted f c heads) c ≡ record { head = (account heads c).head; counts = f (account heads c).counts }
+pub counted_own : (f : Counts → Counts) (c : List ℕ) (heads : Heads) → account (counted f c heads) c ≡ recounted f (account heads c)
 unfolding counted
 counted_own f c heads = put_here heads c _
 
@@ -83,14 +84,13 @@ no_line_head c f t o = by_given (SameHead c t) _ _ o refl (λ _. counted_head f 
 
 -- ---- what the code shows of the heads that it leaves
 
-pub is_headed : (c : List ℕ) (heads : Heads) (head : Head) (counts : Counts) → counts ≡ (account heads c).counts → insert heads c (record { head = head; counts = counts }) ≡ headed c head heads
+pub is_headed : (c : List ℕ) (heads : Heads) (head : Head) (kept : Account) → kept ≡ account heads c → insert heads c (record kept { head = head }) ≡ headed c head heads
 unfolding headed
-is_headed c heads head counts e = λ i. insert heads c (record { head = head; counts = e i })
+is_headed c heads head kept e = ap (λ (a : Account). insert heads c (record a { head = head })) e
 
-pub is_counted : (f : Counts → Counts) (c : List ℕ) (heads : Heads) (head : Head) (counts : Counts) → head ≡ (account heads c).head → counts ≡ f (account heads c).counts
-    → insert heads c (record { head = head; counts = counts }) ≡ counted f c heads
+pub is_counted : (f : Counts → Counts) (c : List ℕ) (heads : Heads) (kept left : Account) → kept ≡ account heads c → left ≡ recounted f kept → insert heads c left ≡ counted f c heads
 unfolding counted
-is_counted f c heads head counts e g = λ i. insert heads c (record { head = e i; counts = g i })
+is_counted f c heads kept left e g = ap (insert heads c) (g ∙ ap (recounted f) e)
 
 pub at_size : {B : Type 0} (b : B) (f : ℕ → B) (o : Option Row) (size : ℕ) → Some size ≡ option_map (λ (r : Row). r.size) o → f size ≡ given b (λ (r : Row). f r.size) o
 at_size b f None size e = absurd (some_none size e)

@@ -8,11 +8,12 @@ use Rattle.std.specs.Cmp.{nat_cmp_total}
 use Rattle.std.proofs.lemmas.Map.Lookups.{exact_unsigned}
 use Rattle.std.specs.FinMap.{FinMap, entries, values, get, insert, remove}
 use Rattle.hq_queue.specs.declared.account.Counts.{Counts}
+use Rattle.hq_store.specs.declared.account.Account.{Account}
 use Rattle.hq_store.specs.declared.change.Change.{Change}
 use Rattle.hq_store.specs.declared.change.Change.TheVariants.{PutHead, PutMessage, DropMessage, PutLine, DropLine}
 use Rattle.hq_tables.specs.Owned.{part_of, given}
 use Rattle.hq_tables.proofs.Totals.{total_put, total_drop, many_put}
-use Rattle.hq_store.specs.Tables.{Tables, Row, Account, text_cmp, line_cmp, row_of, account, counted, with_message, without_message, with_line, without_line, uncounted_message, write, write_all}
+use Rattle.hq_store.specs.Tables.{Tables, Row, text_cmp, line_cmp, row_of, account, counted, with_message, without_message, with_line, without_line, uncounted_message, write, write_all}
 use Rattle.hq_store.specs.Readings.{kept_in, told, read_tables}
 use Rattle.hq_access.specs.declared.action.Action.{Action}
 use Rattle.hq_access.specs.declared.pattern.Class.{Class}

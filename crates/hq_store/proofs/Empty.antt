@@ -8,13 +8,14 @@ use Rattle.std.specs.Cmp.{nat_cmp_total}
 use Rattle.std.specs.FinMap.{empty, entries, get, len, values, get-empty, len-empty, same_map}
 use Rattle.std.proofs.lemmas.Map.Lookups.{exact_unsigned}
 use Rattle.hq_access.specs.declared.action.Action.{Action}
+use Rattle.hq_store.specs.declared.account.Account.{Account}
 use Rattle.hq_queue.specs.declared.message.Message.{Message}
 use Rattle.hq_queue.specs.declared.message.Pending.{Pending}
 use Rattle.hq_tables.specs.Owned.{by_both, part_of, rows_of, map_values}
 use Rattle.hq_tables.specs.Rows.{table}
 use Rattle.hq_tables.proofs.Parts.{get_part, get-map_values, both_total, both_exact}
 use Rattle.hq_tables.proofs.Pages.{no_entries}
-use Rattle.hq_store.specs.Tables.{Account, Row, text_cmp, line_cmp, lines_cmp, account, opening, opening_head, no_tables, own, joined, pending_of, message_cmp, recipient_cmp}
+use Rattle.hq_store.specs.Tables.{Row, text_cmp, line_cmp, lines_cmp, account, opening, opening_account, opening_head, no_tables, own, joined, pending_of, message_cmp, recipient_cmp}
 use Rattle.hq_store.specs.Readings.{kept_of, kept_in}
 use Rattle.hq_store.proofs.Customers.{none_own}
 use Rattle.hq_store.proofs.LineOrder.{line_total, line_exact}
@@ -32,8 +33,8 @@ no_message customer = same_map nat_cmp_total exact_unsigned _ _ (λ k.
     ∙ ap (λ m. option_map (joined customer no_tables.recipients k) (get m k)) (none_own nat_cmp_total exact_unsigned customer)
     ∙ ap (option_map (joined customer no_tables.recipients k)) (get-empty nat_cmp k) ∙ sym (get-empty nat_cmp k))
 
-no_account : (customer : List ℕ) → account no_tables.heads customer ≡ unwrap_or None (record { head = opening_head; counts = record { messages = 0; bytes = 0; lines = 0 } })
-no_account customer = ap (λ o. unwrap_or o (record { head = opening_head; counts = record { messages = 0; bytes = 0; lines = 0 } })) (get-empty text_cmp customer)
+no_account : (customer : List ℕ) → account no_tables.heads customer ≡ opening_account
+no_account customer = ap (λ o. unwrap_or o opening_account) (get-empty text_cmp customer)
 
 pub own_opening : (customer : List ℕ) → own customer no_tables ≡ opening
 own_opening customer = λ i. record { head = (no_account customer i).head; messages = no_message customer i; lines = none_own line_total line_exact customer i }

@@ -4,12 +4,13 @@ use Rattle.std.specs.FinMap.{FinMap}
 use Rattle.hq_queue.specs.declared.message.Pending.{Pending}
 use Rattle.hq_access.specs.declared.action.Action.{Action}
 use Rattle.hq_access.specs.declared.pattern.Class.{Class}
+use Rattle.hq_store.specs.declared.account.Account.{Account}
 use Rattle.hq_store.specs.declared.rows.HeadRow.{HeadRow}
 use Rattle.hq_store.specs.declared.rows.LineRow.{LineRow}
 use Rattle.hq_store.specs.declared.rows.MessageRow.{MessageRow}
 use Rattle.hq_store.specs.declared.rows.RecipientRow.{RecipientRow}
 use Rattle.hq_store.specs.declared.list_rows.ListRows.{ListRows}
-use Rattle.hq_store.specs.Tables.{Tables, Account, Row, text_cmp, message_cmp, recipient_cmp, lines_cmp}
+use Rattle.hq_store.specs.Tables.{Tables, Row, text_cmp, message_cmp, recipient_cmp, lines_cmp}
 use Rattle.hq_tables.specs.Rows.{table}
 
 -- ---- keys and values of rows
@@ -18,7 +19,7 @@ abbrev pub head_key : HeadRow → List ℕ
 head_key r = r.customer
 
 abbrev pub head_value : HeadRow → Account
-head_value r = record { head = r.head; counts = r.counts }
+head_value r = r.account
 
 abbrev pub message_key : MessageRow → List ℕ × ℕ
 message_key r = (r.customer, r.serial)

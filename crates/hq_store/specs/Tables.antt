@@ -13,6 +13,7 @@ use Rattle.hq_queue.specs.declared.account.Head.{Head}
 use Rattle.hq_queue.specs.declared.message.Message.{Message}
 use Rattle.hq_queue.specs.declared.message.Pending.{Pending}
 use Rattle.hq_queue.specs.declared.message.QueueState.{QueueState}
+use Rattle.hq_store.specs.declared.account.Account.{Account}
 use Rattle.hq_store.specs.declared.change.Change.{Change}
 use Rattle.hq_store.specs.declared.change.Change.TheVariants.{PutHead, PutMessage, DropMessage, PutLine, DropLine}
 use Rattle.hq_tables.specs.Owned.{by_both, part_of, map_values, given}
@@ -83,11 +84,6 @@ pub record Row : Type 0 where
   pub attempts : ℕ
   pub warned : Bool
 
--- a row of heads, beside its key: the head, and how much the customer keeps
-pub record Account : Type 0 where
-  pub head : Head
-  pub counts : Counts
-
 -- every key begins with the customer's name; recipients have a table of their own, by serial and place
 pub record Tables : Type 0 where
   pub heads : FinMap text_cmp Account
@@ -139,17 +135,25 @@ with_line n = record { messages = n.messages; bytes = n.bytes; lines = n.lines +
 abbrev pub without_line : Counts → Counts
 without_line n = record { messages = n.messages; bytes = n.bytes; lines = n.lines - 1 }
 
+-- a head row of whom nothing is kept yet
+abbrev pub opening_account : Account
+opening_account = record { head = opening_head; counts = record { messages = 0; bytes = 0; lines = 0 } }
+
 -- the customer's head row; that of a customer of whom nothing is kept, where it has none
 abbrev pub account : FinMap text_cmp Account → List ℕ → Account
-account heads customer = unwrap_or (get heads customer) (record { head = opening_head; counts = record { messages = 0; bytes = 0; lines = 0 } })
+account heads customer = unwrap_or (get heads customer) opening_account
+
+-- the same head, with the counts changed
+abbrev pub recounted : (Counts → Counts) → Account → Account
+recounted f a = record a { counts = f a.counts }
 
 -- the heads after another head was put: the counts stay
 unfoldable pub headed : List ℕ → Head → FinMap text_cmp Account → FinMap text_cmp Account
-headed customer head heads = insert heads customer (record { head = head; counts = (account heads customer).counts })
+headed customer head heads = insert heads customer (record (account heads customer) { head = head })
 
 -- the heads with the counts of one customer changed: the head stays
 unfoldable pub counted : (Counts → Counts) → List ℕ → FinMap text_cmp Account → FinMap text_cmp Account
-counted f customer heads = insert heads customer (record { head = (account heads customer).head; counts = f (account heads customer).counts })
+counted f customer heads = insert heads customer (recounted f (account heads customer))
 
 -- the heads once the message of a serial is not counted any more; the same, where there is none
 abbrev pub uncounted_message : List ℕ → ℕ → Tables → FinMap text_cmp Account

@@ -1,6 +1,6 @@
 //! The rows of heads: look-up and put, and the counts that they keep.
 
-ghost use Rattle.std.specs.Prelude.{◌≡◌, not, OnOk, IfSome, filter, option_map};
+ghost use Rattle.std.specs.Prelude.{◌≡◌, not, OnOk, filter, option_map};
 ghost use Rattle.std.specs.List as list;
 ghost use Rattle.std.specs.FinMap as map;
 ghost use Rattle.hq_tables.specs.Owned.{given};
@@ -8,33 +8,14 @@ ghost use Rattle.hq_store.specs.Tables.{Row, account, headed, counted, with_mess
 ghost use Rattle.hq_store.specs.Listed.{heads_of, messages_of, lines_of};
 ghost use Rattle.hq_store.specs.Lookups.{is_head};
 
+use crate::account::Account;
 use crate::lines::has_line;
 use crate::messages::size_in;
 use crate::rows::{HeadRow, LineRow, MessageRow};
 use hq_access::Pattern;
 use hq_envelope::{Name, Serial, TryCopy};
-use hq_queue::{Counts, Head, Tally};
+use hq_queue::Head;
 use std::alloc::{AllocError, Global};
-
-/// The head of a customer of whom nothing is kept yet.
-const OPENING_HEAD: Head = Head {
-    next_serial: 1,
-    next_notice: 1,
-    tally: Tally {
-        accepted: 0,
-        delivered: 0,
-        failed: 0,
-        deleted: 0,
-        expired: 0,
-    },
-};
-
-/// Nothing is kept.
-const NO_COUNTS: Counts = Counts {
-    messages: 0,
-    bytes: 0,
-    lines: 0,
-};
 
 fn find_head<'a>(rows: &'a [HeadRow], customer: &Name) -> Option<&'a HeadRow>
     ensures { option_map (λ row. row.now) result ≡ list.find (is_head customer.now) rows.now }
@@ -42,23 +23,13 @@ fn find_head<'a>(rows: &'a [HeadRow], customer: &Name) -> Option<&'a HeadRow>
     rows.iter().find(|row| row.is_of(customer))
 }
 
-/// The customer's head, or that of a customer of whom nothing is kept.
-pub(crate) fn head_in(rows: &[HeadRow], customer: &Name) -> Head
-    ensures { result ≡ (account (heads_of rows.now) customer.now).head }
+/// The customer's head and counts, or those of a customer of whom nothing is kept.
+pub(crate) fn account_in(rows: &[HeadRow], customer: &Name) -> Account
+    ensures { result ≡ account (heads_of rows.now) customer.now }
 {
     match find_head(rows, customer) {
-        Some(row) => row.head,
-        None => OPENING_HEAD,
-    }
-}
-
-/// How much the customer keeps.
-pub(crate) fn counts_in(rows: &[HeadRow], customer: &Name) -> Counts
-    ensures { result ≡ (account (heads_of rows.now) customer.now).counts }
-{
-    match find_head(rows, customer) {
-        Some(row) => row.counts,
-        None => NO_COUNTS,
+        Some(row) => row.account,
+        None => Account::opening(),
     }
 }
 
@@ -69,20 +40,18 @@ fn drop_head(rows: &mut Vec<HeadRow>, customer: &Name)
 }
 
 /// Sets the customer's row.
-fn put_row(
+fn put_account(
     alloc: Global,
     rows: &mut Vec<HeadRow>,
     customer: &Name,
-    head: Head,
-    counts: Counts,
+    account: Account,
 ) -> Result<(), AllocError>
-    ensures { OnOk result (heads_of rows.new.items ≡ map.insert
-        (heads_of rows.old.items) customer.now (record { head = head; counts = counts })) }
+    ensures { OnOk result
+        (heads_of rows.new.items ≡ map.insert (heads_of rows.old.items) customer.now account) }
 {
     let row = HeadRow {
         customer: customer.copy(alloc)?,
-        head,
-        counts,
+        account,
     };
     drop_head(rows, customer);
     rows.push(row)?;
@@ -99,47 +68,9 @@ pub(crate) fn put_head(
     ensures { OnOk result
         (heads_of rows.new.items ≡ headed customer.now head (heads_of rows.old.items)) }
 {
-    let kept = counts_in(rows.as_slice(), customer);
-    put_row(alloc, rows, customer, head, kept)?;
+    let kept = account_in(rows.as_slice(), customer);
+    put_account(alloc, rows, customer, Account { head, ..kept })?;
     Ok(())
-}
-
-fn with_message(counts: Counts, size: u32) -> Option<Counts>
-    ensures { IfSome result (λ more. more ≡ with_message size counts) }
-{
-    let messages = counts.messages.checked_add(1)?;
-    let bytes = counts.bytes.checked_add(u64::from(size))?;
-    Some(Counts {
-        messages,
-        bytes,
-        lines: counts.lines,
-    })
-}
-
-fn without_message(counts: Counts, size: u32) -> Counts
-    ensures { result ≡ without_message size counts }
-{
-    Counts {
-        messages: counts.messages.saturating_sub(1),
-        bytes: counts.bytes.saturating_sub(u64::from(size)),
-        lines: counts.lines,
-    }
-}
-
-fn with_line(counts: Counts) -> Option<Counts>
-    ensures { IfSome result (λ more. more ≡ with_line counts) }
-{
-    let lines = counts.lines.checked_add(1)?;
-    Some(Counts { lines, ..counts })
-}
-
-fn without_line(counts: Counts) -> Counts
-    ensures { result ≡ without_line counts }
-{
-    Counts {
-        lines: counts.lines.saturating_sub(1),
-        ..counts
-    }
 }
 
 /// Counts one message more; or answers want of memory for a count above 64 bits, which no sound
@@ -153,12 +84,10 @@ pub(crate) fn count_message(
     ensures { OnOk result (heads_of rows.new.items
         ≡ counted (with_message size) customer.now (heads_of rows.old.items)) }
 {
-    let head = head_in(rows.as_slice(), customer);
-    let counts = counts_in(rows.as_slice(), customer);
-    let Some(more) = with_message(counts, size) else {
+    let Some(more) = account_in(rows.as_slice(), customer).with_message(size) else {
         return Err(AllocError);
     };
-    put_row(alloc, rows, customer, head, more)?;
+    put_account(alloc, rows, customer, more)?;
     Ok(())
 }
 
@@ -177,9 +106,8 @@ pub(crate) fn uncount_message(
     let Some(size) = size_in(messages, customer, serial) else {
         return Ok(());
     };
-    let head = head_in(rows.as_slice(), customer);
-    let counts = without_message(counts_in(rows.as_slice(), customer), size);
-    put_row(alloc, rows, customer, head, counts)?;
+    let fewer = account_in(rows.as_slice(), customer).without_message(size);
+    put_account(alloc, rows, customer, fewer)?;
     Ok(())
 }
 
@@ -199,11 +127,10 @@ pub(crate) fn count_line(
     if has_line(lines, customer, pattern) {
         return Ok(());
     }
-    let head = head_in(rows.as_slice(), customer);
-    let Some(more) = with_line(counts_in(rows.as_slice(), customer)) else {
+    let Some(more) = account_in(rows.as_slice(), customer).with_line() else {
         return Err(AllocError);
     };
-    put_row(alloc, rows, customer, head, more)?;
+    put_account(alloc, rows, customer, more)?;
     Ok(())
 }
 
@@ -223,8 +150,7 @@ pub(crate) fn uncount_line(
     if !has_line(lines, customer, pattern) {
         return Ok(());
     }
-    let head = head_in(rows.as_slice(), customer);
-    let counts = without_line(counts_in(rows.as_slice(), customer));
-    put_row(alloc, rows, customer, head, counts)?;
+    let fewer = account_in(rows.as_slice(), customer).without_line();
+    put_account(alloc, rows, customer, fewer)?;
     Ok(())
 }

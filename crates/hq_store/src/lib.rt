@@ -2,6 +2,7 @@
 //! that makes all its changes or none. A shelf knows rows and nothing of the rules of the queue.
 #![tactic(auto)]
 
+mod account;
 mod change;
 mod heads;
 pub mod laws;
@@ -13,6 +14,7 @@ mod recipients;
 mod rows;
 mod shelf;
 
+pub use account::Account;
 pub use change::Change;
 pub use list_shelf::ListShelf;
 pub use shelf::Shelf;

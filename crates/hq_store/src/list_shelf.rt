@@ -68,11 +68,11 @@ impl Shelf for ListShelf {
     } };
 
     fn head(&mut self, customer: &Name) -> Result<Head, Fault> {
-        Ok(heads::head_in(self.rows.heads.as_slice(), customer))
+        Ok(heads::account_in(self.rows.heads.as_slice(), customer).head)
     }
 
     fn counts(&mut self, customer: &Name) -> Result<Counts, Fault> {
-        Ok(heads::counts_in(self.rows.heads.as_slice(), customer))
+        Ok(heads::account_in(self.rows.heads.as_slice(), customer).counts)
     }
 
     fn message(&mut self, customer: &Name, serial: Serial) -> Result<Option<Message>, Fault> {

@@ -5,18 +5,18 @@ ghost use Rattle.std.specs.Ordering.{nat_cmp, eq_by_cmp};
 ghost use Rattle.hq_store.specs.Tables.{text_cmp, line_cmp};
 ghost use Rattle.hq_store.specs.Lookups.{is_head, is_message, is_recipient, is_past, has_spool, is_line, is_line_past};
 
+use crate::account::Account;
 use hq_access::{Class, Line, Pattern};
 use hq_envelope::{Moment, Name, Sender, Serial, Spool, TryCopy};
-use hq_queue::{Counts, Head, Pending, QueueState};
+use hq_queue::{Pending, QueueState};
 use std::alloc::{AllocError, Global};
 use std::cmp::Ordering;
 
-/// A row of heads: the head, and how much the customer keeps.
+/// A row of heads.
 #[derive(Drop)]
 pub(crate) struct HeadRow {
     pub(crate) customer: Name,
-    pub(crate) head: Head,
-    pub(crate) counts: Counts,
+    pub(crate) account: Account,
 }
 
 /// A row of messages.
@@ -191,8 +191,7 @@ impl TryCopy for HeadRow {
         let customer = self.customer.copy(alloc)?;
         Ok(HeadRow {
             customer,
-            head: self.head,
-            counts: self.counts,
+            account: self.account,
         })
     }
 }

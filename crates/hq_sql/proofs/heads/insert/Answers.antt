@@ -1,7 +1,6 @@
 use Rattle.std.proofs.Common.{ap}
 use Rattle.sqlite.specs.Held.{state}
 use Rattle.hq_keyed.proofs.Stops.{may_end}
-use Rattle.hq_sql.specs.Heads.{head_row}
 use Rattle.hq_sql.proofs.Keeping.{write_keeps, write_failed}
 use Rattle.hq_sql.proofs.OnHeads.{head_inserted, head_insert_keeps}
 use Rattle.hq_sql.proofs.Texts.{head_insert_text, head_insert_is}
@@ -10,10 +9,10 @@ use Rattle.hq_sql.proofs.heads.insert.Goals as goal
 pub returns-in_err-execute-clause-kept : goal.returns-in_err-execute-clause-kept
 returns-in_err-execute-clause-kept g c = write_failed _ _ head_insert_text _ (ap may_end head_insert_is) c.in_err-execute.ensures.survives _ c.in_err-execute.ensures.runs
 
-pub returns-clause-done : goal.returns-clause-done
-returns-clause-done g c clean desk free =
-    let bound = c.head-params.ensures c.args.head.now c.args.counts.now c.in_ok-numbers.ensures in
-    head_inserted (state g.S.Store c.args.conn.now) (state g.S.Store c.execute.new.self) (head_row c.args.customer.now c.args.head.now c.args.counts.now) _ desk free (rw bound at (c.in_ok-execute.ensures.runs clean))
+pub returns-clause-made : goal.returns-clause-made
+returns-clause-made g c clean desk free =
+    let bound = c.head-params.ensures c.args.account.now c.in_ok-numbers.ensures in
+    head_inserted (state g.S.Store c.args.conn.now) (state g.S.Store c.execute.new.self) (record { customer = c.args.customer.now; account = c.args.account.now }) _ desk free (rw bound at (c.in_ok-execute.ensures.runs clean))
 
 pub returns-clause-kept : goal.returns-clause-kept
 returns-clause-kept g c = write_keeps _ _ head_insert_text _ (ap may_end head_insert_is) c.in_ok-execute.ensures.survives (λ clean desk within. head_insert_keeps _ _ _ _ desk within (c.in_ok-execute.ensures.runs clean))

@@ -1,29 +1,18 @@
 use Rattle.std.proofs.Common.{ap}
 use Rattle.sqlite.specs.Held.{state}
 use Rattle.hq_keyed.proofs.Stops.{may_end}
-use Rattle.hq_sql.specs.Heads.{head_row}
-use Rattle.hq_sql.proofs.Keeping.{write_keeps, write_failed}
-use Rattle.hq_sql.proofs.OnHeads.{update_there, update_absent, head_update_keeps}
+use Rattle.hq_sql.proofs.Keeping.{write_keeps, write_failed, told_there}
+use Rattle.hq_sql.proofs.OnHeads.{head_updated, head_update_keeps}
 use Rattle.hq_sql.proofs.Texts.{head_update_text, head_update_is}
 use Rattle.hq_sql.proofs.heads.update.Goals as goal
 
 pub returns-in_err-count-clause-kept : goal.returns-in_err-count-clause-kept
 returns-in_err-count-clause-kept g c = write_failed _ _ head_update_text _ (ap may_end head_update_is) c.in_err-count.ensures.survives _ c.in_err-count.ensures.runs
 
-pub returns-clause-there : goal.returns-clause-there
-returns-clause-there g c clean desk there =
-    let bound = c.head-params.ensures c.args.head.now c.args.counts.now c.in_ok-numbers.ensures in
-    update_there (state g.S.Store c.args.conn.now) (state g.S.Store c.execute.new.self) (head_row c.args.customer.now c.args.head.now c.args.counts.now) _ desk (rw bound at (c.in_ok-count.ensures.runs clean)) there
-
-pub returns-clause-absent : goal.returns-clause-absent
-returns-clause-absent g c clean desk absent =
-    let bound = c.head-params.ensures c.args.head.now c.args.counts.now c.in_ok-numbers.ensures in
-    (update_absent (state g.S.Store c.args.conn.now) (state g.S.Store c.execute.new.self) (head_row c.args.customer.now c.args.head.now c.args.counts.now) _ desk (rw bound at (c.in_ok-count.ensures.runs clean)) absent).1
-
-pub returns-clause-free : goal.returns-clause-free
-returns-clause-free g c clean desk absent =
-    let bound = c.head-params.ensures c.args.head.now c.args.counts.now c.in_ok-numbers.ensures in
-    (update_absent (state g.S.Store c.args.conn.now) (state g.S.Store c.execute.new.self) (head_row c.args.customer.now c.args.head.now c.args.counts.now) _ desk (rw bound at (c.in_ok-count.ensures.runs clean)) absent).0
+pub returns-clause-made : goal.returns-clause-made
+returns-clause-made g c clean desk =
+    let bound = c.head-params.ensures c.args.account.now c.in_ok-numbers.ensures in
+    told_there (head_updated (state g.S.Store c.args.conn.now) (state g.S.Store c.execute.new.self) (record { customer = c.args.customer.now; account = c.args.account.now }) _ desk (rw bound at (c.in_ok-count.ensures.runs clean)))
 
 pub returns-clause-kept : goal.returns-clause-kept
 returns-clause-kept g c = write_keeps _ _ head_update_text _ (ap may_end head_update_is) c.in_ok-count.ensures.survives (λ clean desk within. head_update_keeps _ _ _ _ desk within (c.in_ok-count.ensures.runs clean))

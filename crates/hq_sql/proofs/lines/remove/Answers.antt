@@ -10,8 +10,8 @@ use Rattle.hq_sql.proofs.lines.remove.Goals as goal
 pub returns-in_err-execute-clause-kept : goal.returns-in_err-execute-clause-kept
 returns-in_err-execute-clause-kept g c = write_failed _ _ line_delete_text _ (ap may_end line_delete_is) c.in_err-execute.ensures.survives _ c.in_err-execute.ensures.runs
 
-pub returns-clause-done : goal.returns-clause-done
-returns-clause-done g c clean desk =
+pub returns-clause-made : goal.returns-clause-made
+returns-clause-made g c clean desk =
     let bound = c.line_key-params.ensures ∙ (λ i. key_columns (c.args.customer.now, (c.class.ensures i, c.as_str.ensures i))) in
     line_deleted (state g.S.Store c.args.conn.now) (state g.S.Store c.execute.new.self) (c.args.customer.now, c.args.pattern.now) _ desk (rw bound at (c.in_ok-execute.ensures.runs clean))
 

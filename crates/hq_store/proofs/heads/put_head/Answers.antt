@@ -6,6 +6,5 @@ use Rattle.hq_store.proofs.heads.put_head.Goals as goal
 
 pub returns : goal.returns
 returns c =
-    let heads = heads_of c.args.rows.now.items in
-    c.in_ok-put_row.ensures
-    ∙ is_headed c.args.customer.now heads c.args.head c.counts_in-kept.result (c.counts_in-kept.ensures ∙ ap (λ rows. (account (heads_of rows) c.args.customer.now).counts) c.as_slice.ensures.value)
+    c.in_ok-put_account.ensures
+    ∙ is_headed c.args.customer.now (heads_of c.args.rows.now.items) c.args.head c.account_in-kept.result (c.account_in-kept.ensures ∙ ap (λ rows. account (heads_of rows) c.args.customer.now) c.as_slice.ensures.value)

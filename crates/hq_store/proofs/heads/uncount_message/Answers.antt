@@ -1,14 +1,13 @@
 use Rattle.std.proofs.Common.{ap, ◌∙◌}
+use Rattle.std.specs.FinMap.{get}
 use Rattle.hq_store.specs.Tables.{account, counted, without_message}
 use Rattle.hq_store.specs.Listed.{heads_of, messages_of}
-use Rattle.std.specs.FinMap.{get}
 use Rattle.hq_store.proofs.Accounts.{is_counted, at_size}
 use Rattle.hq_store.proofs.heads.uncount_message.Goals as goal
 
 pub returns : goal.returns
 returns c =
     let heads = heads_of c.args.rows.now.items in
-    c.in_ok-put_row.ensures
-    ∙ is_counted (without_message c.in-Some.size) c.args.customer.now heads c.head_in-head.result c.without_message-counts.result (c.head_in-head.ensures ∙ ap (λ rows. (account (heads_of rows) c.args.customer.now).head) c.as_slice.ensures.value)
-    (c.without_message-counts.ensures ∙ ap (without_message c.in-Some.size) (c.counts_in.ensures ∙ ap (λ rows. (account (heads_of rows) c.args.customer.now).counts) c.as_slice-2.ensures.value))
+    c.in_ok-put_account.ensures
+    ∙ is_counted (without_message c.in-Some.size) c.args.customer.now heads c.account_in.result c.without_message-fewer.result (c.account_in.ensures ∙ ap (λ rows. account (heads_of rows) c.args.customer.now) c.as_slice.ensures.value) c.without_message-fewer.ensures
     ∙ at_size heads (λ size. counted (without_message size) c.args.customer.now heads) (get (messages_of c.args.messages.now) (c.args.customer.now, c.args.serial)) c.in-Some.size c.in-Some.ensures
