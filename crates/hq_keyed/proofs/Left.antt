@@ -1,12 +1,12 @@
 -- What a call that fails leaves.
-use Rattle.std.proofs.Common.{◌≡◌, inl, inr, ℕ, List, Option, Some, None, Ok, Err, true, false}
+use Rattle.std.proofs.Common.{◌≡◌, inl, inr, arith, ℕ, List, Option, Some, None, Ok, Err, true, false}
 use Rattle.std.proofs.lemmas.Bool.{cases_Bool}
 use Rattle.sqlite.specs.Order.{Row}
 use Rattle.sqlite.specs.declared.error.Error.{Error}
 use Rattle.sqlite_resolve.specs.declared.compiled.Compiled.{Compiled}
 use Rattle.sqlite_schema.specs.declared.command.Returning.{Returning}
 use Rattle.sqlite.specs.Clock.{timed}
-use Rattle.sqlite.specs.State.{State, IsUnchanged, Fails, IsNotRun, FailsToQuery, FailsToShow, RunsCommand, ExecutesIn, Executes, shows_rows}
+use Rattle.sqlite.specs.State.{State, HasCleanDisk, IsUnchanged, Fails, IsNotRun, FailsToQuery, FailsToShow, RunsCommand, ExecutesIn, Executes, shows_rows}
 use Rattle.sqlite.specs.State.{Shown, ShowsRows}
 use Rattle.sqlite.specs.Listing.{understood}
 use Rattle.sqlite.proofs.Callers.{IsPlain}
@@ -17,7 +17,7 @@ use Rattle.std.proofs.Common.{true≢false}
 use Rattle.sqlite_trees.specs.declared.error.StoreError.{StoreError}
 use Rattle.sqlite_trees.specs.declared.error.StoreError.TheVariants.{OutOfMemory, Io, Corrupt, Full, Broken, Unstorable}
 use Rattle.sqlite.specs.State.{store_error}
-use Rattle.hq_keyed.specs.Left.{IsLeft, is_clash}
+use Rattle.hq_keyed.specs.Left.{IsLeft, IsQuiet, is_clash}
 
 not_run : (old new : State) (sql : List ℕ) (params : Row) (e : Error) → IsNotRun old new sql params e → IsLeft old new
 unfolding IsNotRun IsLeft
@@ -72,6 +72,14 @@ keeps_then a b c p q = record { was_open = λ is. p.was_open (q.was_open is); co
 
 pub keeps_itself : (a : State) → KeepsCommit a a
 keeps_itself a = record { was_open = λ is. is; committed = λ _. refl }
+
+-- ---- what is clean later was clean before
+
+pub clean_before : (old new : State) → IsQuiet old new → HasCleanDisk new → HasCleanDisk old
+clean_before old new quiet clean = omega (arith, quiet, clean)
+
+pub quiet_then : (a b c : State) → IsQuiet a b → IsQuiet b c → IsQuiet a c
+quiet_then a b c p q = omega (arith, p, q)
 
 pub unchanged_keeps : (old new : State) → IsUnchanged old new → KeepsCommit old new
 unchanged_keeps old new h = record { was_open = λ _. h.0.was_open; committed = λ _. h.0.committed_is }

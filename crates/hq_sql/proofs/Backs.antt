@@ -1,7 +1,10 @@
 -- A row can be read back from its columns.
-use Rattle.std.proofs.Common.{◌≡◌, ℤ, Bool, true, false, [], ◌∷◌, refl}
+use Rattle.std.proofs.Common.{◌≡◌, ℕ, ℤ, Bool, true, false, List, [], ◌∷◌, Ok, refl}
+use Rattle.hq_base.specs.Readers.{checked}
+use Rattle.hq_base.specs.declared.failure.Refusal.TheVariants.{BadPattern}
+use Rattle.hq_envelope.specs.Addresses.{folded}
 use Rattle.hq_access.specs.Actions.{action_text}
-use Rattle.hq_access.specs.Patterns.{class_name}
+use Rattle.hq_access.specs.Patterns.{class_name, is_pattern, pattern_in}
 use Rattle.hq_access.specs.declared.action.Action.{Action}
 use Rattle.hq_access.specs.declared.action.Action.TheVariants.{Okay, Reject, Dunno, Discard, Hold, Redirect}
 use Rattle.hq_access.specs.declared.pattern.Class.{Class}
@@ -60,3 +63,11 @@ message_back r n sender = λ i. record {
   attempts = r.attempts;
   warned = truth_back r.warned i;
 }
+
+-- a pattern that was read has the class that it was read for
+pub parsed_class : (class : Class) (text : List ℕ) (p : Class × List ℕ) → pattern_in class text ≡ Ok p → p.0 ≡ class
+parsed_class class text p h = go (is_pattern class (folded text)) h
+  where
+    go : (b : Bool) → checked (class, folded text) b BadPattern ≡ Ok p → p.0 ≡ class
+    go true e = cc
+    go false e = cc

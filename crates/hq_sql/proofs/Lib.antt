@@ -3,4 +3,5 @@ pub mod Texts
 pub mod Backs
 pub mod OnHeads
 pub mod OnLines
+pub mod OnLinePages
 pub mod Keeping

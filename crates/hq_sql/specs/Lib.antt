@@ -4,3 +4,4 @@ pub mod Tables
 pub mod Kept
 pub mod Heads
 pub mod Lines
+pub mod LinePages

@@ -1,14 +1,15 @@
 //! Typed values as the parameters of statements.
 
-ghost use Rattle.std.specs.Prelude.{◌≡◌, pos, [], ◌∷◌, IfOk};
+ghost use Rattle.std.specs.Prelude.{◌≡◌, ℕ, pos, [], ◌∷◌, IfOk};
 ghost use Rattle.sqlite.specs.Values.{bound};
 ghost use Rattle.sqlite.specs.declared.types.Value.TheVariants.{Text};
 ghost use Rattle.hq_store.specs.declared.account.Account.{Account};
 ghost use Rattle.hq_access.specs.Patterns.{class_name};
 ghost use Rattle.hq_sql.specs.Rows.{head_columns};
 ghost use Rattle.hq_sql.specs.Bound.{head_numbers};
+ghost use Rattle.hq_sql.specs.LinePages.{first_columns, after_columns};
 
-use hq_access::Class;
+use hq_access::{Class, Pattern};
 use hq_envelope::Name;
 use hq_queue::Head;
 use hq_store::Account;
@@ -117,5 +118,50 @@ pub(crate) fn line<'a>(
         ValueRef::Text(class.name().as_bytes()),
         ValueRef::Text(key.as_bytes()),
         ValueRef::Text(action.as_bytes()),
+    ]
+}
+
+/// The most rows of a page, as a column takes it.
+#[derive(Clone, Copy, Debug, PartialEq, Eq, Drop)]
+pub struct RowLimit {
+    /// How many.
+    pub rows: i64,
+}
+
+/// A limit as a column takes it; an error for one of 2^63 or more.
+pub fn limit(limit: usize) -> Result<RowLimit, Error>
+    ensures { IfOk result (λ most. most.rows ≡ pos limit) }
+{
+    match i64::try_from(limit) {
+        Ok(rows) => Ok(RowLimit { rows }),
+        Err(_) => Err(Error::InvalidQuery),
+    }
+}
+
+/// What the first page of lines is asked with.
+pub(crate) fn first_lines<'a>(customer: &'a Name, most: &RowLimit) -> [ValueRef<'a>; 2]
+    ensures { (limit : ℕ) → most.now.rows ≡ pos limit
+        → bound result ≡ first_columns customer.now limit }
+{
+    [
+        ValueRef::Text(customer.as_str().as_bytes()),
+        ValueRef::Int(most.rows),
+    ]
+}
+
+/// What the page of lines after a pattern is asked with.
+pub(crate) fn lines_after<'a>(
+    customer: &'a Name,
+    last: &'a Pattern,
+    most: &RowLimit,
+) -> [ValueRef<'a>; 4]
+    ensures { (limit : ℕ) → most.now.rows ≡ pos limit
+        → bound result ≡ after_columns customer.now last.now limit }
+{
+    [
+        ValueRef::Text(customer.as_str().as_bytes()),
+        ValueRef::Text(last.class().name().as_bytes()),
+        ValueRef::Text(last.as_str().as_bytes()),
+        ValueRef::Int(most.rows),
     ]
 }

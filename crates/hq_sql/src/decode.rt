@@ -1,11 +1,13 @@
 //! Rows of answers as typed values.
 
-ghost use Rattle.std.specs.Prelude.{◌≡◌, IfOk, option_map, slice_get};
+ghost use Rattle.std.specs.Prelude.{◌≡◌, IfOk, option_map, slice_get, is_some};
 ghost use Rattle.hq_store.specs.Listed.{head_value, line_row_value};
 ghost use Rattle.hq_sql.specs.Rows.{head_shown, line_shown};
+ghost use Rattle.hq_sql.specs.LinePages.{line_in, lines_in};
 
 use crate::read;
-use hq_access::Action;
+use hq_access::{Action, Line};
+use hq_envelope::Items;
 use hq_queue::{Counts, Head, Tally};
 use hq_store::Account;
 use sqlite::{Error, Row};
@@ -63,4 +65,31 @@ pub(crate) fn first_action(alloc: Global, rows: &[Row]) -> Result<Option<Action>
         None => Ok(None),
         Some(row) => Ok(Some(read::action(alloc, row, 3)?)),
     }
+}
+
+/// Whether there is a row.
+pub(crate) fn has_first(rows: &[Row]) -> bool
+    ensures { result ≡ is_some (slice_get rows.now 0) }
+{
+    rows.first().is_some()
+}
+
+fn line(alloc: Global, row: &Row) -> Result<Line, Error>
+    ensures { IfOk result (λ line. line ≡ line_in row.now) }
+{
+    let pattern = read::pattern(alloc, row, 1, 2)?;
+    let action = read::action(alloc, row, 3)?;
+    Ok(Line { pattern, action })
+}
+
+/// The lines of rows, in their order.
+pub(crate) fn lines(alloc: Global, rows: &[Row]) -> Result<Items<Line>, Error>
+    ensures { IfOk result (λ lines. lines ≡ lines_in rows.now) }
+{
+    let mut lines = Vec::new(alloc);
+    for row in rows {
+        let line = line(alloc, row)?;
+        lines.push(line)?;
+    }
+    Ok(Items::from_vec(lines))
 }

@@ -5,5 +5,6 @@
 pub mod bind;
 mod decode;
 pub mod heads;
+pub mod line_pages;
 pub mod lines;
 pub mod read;

@@ -1,6 +1,6 @@
 //! The table of lines: the access tables of all customers.
 
-ghost use Rattle.std.specs.Prelude.{◌≡◌, IfOk, option_map, slice_get, string_bytes};
+ghost use Rattle.std.specs.Prelude.{◌≡◌, IfOk, option_map, slice_get, is_some, string_bytes};
 ghost use Rattle.std.specs.FinMap.{get};
 ghost use Rattle.sqlite.specs.Held.{state};
 ghost use Rattle.hq_access.specs.Actions.{action_text};
@@ -19,14 +19,14 @@ fn query<S: Alter>(
     conn: &mut Connection<S>,
     customer: &Name,
     class: Class,
-    key: &LookupKey,
+    key: &str,
 ) -> Result<Vec<Row>, Error>
     ensures found { Shows (state S.Store conn.old) (state S.Store conn.new) result
         (λ rows. option_map (λ r. line_row_value (line_shown r)) (slice_get rows.items 0))
         (λ t. get t.lines (customer.now, (class, key.now))) }
     ensures kept { Keeps (state S.Store conn.old) (state S.Store conn.new) result }
 {
-    let params = bind::line_key(customer, class, key.as_str());
+    let params = bind::line_key(customer, class, key);
     let rows = conn.query_all(
         "SELECT customer, class, pattern, action FROM lines \
          WHERE customer = ?1 AND class = ?2 AND pattern = ?3",
@@ -47,8 +47,22 @@ pub fn line<S: Alter>(
         (λ t. get t.lines (customer.now, (class, key.now))) }
     ensures kept { Keeps (state S.Store conn.old) (state S.Store conn.new) result }
 {
-    let rows = query(conn, customer, class, key)?;
+    let rows = query(conn, customer, class, key.as_str())?;
     decode::first_action(alloc, rows.as_slice())
+}
+
+/// Whether the customer has a line of this pattern.
+pub fn has<S: Alter>(
+    conn: &mut Connection<S>,
+    customer: &Name,
+    pattern: &Pattern,
+) -> Result<bool, Error>
+    ensures found { Finds (state S.Store conn.old) (state S.Store conn.new) result
+        (λ t. is_some (get t.lines (customer.now, pattern.now))) }
+    ensures kept { Keeps (state S.Store conn.old) (state S.Store conn.new) result }
+{
+    let rows = query(conn, customer, pattern.class(), pattern.as_str())?;
+    Ok(decode::has_first(rows.as_slice()))
 }
 
 /// The written form of an action.

@@ -4,9 +4,9 @@ ghost use Rattle.std.specs.Prelude.{◌≡◌, IfOk, string_bytes};
 ghost use Rattle.sqlite.specs.Order.{column};
 ghost use Rattle.hq_access.specs.Actions.{is_space};
 ghost use Rattle.std.specs.List.{after_first, before_first};
-ghost use Rattle.hq_sql.specs.Rows.{text_in, number_in, action_of, action_of_verb};
+ghost use Rattle.hq_sql.specs.Rows.{text_in, number_in, class_of, action_of, action_of_verb};
 
-use hq_access::Action;
+use hq_access::{Action, Class, Pattern};
 use hq_envelope::{Address, Fail, Text};
 use sqlite::{Error, ErrorCode, Row};
 use std::alloc::Global;
@@ -68,4 +68,47 @@ pub(crate) fn action(alloc: Global, row: &Row, at: usize) -> Result<Action, Erro
         Ok(action) => Ok(action),
         Err(fail) => Err(unread(fail)),
     }
+}
+
+/// A class by its name; an error where no class has this name.
+fn class(row: &Row, at: usize) -> Result<Class, Error>
+    ensures { IfOk result (λ class. class ≡ class_of (text_in (column row.now at))) }
+{
+    let name = text(row, at)?;
+    match name.as_str() {
+        "recipient" => Ok(Class::RecipientSide),
+        "sender" => Ok(Class::SenderSide),
+        _ => Err(Error::InvalidQuery),
+    }
+}
+
+/// The pattern of a class with this text; an error where the text is none, or is not folded.
+fn pattern_with(alloc: Global, class: Class, text: &str) -> Result<Pattern, Error>
+    ensures { IfOk result (λ pattern. pattern ≡ (class, text.now)) }
+{
+    match Pattern::parse(alloc, class, text) {
+        Ok(pattern) => {
+            if pattern.as_str() == text {
+                Ok(pattern)
+            } else {
+                Err(Error::InvalidQuery)
+            }
+        }
+        Err(fail) => Err(unread(fail)),
+    }
+}
+
+/// A pattern, by the name of its class and its text.
+pub(crate) fn pattern(
+    alloc: Global,
+    row: &Row,
+    class_at: usize,
+    text_at: usize,
+) -> Result<Pattern, Error>
+    ensures { IfOk result (λ pattern. pattern
+        ≡ (class_of (text_in (column row.now class_at)), text_in (column row.now text_at))) }
+{
+    let class = class(row, class_at)?;
+    let text = text(row, text_at)?;
+    pattern_with(alloc, class, text.as_str())
 }

@@ -43,7 +43,8 @@ in_order : (c : List ℕ) (rows : List LineRow) → T (is_sorted line_cmp (line_
 in_order c rows = rows_sorted line_cmp nat_list_cmp_total c (entries (lines_of rows)) (entries_sorted (lines_of rows))
 
 module _ (c : List ℕ) (after : Option Key) (rows : List LineRow) (u : AreUniqueLines rows) where
-  sorted_found : map (λ (r : LineRow). r.line) (sort_by by_row (filter (λ r. test c after (line_row_key r, line_row_value r)) rows)) ≡ map line_of (filter (passes after) (line_rows_with c rows))
+  -- the rows after a pattern, sorted, are the lines after it
+  pub sorted_found : map (λ (r : LineRow). r.line) (sort_by by_row (filter (λ r. test c after (line_row_key r, line_row_value r)) rows)) ≡ map line_of (filter (passes after) (line_rows_with c rows))
   unfolding AreUniqueLines
   sorted_found =
       sym (map-map (λ (e : (List ℕ × Key) × Action). line_of (e.0.1, e.1)) (λ (r : LineRow). (line_row_key r, line_row_value r)) (sort_by by_row (filter (λ r. test c after (line_row_key r, line_row_value r)) rows)))
@@ -61,7 +62,8 @@ module _ (c : List ℕ) (after : Option Key) (rows : List LineRow) (u : AreUniqu
       sorted_unique by_pattern (on_total (λ (l : Line). l.pattern) line_total) (map line_of (filter (passes after) es)) found up
       (subst (λ xs. IsPermutation xs found) sorted_found (IsPermutation-trans _ _ _ perm same)) sorted
 
-after_is : (after : Option Key) (es : List (Key × Action)) → after_pattern after (map line_of es) ≡ map line_of (filter (passes after) es)
+-- the lines after a pattern, as a filter of the rows
+pub after_is : (after : Option Key) (es : List (Key × Action)) → after_pattern after (map line_of es) ≡ map line_of (filter (passes after) es)
 after_is None es = ap (map line_of) (sym (all es)) where
   all : (es : List (Key × Action)) → filter (λ (e : Key × Action). true) es ≡ es
   all [] = refl

@@ -1,0 +1,25 @@
+-- What the statements on pages of lines find.
+use Rattle.std.specs.Prelude.{ℕ, List, [], ◌∷◌, map}
+use Rattle.sqlite.specs.declared.types.Value.TheVariants.{Text}
+use Rattle.sqlite.specs.Order.{Row}
+use Rattle.hq_access.specs.Patterns.{class_name}
+use Rattle.hq_access.specs.declared.pattern.Class.{Class}
+use Rattle.hq_access.specs.declared.pattern.Line.{Line}
+use Rattle.hq_keyed.specs.Values.{number}
+use Rattle.hq_sql.specs.Rows.{line_shown}
+
+-- the line of a row of an answer
+abbrev pub line_in : Row → Line
+line_in r = (line_shown r).line
+
+-- the lines of an answer
+abbrev pub lines_in : List Row → List Line
+lines_in rows = map line_in rows
+
+-- what the first page is asked with
+abbrev pub first_columns : List ℕ → ℕ → Row
+first_columns customer limit = Text customer ∷ number limit ∷ []
+
+-- what the page after a pattern is asked with
+abbrev pub after_columns : List ℕ → Class × List ℕ → ℕ → Row
+after_columns customer last limit = Text customer ∷ Text (class_name last.0) ∷ Text last.1 ∷ number limit ∷ []
