@@ -1,0 +1,6 @@
+pub mod InPlace
+pub mod OnRecipients
+pub mod Found
+pub mod Loop
+pub mod OnMessages
+pub mod OnQueued
