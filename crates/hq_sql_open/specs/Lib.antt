@@ -1,0 +1,3 @@
+pub mod Transactions
+pub mod Making
+pub mod Opening
