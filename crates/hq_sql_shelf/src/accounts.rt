@@ -1,0 +1,119 @@
+//! Head rows: read with what stands for one that is missing, and counted up and down.
+
+ghost use Rattle.hq_store.specs.Tables.{account};
+ghost use Rattle.sqlite.specs.Held.{state};
+ghost use Rattle.hq_sql.specs.Kept.{Finds, Makes, Keeps, KeepsCommitted};
+ghost use Rattle.hq_sql_shelf.specs.Accounts.{with_head, counted_message, not_counted, counted_line, uncounted_line};
+
+use hq_access::Pattern;
+use hq_envelope::{Name, Serial};
+use hq_queue::Head;
+use hq_sql::{heads, lines};
+use hq_sql_queue::messages;
+use hq_store::Account;
+use sqlite::{Alter, Connection, Error, ErrorCode};
+
+/// The error of a count that has no room. No sound table has one.
+const TOO_MANY: Error = Error::SqliteFailure(ErrorCode::OutOfMemory);
+
+/// The customer's head and counts, or those of a customer of whom nothing is kept.
+pub(crate) fn account<S: Alter>(conn: &mut Connection<S>, customer: &Name) -> Result<Account, Error>
+    ensures found { Finds (state S.Store conn.old) (state S.Store conn.new) result
+        (λ t. account t.heads customer.now) }
+    ensures kept { Keeps (state S.Store conn.old) (state S.Store conn.new) result }
+{
+    match heads::account(conn, customer)? {
+        Some(account) => Ok(account),
+        None => Ok(Account::opening()),
+    }
+}
+
+/// Sets the customer's head.
+pub(crate) fn put_head<S: Alter>(
+    conn: &mut Connection<S>,
+    customer: &Name,
+    head: Head,
+) -> Result<(), Error>
+    ensures made { Makes (state S.Store conn.old) (state S.Store conn.new) result
+        (with_head customer.now head) }
+    ensures kept { KeepsCommitted (state S.Store conn.old) (state S.Store conn.new) }
+{
+    let kept = account(conn, customer)?;
+    heads::put(conn, customer, &Account { head, ..kept })?;
+    Ok(())
+}
+
+/// Counts one message more.
+pub(crate) fn count_message<S: Alter>(
+    conn: &mut Connection<S>,
+    customer: &Name,
+    size: u32,
+) -> Result<(), Error>
+    ensures made { Makes (state S.Store conn.old) (state S.Store conn.new) result
+        (counted_message customer.now size) }
+    ensures kept { KeepsCommitted (state S.Store conn.old) (state S.Store conn.new) }
+{
+    let kept = account(conn, customer)?;
+    let Some(more) = kept.with_message(size) else {
+        return Err(TOO_MANY);
+    };
+    heads::put(conn, customer, &more)?;
+    Ok(())
+}
+
+/// Counts the message of this serial no more, where there is one.
+pub(crate) fn uncount_message<S: Alter>(
+    conn: &mut Connection<S>,
+    customer: &Name,
+    serial: Serial,
+) -> Result<(), Error>
+    ensures made { Makes (state S.Store conn.old) (state S.Store conn.new) result
+        (not_counted customer.now serial) }
+    ensures kept { KeepsCommitted (state S.Store conn.old) (state S.Store conn.new) }
+{
+    let Some(size) = messages::size(conn, customer, serial)? else {
+        return Ok(());
+    };
+    let fewer = account(conn, customer)?.without_message(size);
+    heads::put(conn, customer, &fewer)?;
+    Ok(())
+}
+
+/// Counts one line more, where its pattern is new.
+pub(crate) fn count_line<S: Alter>(
+    conn: &mut Connection<S>,
+    customer: &Name,
+    pattern: &Pattern,
+) -> Result<(), Error>
+    ensures made { Makes (state S.Store conn.old) (state S.Store conn.new) result
+        (counted_line customer.now pattern.now) }
+    ensures kept { KeepsCommitted (state S.Store conn.old) (state S.Store conn.new) }
+{
+    if lines::has(conn, customer, pattern)? {
+        return Ok(());
+    }
+    let kept = account(conn, customer)?;
+    let Some(more) = kept.with_line() else {
+        return Err(TOO_MANY);
+    };
+    heads::put(conn, customer, &more)?;
+    Ok(())
+}
+
+/// Counts one line fewer, where there is one of this pattern.
+pub(crate) fn uncount_line<S: Alter>(
+    conn: &mut Connection<S>,
+    customer: &Name,
+    pattern: &Pattern,
+) -> Result<(), Error>
+    ensures made { Makes (state S.Store conn.old) (state S.Store conn.new) result
+        (uncounted_line customer.now pattern.now) }
+    ensures kept { KeepsCommitted (state S.Store conn.old) (state S.Store conn.new) }
+{
+    if !lines::has(conn, customer, pattern)? {
+        return Ok(());
+    }
+    let fewer = account(conn, customer)?.without_line();
+    heads::put(conn, customer, &fewer)?;
+    Ok(())
+}

@@ -1,0 +1,123 @@
+//! The calls of a shelf, over the statements of the store.
+
+use crate::accounts;
+use crate::shelf::SqlShelf;
+use hq_access::{Action, Class, Line, LookupKey, Pattern};
+use hq_envelope::{Fault, Items, Name, Serial, Spool};
+use hq_queue::{Counts, Head, Message};
+use hq_sql::{line_pages, lines};
+use hq_sql_queue::queued;
+use hq_store::{Change, Shelf};
+use sqlite::Alter;
+
+impl<S: Alter> Shelf for SqlShelf<S> {
+    ghost use Rattle.std.specs.Prelude.{◌≢◌};
+    ghost use Rattle.hq_base.specs.declared.failure.Fault.TheVariants.{BadSchema};
+    ghost use Rattle.sqlite.specs.Held.{state};
+    ghost use Rattle.sqlite.specs.State.{HasCleanDisk};
+    ghost use Rattle.hq_sql.specs.Tables.{tables_in};
+    ghost use Rattle.hq_sql_shelf.specs.Shelf.{IsOurs};
+
+    /// The tables are what was committed.
+    ghost sight = { record {
+      tables = λ s. tables_in (state S.Store s.conn).committed;
+      is_closed = λ s. s.closed;
+      fault_count = λ s. s.faults;
+      is_clean = λ s. HasCleanDisk (state S.Store s.conn);
+      is_ours = λ s. IsOurs (state S.Store s.conn);
+      may_answer = λ fault. fault ≢ BadSchema;
+    } };
+
+    fn head(&mut self, customer: &Name) -> Result<Head, Fault> {
+        if self.closed {
+            return Err(self.refuse());
+        }
+        match accounts::account(&mut self.conn, customer) {
+            Ok(account) => Ok(account.head),
+            Err(error) => Err(self.give_up(error)),
+        }
+    }
+
+    fn counts(&mut self, customer: &Name) -> Result<Counts, Fault> {
+        if self.closed {
+            return Err(self.refuse());
+        }
+        match accounts::account(&mut self.conn, customer) {
+            Ok(account) => Ok(account.counts),
+            Err(error) => Err(self.give_up(error)),
+        }
+    }
+
+    fn message(&mut self, customer: &Name, serial: Serial) -> Result<Option<Message>, Fault> {
+        if self.closed {
+            return Err(self.refuse());
+        }
+        match queued::message(self.alloc, &mut self.conn, customer, serial) {
+            Ok(found) => Ok(found),
+            Err(error) => Err(self.give_up(error)),
+        }
+    }
+
+    fn by_spool(&mut self, customer: &Name, spool: &Spool) -> Result<Option<Message>, Fault> {
+        if self.closed {
+            return Err(self.refuse());
+        }
+        match queued::by_spool(self.alloc, &mut self.conn, customer, spool) {
+            Ok(found) => Ok(found),
+            Err(error) => Err(self.give_up(error)),
+        }
+    }
+
+    fn messages(
+        &mut self,
+        customer: &Name,
+        after: Option<Serial>,
+        limit: usize,
+    ) -> Result<Items<Message>, Fault> {
+        if self.closed {
+            return Err(self.refuse());
+        }
+        match queued::page(self.alloc, &mut self.conn, customer, after, limit) {
+            Ok(page) => Ok(page),
+            Err(error) => Err(self.give_up(error)),
+        }
+    }
+
+    fn line(
+        &mut self,
+        customer: &Name,
+        class: Class,
+        key: &LookupKey,
+    ) -> Result<Option<Action>, Fault> {
+        if self.closed {
+            return Err(self.refuse());
+        }
+        match lines::line(self.alloc, &mut self.conn, customer, class, key) {
+            Ok(found) => Ok(found),
+            Err(error) => Err(self.give_up(error)),
+        }
+    }
+
+    fn lines(
+        &mut self,
+        customer: &Name,
+        after: Option<&Pattern>,
+        limit: usize,
+    ) -> Result<Items<Line>, Fault> {
+        if self.closed {
+            return Err(self.refuse());
+        }
+        match line_pages::page(self.alloc, &mut self.conn, customer, after, limit) {
+            Ok(page) => Ok(page),
+            Err(error) => Err(self.give_up(error)),
+        }
+    }
+
+    fn apply(&mut self, customer: &Name, changes: &[Change]) -> Result<(), Fault> {
+        self.write(customer, changes)
+    }
+
+    fn faults(&self) -> u64 {
+        self.faults
+    }
+}
