@@ -1,0 +1,5 @@
+//! For tests alone: stores in memory, opened as desks.
+#![tactic(auto)]
+
+#[cfg(test)]
+mod openings;
