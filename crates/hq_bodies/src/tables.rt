@@ -36,7 +36,7 @@ fn class_in(name: &str) -> Option<Class>
     }
 }
 
-/// The member `class`, or 8 `BadField`.
+/// The member `class`, where it names one.
 fn class_member(value: &Value) -> Option<Class>
     ensures { result ≡ class_at (view value.now) }
 {

@@ -1,7 +1,6 @@
 -- Where a customer has no line, none is found.
-use Rattle.std.proofs.Common.{◌≡◌, ℕ, List, [], ◌∷◌, length, map, Option, None, refl, sym, ap, ◌∙◌, subst}
+use Rattle.std.proofs.Common.{◌≡◌, ℕ, List, [], ◌∷◌, map, Option, None, refl, ap, ◌∙◌}
 use Rattle.std.specs.Prelude.{option_map}
-use Rattle.std.specs.FinMap.{entries, find, get-entries}
 use Rattle.hq_envelope.specs.declared.address.Sender.{Sender}
 use Rattle.hq_envelope.specs.declared.address.Sender.TheVariants.{From}
 use Rattle.hq_access.specs.Keys.{keys_of}
@@ -9,24 +8,11 @@ use Rattle.hq_access.specs.Lookups.{first_match, or_next}
 use Rattle.hq_access.specs.declared.action.Action.{Action}
 use Rattle.hq_access.specs.declared.pattern.Class.{Class}
 use Rattle.hq_access.specs.declared.pattern.Class.TheVariants.{RecipientSide}
-use Rattle.hq_store.specs.Readings.{Readings, read_state, read_tables}
-use Rattle.hq_store.specs.Tables.{State, Tables, line_cmp, own}
-use Rattle.hq_store.proofs.Read.{same_readings}
+use Rattle.hq_store.specs.Readings.{read_tables}
+use Rattle.hq_store.specs.Tables.{Tables}
+use Rattle.hq_store.proofs.Read.{no_line}
 use Rattle.hq_desk.specs.AccessLines.{found_for}
 use Rattle.hq_desk.specs.Submissions.{with_action}
-
--- no entry, nothing found
-nothing : (es : List ((Class × List ℕ) × Action)) (key : Class × List ℕ) → length es ≡ 0 → find line_cmp key es ≡ None
-nothing [] key none = refl
-nothing (e ∷ es) key none = cc
-
-no_line_of : (s : State) (class : Class) (key : List ℕ) → (read_state s).counts.lines ≡ 0 → (read_state s).line class key ≡ None
-no_line_of s class key none = get-entries s.lines (class, key) ∙ nothing (entries s.lines) (class, key) none
-
--- no count of lines, no line: by the rows that are read, whatever the head row says
-pub no_line : (customer : List ℕ) (t : Tables) (class : Class) (key : List ℕ) → (read_tables customer t).counts.lines ≡ 0 → (read_tables customer t).line class key ≡ None
-no_line customer t class key none =
-    subst (λ (r : Readings). r.counts.lines ≡ 0 → r.line class key ≡ None) (sym (same_readings customer t)) (no_line_of (own customer t) class key) none
 
 none_first : (line : List ℕ → Option Action) → ((key : List ℕ) → line key ≡ None) → (keys : List (List ℕ)) → first_match line keys ≡ None
 none_first line none [] = refl

@@ -1,7 +1,7 @@
 use Rattle.std.proofs.Common.{◌≡◌, sym, ap, ◌∙◌}
 use Rattle.hq_store.specs.Readings.{read_tables}
 use Rattle.hq_desk.specs.AccessLines.{drop_line}
-use Rattle.hq_desk.proofs.NoLines.{no_line}
+use Rattle.hq_store.proofs.Read.{no_line}
 use Rattle.hq_desk.proofs.desk.decide_drop_line.Goals as goal
 
 pub returns-then-branch-eq0-clause-found : goal.returns-then-branch-eq0-clause-found
