@@ -1,17 +1,22 @@
 //! The program `hq_bench`: it exists to be measured.
 //!
-//! It replies to the lines of standard input on standard output, as `hq` does, over plain lists in
-//! memory. Each of its two customers may have 1,000 messages, the most that a directory takes, so
+//! It replies to the lines of standard input on standard output, as `hq` does: over plain lists, or
+//! over a `sqlite` store in memory with the word `memory`, or over the store at the path that is
+//! its word. Each of its customers may have 1,000 messages, the most that a directory takes, so
 //! that large tables can be tried.
 #![tactic(auto)]
 
 use hq_batch::{EngineFault, batch};
 use hq_desk::Desk;
-use hq_envelope::{Fail, Host, Key, Name};
+use hq_envelope::{Fail, Fault, Host, Key, Name};
 use hq_queue::{Customer, Entry, Quota};
-use hq_store::ListShelf;
+use hq_sql_file::open_file;
+use hq_sql_shelf::SqlShelf;
+use hq_store::{ListShelf, Shelf};
 use hq_wire::{Directory, are_customers};
 use std::alloc::Global;
+use std::env;
+use std::io;
 
 /// How much each customer may keep.
 const QUOTA: Quota = Quota {
@@ -21,9 +26,26 @@ const QUOTA: Quota = Quota {
     notices: 1_000,
 };
 
+/// The customers' names and keys: the one that is measured, and its neighbours.
+const CUSTOMERS: [(&str, &str); 11] = [
+    ("acme", "acmekey000000001"),
+    ("birch", "birchkey00000001"),
+    ("birch2", "birchkey00000002"),
+    ("birch3", "birchkey00000003"),
+    ("birch4", "birchkey00000004"),
+    ("birch5", "birchkey00000005"),
+    ("birch6", "birchkey00000006"),
+    ("birch7", "birchkey00000007"),
+    ("birch8", "birchkey00000008"),
+    ("birch9", "birchkey00000009"),
+    ("birch10", "birchkey00000010"),
+];
+
 /// Why the program ended before its input did.
 #[derive(Debug, Drop)]
 enum BenchError {
+    /// The words could not be read.
+    Words(io::Error),
     /// The customers may not stand in one directory.
     Customers,
     /// The desk could not be set up.
@@ -38,6 +60,18 @@ impl From<Fail> for BenchError {
     }
 }
 
+impl From<Fault> for BenchError {
+    fn from(fault: Fault) -> BenchError {
+        BenchError::SetUp(Fail::Fault(fault))
+    }
+}
+
+impl From<io::Error> for BenchError {
+    fn from(error: io::Error) -> BenchError {
+        BenchError::Words(error)
+    }
+}
+
 /// A customer with a name and a key.
 fn customer(alloc: Global, name: &str, key: &str) -> Result<Customer, Fail> {
     let entry = Entry {
@@ -49,11 +83,13 @@ fn customer(alloc: Global, name: &str, key: &str) -> Result<Customer, Fail> {
     Ok(Customer { entry, key })
 }
 
-/// The two customers.
+/// All customers.
 fn customers(alloc: Global) -> Result<Vec<Customer>, Fail> {
-    let acme = customer(alloc, "acme", "acmekey000000001")?;
-    let birch = customer(alloc, "birch", "birchkey00000001")?;
-    Ok(Vec::from_array(alloc, [acme, birch])?)
+    let mut customers = Vec::new(alloc);
+    for (name, key) in CUSTOMERS {
+        customers.push(customer(alloc, name, key)?)?;
+    }
+    Ok(customers)
 }
 
 /// Their directory.
@@ -66,12 +102,25 @@ fn directory(alloc: Global) -> Result<Directory, BenchError> {
     Ok(Directory::new(alloc, relay, customers)?)
 }
 
-fn main(rt: HostRuntime) -> Result<(), BenchError> {
+/// Replies to the lines of standard input over a shelf.
+fn serve<S: Shelf + Drop>(rt: &HostRuntime, shelf: S) -> Result<(), BenchError> {
     let alloc = rt.alloc();
     let directory = directory(alloc)?;
-    let host = Host::parse(alloc, "relay.example")?;
-    let mut desk = Desk::new(ListShelf::new(alloc), host);
+    let mut desk = Desk::new(shelf, Host::parse(alloc, "relay.example")?);
     let mut input = rt.stdin();
     let mut output = rt.stdout();
     batch(alloc, &mut input, &mut output, &mut desk, &directory).map_err(BenchError::Lines)
+}
+
+fn main(rt: HostRuntime) -> Result<(), BenchError> {
+    let alloc = rt.alloc();
+    match env::args(&rt)?.nth(1) {
+        None => serve(&rt, ListShelf::new(alloc)),
+        Some(word) => {
+            if word.as_str() == "memory" {
+                return serve(&rt, SqlShelf::open_memory(alloc)?);
+            }
+            serve(&rt, open_file(&rt, word.as_str())?)
+        }
+    }
 }

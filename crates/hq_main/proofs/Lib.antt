@@ -1,2 +1,1 @@
-pub mod Customers
 pub mod Plain

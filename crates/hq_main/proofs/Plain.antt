@@ -1,5 +1,5 @@
 -- What a batch over plain lists does from empty tables.
-use Rattle.std.proofs.Common.{◌≡◌, ℕ, false, List, Option, sym, subst, refl, arith, lit<, map}
+use Rattle.std.proofs.Common.{◌≡◌, ℕ, false, List, Option, sym, ap, ◌∙◌, subst, refl, arith, lit<, map}
 use Rattle.std.specs.Bool.{⊤}
 use Rattle.hq_base.specs.Refusals.{no_memory}
 use Rattle.hq_base.specs.declared.failure.Fault.TheVariants.{WantOfMemory}
@@ -10,13 +10,12 @@ use Rattle.hq_store.specs.Tables.{no_tables}
 use Rattle.hq_store.specs.declared.list_rows.ListRows.{ListRows}
 use Rattle.hq_store.proofs.Empty.{empty_sound}
 use Rattle.hq_desk.specs.Desks.{host_of, shelf_of}
-use Rattle.hq_desk.specs.declared.desk.Desk.{Desk}
 use Rattle.hq_wire.specs.Runs.{AllReplied, Alone}
-use Rattle.hq_wire.specs.declared.directory.Directory.{Directory}
 use Rattle.hq_wire.proofs.Serving.{all_replied}
 use Rattle.hq_lines.specs.Fields.{Request}
-use Rattle.hq_batch.specs.Batches.{ask_in, Replied}
-use Rattle.hq_main.specs.Builtin.{IsBuiltin, Serves, host}
+use Rattle.hq_batch.specs.Batches.{ask_in}
+use Rattle.hq_program.specs.Runs.{ServesOver}
+use Rattle.hq_main.specs.Runs.{Serves}
 
 -- what is seen of the shelf of plain lists
 abbrev pub plain : Sight ListRows
@@ -29,8 +28,14 @@ plain = record {
   may_answer = λ fault. fault ≡ WantOfMemory;
 }
 
-pub serves : (d : Directory) (old new : Desk ListRows) → IsBuiltin d → host_of old ≡ host → tables_of (shelf_of old) ≡ no_tables → (asked : List (Option Request)) (lines : List (List ℕ)) → Replied plain d old asked lines new → Serves asked lines
-serves d old new builtin named empty asked lines p =
+pub serves : (shelf : ListRows) → tables_of shelf ≡ no_tables → (asked : List (Option Request)) (lines : List (List ℕ)) → ServesOver plain shelf asked lines → Serves asked lines
+serves shelf none asked lines it =
+    let d = it.directory in
+    let old = it.old in
+    let new = it.new in
+    let p = it.replied in
+    let empty = ap tables_of it.shelf_is ∙ none in
+    let named = it.host_is in
     let after = tables_of (shelf_of new) in
     let asks = map (ask_in d) asked in
     let sound = subst Sound (sym empty) empty_sound in
@@ -39,7 +44,7 @@ serves d old new builtin named empty asked lines p =
     let few = p.2.counted (lit< tt) in
     record {
       directory = d;
-      is_builtin = builtin;
+      is_builtin = it.is_builtin;
       replies = p.0;
       lines_are = p.1;
       tables = after;

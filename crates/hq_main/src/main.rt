@@ -3,12 +3,12 @@
 //! Without words it replies to the lines of standard input on standard output until the input ends.
 #![tactic(auto)]
 
-mod builtin;
 mod command;
 #[cfg(test)]
 mod tests;
 
-use command::{command, not_begun};
+use command::command;
+use hq_program::not_begun;
 use std::env;
 use std::io::{self, BufWriter};
 use std::process::ExitCode;

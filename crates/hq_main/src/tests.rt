@@ -1,9 +1,10 @@
 //! The program over inputs in memory: its exit status, and what it writes on both outputs. What it
 //! replies to lines stands in `examples/`.
 
-use crate::command::{Trouble, command, not_begun};
+use crate::command::command;
 use hq_batch::EngineFault;
 use hq_envelope::{Fail as Failure, Refusal};
+use hq_program::{Trouble, not_begun};
 use std::alloc::{AllocError, Global};
 use std::io::{self, ErrorKind, Read, Write};
 use std::process::Abort;

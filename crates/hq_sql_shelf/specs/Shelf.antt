@@ -1,19 +1,21 @@
 -- The shelf over a `sqlite` store: what is seen of it, and what its calls keep of the connection.
-use Rattle.std.specs.Prelude.{◌≡◌, ⊤, ℕ, Bool, false, Err}
+use Rattle.std.specs.Prelude.{◌≡◌, ◌≢◌, ⊤, ℕ, Bool, false, Err}
 use Rattle.sqlite.specs.declared.error.Error.{Error}
 use Rattle.sqlite.specs.declared.error.Error.TheVariants.{SqliteFailure}
 use Rattle.sqlite.specs.declared.error.ErrorCode.TheVariants.{OutOfMemory}
+use Rattle.sqlite.specs.Held.{Held}
 use Rattle.sqlite.specs.State.{State, HasCleanDisk, KeepsCommit}
 use Rattle.sqlite.specs.Effect.{Database}
 use Rattle.hq_base.specs.declared.failure.Fault.{Fault}
-use Rattle.hq_base.specs.declared.failure.Fault.TheVariants.{WantOfMemory, Disk}
+use Rattle.hq_base.specs.declared.failure.Fault.TheVariants.{WantOfMemory, Disk, BadSchema}
 use Rattle.hq_keyed.specs.Left.{IsQuiet, LeavesNoMore}
-use Rattle.hq_store.specs.Shelves.{IsTallied}
+use Rattle.hq_store.specs.Shelves.{Sight, IsTallied}
 use Rattle.hq_store.specs.Sound.{AreCounted}
 use Rattle.hq_store.specs.Tables.{no_tables}
 use Rattle.hq_sql.specs.Tables.{IsDesk, tables_in}
 use Rattle.hq_sql_open.specs.Opening.{IsUnmade, IsForeign}
 use Rattle.hq_sql_open.specs.Transactions.{IsSettled}
+use Rattle.hq_sql_shelf.specs.declared.shelf.SqlShelf.{SqlShelf}
 
 -- the fault that an error is told as: the store's want of memory, or any other failure of a statement
 abbrev pub fault_in : Error → Fault
@@ -29,6 +31,17 @@ pub record HoldsTables (db : Database) : Type 0 where
 pub record IsOurs (s : State) : Type 0 where
   pub settled : IsSettled s
   pub holds : HoldsTables s.committed
+
+-- What is seen of a shelf, by what is seen of its connection: the tables are what was committed.
+abbrev pub sight_over : {S : Type 0} → (Held S → State) → Sight (SqlShelf S)
+sight_over seen = record {
+  tables = λ s. tables_in (seen s.conn).committed;
+  is_closed = λ s. s.closed;
+  fault_count = λ s. s.faults;
+  is_clean = λ s. HasCleanDisk (seen s.conn);
+  is_ours = λ s. IsOurs (seen s.conn);
+  may_answer = λ fault. fault ≢ BadSchema;
+}
 
 -- a statement failed while the shelf was open: what is counted and closed for that fault
 abbrev pub GivesUp : Bool → ℕ → ℕ → Fault → Type 0

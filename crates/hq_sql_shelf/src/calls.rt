@@ -11,22 +11,10 @@ use hq_store::{Change, Shelf};
 use sqlite::Alter;
 
 impl<S: Alter> Shelf for SqlShelf<S> {
-    ghost use Rattle.std.specs.Prelude.{◌≢◌};
-    ghost use Rattle.hq_base.specs.declared.failure.Fault.TheVariants.{BadSchema};
     ghost use Rattle.sqlite.specs.Held.{state};
-    ghost use Rattle.sqlite.specs.State.{HasCleanDisk};
-    ghost use Rattle.hq_sql.specs.Tables.{tables_in};
-    ghost use Rattle.hq_sql_shelf.specs.Shelf.{IsOurs};
+    ghost use Rattle.hq_sql_shelf.specs.Shelf.{sight_over};
 
-    /// The tables are what was committed.
-    ghost sight = { record {
-      tables = λ s. tables_in (state S.Store s.conn).committed;
-      is_closed = λ s. s.closed;
-      fault_count = λ s. s.faults;
-      is_clean = λ s. HasCleanDisk (state S.Store s.conn);
-      is_ours = λ s. IsOurs (state S.Store s.conn);
-      may_answer = λ fault. fault ≢ BadSchema;
-    } };
+    ghost sight = { sight_over (state S.Store) };
 
     fn head(&mut self, customer: &Name) -> Result<Head, Fault> {
         if self.closed {

@@ -4,6 +4,7 @@
 mod accounts;
 mod calls;
 mod changes;
+pub mod laws;
 mod shelf;
 mod writing;
 

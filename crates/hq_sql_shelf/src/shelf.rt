@@ -137,7 +137,7 @@ impl<S: Alter> SqlShelf<S> {
 }
 
 impl SqlShelf<MemStore> {
-    /// A shelf in memory, of which nobody has anything yet. The only fault is 90.
+    /// A shelf in memory, of which nobody has anything yet.
     pub fn open_memory(alloc: Global) -> Result<SqlShelf<MemStore>, Fault>
         ensures ours { IfOk result (λ s. IsOurs (state over_memory s.conn)) }
         ensures empty { IfOk result

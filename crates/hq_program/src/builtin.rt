@@ -1,8 +1,8 @@
-//! The customers that the program serves as long as it reads no directory.
+//! The customers that the programs serve as long as they read no directory.
 
 ghost use Rattle.std.specs.Prelude.{◌≡◌, MatchResult};
 ghost use Rattle.hq_base.specs.Refusals.{no_memory_fail};
-ghost use Rattle.hq_main.specs.Builtin as builtin;
+ghost use Rattle.hq_program.specs.Builtin as builtin;
 
 use hq_envelope::{Fail, Host, Key, Name};
 use hq_queue::{Customer, Entry, Quota};

@@ -1,0 +1,2 @@
+pub mod Builtin
+pub mod Runs

@@ -1,0 +1,55 @@
+-- What a run of a program does, however it ends.
+use Rattle.std.specs.Prelude.{◌≡◌, ⊤, ℕ, List, codes, Option, Result, Ok, Err}
+use Rattle.hq_base.specs.Refusals.{fail_shown, no_memory_fail}
+use Rattle.hq_store.specs.Shelves.{Sight}
+use Rattle.hq_desk.specs.Desks.{host_of, shelf_of}
+use Rattle.hq_desk.specs.declared.desk.Desk.{Desk}
+use Rattle.hq_wire.specs.declared.directory.Directory.{Directory}
+use Rattle.hq_lines.specs.Ends.{Ends}
+use Rattle.hq_lines.specs.Fields.{Request}
+use Rattle.hq_lines.specs.Lines.{Streams}
+use Rattle.hq_lines.specs.declared.batch.EngineFault.{EngineFault}
+use Rattle.hq_lines.specs.declared.batch.EngineFault.TheVariants.{Read, Write, TooManyReads, WantOfMemory}
+use Rattle.hq_batch.specs.Batches.{Replied}
+use Rattle.hq_program.specs.Builtin.{IsBuiltin, host}
+use Rattle.hq_program.specs.declared.trouble.Trouble.{Trouble}
+use Rattle.hq_program.specs.declared.trouble.Trouble.TheVariants.{Input, Output, Desk as OfDesk}
+
+-- What lines ask for is replied to as a batch of the built-in customers, with a desk over this shelf.
+pub record ServesOver {S : Type 0} (sight : Sight S) (shelf : S) (asked : List (Option Request)) (lines : List (List ℕ)) : Type 0 where
+  pub directory : Directory
+  pub is_builtin : IsBuiltin directory
+  pub old : Desk S
+  pub host_is : host_of old ≡ host
+  pub shelf_is : shelf_of old ≡ shelf
+  pub new : Desk S
+  pub replied : Replied sight directory old asked lines new
+
+-- what a fault of a batch is told as
+abbrev pub trouble_of : EngineFault → Trouble
+trouble_of Read = Input
+trouble_of TooManyReads = Input
+trouble_of Write = Output
+trouble_of WantOfMemory = OfDesk no_memory_fail
+
+-- as it is told: what failed, or the refusal or fault of the desk
+abbrev pub trouble_shown : Trouble → List ℕ
+trouble_shown Input = codes "input"
+trouble_shown Output = codes "output"
+trouble_shown (OfDesk fail) = fail_shown fail
+
+-- how a run ends: as a batch does, with a fault of it told
+abbrev pub RunEnds : (List (Option Request) → List (List ℕ) → Type 0) → Type 0 → Streams → Streams → Result ⊤ Trouble → Type 0
+RunEnds done untouched old new (Ok _) = Ends done ⊥ old new (Ok tt)
+RunEnds done untouched old new (Err trouble) = (fault : EngineFault) × (trouble ≡ trouble_of fault) × Ends done untouched old new (Err fault)
+
+-- the exit status of a run
+abbrev pub status : Result ⊤ Trouble → ℕ
+status (Ok _) = 0
+status (Err _) = 1
+
+-- A run ends so, and the program with the status of this end.
+pub record Exits (ends : Result ⊤ Trouble → Type 0) (exit_status : ℕ) : Type 0 where
+  pub end : Result ⊤ Trouble
+  pub ends_so : ends end
+  pub status_is : exit_status ≡ status end

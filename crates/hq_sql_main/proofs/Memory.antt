@@ -1,0 +1,55 @@
+-- What a batch over a shelf in memory does from empty tables.
+use Rattle.std.proofs.Common.{◌≡◌, inl, inr, ℕ, List, Option, Result, Ok, Err, IfOk, sym, ap, ◌∙◌, subst, map}
+use Rattle.std.specs.Bool.{⊤}
+use Rattle.sqlite.specs.Held.{state}
+use Rattle.sqlite.specs.Steps.{over_memory}
+use Rattle.sqlite.proofs.Callers.{memory_is_clean}
+use Rattle.sqlite_trees.specs.declared.memory.MemStore.{MemStore}
+use Rattle.hq_base.specs.declared.failure.Fault.{Fault}
+use Rattle.hq_store.specs.Sound.{Sound}
+use Rattle.hq_store.specs.Tables.{no_tables}
+use Rattle.hq_store.proofs.Empty.{empty_sound}
+use Rattle.hq_sql.specs.Tables.{tables_in}
+use Rattle.hq_sql_shelf.specs.Shelf.{IsOurs}
+use Rattle.hq_sql_shelf.specs.declared.shelf.SqlShelf.{SqlShelf}
+use Rattle.hq_desk.specs.Desks.{on, host_of, shelf_of}
+use Rattle.hq_wire.specs.Runs.{AllReplied, Alone}
+use Rattle.hq_wire.proofs.Serving.{all_replied}
+use Rattle.hq_lines.specs.Fields.{Request}
+use Rattle.hq_lines.specs.Lines.{Streams}
+use Rattle.hq_batch.specs.Batches.{ask_in}
+use Rattle.hq_program.specs.Runs.{ServesOver}
+use Rattle.hq_program.specs.declared.trouble.Trouble.{Trouble}
+use Rattle.hq_program.proofs.Ends.{run_ends_as}
+use Rattle.hq_sql_main.specs.Runs.{memory, Serves, OpenedEnds, MemoryEnds}
+
+serves : (shelf : SqlShelf MemStore) → IsOurs (state over_memory shelf.conn) → tables_in (state over_memory shelf.conn).committed ≡ no_tables
+    → (asked : List (Option Request)) (lines : List (List ℕ)) → ServesOver memory shelf asked lines → Serves asked lines
+serves shelf ours none asked lines it =
+    let d = it.directory in
+    let old = it.old in
+    let new = it.new in
+    let p = it.replied in
+    let empty = ap memory.tables it.shelf_is ∙ none in
+    let named = it.host_is in
+    let after = (on memory).tables new in
+    let asks = map (ask_in d) asked in
+    let sound = subst Sound (sym empty) empty_sound in
+    let clean = memory_is_clean (shelf_of new).conn in
+    let owned = subst memory.is_ours (sym it.shelf_is) ours in
+    record {
+      shelf = shelf;
+      over = it;
+      replied = λ stays.
+          let all = all_replied memory d old new asks p.0 p.2.each clean owned stays sound in
+          subst (λ n. AllReplied memory.may_answer n d no_tables asks p.0 after) named (subst (λ t. AllReplied memory.may_answer (host_of old) d t asks p.0 after) empty all);
+      alone = λ stays.
+          let alone = p.2.alone clean owned stays sound in
+          subst (λ n. Alone n d asks p.0 no_tables after) named (subst (λ t. Alone (host_of old) d asks p.0 t after) empty alone);
+    }
+
+pub memory_ends : (opened : Result (SqlShelf MemStore) Fault) (untouched : Type 0) (old new : Streams) (result : Result ⊤ Trouble)
+    → IfOk opened (λ s. IsOurs (state over_memory s.conn)) → IfOk opened (λ s. tables_in (state over_memory s.conn).committed ≡ no_tables)
+    → OpenedEnds (state over_memory) opened untouched old new result → MemoryEnds untouched old new result
+memory_ends (Ok shelf) untouched old new result ours none p = inl (run_ends_as (ServesOver memory shelf) Serves untouched (serves shelf ours none) old new result p)
+memory_ends (Err fault) untouched old new result ours none p = inr (fault, p)

@@ -1,0 +1,93 @@
+// A library to be loaded before the C library's functions (LD_PRELOAD), which makes one call fail.
+//
+// STOP_AT=N ends the process, with status 77, at its N-th call that writes, syncs or cuts a file; with STOP_HALF=1 a
+// write at that call writes its first half before. REFUSE_AT=N answers "no memory" at its N-th request for memory.
+// CALLS=PATH has three counts written to that file when the process ends by itself: of those calls, of the syncs among
+// them, and of the requests.
+#define _GNU_SOURCE
+#include <dlfcn.h>
+#include <fcntl.h>
+#include <stdio.h>
+#include <stdlib.h>
+#include <string.h>
+#include <sys/types.h>
+#include <unistd.h>
+
+static long calls, syncs, requests, stop_at, refuse_at;
+static int half;
+
+static long number(const char *name) {
+  const char *text = getenv(name);
+  return text ? atol(text) : 0;
+}
+
+__attribute__((constructor)) static void begin(void) {
+  stop_at = number("STOP_AT");
+  refuse_at = number("REFUSE_AT");
+  half = getenv("STOP_HALF") != NULL;
+  calls = syncs = requests = 0;
+}
+
+__attribute__((destructor)) static void end(void) {
+  const char *path = getenv("CALLS");
+  int file = path ? open(path, O_WRONLY | O_CREAT | O_TRUNC, 0600) : -1;
+  char text[64];
+  if (file >= 0) {
+    int length = snprintf(text, sizeof text, "%ld %ld %ld\n", calls, syncs, requests);
+    if (write(file, text, (size_t)length) != length) _exit(78);
+    close(file);
+  }
+}
+
+static int is_stop(void) { return ++calls == stop_at; }
+
+ssize_t pwrite64(int file, const void *bytes, size_t size, off64_t at) {
+  static ssize_t (*real)(int, const void *, size_t, off64_t);
+  if (!real) real = (ssize_t(*)(int, const void *, size_t, off64_t))dlsym(RTLD_NEXT, "pwrite64");
+  if (is_stop()) {
+    if (half && size > 1 && real(file, bytes, size / 2, at) < 0) _exit(78);
+    _exit(77);
+  }
+  return real(file, bytes, size, at);
+}
+
+ssize_t pwrite(int file, const void *bytes, size_t size, off_t at) { return pwrite64(file, bytes, size, at); }
+
+int fdatasync(int file) {
+  static int (*real)(int);
+  if (!real) real = (int (*)(int))dlsym(RTLD_NEXT, "fdatasync");
+  syncs++;
+  if (is_stop()) _exit(77);
+  return real(file);
+}
+
+int fsync(int file) {
+  static int (*real)(int);
+  if (!real) real = (int (*)(int))dlsym(RTLD_NEXT, "fsync");
+  syncs++;
+  if (is_stop()) _exit(77);
+  return real(file);
+}
+
+int ftruncate64(int file, off64_t size) {
+  static int (*real)(int, off64_t);
+  if (!real) real = (int (*)(int, off64_t))dlsym(RTLD_NEXT, "ftruncate64");
+  if (is_stop()) _exit(77);
+  return real(file, size);
+}
+
+int ftruncate(int file, off_t size) { return ftruncate64(file, size); }
+
+static int is_refused(void) { return ++requests == refuse_at; }
+
+void *malloc(size_t size) {
+  static void *(*real)(size_t);
+  if (!real) real = (void *(*)(size_t))dlsym(RTLD_NEXT, "malloc");
+  return is_refused() ? NULL : real(size);
+}
+
+void *realloc(void *block, size_t size) {
+  static void *(*real)(void *, size_t);
+  if (!real) real = (void *(*)(void *, size_t))dlsym(RTLD_NEXT, "realloc");
+  return is_refused() ? NULL : real(block, size);
+}
