@@ -1,6 +1,6 @@
 -- Terms of WHERE and keys of ORDER BY as tests of typed keys, and values as they are cast.
 use Rattle.std.proofs.Common.{◌≡◌, ◌||◌, ℕ, ℤ, pos, negsuc, true, false, List, refl, ◌∙◌, arith, nat_cmp, int_cmp, int_eq, is_eq}
-use Rattle.std.specs.Prelude.{int_lt, nat_lt}
+use Rattle.std.specs.Prelude.{int_lt, nat_lt, nat_le}
 use Rattle.std.specs.Ordering.{eq_by_cmp}
 use Rattle.std.proofs.lemmas.Int.{ints}
 use Rattle.std.proofs.lemmas.Cmp.{nat_list_cmp_total}
@@ -9,7 +9,7 @@ use Rattle.sqlite.specs.declared.types.Value.TheVariants.{Int, Text}
 use Rattle.sqlite_sql.specs.declared.ops.BinaryOp.TheVariants.{Compare, Or}
 use Rattle.sqlite.specs.Collation.TheVariants.{Binary}
 use Rattle.sqlite_sql.specs.Ops.{binary}
-use Rattle.sqlite_sql.specs.declared.ops.CompareOp.TheVariants.{Eq, Gt, Lt}
+use Rattle.sqlite_sql.specs.declared.ops.CompareOp.TheVariants.{Eq, Gt, Ge, Lt, Le}
 use Rattle.sqlite_value.specs.Order.{value_cmp}
 use Rattle.sqlite_value.proofs.OrderLemmas.{value_cmp-Int}
 use Rattle.sqlite_typed.proofs.TestLemmas.{at_texts, at_ints, at_or, turn_eq, truth_or}
@@ -29,6 +29,13 @@ number_is x n = at_ints false Eq (pos x) (pos n) ∙ same_numbers x n
 -- column > parameter
 pub number_above : (x : ℕ) (n : ℤ) → truth_or false (binary (Compare Gt Binary) (number x) (Int n)) ≡ int_lt n (pos x)
 number_above x n = at_ints false Gt (pos x) n
+
+-- column >= parameter, and column <= parameter
+pub number_from : (x n : ℕ) → truth_or false (binary (Compare Ge Binary) (number x) (number n)) ≡ nat_le n x
+number_from x n = at_ints false Ge (pos x) (pos n)
+
+pub number_to : (x n : ℕ) → truth_or false (binary (Compare Le Binary) (number x) (number n)) ≡ nat_le x n
+number_to x n = at_ints false Le (pos x) (pos n)
 
 same_order : (a b : ℕ) → int_cmp (pos a) (pos b) ≡ nat_cmp a b
 same_order a b = grind (arith, ints)

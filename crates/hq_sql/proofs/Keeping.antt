@@ -48,6 +48,15 @@ module _ (old new : State) (text : List ℕ) (params : Row) (goes_on : may_end (
   pub write_failed : (e : Error) → (HasCleanDisk new → Executes text params old new (Err e)) → KeepsCommitted old new
   write_failed e h = write_keeps (λ clean desk within. left_keeps old new (execute_left old new text params e (h clean)))
 
+-- ---- a query that was answered or failed, with another result
+
+pub keeps_ok : {X Y : Type 0} (old new : State) (x : X) (y : Y) → Keeps old new (Ok x) → Keeps old new (Ok y)
+keeps_ok old new x y h = record { same = h.same; kept = h.kept; quiet = h.quiet; stops = h.stops }
+
+pub keeps_err : {X Y : Type 0} (old new : State) (e : Error) (r : Result Y Error) → IsErr r → Keeps {X = X} old new (Err e) → Keeps old new r
+keeps_err old new e (Ok y) is h = absurd (let f = is in cc)
+keeps_err old new e (Err other) is h = record { same = λ clean desk. tt; kept = h.kept; quiet = h.quiet; stops = h.stops }
+
 -- ---- what the number of changed rows tells of an UPDATE by key
 
 none_there : (count : ℕ) → count ≡ 0 → not (nat_eq count 0) ≡ true → ⊥

@@ -5,3 +5,4 @@ pub mod OnHeads
 pub mod OnLines
 pub mod OnLinePages
 pub mod Keeping
+pub mod Walking

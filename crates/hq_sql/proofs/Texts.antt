@@ -5,7 +5,7 @@ use Rattle.sqlite.specs.Collation.TheVariants.{Binary}
 use Rattle.sqlite_value.specs.Keys.{ascending}
 use Rattle.sqlite.specs.Term.{Term, lit, col, op2}
 use Rattle.sqlite_sql.specs.declared.ops.BinaryOp.TheVariants.{Compare, Or, And}
-use Rattle.sqlite_sql.specs.declared.ops.CompareOp.TheVariants.{Eq, Gt, Lt}
+use Rattle.sqlite_sql.specs.declared.ops.CompareOp.TheVariants.{Eq, Gt, Ge, Lt, Le}
 use Rattle.sqlite.specs.Query.{Query}
 use Rattle.sqlite.specs.Command.TheVariants.{Insert, Update, Select, Delete}
 use Rattle.sqlite.specs.Source.TheVariants.{Values}
@@ -242,6 +242,24 @@ recipients_read_plain = (refl, refl)
 pub recipients_read_listed : reads_listing desk_schema recipients_read_text ≡ false
 unfolding understood everything
 recipients_read_listed = refl
+
+abbrev pub between_terms : List Term
+between_terms = at 1 0 ∷ op2 (Compare Ge Binary) (col 1 2) (col 0 1) ∷ op2 (Compare Le Binary) (col 1 2) (col 0 2) ∷ []
+
+abbrev pub recipients_between_text : List ℕ
+recipients_between_text = codes "SELECT customer, serial, place, address, status, reason FROM recipients WHERE customer = ?1 AND serial >= ?2 AND serial <= ?3 ORDER BY customer, serial, place"
+
+pub recipients_between_is : command_of (understood desk_schema recipients_between_text) ≡ Select (record { lets = []; body = recipient_order (query_of 6 between_terms recipient_columns) }) recipient_names
+unfolding understood everything
+recipients_between_is = refl
+
+pub recipients_between_plain : IsPlain (understood desk_schema recipients_between_text)
+unfolding understood everything
+recipients_between_plain = (refl, refl)
+
+pub recipients_between_listed : reads_listing desk_schema recipients_between_text ≡ false
+unfolding understood everything
+recipients_between_listed = refl
 
 abbrev pub beside_terms : List Term
 beside_terms = at 1 0 ∷ at 2 1 ∷ op2 Or (op2 (Compare Lt Binary) (col 1 3) (lit (Int (pos 1)))) (op2 (Compare Gt Binary) (col 1 3) (col 0 2)) ∷ []

@@ -3,11 +3,10 @@
 ghost use Rattle.std.specs.Prelude.{◌≡◌, IfOk, option_map, slice_get, is_some};
 ghost use Rattle.hq_store.specs.Listed.{head_value, line_row_value};
 ghost use Rattle.hq_sql.specs.Rows.{head_shown, line_shown};
-ghost use Rattle.hq_sql.specs.LinePages.{line_in, lines_in};
+ghost use Rattle.hq_sql.specs.LinePages.{line_in};
 
 use crate::read;
 use hq_access::{Action, Line};
-use hq_envelope::Items;
 use hq_queue::{Counts, Head, Tally};
 use hq_store::Account;
 use sqlite::{Error, Row};
@@ -74,22 +73,11 @@ pub(crate) fn has_first(rows: &[Row]) -> bool
     rows.first().is_some()
 }
 
-fn line(alloc: Global, row: &Row) -> Result<Line, Error>
+/// The line of a row.
+pub(crate) fn line(alloc: Global, row: &Row) -> Result<Line, Error>
     ensures { IfOk result (λ line. line ≡ line_in row.now) }
 {
     let pattern = read::pattern(alloc, row, 1, 2)?;
     let action = read::action(alloc, row, 3)?;
     Ok(Line { pattern, action })
-}
-
-/// The lines of rows, in their order.
-pub(crate) fn lines(alloc: Global, rows: &[Row]) -> Result<Items<Line>, Error>
-    ensures { IfOk result (λ lines. lines ≡ lines_in rows.now) }
-{
-    let mut lines = Vec::new(alloc);
-    for row in rows {
-        let line = line(alloc, row)?;
-        lines.push(line)?;
-    }
-    Ok(Items::from_vec(lines))
 }

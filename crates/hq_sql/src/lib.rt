@@ -5,6 +5,7 @@
 pub mod bind;
 mod decode;
 pub mod heads;
+pub mod lent;
 pub mod line_pages;
 pub mod lines;
 pub mod read;

@@ -1,6 +1,4 @@
-use Rattle.std.proofs.Common.{ap, ◌∙◌}
 use Rattle.sqlite.specs.Held.{state}
-use Rattle.hq_sql.specs.Lines.{key_columns}
 use Rattle.hq_sql.proofs.Keeping.{query_failed, query_answered}
 use Rattle.hq_sql.proofs.OnLines.{line_got}
 use Rattle.hq_sql.proofs.Texts.{line_read_text, line_read_plain}

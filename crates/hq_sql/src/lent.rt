@@ -1,0 +1,47 @@
+//! Queries whose rows are lent one after another: each is taken as it comes, and none is held.
+
+ghost use Rattle.std.specs.Prelude.{IfOk, OnOk};
+ghost use Rattle.sqlite.specs.State.{HasCleanDisk};
+ghost use Rattle.sqlite.specs.Values.{bound};
+ghost use Rattle.sqlite.specs.Held.{state};
+ghost use Rattle.hq_sql.specs.Tables.{IsDesk};
+ghost use Rattle.hq_sql.specs.Kept.{Keeps};
+ghost use Rattle.hq_sql.specs.Lent.{IsQuery, TakesAll};
+
+use sqlite::types::ValueRef;
+use sqlite::{Alter, Connection, Error, Row};
+
+/// What takes the rows of an answer, one after another.
+pub trait Taker: Drop {
+    ghost use Rattle.sqlite.specs.Order.{Row};
+
+    // what it may be after a row
+    ghost takes: { Self → Row → Self → Type 0 };
+
+    /// Takes the next row. After an error it is of no use.
+    fn take(&mut self, row: &Row) -> Result<(), Error>
+        ensures { OnOk result (takes self.old row.now self.new) };
+}
+
+/// Has all rows of a query taken.
+pub fn walk<'k, S: Alter, T: Taker>(
+    conn: &mut Connection<S>,
+    sql: &'k str,
+    params: &'k [ValueRef<'k>],
+    mut taker: T,
+) -> Result<T, Error>
+    ensures found { IsQuery sql.now → HasCleanDisk (state S.Store conn.new)
+        → IsDesk (state S.Store conn.old).now → IfOk result (TakesAll T.takes sql.now
+        (bound params.now) (state S.Store conn.old) (state S.Store conn.new) taker) }
+    ensures kept { IsQuery sql.now
+        → Keeps (state S.Store conn.old) (state S.Store conn.new) result }
+{
+    let mut rows = conn.query(sql, params)?;
+    'rows: for _ in 0..u64::MAX {
+        let Some(row) = rows.next()? else {
+            return Ok(taker);
+        };
+        taker.take(row)?;
+    }
+    Err(Error::InvalidQuery)
+}
