@@ -3,4 +3,5 @@ pub mod OnRecipients
 pub mod Found
 pub mod Loop
 pub mod OnMessages
+pub mod Dealt
 pub mod OnQueued

@@ -5,7 +5,6 @@ use Rattle.std.specs.List.{list_any}
 use Rattle.std.specs.FinMap.{entries, get, insert}
 use Rattle.sqlite.specs.Order.{Row}
 use Rattle.sqlite.specs.State.{State, HasCleanDisk, IsUnchanged}
-use Rattle.hq_keyed.specs.Left.{IsQuiet}
 use Rattle.hq_keyed.proofs.Left.{clean_before, quiet_then, keeps_then, unchanged_keeps}
 use Rattle.hq_queue.specs.declared.message.Pending.{Pending}
 use Rattle.hq_tables.specs.Rows.{pairs_of}

@@ -21,7 +21,7 @@ use Rattle.sqlite_typed.proofs.TestLemmas.{then_key, last_key, then_term, last_t
 use Rattle.sqlite_keyed.proofs.ListLemmas.{map-map}
 use Rattle.hq_keyed.specs.Values.{number}
 use Rattle.hq_keyed.proofs.Select.{query_of}
-use Rattle.hq_keyed.proofs.Terms.{text_is, number_is, number_beside, number_order}
+use Rattle.hq_keyed.proofs.Terms.{text_is, number_is, number_from, number_to, number_beside, number_order}
 use Rattle.hq_keyed.proofs.Pages.{listed}
 use Rattle.hq_keyed.proofs.Writes.{inserted, updated, deleted, cast_null, cast_int}
 use Rattle.hq_keyed.proofs.Keyed as keyed
@@ -39,6 +39,7 @@ use Rattle.hq_sql.specs.Rows.{status_of, status_text, recipient_columns, recipie
 use Rattle.hq_sql.specs.Tables.{IsDesk, Leaves, tables_in}
 use Rattle.hq_sql.proofs.Texts as text
 use Rattle.hq_sql.proofs.Tables.{recipients_left, write_keeps}
+use Rattle.hq_sql_queue.specs.Dealt.{is_between, between_columns}
 use Rattle.hq_sql_queue.specs.Places.{is_of, is_beside}
 use Rattle.hq_sql_queue.specs.Recipients.{with_recipient, without_beside, range_columns}
 use Rattle.hq_sql_queue.proofs.InPlace.{Recipients, recipient_total, recipient_exact}
@@ -59,6 +60,21 @@ recipients_shown old new c serial rows desk h =
     (λ r. is_of c serial (recipient_key r, recipient_value r)) (λ k. then_term (text_is k.1.customer c) (last_term (number_is k.1.serial serial)))
     (λ j k. then_key (value_cmp-Text j.1.customer k.1.customer) (then_key (number_order j.1.serial k.1.serial) (last_key (number_order j.1.place k.1.place)))) (λ xs. refl))
     ∙ sorted_rows recipient_total recipient_key recipient_value (is_of c serial) (map recipient_read (old.now.trees 6)) desk.recipients.unique
+
+-- the recipients of the customer's messages from one serial to another, in the order of their serials and places
+pub between_shown : (old new : State) (c : List ℕ) (low high : ℕ) (rows : List Row) → IsDesk old.now → Shown text.recipients_between_text (between_columns c low high) old new rows
+    → pairs_of recipient_key recipient_value (map recipient_shown rows) ≡ filter (is_between c low high) (entries (tables_in old.now).recipients)
+between_shown old new c low high rows desk h =
+    let params = between_columns c low high in
+    let q = text.recipient_order (query_of 6 text.between_terms text.recipient_columns) in
+    let db = overlay old.now.trees [] in
+    let answers : Answers old.now (record { lets = []; body = q }) params rows = reads_as text.recipients_between_text params old new desk_schema desk.schema_is _ text.recipients_between_is text.recipients_between_plain text.recipients_between_listed rows h in
+    let a : IsAnswer q db params rows = answers.answer Null in
+    ap (pairs_of recipient_key recipient_value)
+    (listed recipient_stored recipient_read recipient_total recipient_exact recipient_key recipient_value q db 6 params desk.recipients recipient_shown refl refl refl (λ k. refl) rows a
+    (λ r. is_between c low high (recipient_key r, recipient_value r)) (λ k. then_term (text_is k.1.customer c) (then_term (number_from k.1.serial low) (last_term (number_to k.1.serial high))))
+    (λ j k. then_key (value_cmp-Text j.1.customer k.1.customer) (then_key (number_order j.1.serial k.1.serial) (last_key (number_order j.1.place k.1.place)))) (λ xs. refl))
+    ∙ sorted_rows recipient_total recipient_key recipient_value (is_between c low high) (map recipient_read (old.now.trees 6)) desk.recipients.unique
 
 -- one message's entries are its recipients
 abbrev Entry : Type 0

@@ -1,3 +1,4 @@
 pub mod Places
 pub mod Recipients
 pub mod Messages
+pub mod Dealt

@@ -6,7 +6,7 @@ use Rattle.sqlite.specs.declared.types.Value.TheVariants.{Text, Int}
 use Rattle.sqlite.specs.Order as sqlite
 use Rattle.hq_keyed.specs.Values.{number}
 use Rattle.hq_queue.specs.declared.message.Message.{Message}
-use Rattle.hq_store.specs.Tables.{Tables, Row, text_cmp, row_of, joined}
+use Rattle.hq_store.specs.Tables.{Tables, Row, text_cmp, row_of, message_of, joined}
 use Rattle.hq_store.specs.Listed.{message_value}
 use Rattle.hq_store.specs.Lookups.{is_after}
 use Rattle.hq_sql.specs.Rows.{message_shown}
@@ -47,3 +47,11 @@ has_spool_name customer spool e = eq_by_cmp text_cmp customer e.0.0 && eq_by_cmp
 -- the message of a row of an answer, with its recipients
 abbrev pub whole : List ℕ → Tables → sqlite.Row → Message
 whole customer t r = joined customer t.recipients (message_shown r).serial (message_value (message_shown r))
+
+-- the message of a row of an answer, without recipients
+abbrev pub bare : sqlite.Row → Message
+bare r = message_of (message_shown r).serial (message_value (message_shown r)) []
+
+-- the message of an entry, without recipients
+abbrev pub bare_entry : (List ℕ × ℕ) × Row → Message
+bare_entry e = message_of e.0.1 e.1 []

@@ -3,6 +3,7 @@
 #![tactic(auto)]
 
 mod bind;
+mod dealing;
 mod decode;
 pub mod messages;
 mod places;

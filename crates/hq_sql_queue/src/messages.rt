@@ -1,5 +1,6 @@
 //! The table of messages: their rows, without recipients.
 
+ghost use Rattle.std.specs.Prelude.{◌≡◌, [], ◌∷◌, ◌++◌};
 ghost use Rattle.std.specs.Prelude.{map, option_map, slice_get, take, filter};
 ghost use Rattle.std.specs.FinMap.{get, entries};
 ghost use Rattle.sqlite.specs.Held.{state};
@@ -8,11 +9,15 @@ ghost use Rattle.hq_store.specs.Listed.{message_key, message_value};
 ghost use Rattle.hq_sql.specs.Rows.{message_shown};
 ghost use Rattle.hq_sql.specs.Kept.{Shows, Finds, Makes, Inserts, Updates, Keeps, KeepsCommitted};
 ghost use Rattle.hq_sql_queue.specs.Messages.{with_row, without_row, is_on_page, has_spool_name};
+ghost use Rattle.hq_sql_queue.specs.Messages.{bare, bare_entry};
 
 use crate::{bind, decode};
-use hq_envelope::{Name, Serial, Spool};
+use hq_envelope::{Items, Name, Serial, Spool};
 use hq_queue::Message;
+use hq_sql::lent;
+use hq_sql::lent::Taker;
 use sqlite::{Alter, Connection, Error, Row};
+use std::alloc::Global;
 
 /// The row of the customer's message of a serial: one, or none.
 pub(crate) fn query<S: Alter>(
@@ -54,27 +59,51 @@ pub(crate) fn query_by_spool<S: Alter>(
     Ok(rows)
 }
 
-/// The rows of the customer's messages after a serial, or of all, in order of serial: at most
-/// `limit` of them. A limit of 2^63 or more is an error.
-pub(crate) fn query_page<S: Alter>(
+/// The messages of the rows so far, without recipients.
+#[derive(Drop)]
+struct TakenMessages {
+    alloc: Global,
+    page: Vec<Message>,
+}
+
+impl Taker for TakenMessages {
+    ghost takes = { λ before row after. after.page.items ≡ before.page.items ++ bare row ∷ [] };
+
+    fn take(&mut self, row: &Row) -> Result<(), Error> {
+        let serial = decode::serial(row)?;
+        let none = Items::from_vec(Vec::new(self.alloc));
+        let message = decode::message(self.alloc, row, serial, none)?;
+        self.page.push(message)?;
+        Ok(())
+    }
+}
+
+/// The customer's messages after a serial, or all, without recipients, in order of serial: at most
+/// `limit` of them. Their rows are lent one after another. A limit of 2^63 or more is an error.
+pub(crate) fn page<S: Alter>(
+    alloc: Global,
     conn: &mut Connection<S>,
     customer: &Name,
     after: Option<Serial>,
     limit: usize,
-) -> Result<Vec<Row>, Error>
+) -> Result<Vec<Message>, Error>
     ensures found { Shows (state S.Store conn.old) (state S.Store conn.new) result
-        (λ rows. pairs_of message_key message_value (map message_shown rows.items))
-        (λ t. take limit (filter (is_on_page customer.now after) (entries t.messages))) }
+        (λ page. page.items)
+        (λ t. map bare_entry
+        (take limit (filter (is_on_page customer.now after) (entries t.messages)))) }
     ensures kept { Keeps (state S.Store conn.old) (state S.Store conn.new) result }
 {
     let most = hq_sql::bind::limit(limit)?;
     let params = bind::page(customer, after, &most);
-    let rows = conn.query_all(
+    let page = Vec::new(alloc);
+    let taken = lent::walk(
+        conn,
         "SELECT customer, serial, sender, spool, size, arrival, state, next_try, attempts, warned \
          FROM messages WHERE customer = ?1 AND serial > ?2 ORDER BY customer, serial LIMIT ?3",
         &params,
+        TakenMessages { alloc, page },
     )?;
-    Ok(rows)
+    Ok(taken.page)
 }
 
 /// The size of the customer's message of a serial, in bytes.

@@ -9,6 +9,7 @@ ghost use Rattle.hq_sql.specs.Rows.{text_in, status_of, status_text};
 ghost use Rattle.hq_sql.specs.Rows.{recipient_columns, recipient_shown};
 ghost use Rattle.hq_sql_queue.specs.Places.{is_far, Stands};
 ghost use Rattle.hq_sql_queue.specs.Recipients.{recipient_row, range_columns};
+ghost use Rattle.hq_sql_queue.specs.Dealt.{between_columns};
 
 use crate::bind;
 use hq_envelope::{Address, Items, Name, Serial, Text};
@@ -74,6 +75,17 @@ pub(crate) fn range<'a>(customer: &'a Name, serial: Serial, last: u32) -> [Value
     ]
 }
 
+/// What the recipients of all messages from one serial to another are asked with.
+pub(crate) fn between<'a>(customer: &'a Name, low: Serial, high: Serial) -> [ValueRef<'a>; 3]
+    ensures { bound result ≡ between_columns customer.now low high }
+{
+    [
+        ValueRef::Text(customer.as_str().as_bytes()),
+        ValueRef::Int(bind::serial(low)),
+        ValueRef::Int(bind::serial(high)),
+    ]
+}
+
 fn address(alloc: Global, row: &Row, at: usize) -> Result<Address, Error>
     ensures { IfOk result (λ address. address ≡ text_in (column row.now at)) }
 {
@@ -108,7 +120,8 @@ fn reason(alloc: Global, row: &Row, at: usize) -> Result<Text, Error>
     }
 }
 
-fn recipient(alloc: Global, row: &Row) -> Result<Pending, Error>
+/// The recipient of a row.
+pub(crate) fn recipient(alloc: Global, row: &Row) -> Result<Pending, Error>
     ensures { IfOk result (λ pending. pending ≡ recipient_value (recipient_shown row.now)) }
 {
     let address = address(alloc, row, 3)?;

@@ -8,7 +8,7 @@ ghost use Rattle.hq_sql.specs.Rows.{message_shown};
 ghost use Rattle.hq_sql.specs.Kept.{Finds, Keeps};
 ghost use Rattle.hq_sql_queue.specs.Messages.{whole};
 
-use crate::{decode, messages, recipients};
+use crate::{dealing, decode, messages, recipients};
 use hq_envelope::{Items, Name, Serial, Spool};
 use hq_queue::Message;
 use sqlite::{Alter, Connection, Error, Row};
@@ -90,7 +90,8 @@ pub fn by_spool<S: Alter>(
 }
 
 /// The customer's messages after a serial, or all, with their recipients, in order of serial: at
-/// most `limit` of them. A limit of 2^63 or more is an error.
+/// most `limit` of them. A limit of 2^63 or more is an error. Nothing is held but the page: the
+/// rows of the messages are lent one after another, and then those of their recipients.
 pub fn page<S: Alter>(
     alloc: Global,
     conn: &mut Connection<S>,
@@ -102,11 +103,12 @@ pub fn page<S: Alter>(
         (λ t. page_of after limit (read_tables customer.now t).messages) }
     ensures kept { Keeps (state S.Store conn.old) (state S.Store conn.new) result }
 {
-    let rows = messages::query_page(conn, customer, after, limit)?;
-    let mut page = Vec::new(alloc);
-    for row in rows.as_slice() {
-        let message = whole(alloc, conn, customer, row)?;
-        page.push(message)?;
+    let page = messages::page(alloc, conn, customer, after, limit)?;
+    match dealing::ends(page.as_slice()) {
+        None => Ok(Items::from_vec(page)),
+        Some((low, high)) => {
+            let dealt = dealing::all(alloc, conn, customer, low, high, page)?;
+            Ok(Items::from_vec(dealt))
+        }
     }
-    Ok(Items::from_vec(page))
 }

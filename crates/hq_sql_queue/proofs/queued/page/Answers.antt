@@ -1,27 +1,29 @@
-use Rattle.std.proofs.Common.{arith, ◌∙◌}
+use Rattle.std.proofs.Common.{List, map, length, refl, ap, sym, subst, ◌∙◌}
 use Rattle.sqlite.specs.Held.{state}
-use Rattle.hq_sql_queue.proofs.OnQueued.{begun, went_on, failed, full, all_read, keeps_ok}
+use Rattle.hq_queue.specs.declared.message.Message.{Message}
+use Rattle.hq_sql.specs.Tables.{tables_in}
+use Rattle.hq_sql_queue.specs.Dealt.{Rise, serials_of, with_dealt}
+use Rattle.hq_sql_queue.proofs.Dealt.{none_dealt, page_rises, spans_same}
+use Rattle.hq_sql_queue.proofs.OnQueued.{page_whole, finds_both, first_found}
 use Rattle.hq_sql_queue.proofs.queued.page.Goals as goal
 
-pub loop-row-init : goal.loop-row-init
-loop-row-init g c = begun (state g.S.Store c.args.conn.now) (state g.S.Store c.query_page.new.conn) _ _ _ _ c.in_ok-rows.ensures.kept c.new-page.ensures.items
+pub returns-in-None-clause-found : goal.returns-in-None-clause-found
+returns-in-None-clause-found g c clean desk =
+    let t = tables_in (state g.S.Store c.args.conn.now).now in
+    let none = ap length (sym c.as_slice.ensures.value) ∙ c.in-None.ensures.none refl in
+    c.from_vec.ensures ∙ none_dealt (with_dealt c.args.customer.now t) c.in_ok-page.page.items none ∙ ap (map (with_dealt c.args.customer.now t)) (c.in_ok-page.ensures.found clean desk)
+    ∙ page_whole c.args.customer.now t c.args.after c.args.limit
 
-pub returns-in_err-message-clause-kept : goal.returns-in_err-message-clause-kept
-returns-in_err-message-clause-kept g c = failed _ _ _ _ _ _ _ c.loop-row.invariant _ _ _ c.from_residual-in_err-message.ensures.0 c.in_err-message.ensures.kept
-
-pub returns-in_err-push-clause-kept : goal.returns-in_err-push-clause-kept
-returns-in_err-push-clause-kept g c = full _ _ _ _ _ _ _ c.loop-row.invariant _ _ _ c.from_residual-in_err-push.ensures.0 c.in_ok-message.ensures.kept
-
-pub loop-row-preserved : goal.loop-row-preserved
-loop-row-preserved g c =
-    went_on (state g.S.Store c.args.conn.now) (state g.S.Store c.query_page.new.conn) (state g.S.Store c.loop-row.conn) c.args.customer.now c.as_slice-row-items.result.now c.loop-row.row-index c.loop-row.page.items c.loop-row.invariant
-    (state g.S.Store c.whole.new.conn) c.row-item.result c.in_ok-message.message c.push.new.self.items c.in_ok-message.ensures.kept c.in_ok-message.ensures.found c.loop-row-test.true c.row-item.is c.in_ok-push.ensures.items
-
-pub returns-clause-found : goal.returns-clause-found
-returns-clause-found g c clean desk =
-    c.from_vec.ensures
-    ∙ all_read (state g.S.Store c.args.conn.now) (state g.S.Store c.query_page.new.conn) (state g.S.Store c.loop-row.conn) c.args.customer.now c.as_slice-row-items.result.now c.loop-row.row-index c.loop-row.page.items c.loop-row.invariant
-    c.args.after c.args.limit c.in_ok-rows.rows.items (grind arith) c.as_slice-row-items.ensures.value c.in_ok-rows.ensures.found clean desk
-
-pub returns-clause-kept : goal.returns-clause-kept
-returns-clause-kept g c = keeps_ok _ _ _ _ c.loop-row.invariant.kept
+pub returns-in_ok-dealt-in-Some-clause-found : goal.returns-in_ok-dealt-in-Some-clause-found
+returns-in_ok-dealt-in-Some-clause-found g c clean desk =
+    let old = state g.S.Store c.args.conn.now in
+    let between = state g.S.Store c.page.new.conn in
+    let new = state g.S.Store c.all.new.conn in
+    let t = tables_in old.now in
+    let first = c.in_ok-page.ensures.kept in
+    let second = c.in_ok-dealt-in-Some.ensures.kept in
+    let bare = first_found old between new _ _ first second c.in_ok-page.ensures.found clean desk in
+    let rise = subst (λ (page : List Message). Rise (serials_of page)) (sym bare) (page_rises c.args.customer.now c.args.after c.args.limit t) in
+    c.from_vec-in-Some.ensures
+    ∙ finds_both old between new _ _ first second (λ t. map (with_dealt c.args.customer.now t) c.in_ok-page.page.items) (λ dealt. dealt.items) (c.in_ok-dealt-in-Some.ensures.found (spans_same _ _ _ _ c.as_slice.ensures.value c.in-Some.ensures.some) rise) clean desk
+    ∙ ap (map (with_dealt c.args.customer.now t)) bare ∙ page_whole c.args.customer.now t c.args.after c.args.limit
