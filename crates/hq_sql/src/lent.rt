@@ -15,7 +15,7 @@ use sqlite::{Alter, Connection, Error, Row};
 pub trait Taker: Drop {
     ghost use Rattle.sqlite.specs.Order.{Row};
 
-    // what it may be after a row
+    /// What it may be after it took a row.
     ghost takes: { Self → Row → Self → Type 0 };
 
     /// Takes the next row. After an error it is of no use.
@@ -23,7 +23,7 @@ pub trait Taker: Drop {
         ensures { OnOk result (takes self.old row.now self.new) };
 }
 
-/// Has all rows of a query taken.
+/// Has all rows of a query's answer taken, in their order.
 pub fn walk<'k, S: Alter, T: Taker>(
     conn: &mut Connection<S>,
     sql: &'k str,
@@ -43,5 +43,6 @@ pub fn walk<'k, S: Alter, T: Taker>(
         };
         taker.take(row)?;
     }
+    // No answer has so many rows.
     Err(Error::InvalidQuery)
 }

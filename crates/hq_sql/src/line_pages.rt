@@ -1,5 +1,5 @@
 //! Pages of lines, in the order of the bytes of the class's name and then of the pattern. The rows
-//! are lent one after another, so that nothing is held but the page.
+//! are lent one after another, and nothing is held here but the page.
 
 ghost use Rattle.std.specs.Prelude.{◌≡◌, Some, [], ◌∷◌, ◌++◌, option_map, take};
 ghost use Rattle.sqlite.specs.Held.{state};

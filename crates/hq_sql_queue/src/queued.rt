@@ -90,8 +90,8 @@ pub fn by_spool<S: Alter>(
 }
 
 /// The customer's messages after a serial, or all, with their recipients, in order of serial: at
-/// most `limit` of them. A limit of 2^63 or more is an error. Nothing is held but the page: the
-/// rows of the messages are lent one after another, and then those of their recipients.
+/// most `limit` of them. A limit of 2^63 or more is an error. Nothing is held here but the page:
+/// the rows of the messages are lent one after another, and then those of their recipients.
 pub fn page<S: Alter>(
     alloc: Global,
     conn: &mut Connection<S>,
