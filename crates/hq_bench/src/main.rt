@@ -15,8 +15,7 @@ use hq_sql_shelf::SqlShelf;
 use hq_store::{ListShelf, Shelf};
 use hq_wire::{Directory, are_customers};
 use std::alloc::Global;
-use std::env;
-use std::io;
+use std::{env, io};
 
 /// How much each customer may keep.
 const QUOTA: Quota = Quota {

@@ -40,7 +40,7 @@ pub record Serves (asked : List (Option Request)) (lines : List (List ℕ)) : Ty
   pub shelf : SqlShelf MemStore
   pub over : ServesOver memory shelf asked lines
   pub replied : (on memory).is_closed over.new ≡ false → AllReplied memory.may_answer host over.directory no_tables
-    (map (ask_in over.directory) asked) over.replied.0 ((on memory).tables over.new)
+      (map (ask_in over.directory) asked) over.replied.0 ((on memory).tables over.new)
   pub alone : (on memory).is_closed over.new ≡ false → Alone host over.directory (map (ask_in over.directory) asked) over.replied.0 no_tables ((on memory).tables over.new)
 
 abbrev pub MemoryEnds : Type 0 → Streams → Streams → Result ⊤ Trouble → Type 0
