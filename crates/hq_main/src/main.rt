@@ -8,19 +8,9 @@ mod command;
 mod tests;
 
 use command::command;
-use hq_program::not_begun;
-use std::env;
+use hq_program::{not_begun, words};
 use std::io::{self, BufWriter};
 use std::process::ExitCode;
-
-/// The words after the program's name.
-fn words(rt: &HostRuntime) -> io::Result<Vec<String>> {
-    let mut words = Vec::new(rt.alloc());
-    for word in env::args(rt)?.skip(1) {
-        words.push(word)?;
-    }
-    Ok(words)
-}
 
 /// Runs the program over the process's input and outputs. A reply is gathered, and written at once
 /// when it is whole.
