@@ -1,0 +1,6 @@
+mod Headers
+mod Limits
+mod Numbers
+mod Reading
+mod Seeing
+mod Texts

@@ -1,0 +1,81 @@
+-- The directory as CSV: rows of customers under the header `name,key,messages,bytes,lines,notices,delay`.
+use Rattle.std.specs.Prelude.{ℕ, ◌+◌, Bool, not, ◌==◌, nat_lt, nat_le, List, [], ◌∷◌, ◌++◌, length, codes, bytes_eq, Result, Ok}
+use Rattle.std.specs.List.{list_any}
+use Rattle.hq_base.specs.Readers.{◌>>=◌, guard, or_refuse, passes}
+use Rattle.hq_base.specs.declared.failure.Refusal.{Refusal}
+use Rattle.hq_base.specs.declared.failure.Refusal.TheVariants.{BadDirectory, DoubledName, DoubledKey}
+use Rattle.hq_envelope.specs.Words.{name_in, key_in}
+use Rattle.hq_queue.specs.Limits.{is_quota, is_delay}
+use Rattle.hq_queue.specs.declared.account.Customer.{Customer}
+use Rattle.hq_queue.specs.declared.account.Entry.{Entry}
+use Rattle.hq_queue.specs.declared.account.Quota.{Quota}
+use Rattle.hq_import.specs.Fields.{text_at, number_at, told_as}
+use Rattle.hq_import.specs.Records.{most_rows, rows_in}
+
+-- four numbers, where they are within the limits of a quota
+abbrev pub quota_of : Refusal → ℕ → ℕ → ℕ → ℕ → Result Quota Refusal
+quota_of bad messages bytes lines notices = do
+  limits ← passes (is_quota messages bytes lines notices) bad
+  Ok (record { messages = messages; bytes = bytes; lines = lines; notices = notices; limits = limits })
+
+-- the quota of a row
+unfoldable pub quota_in : Refusal → List (List ℕ) → Result Quota Refusal
+quota_in bad fields = do
+  messages ← or_refuse bad (number_at 2 fields)
+  bytes ← or_refuse bad (number_at 3 fields)
+  lines ← or_refuse bad (number_at 4 fields)
+  notices ← or_refuse bad (number_at 5 fields)
+  quota_of bad messages bytes lines notices
+
+-- what the desk knows of a customer, where its delay is within the limits
+abbrev pub entry_of : Refusal → List ℕ → Quota → ℕ → Result Entry Refusal
+entry_of bad name quota delay = do
+  limit ← passes (is_delay delay) bad
+  Ok (record { name = name; quota = quota; delay = delay; limit = limit })
+
+-- the customer of a row: seven fields, which are a name, a key and five numbers within their limits
+unfoldable pub customer_in : Refusal → List (List ℕ) → Result Customer Refusal
+customer_in bad fields = do
+  seven ← guard (length fields == 7) bad
+  name_text ← or_refuse bad (text_at 0 fields)
+  key_text ← or_refuse bad (text_at 1 fields)
+  name ← told_as bad (name_in name_text)
+  key ← told_as bad (key_in key_text)
+  quota ← quota_in bad fields
+  delay ← or_refuse bad (number_at 6 fields)
+  entry ← entry_of bad name quota delay
+  Ok (record { entry = entry; key = key })
+
+-- a name, or a key, that an earlier row has
+abbrev pub is_named : List Customer → List ℕ → Bool
+is_named earlier name = list_any (λ c. bytes_eq name c.entry.name) earlier
+
+abbrev pub is_taken : List Customer → List ℕ → Bool
+is_taken earlier key = list_any (λ c. bytes_eq key c.key) earlier
+
+-- The customer of the row under these customers, of which there is one per row, or what is wrong with that row: there are
+-- too many, or it is bad; or else its name is doubled; or else its key is.
+unfoldable pub next_customer : List Customer → List (List ℕ) → Result Customer Refusal
+next_customer earlier fields =
+    let number = length earlier + 1 in do
+      few ← guard (nat_le number most_rows) (BadDirectory number)
+      customer ← customer_in (BadDirectory number) fields
+      new_name ← guard (not (is_named earlier customer.entry.name)) (DoubledName number)
+      new_key ← guard (not (is_taken earlier customer.key)) (DoubledKey number)
+      Ok customer
+
+-- these customers and those of the rows under them, or what is wrong with the first row that is not good
+unfoldable pub customers_under : List Customer → List (List (List ℕ)) → Result (List Customer) Refusal
+customers_under earlier [] = Ok earlier
+customers_under earlier (row ∷ rows) = next_customer earlier row >>= (λ customer. customers_under (earlier ++ customer ∷ []) rows)
+
+abbrev pub directory_header : List (List ℕ)
+directory_header = codes "name" ∷ codes "key" ∷ codes "messages" ∷ codes "bytes" ∷ codes "lines" ∷ codes "notices" ∷ codes "delay" ∷ []
+
+-- The customers of a directory, in the order of its rows, or its first fault: 53 at row 0 is the header or the whole file,
+-- which has at least one row.
+unfoldable pub customers_in : List ℕ → Result (List Customer) Refusal
+customers_in file = do
+  rows ← rows_in directory_header (BadDirectory 0) file
+  some ← guard (nat_lt 0 (length rows)) (BadDirectory 0)
+  customers_under [] rows

@@ -1,0 +1,5 @@
+pub mod Directories
+pub mod Fields
+pub mod Records
+pub mod Seen
+pub mod Tables

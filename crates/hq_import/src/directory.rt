@@ -1,0 +1,158 @@
+//! The directory as CSV.
+
+ghost use Rattle.std.specs.Prelude.{◌≡◌, ◌<◌, ◌≤◌, [], ◌∷◌, ◌++◌, length, IfOk, OnOk, map as map_list};
+ghost use Rattle.csv.specs.Records.{fields_of};
+ghost use Rattle.hq_base.specs.Readers.{Reads, seen_by};
+ghost use Rattle.hq_queue.specs.Limits.{is_quota};
+ghost use Rattle.hq_import.specs.Seen.{KnowsNames, KnowsKeys};
+ghost use Rattle.hq_import.specs.Directories.{quota_of, quota_in, entry_of, customer_in, next_customer, customers_under, customers_in};
+
+use crate::fields::{number_at, text_at, told_as};
+use crate::records::{MOST_ROWS, file_records, under_header};
+use crate::seen::Seen;
+use csv::ByteRecord;
+use hq_envelope::{Fail, Key, Name, Refusal};
+use hq_queue::{Customer, Entry, Quota};
+use std::alloc::Global;
+
+/// The fields of the header.
+const HEADER: [&str; 7] = [
+    "name", "key", "messages", "bytes", "lines", "notices", "delay",
+];
+
+/// Whether these numbers are within the limits of a quota.
+fn is_quota(messages: u64, bytes: u64, lines: u64, notices: u64) -> bool
+    ensures { result ≡ is_quota messages bytes lines notices }
+{
+    (1..=1000).contains(&messages)
+        && (1..=2_147_483_647_000).contains(&bytes)
+        && (1..=5000).contains(&lines)
+        && (1..=1000).contains(&notices)
+}
+
+/// The quota of four numbers, where they are within its limits.
+fn quota_of(
+    bad: Refusal,
+    messages: u64,
+    bytes: u64,
+    lines: u64,
+    notices: u64,
+) -> Result<Quota, Refusal>
+    ensures { result ≡ quota_of bad messages bytes lines notices }
+{
+    if !is_quota(messages, bytes, lines, notices) {
+        return Err(bad);
+    }
+    Ok(Quota {
+        messages,
+        bytes,
+        lines,
+        notices,
+    })
+}
+
+/// The quota of a row.
+#[tactic(auto, unfolding(crate::specs::Directories::quota_in))]
+fn quota_in(bad: Refusal, row: &ByteRecord) -> Result<Quota, Refusal>
+    ensures { result ≡ quota_in bad (fields_of row.now) }
+{
+    let messages = number_at(row, 2).ok_or(bad)?;
+    let bytes = number_at(row, 3).ok_or(bad)?;
+    let lines = number_at(row, 4).ok_or(bad)?;
+    let notices = number_at(row, 5).ok_or(bad)?;
+    quota_of(bad, messages, bytes, lines, notices)
+}
+
+/// The entry of a customer, where its delay is within the limits.
+fn entry_of(bad: Refusal, name: Name, quota: Quota, delay: u64) -> Result<Entry, Refusal>
+    ensures { result ≡ entry_of bad name quota delay }
+{
+    if delay > 431_999 {
+        return Err(bad);
+    }
+    Ok(Entry { name, quota, delay })
+}
+
+/// The customer of a row.
+#[tactic(auto, unfolding(crate::specs::Directories::customer_in))]
+fn customer_in(alloc: Global, bad: Refusal, row: &ByteRecord) -> Result<Customer, Fail>
+    ensures { Reads result (customer_in bad (fields_of row.now)) }
+{
+    if row.len() != HEADER.len() {
+        return Err(Fail::Refused(bad));
+    }
+    let name = text_at(row, 0).ok_or(bad)?;
+    let key = text_at(row, 1).ok_or(bad)?;
+    let name = told_as(bad, Name::parse(alloc, name))?;
+    let key = told_as(bad, Key::parse(alloc, key))?;
+    let quota = quota_in(bad, row)?;
+    let delay = number_at(row, 6).ok_or(bad)?;
+    let entry = entry_of(bad, name, quota, delay)?;
+    Ok(Customer { entry, key })
+}
+
+/// The customer of the row under these customers, whose names and keys are noted; and notes its
+/// own.
+#[tactic(auto, unfolding(crate::specs::Directories::next_customer))]
+fn next_customer(
+    alloc: Global,
+    earlier: &[Customer],
+    names: &mut Seen,
+    keys: &mut Seen,
+    row: &ByteRecord,
+) -> Result<Customer, Fail>
+    requires few { length earlier.now ≤ 1000 }
+    requires names { KnowsNames names.old earlier.now }
+    requires keys { KnowsKeys keys.old earlier.now }
+    ensures customer { Reads result (next_customer earlier.now (fields_of row.now)) }
+    ensures names { IfOk result (λ customer. KnowsNames names.new (earlier.now ++ customer ∷ [])) }
+    ensures keys { IfOk result (λ customer. KnowsKeys keys.new (earlier.now ++ customer ∷ [])) }
+    ensures few { OnOk result (length earlier.now < 1000) }
+{
+    let row_number = earlier.len() as u32 + 1;
+    if earlier.len() >= MOST_ROWS {
+        return Err(Fail::Refused(Refusal::BadDirectory { row: row_number }));
+    }
+    let customer = customer_in(alloc, Refusal::BadDirectory { row: row_number }, row)?;
+    if !names.note(alloc, customer.entry.name.as_str())? {
+        return Err(Fail::Refused(Refusal::DoubledName { row: row_number }));
+    }
+    if !keys.note(alloc, customer.key.as_str())? {
+        return Err(Fail::Refused(Refusal::DoubledKey { row: row_number }));
+    }
+    Ok(customer)
+}
+
+/// The customers of the rows.
+#[tactic(auto, unfolding(crate::specs::Directories::customers_under))]
+fn customers_under(alloc: Global, rows: &[ByteRecord]) -> Result<Vec<Customer>, Fail>
+    ensures { Reads (seen_by (λ v. v.items) result)
+        (customers_under [] (map_list fields_of rows.now)) }
+{
+    let mut names = Seen::new(alloc);
+    let mut keys = Seen::new(alloc);
+    let mut customers = Vec::new(alloc);
+    for row in rows {
+        let customer = next_customer(alloc, customers.as_slice(), &mut names, &mut keys, row)?;
+        customers.push(customer)?;
+    }
+    Ok(customers)
+}
+
+/// The customers of a directory, in the order of its rows, under the header
+/// `name,key,messages,bytes,lines,notices,delay`. Refused at the first row that is not good: 53
+/// `BadDirectory` (row 0 for the header, the whole file, or a file without rows); where the row is
+/// good, 54 `DoubledName` for a name of an earlier row, or else 55 `DoubledKey` for a key of an
+/// earlier row. The only other error is want of memory.
+#[tactic(auto, unfolding(crate::specs::Directories::customers_in))]
+pub fn directory_of(alloc: Global, file: &[u8]) -> Result<Vec<Customer>, Fail>
+    ensures { Reads (seen_by (λ v. v.items) result) (customers_in file.now) }
+{
+    let bad = Refusal::BadDirectory { row: 0 };
+    let records = file_records(alloc, bad, file)?;
+    let rows = under_header(&HEADER, bad, records.as_slice())?;
+    if rows.is_empty() {
+        return Err(Fail::Refused(bad));
+    }
+    customers_under(alloc, rows)
+}

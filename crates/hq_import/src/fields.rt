@@ -1,0 +1,81 @@
+//! The fields of a row.
+
+ghost use Rattle.std.specs.Prelude.{◌≡◌, ◌≤◌, ℕ, length, option_map, Result};
+ghost use Rattle.csv.specs.Records.{fields_of};
+ghost use Rattle.hq_base.specs.Readers.{Reads};
+ghost use Rattle.hq_base.specs.declared.failure.Refusal.{Refusal as AnyRefusal};
+ghost use Rattle.hq_import.specs.Fields.{text_in, text_at, number_from, number_in, number_at, told_as};
+
+use csv::ByteRecord;
+use hq_envelope::{Fail, Refusal};
+
+/// The most digits of a number.
+const MOST_DIGITS: usize = 13;
+
+/// A field that is UTF-8.
+#[tactic(auto, using(crate::proofs::Texts::utf8_told, crate::proofs::Texts::utf8_refused))]
+fn text_in(field: &[u8]) -> Option<&str>
+    ensures { option_map (λ t. t.now) result ≡ text_in field.now }
+{
+    match str::from_utf8(field) {
+        Ok(text) => Some(text),
+        Err(_) => None,
+    }
+}
+
+/// The field at a place, where it is a text.
+pub(crate) fn text_at(row: &ByteRecord, place: usize) -> Option<&str>
+    ensures { option_map (λ t. t.now) result ≡ text_at place (fields_of row.now) }
+{
+    match row.get(place) {
+        Some(field) => text_in(field),
+        None => None,
+    }
+}
+
+/// The number that at most 13 decimal digits write.
+fn read_number(field: &[u8]) -> Option<u64>
+    requires { length field.now ≤ 13 }
+    ensures { result ≡ number_from 0 field.now }
+{
+    let mut number = 0;
+    for byte in field {
+        if !byte.is_ascii_digit() {
+            return None;
+        }
+        number = number * 10 + u64::from(*byte - b'0');
+    }
+    Some(number)
+}
+
+/// The number that 1 to 13 decimal digits write.
+#[tactic(auto, unfolding(crate::specs::Fields::number_in))]
+fn number_in(field: &[u8]) -> Option<u64>
+    ensures { result ≡ number_in field.now }
+{
+    if field.is_empty() || field.len() > MOST_DIGITS {
+        return None;
+    }
+    read_number(field)
+}
+
+/// The number at a place.
+pub(crate) fn number_at(row: &ByteRecord, place: usize) -> Option<u64>
+    ensures { result ≡ number_at place (fields_of row.now) }
+{
+    match row.get(place) {
+        Some(field) => number_in(field),
+        None => None,
+    }
+}
+
+/// A reading, whose refusal is told as that of the row.
+pub(crate) fn told_as<T: Drop>(bad: Refusal, reading: Result<T, Fail>) -> Result<T, Fail>
+    ensures { (read : Result T AnyRefusal) → Reads reading read → Reads result (told_as bad read) }
+{
+    match reading {
+        Ok(value) => Ok(value),
+        Err(Fail::Refused(_)) => Err(Fail::Refused(bad)),
+        Err(Fail::Fault(fault)) => Err(Fail::Fault(fault)),
+    }
+}

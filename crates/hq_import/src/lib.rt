@@ -1,0 +1,12 @@
+//! Files of an administrator, as CSV: access tables, and the directory of customers. A file is read
+//! whole or refused at its first bad row. What is done with its rows is for the crates above.
+#![tactic(auto)]
+
+mod directory;
+mod fields;
+mod records;
+mod seen;
+mod table;
+
+pub use directory::directory_of;
+pub use table::lines_of;

@@ -1,0 +1,98 @@
+//! Access tables as CSV.
+
+ghost use Rattle.std.specs.Prelude.{◌≡◌, ◌<◌, ◌≤◌, [], ◌∷◌, ◌++◌, length, IfOk, OnOk, map as map_list};
+ghost use Rattle.csv.specs.Records.{fields_of};
+ghost use Rattle.hq_base.specs.Readers.{Reads, seen_by};
+ghost use Rattle.hq_import.specs.Seen.{KnowsPatterns};
+ghost use Rattle.hq_import.specs.Tables.{class_in, line_in, next_line, lines_under, lines_in};
+
+use crate::fields::{text_at, told_as};
+use crate::records::{MOST_ROWS, file_records, under_header};
+use crate::seen::SeenPatterns;
+use csv::ByteRecord;
+use hq_access::{Action, Class, Line, Pattern};
+use hq_envelope::{Fail, Refusal};
+use std::alloc::Global;
+
+/// The fields of the header.
+const HEADER: [&str; 3] = ["class", "pattern", "action"];
+
+/// The class of a name.
+fn class_in(name: &str) -> Option<Class>
+    ensures { result ≡ class_in name.now }
+{
+    match name {
+        "sender" => Some(Class::SenderSide),
+        "recipient" => Some(Class::RecipientSide),
+        _ => None,
+    }
+}
+
+/// The line of a row.
+#[tactic(auto, unfolding(crate::specs::Tables::line_in))]
+fn line_in(alloc: Global, bad: Refusal, row: &ByteRecord) -> Result<Line, Fail>
+    ensures { Reads result (line_in bad (fields_of row.now)) }
+{
+    if row.len() != HEADER.len() {
+        return Err(Fail::Refused(bad));
+    }
+    let class = text_at(row, 0).and_then(class_in).ok_or(bad)?;
+    let pattern = text_at(row, 1).ok_or(bad)?;
+    let action = text_at(row, 2).ok_or(bad)?;
+    let pattern = told_as(bad, Pattern::parse(alloc, class, pattern))?;
+    let action = told_as(bad, Action::parse(alloc, action))?;
+    Ok(Line { pattern, action })
+}
+
+/// The line of the row under these lines, whose patterns are noted; and notes its own.
+#[tactic(auto, unfolding(crate::specs::Tables::next_line))]
+fn next_line(
+    alloc: Global,
+    earlier: &[Line],
+    seen: &mut SeenPatterns,
+    row: &ByteRecord,
+) -> Result<Line, Fail>
+    requires few { length earlier.now ≤ 1000 }
+    requires noted { KnowsPatterns seen.old earlier.now }
+    ensures line { Reads result (next_line earlier.now (fields_of row.now)) }
+    ensures noted { IfOk result (λ line. KnowsPatterns seen.new (earlier.now ++ line ∷ [])) }
+    ensures few { OnOk result (length earlier.now < 1000) }
+{
+    let row_number = earlier.len() as u32 + 1;
+    if earlier.len() >= MOST_ROWS {
+        return Err(Fail::Refused(Refusal::BadCsv { row: row_number }));
+    }
+    let line = line_in(alloc, Refusal::BadCsv { row: row_number }, row)?;
+    if !seen.note(alloc, &line.pattern)? {
+        return Err(Fail::Refused(Refusal::DoubledPattern { row: row_number }));
+    }
+    Ok(line)
+}
+
+/// The lines of the rows.
+#[tactic(auto, unfolding(crate::specs::Tables::lines_under))]
+fn lines_under(alloc: Global, rows: &[ByteRecord]) -> Result<Vec<Line>, Fail>
+    ensures { Reads (seen_by (λ v. v.items) result) (lines_under [] (map_list fields_of rows.now)) }
+{
+    let mut seen = SeenPatterns::new(alloc);
+    let mut lines = Vec::new(alloc);
+    for row in rows {
+        let line = next_line(alloc, lines.as_slice(), &mut seen, row)?;
+        lines.push(line)?;
+    }
+    Ok(lines)
+}
+
+/// The lines of an access table, in the order of its rows, under the header
+/// `class,pattern,action`. Refused at the first row that is not good: 50 `BadCsv` (row 0 for the
+/// header or the whole file), or 51 `DoubledPattern` where the row is good but its class and folded
+/// pattern stand in an earlier row. The only other error is want of memory.
+#[tactic(auto, unfolding(crate::specs::Tables::lines_in))]
+pub fn lines_of(alloc: Global, file: &[u8]) -> Result<Vec<Line>, Fail>
+    ensures { Reads (seen_by (λ v. v.items) result) (lines_in file.now) }
+{
+    let bad = Refusal::BadCsv { row: 0 };
+    let records = file_records(alloc, bad, file)?;
+    let rows = under_header(&HEADER, bad, records.as_slice())?;
+    lines_under(alloc, rows)
+}
