@@ -1,3 +1,4 @@
+mod Apart
 mod Headers
 mod Limits
 mod Numbers

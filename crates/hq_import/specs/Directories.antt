@@ -1,5 +1,5 @@
 -- The directory as CSV: rows of customers under the header `name,key,messages,bytes,lines,notices,delay`.
-use Rattle.std.specs.Prelude.{ℕ, ◌+◌, Bool, not, ◌==◌, nat_lt, nat_le, List, [], ◌∷◌, ◌++◌, length, codes, bytes_eq, Result, Ok}
+use Rattle.std.specs.Prelude.{ℕ, ◌+◌, Bool, not, ◌==◌, nat_lt, nat_le, List, [], ◌∷◌, ◌++◌, length, codes, Result, Ok}
 use Rattle.std.specs.List.{list_any}
 use Rattle.hq_base.specs.Readers.{◌>>=◌, guard, or_refuse, passes}
 use Rattle.hq_base.specs.declared.failure.Refusal.{Refusal}
@@ -9,6 +9,7 @@ use Rattle.hq_queue.specs.Limits.{is_quota, is_delay}
 use Rattle.hq_queue.specs.declared.account.Customer.{Customer}
 use Rattle.hq_queue.specs.declared.account.Entry.{Entry}
 use Rattle.hq_queue.specs.declared.account.Quota.{Quota}
+use Rattle.hq_import.specs.Customers.{has_name, has_key}
 use Rattle.hq_import.specs.Fields.{text_at, number_at, told_as}
 use Rattle.hq_import.specs.Records.{most_rows, rows_in}
 
@@ -48,10 +49,10 @@ customer_in bad fields = do
 
 -- a name, or a key, that an earlier row has
 abbrev pub is_named : List Customer → List ℕ → Bool
-is_named earlier name = list_any (λ c. bytes_eq name c.entry.name) earlier
+is_named earlier name = list_any (has_name name) earlier
 
 abbrev pub is_taken : List Customer → List ℕ → Bool
-is_taken earlier key = list_any (λ c. bytes_eq key c.key) earlier
+is_taken earlier key = list_any (has_key key) earlier
 
 -- The customer of the row under these customers, of which there is one per row, or what is wrong with that row: there are
 -- too many, or it is bad; or else its name is doubled; or else its key is.

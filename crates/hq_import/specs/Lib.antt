@@ -1,3 +1,4 @@
+pub mod Customers
 pub mod Directories
 pub mod Fields
 pub mod Records

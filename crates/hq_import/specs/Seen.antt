@@ -1,11 +1,12 @@
 -- What was noted of the rows before: words of the crate's own functions. No claim rests on them.
-use Rattle.std.specs.Prelude.{◌≡◌, ℕ, Bool, ◌&&◌, List, bytes_eq}
+use Rattle.std.specs.Prelude.{◌≡◌, ℕ, Bool, ◌&&◌, List}
 use Rattle.std.specs.BTreeSet.{contains_text}
 use Rattle.std.specs.List.{list_any}
 use Rattle.hq_access.specs.declared.pattern.Class.{Class}
 use Rattle.hq_access.specs.declared.pattern.Class.TheVariants.{SenderSide, RecipientSide}
 use Rattle.hq_access.specs.declared.pattern.Line.{Line}
 use Rattle.hq_queue.specs.declared.account.Customer.{Customer}
+use Rattle.hq_import.specs.Customers.{is_same_text}
 use Rattle.hq_import.specs.Directories.{is_named, is_taken}
 use Rattle.hq_import.specs.Tables.{is_same_class, is_same_pattern}
 use Rattle.hq_import.specs.declared.seen.Seen.{Seen}
@@ -19,7 +20,7 @@ has_pattern (SenderSide, text) seen = has text seen.senders
 has_pattern (RecipientSide, text) seen = has text seen.recipients
 
 abbrev pub is_same : Class × List ℕ → Class × List ℕ → Bool
-is_same a b = is_same_class a.0 b.0 && bytes_eq a.1 b.1
+is_same a b = is_same_class a.0 b.0 && is_same_text a.1 b.1
 
 -- the patterns of these lines were noted, and no others
 abbrev pub KnowsPatterns : SeenPatterns → List Line → Type 0

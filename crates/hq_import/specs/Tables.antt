@@ -9,6 +9,7 @@ use Rattle.hq_access.specs.Patterns.{class_name, pattern_in}
 use Rattle.hq_access.specs.declared.pattern.Class.{Class}
 use Rattle.hq_access.specs.declared.pattern.Class.TheVariants.{SenderSide, RecipientSide}
 use Rattle.hq_access.specs.declared.pattern.Line.{Line}
+use Rattle.hq_import.specs.Customers.{is_same_text}
 use Rattle.hq_import.specs.Fields.{text_at, told_as}
 use Rattle.hq_import.specs.Records.{most_rows, rows_in}
 
@@ -35,7 +36,7 @@ is_same_class RecipientSide RecipientSide = true
 
 -- two lines of one class whose patterns have one text; patterns are folded, so their spelling does not count
 abbrev pub is_same_pattern : Class × List ℕ → Line → Bool
-is_same_pattern pattern line = is_same_class pattern.0 line.pattern.0 && bytes_eq pattern.1 line.pattern.1
+is_same_pattern pattern line = is_same_class pattern.0 line.pattern.0 && is_same_text pattern.1 line.pattern.1
 
 -- a line's pattern stands in an earlier row
 abbrev pub is_doubled : List Line → Line → Bool

@@ -1,7 +1,8 @@
 //! Texts of the rows before, in an order that finds one of a thousand in ten steps.
 
-ghost use Rattle.std.specs.Prelude.{◌≡◌, ◌||◌, List, ℕ, IfOk, OnOk, bytes_eq, not, false};
+ghost use Rattle.std.specs.Prelude.{◌≡◌, ◌||◌, List, ℕ, IfOk, OnOk, not, false};
 ghost use Rattle.hq_access.specs.declared.pattern.Class.{Class as AnyClass};
+ghost use Rattle.hq_import.specs.Customers.{is_same_text};
 ghost use Rattle.hq_import.specs.Seen.{has, has_pattern, is_same};
 
 use hq_access::{Class, Pattern};
@@ -28,7 +29,7 @@ impl Seen {
     pub(crate) fn note(&mut self, alloc: Global, text: &str) -> Result<bool, AllocError>
         ensures new { IfOk result (λ new. new ≡ not (has text.now self.old)) }
         ensures noted { OnOk result ((other : List ℕ)
-            → has other self.new ≡ (has other self.old || bytes_eq other text.now)) }
+            → has other self.new ≡ (has other self.old || is_same_text other text.now)) }
     {
         let text = String::from_str(alloc, text)?;
         Ok(self.texts.insert(text)?)

@@ -1,0 +1,81 @@
+-- The customers of a directory have names and keys of their own.
+use Rattle.std.proofs.Common.{◌≡◌, ℕ, Bool, true, false, not, ◌&&◌, List, [], ◌∷◌, ◌++◌, Result, Ok, Err, IfOk, IsTrue, Vec, Global, refl, sym, subst}
+use Rattle.std.specs.List.{list_any}
+use Rattle.std.proofs.lemmas.Bool.{and_parts, or_parts}
+use Rattle.std.proofs.lemmas.List.Recursion.{or_push}
+use Rattle.hq_base.specs.Readers.{◌>>=◌, guard, Reads, seen_by}
+use Rattle.hq_base.specs.declared.failure.Fail.{Fail}
+use Rattle.hq_base.specs.declared.failure.Refusal.{Refusal}
+use Rattle.hq_queue.specs.declared.account.Customer.{Customer}
+use Rattle.hq_import.specs.Customers.{is_same_text, names_apart, keys_apart, are_customers}
+use Rattle.hq_import.specs.Directories.{is_named, is_taken, next_customer, customers_under}
+use Rattle.hq_import.proofs.Seeing.{same_either_way}
+
+err_ok : {A : Type 0} (r : Refusal) (a : A) → ◌≡◌ {A = Result A Refusal} (Err r) (Ok a) → ⊥
+err_ok r a e = cc
+
+same_ok : {A : Type 0} (a b : A) → ◌≡◌ {A = Result A Refusal} (Ok a) (Ok b) → a ≡ b
+same_ok a b e = cc
+
+none : (a : Bool) → not a ≡ true → a ≡ false
+none true h = sym h
+none false h = refl
+
+-- a text of a customer, and customers no two of which have the same
+abbrev has_text : (Customer → List ℕ) → List ℕ → Customer → Bool
+has_text text t c = is_same_text t (text c)
+
+abbrev apart : (Customer → List ℕ) → List Customer → Bool
+apart text [] = true
+apart text (c ∷ cs) = not (list_any (has_text text (text c)) cs) && apart text cs
+
+-- a customer whose text none has goes behind the others
+apart_push : (text : Customer → List ℕ) (cs : List Customer) (c : Customer) → apart text cs ≡ true → list_any (has_text text (text c)) cs ≡ false → apart text (cs ++ c ∷ []) ≡ true
+apart_push text [] c h n = refl
+apart_push text (x ∷ xs) c h n =
+    let own = and_parts (not (list_any (has_text text (text x)) xs)) (apart text xs) h in
+    let new = or_parts (has_text text (text c) x) (list_any (has_text text (text c)) xs) n in
+    let pushed = or_push (list_any (has_text text (text x))) (has_text text (text x)) refl (λ _ _. refl) xs c in
+    rw (pushed, none (list_any (has_text text (text x)) xs) own.0, same_either_way (text x) (text c), new.0, apart_push text xs c own.1 new.1) refl
+
+-- customers with names and keys of their own stay so with one whose name and key are new
+customers_push : (cs : List Customer) (c : Customer) → are_customers cs ≡ true → is_named cs c.entry.name ≡ false → is_taken cs c.key ≡ false → are_customers (cs ++ c ∷ []) ≡ true
+customers_push cs c h named taken =
+    let own = and_parts (names_apart cs) (keys_apart cs) h in
+    rw (apart_push (λ x. x.entry.name) cs c own.0 named, apart_push (λ x. x.key) cs c own.1 taken) refl
+
+-- where both tests pass, neither name nor key is doubled
+passed_both : (named taken : Bool) (two three : Refusal) (customer c : Customer) → (guard (not named) two >>= (λ _. guard (not taken) three >>= (λ _. Ok customer))) ≡ Ok c → (named ≡ false) × (taken ≡ false) × (customer ≡ c)
+passed_both true taken two three customer c h = absurd (err_ok two c h)
+passed_both false true two three customer c h = absurd (err_ok three c h)
+passed_both false false two three customer c h = (refl, refl, same_ok customer c h)
+
+accepted : (earlier : List Customer) (few : Bool) (one two three : Refusal) (read : Result Customer Refusal) (c : Customer)
+    → (guard few one >>= (λ _. read >>= (λ customer. guard (not (is_named earlier customer.entry.name)) two >>= (λ _. guard (not (is_taken earlier customer.key)) three >>= (λ _. Ok customer))))) ≡ Ok c
+    → (is_named earlier c.entry.name ≡ false) × (is_taken earlier c.key ≡ false)
+accepted earlier false one two three read c h = absurd (err_ok one c h)
+accepted earlier true one two three (Err e) c h = absurd (err_ok e c h)
+accepted earlier true one two three (Ok customer) c h =
+    let told = passed_both (is_named earlier customer.entry.name) (is_taken earlier customer.key) two three customer c h in
+    (subst (λ x. is_named earlier x.entry.name ≡ false) told.2 told.0, subst (λ x. is_taken earlier x.key ≡ false) told.2 told.1)
+
+new_customer : (earlier : List Customer) (row : List (List ℕ)) (c : Customer) → next_customer earlier row ≡ Ok c → (is_named earlier c.entry.name ≡ false) × (is_taken earlier c.key ≡ false)
+unfolding next_customer
+new_customer earlier row c h = accepted earlier _ _ _ _ _ c h
+
+-- what the rows of a directory hold
+pub under_apart : (rows : List (List (List ℕ))) (earlier cs : List Customer) → are_customers earlier ≡ true → customers_under earlier rows ≡ Ok cs → are_customers cs ≡ true
+unfolding customers_under
+under_apart [] earlier cs h read = subst (λ xs. are_customers xs ≡ true) (same_ok earlier cs read) h
+under_apart (row ∷ rows) earlier cs h read = by (λ c. under_apart rows (earlier ++ c ∷ []) cs) (next_customer earlier row) refl read where
+  by : ((c : Customer) → are_customers (earlier ++ c ∷ []) ≡ true → customers_under (earlier ++ c ∷ []) rows ≡ Ok cs → are_customers cs ≡ true)
+      → (o : Result Customer Refusal) → next_customer earlier row ≡ o → (o >>= (λ customer. customers_under (earlier ++ customer ∷ []) rows)) ≡ Ok cs → are_customers cs ≡ true
+  by further (Err e) f g = absurd (err_ok e cs g)
+  by further (Ok c) f g =
+      let new = new_customer earlier row c f in
+      further c (customers_push earlier c h new.0 new.1) g
+
+-- what was read of them
+pub read_apart : (result : Result (Vec Customer Global) Fail) (rows : List (List (List ℕ))) → Reads (seen_by (λ v. v.items) result) (customers_under [] rows) → IfOk result (λ v. IsTrue (are_customers v.items))
+read_apart (Ok v) rows read = under_apart rows [] v.items refl read
+read_apart (Err e) rows read = tt
