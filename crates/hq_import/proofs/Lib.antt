@@ -1,4 +1,5 @@
 mod Apart
+mod Enough
 mod Headers
 mod Limits
 mod Numbers

@@ -5,6 +5,7 @@ ghost use Rattle.csv.specs.Records.{fields_of};
 ghost use Rattle.hq_base.specs.Readers.{Reads, seen_by};
 ghost use Rattle.hq_queue.specs.Limits.{is_quota};
 ghost use Rattle.hq_import.specs.Customers.{are_customers};
+ghost use Rattle.hq_import.specs.First.{first_customers};
 ghost use Rattle.hq_import.specs.Seen.{KnowsNames, KnowsKeys};
 ghost use Rattle.hq_import.specs.Directories.{quota_of, quota_in, entry_of, customer_in, next_customer, customers_under, customers_in};
 
@@ -140,15 +141,10 @@ fn customers_under(alloc: Global, rows: &[ByteRecord]) -> Result<Vec<Customer>, 
     Ok(customers)
 }
 
-/// The customers of a directory, in the order of its rows, under the header
-/// `name,key,messages,bytes,lines,notices,delay`. Refused at the first row that is not good: 53
-/// `BadDirectory` (row 0 for the header, the whole file, or a file without rows); where the row is
-/// good, 54 `DoubledName` for a name of an earlier row, or else 55 `DoubledKey` for a key of an
-/// earlier row. The only other error is want of memory. No two customers have the same name or the
-/// same key.
-#[tactic(auto, using(crate::proofs::Apart::read_apart), unfolding(crate::specs::Directories::customers_in))]
-pub fn directory_of(alloc: Global, file: &[u8]) -> Result<Vec<Customer>, Fail>
-    ensures customers { Reads (seen_by (λ v. v.items) result) (customers_in file.now) }
+/// The customers of a directory, from its first records.
+#[tactic(auto, using(crate::proofs::Apart::read_apart), unfolding(crate::specs::First::first_customers))]
+fn first_customers(alloc: Global, file: &[u8]) -> Result<Vec<Customer>, Fail>
+    ensures customers { Reads (seen_by (λ v. v.items) result) (first_customers file.now) }
     ensures apart { IfOk result (λ v. IsTrue (are_customers v.items)) }
 {
     let bad = Refusal::BadDirectory { row: 0 };
@@ -158,4 +154,17 @@ pub fn directory_of(alloc: Global, file: &[u8]) -> Result<Vec<Customer>, Fail>
         return Err(Fail::Refused(bad));
     }
     customers_under(alloc, rows)
+}
+
+/// The customers of a directory, in the order of its rows, under the header
+/// `name,key,messages,bytes,lines,notices,delay`. Refused at the first row that is not good: 53
+/// `BadDirectory` (row 0 for the header, the whole file, or a file without rows); where the row is
+/// good, 54 `DoubledName` for a name of an earlier row, or else 55 `DoubledKey` for a key of an
+/// earlier row. The only other error is want of memory. No two customers have the same name or the
+/// same key.
+pub fn directory_of(alloc: Global, file: &[u8]) -> Result<Vec<Customer>, Fail>
+    ensures customers { Reads (seen_by (λ v. v.items) result) (customers_in file.now) }
+    ensures apart { IfOk result (λ v. IsTrue (are_customers v.items)) }
+{
+    first_customers(alloc, file)
 }

@@ -1,9 +1,10 @@
 //! The records of a CSV file, and the rows under its header.
 
-ghost use Rattle.std.specs.Prelude.{◌≡◌, IfOk, bytes_eq, map as map_list, option_map};
+ghost use Rattle.std.specs.Prelude.{◌≡◌, IfOk, bytes_eq, map as map_list, take};
 ghost use Rattle.csv.specs.Records.{fields_of};
 ghost use Rattle.hq_base.specs.Readers.{Reads, seen_by};
-ghost use Rattle.hq_import.specs.Records.{records_in, file_records, is_header, under_header};
+ghost use Rattle.hq_import.specs.First.{first_records};
+ghost use Rattle.hq_import.specs.Records.{records_in, is_header, under_header};
 
 use csv::{ByteRecord, ReaderBuilder};
 use hq_envelope::{Fail, Refusal};
@@ -15,9 +16,13 @@ const FILE_BYTES: usize = 262_144;
 /// The most rows under the header.
 pub(crate) const MOST_ROWS: usize = 1000;
 
-/// The records of a file.
-fn records_in(alloc: Global, file: &[u8]) -> Result<Vec<ByteRecord>, AllocError>
-    ensures { IfOk result (λ records. map_list fields_of records.items ≡ records_in file.now) }
+/// The records that are read: the header, the rows, and one row more, which is one too many.
+const MOST_RECORDS: usize = MOST_ROWS + 2;
+
+/// The first records of a file.
+fn first_records(alloc: Global, file: &[u8]) -> Result<Vec<ByteRecord>, AllocError>
+    ensures { IfOk result (λ records. map_list fields_of records.items
+        ≡ take 1002 (records_in file.now)) }
 {
     // Records of any number of fields, so that the reader refuses none of them.
     let reader = ReaderBuilder::new()
@@ -31,22 +36,25 @@ fn records_in(alloc: Global, file: &[u8]) -> Result<Vec<ByteRecord>, AllocError>
             return Err(AllocError);
         };
         records.push(row)?;
+        if records.len() == MOST_RECORDS {
+            return Ok(records);
+        }
     }
     Ok(records)
 }
 
-/// The records of a file that is not too long.
+/// The first records of a file that is not too long.
 pub(crate) fn file_records(
     alloc: Global,
     bad: Refusal,
     file: &[u8],
 ) -> Result<Vec<ByteRecord>, Fail>
-    ensures { Reads (seen_by (λ v. map_list fields_of v.items) result) (file_records bad file.now) }
+    ensures { Reads (seen_by (λ v. map_list fields_of v.items) result) (first_records bad file.now) }
 {
     if file.len() > FILE_BYTES {
         return Err(Fail::Refused(bad));
     }
-    Ok(records_in(alloc, file)?)
+    Ok(first_records(alloc, file)?)
 }
 
 /// Whether a record has these fields.

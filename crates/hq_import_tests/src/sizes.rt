@@ -74,11 +74,9 @@ fn rows_of_a_directory(rt: HostRuntime) -> Result<(), TestFail> {
 
 /// Two rows in a file of so many bytes, which blank lines fill up.
 fn filled(alloc: Global, header: &str, row: &str, bytes: usize) -> Result<String, AllocError> {
-    let mut file = format!(in alloc; "\u{feff}{header}\n{row}\n")?;
-    while file.len() < bytes {
-        file.push_str("\n")?;
-    }
-    Ok(file)
+    let text = format!(in alloc; "\u{feff}{header}\n{row}\n")?;
+    let blank = "\n".repeat(alloc, bytes.saturating_sub(text.len()))?;
+    format!(in alloc; "{text}{blank}")
 }
 
 #[test]

@@ -1,9 +1,9 @@
-use Rattle.std.proofs.Common.{◌≡◌, ◌<◌, ◌++◌, ℕ, List, [], Some, map}
+use Rattle.std.proofs.Common.{◌≡◌, ◌<◌, ◌++◌, ℕ, List, [], Some, length, map}
 use Rattle.csv.specs.Reading.{Ready, default_config, source_of}
 use Rattle.csv.specs.Records.{fields_of}
 use Rattle.csv.specs.declared.reader.Trim.TheVariants.{None as NoTrim}
 use Rattle.hq_import.specs.Records.{records_from, records_in}
-use Rattle.hq_import.proofs.records.records_in.Given as goal
+use Rattle.hq_import.proofs.records.first_records.Given as goal
 
 -- the reader goes on, and what it has left gives the records behind those so far
 abbrev pub invariant-loop-row : goal.invariant-loop-row
@@ -15,3 +15,4 @@ invariant-loop-row l =
     × Ready l.row-iterator.rdr
     × (0 < l.row-iterator.left)
     × (l.row-iterator.rdr.config ≡ default_config)
+    × (length l.records.items < 1002)

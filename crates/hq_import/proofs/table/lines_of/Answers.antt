@@ -1,0 +1,7 @@
+use Rattle.std.proofs.Common.{subst}
+use Rattle.hq_base.specs.Readers.{Reads, seen_by}
+use Rattle.hq_import.proofs.Enough.{lines_enough}
+use Rattle.hq_import.proofs.table.lines_of.Goals as goal
+
+pub returns : goal.returns
+returns c = subst (λ read. Reads (seen_by (λ v. v.items) c.first_lines.result) read) (lines_enough c.args.file.now) c.first_lines.ensures
