@@ -11,38 +11,41 @@ use Rattle.hq_import.specs.Customers.{is_same_text, names_apart, keys_apart, are
 use Rattle.hq_import.specs.Directories.{is_named, is_taken, next_customer, customers_under}
 use Rattle.hq_import.proofs.Seeing.{same_either_way}
 
-err_ok : {A : Type 0} (r : Refusal) (a : A) → ◌≡◌ {A = Result A Refusal} (Err r) (Ok a) → ⊥
+pub err_ok : {A : Type 0} (r : Refusal) (a : A) → ◌≡◌ {A = Result A Refusal} (Err r) (Ok a) → ⊥
 err_ok r a e = cc
 
-same_ok : {A : Type 0} (a b : A) → ◌≡◌ {A = Result A Refusal} (Ok a) (Ok b) → a ≡ b
+pub same_ok : {A : Type 0} (a b : A) → ◌≡◌ {A = Result A Refusal} (Ok a) (Ok b) → a ≡ b
 same_ok a b e = cc
 
-none : (a : Bool) → not a ≡ true → a ≡ false
+pub none : (a : Bool) → not a ≡ true → a ≡ false
 none true h = sym h
 none false h = refl
 
--- a text of a customer, and customers no two of which have the same
-abbrev has_text : (Customer → List ℕ) → List ℕ → Customer → Bool
-has_text text t c = is_same_text t (text c)
+-- values no two of which are the same
+abbrev pub apart : {A : Type 0} → (A → A → Bool) → List A → Bool
+apart same [] = true
+apart same (x ∷ xs) = not (list_any (same x) xs) && apart same xs
 
-abbrev apart : (Customer → List ℕ) → List Customer → Bool
-apart text [] = true
-apart text (c ∷ cs) = not (list_any (has_text text (text c)) cs) && apart text cs
+-- a value that is the same as none goes behind the others
+pub apart_push : {A : Type 0} (same : A → A → Bool) → ((a b : A) → same a b ≡ same b a) → (xs : List A) (y : A) → apart same xs ≡ true → list_any (same y) xs ≡ false → apart same (xs ++ y ∷ []) ≡ true
+apart_push same turned [] y h n = refl
+apart_push same turned (x ∷ xs) y h n =
+    let own = and_parts (not (list_any (same x) xs)) (apart same xs) h in
+    let new = or_parts (same y x) (list_any (same y) xs) n in
+    let pushed = or_push (list_any (same x)) (same x) refl (λ _ _. refl) xs y in
+    rw (pushed, none (list_any (same x) xs) own.0, turned x y, new.0, apart_push same turned xs y own.1 new.1) refl
 
--- a customer whose text none has goes behind the others
-apart_push : (text : Customer → List ℕ) (cs : List Customer) (c : Customer) → apart text cs ≡ true → list_any (has_text text (text c)) cs ≡ false → apart text (cs ++ c ∷ []) ≡ true
-apart_push text [] c h n = refl
-apart_push text (x ∷ xs) c h n =
-    let own = and_parts (not (list_any (has_text text (text x)) xs)) (apart text xs) h in
-    let new = or_parts (has_text text (text c) x) (list_any (has_text text (text c)) xs) n in
-    let pushed = or_push (list_any (has_text text (text x))) (has_text text (text x)) refl (λ _ _. refl) xs c in
-    rw (pushed, none (list_any (has_text text (text x)) xs) own.0, same_either_way (text x) (text c), new.0, apart_push text xs c own.1 new.1) refl
+abbrev same_name : Customer → Customer → Bool
+same_name c d = is_same_text c.entry.name d.entry.name
+
+abbrev same_key : Customer → Customer → Bool
+same_key c d = is_same_text c.key d.key
 
 -- customers with names and keys of their own stay so with one whose name and key are new
 customers_push : (cs : List Customer) (c : Customer) → are_customers cs ≡ true → is_named cs c.entry.name ≡ false → is_taken cs c.key ≡ false → are_customers (cs ++ c ∷ []) ≡ true
 customers_push cs c h named taken =
     let own = and_parts (names_apart cs) (keys_apart cs) h in
-    rw (apart_push (λ x. x.entry.name) cs c own.0 named, apart_push (λ x. x.key) cs c own.1 taken) refl
+    rw (apart_push same_name (λ a b. same_either_way a.entry.name b.entry.name) cs c own.0 named, apart_push same_key (λ a b. same_either_way a.key b.key) cs c own.1 taken) refl
 
 -- where both tests pass, neither name nor key is doubled
 passed_both : (named taken : Bool) (two three : Refusal) (customer c : Customer) → (guard (not named) two >>= (λ _. guard (not taken) three >>= (λ _. Ok customer))) ≡ Ok c → (named ≡ false) × (taken ≡ false) × (customer ≡ c)

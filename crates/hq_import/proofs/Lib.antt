@@ -3,6 +3,7 @@ mod Enough
 mod Headers
 mod Limits
 mod Numbers
+mod Patterns
 mod Reading
 mod Seeing
 mod Texts

@@ -1,4 +1,5 @@
--- The directory as CSV: rows of customers under the header `name,key,messages,bytes,lines,notices,delay`.
+-- The directory as CSV: rows of customers under the header `name,key,messages,bytes,lines,notices,delay`. It is this
+-- product's own.
 use Rattle.std.specs.Prelude.{ℕ, ◌+◌, Bool, not, ◌==◌, nat_lt, nat_le, List, [], ◌∷◌, ◌++◌, length, codes, Result, Ok}
 use Rattle.std.specs.List.{list_any}
 use Rattle.hq_base.specs.Readers.{◌>>=◌, guard, or_refuse, passes}
@@ -11,7 +12,7 @@ use Rattle.hq_queue.specs.declared.account.Entry.{Entry}
 use Rattle.hq_queue.specs.declared.account.Quota.{Quota}
 use Rattle.hq_import.specs.Customers.{has_name, has_key}
 use Rattle.hq_import.specs.Fields.{text_at, number_at, told_as}
-use Rattle.hq_import.specs.Records.{most_rows, rows_in}
+use Rattle.hq_import.specs.Records.{Record, most_rows, rows_in}
 
 -- four numbers, where they are within the limits of a quota
 abbrev pub quota_of : Refusal → ℕ → ℕ → ℕ → ℕ → Result Quota Refusal
@@ -20,7 +21,7 @@ quota_of bad messages bytes lines notices = do
   Ok (record { messages = messages; bytes = bytes; lines = lines; notices = notices; limits = limits })
 
 -- the quota of a row
-unfoldable pub quota_in : Refusal → List (List ℕ) → Result Quota Refusal
+unfoldable pub quota_in : Refusal → Record → Result Quota Refusal
 quota_in bad fields = do
   messages ← or_refuse bad (number_at 2 fields)
   bytes ← or_refuse bad (number_at 3 fields)
@@ -35,7 +36,7 @@ entry_of bad name quota delay = do
   Ok (record { name = name; quota = quota; delay = delay; limit = limit })
 
 -- the customer of a row: seven fields, which are a name, a key and five numbers within their limits
-unfoldable pub customer_in : Refusal → List (List ℕ) → Result Customer Refusal
+unfoldable pub customer_in : Refusal → Record → Result Customer Refusal
 customer_in bad fields = do
   seven ← guard (length fields == 7) bad
   name_text ← or_refuse bad (text_at 0 fields)
@@ -56,7 +57,7 @@ is_taken earlier key = list_any (has_key key) earlier
 
 -- The customer of the row under these customers, of which there is one per row, or what is wrong with that row: there are
 -- too many, or it is bad; or else its name is doubled; or else its key is.
-unfoldable pub next_customer : List Customer → List (List ℕ) → Result Customer Refusal
+unfoldable pub next_customer : List Customer → Record → Result Customer Refusal
 next_customer earlier fields =
     let number = length earlier + 1 in do
       few ← guard (nat_le number most_rows) (BadDirectory number)
@@ -66,11 +67,11 @@ next_customer earlier fields =
       Ok customer
 
 -- these customers and those of the rows under them, or what is wrong with the first row that is not good
-unfoldable pub customers_under : List Customer → List (List (List ℕ)) → Result (List Customer) Refusal
+unfoldable pub customers_under : List Customer → List Record → Result (List Customer) Refusal
 customers_under earlier [] = Ok earlier
 customers_under earlier (row ∷ rows) = next_customer earlier row >>= (λ customer. customers_under (earlier ++ customer ∷ []) rows)
 
-abbrev pub directory_header : List (List ℕ)
+abbrev pub directory_header : Record
 directory_header = codes "name" ∷ codes "key" ∷ codes "messages" ∷ codes "bytes" ∷ codes "lines" ∷ codes "notices" ∷ codes "delay" ∷ []
 
 -- The customers of a directory, in the order of its rows, or its first fault: 53 at row 0 is the header or the whole file,

@@ -6,13 +6,13 @@ use Rattle.hq_base.specs.declared.failure.Refusal.TheVariants.{BadCsv, BadDirect
 use Rattle.hq_access.specs.declared.pattern.Line.{Line}
 use Rattle.hq_queue.specs.declared.account.Customer.{Customer}
 use Rattle.hq_import.specs.Directories.{customers_under, directory_header}
-use Rattle.hq_import.specs.Records.{records_in, under_header}
+use Rattle.hq_import.specs.Records.{Record, records_in, under_header}
 use Rattle.hq_import.specs.Tables.{lines_under, table_header}
 
-abbrev pub first_records : Refusal → List ℕ → Result (List (List (List ℕ))) Refusal
+abbrev pub first_records : Refusal → List ℕ → Result (List Record) Refusal
 first_records bad file = checked (take 1002 (records_in file)) (nat_le (length file) 262144) bad
 
-abbrev pub first_rows : List (List ℕ) → Refusal → List ℕ → Result (List (List (List ℕ))) Refusal
+abbrev pub first_rows : Record → Refusal → List ℕ → Result (List Record) Refusal
 first_rows names bad file = first_records bad file >>= under_header names bad
 
 unfoldable pub first_lines : List ℕ → Result (List Line) Refusal

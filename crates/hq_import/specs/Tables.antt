@@ -1,4 +1,5 @@
--- Access tables as CSV: rows of class, pattern and action under the header `class,pattern,action`.
+-- Access tables as CSV: rows of class, pattern and action under the header `class,pattern,action`. Patterns and actions are
+-- those of access(5); the form of the file and the order of its faults are this product's own.
 use Rattle.std.specs.Prelude.{ℕ, ◌+◌, Bool, true, false, ◌&&◌, not, ◌==◌, nat_le, List, [], ◌∷◌, ◌++◌, length, codes, bytes_eq, if◌then◌else◌, Option, Some, None, option_and_then, Result, Ok}
 use Rattle.std.specs.List.{list_any}
 use Rattle.hq_base.specs.Readers.{◌>>=◌, guard, or_refuse}
@@ -11,14 +12,14 @@ use Rattle.hq_access.specs.declared.pattern.Class.TheVariants.{SenderSide, Recip
 use Rattle.hq_access.specs.declared.pattern.Line.{Line}
 use Rattle.hq_import.specs.Customers.{is_same_text}
 use Rattle.hq_import.specs.Fields.{text_at, told_as}
-use Rattle.hq_import.specs.Records.{most_rows, rows_in}
+use Rattle.hq_import.specs.Records.{Record, most_rows, rows_in}
 
 -- the class of a name
 abbrev pub class_in : List ℕ → Option Class
 class_in name = if bytes_eq name (class_name SenderSide) then Some SenderSide else if bytes_eq name (class_name RecipientSide) then Some RecipientSide else None
 
 -- the line of a row: three texts, which are a class, a pattern of that class, and an action
-unfoldable pub line_in : Refusal → List (List ℕ) → Result Line Refusal
+unfoldable pub line_in : Refusal → Record → Result Line Refusal
 line_in bad fields = do
   three ← guard (length fields == 3) bad
   class ← or_refuse bad (option_and_then class_in (text_at 0 fields))
@@ -42,9 +43,14 @@ is_same_pattern pattern line = is_same_class pattern.0 line.pattern.0 && is_same
 abbrev pub is_doubled : List Line → Line → Bool
 is_doubled earlier line = list_any (is_same_pattern line.pattern) earlier
 
+-- no two lines are of one class and one pattern
+abbrev pub patterns_apart : List Line → Bool
+patterns_apart [] = true
+patterns_apart (line ∷ lines) = not (is_doubled lines line) && patterns_apart lines
+
 -- The line of the row under these lines, of which there is one per row, or what is wrong with that row: there are too
 -- many, or it is bad; or else its pattern is doubled.
-unfoldable pub next_line : List Line → List (List ℕ) → Result Line Refusal
+unfoldable pub next_line : List Line → Record → Result Line Refusal
 next_line earlier fields =
     let number = length earlier + 1 in do
       few ← guard (nat_le number most_rows) (BadCsv number)
@@ -53,11 +59,11 @@ next_line earlier fields =
       Ok line
 
 -- these lines and those of the rows under them, or what is wrong with the first row that is not good
-unfoldable pub lines_under : List Line → List (List (List ℕ)) → Result (List Line) Refusal
+unfoldable pub lines_under : List Line → List Record → Result (List Line) Refusal
 lines_under earlier [] = Ok earlier
 lines_under earlier (row ∷ rows) = next_line earlier row >>= (λ line. lines_under (earlier ++ line ∷ []) rows)
 
-abbrev pub table_header : List (List ℕ)
+abbrev pub table_header : Record
 table_header = codes "class" ∷ codes "pattern" ∷ codes "action" ∷ []
 
 -- The lines of an access table, in the order of its rows, or its first fault: 50 at row 0 is the header or the whole file.

@@ -142,7 +142,7 @@ fn customers_under(alloc: Global, rows: &[ByteRecord]) -> Result<Vec<Customer>, 
 }
 
 /// The customers of a directory, from its first records.
-#[tactic(auto, using(crate::proofs::Apart::read_apart), unfolding(crate::specs::First::first_customers))]
+#[tactic(auto, unfolding(crate::specs::First::first_customers))]
 fn first_customers(alloc: Global, file: &[u8]) -> Result<Vec<Customer>, Fail>
     ensures customers { Reads (seen_by (λ v. v.items) result) (first_customers file.now) }
     ensures apart { IfOk result (λ v. IsTrue (are_customers v.items)) }

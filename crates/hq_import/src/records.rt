@@ -49,7 +49,8 @@ pub(crate) fn file_records(
     bad: Refusal,
     file: &[u8],
 ) -> Result<Vec<ByteRecord>, Fail>
-    ensures { Reads (seen_by (λ v. map_list fields_of v.items) result) (first_records bad file.now) }
+    ensures { Reads (seen_by (λ v. map_list fields_of v.items) result)
+        (first_records bad file.now) }
 {
     if file.len() > FILE_BYTES {
         return Err(Fail::Refused(bad));

@@ -1,11 +1,11 @@
 //! Access tables as CSV.
 
-ghost use Rattle.std.specs.Prelude.{◌≡◌, ◌<◌, ◌≤◌, [], ◌∷◌, ◌++◌, length, IfOk, OnOk, map as map_list};
+ghost use Rattle.std.specs.Prelude.{◌≡◌, ◌<◌, ◌≤◌, [], ◌∷◌, ◌++◌, length, IfOk, IsTrue, OnOk, map as map_list};
 ghost use Rattle.csv.specs.Records.{fields_of};
 ghost use Rattle.hq_base.specs.Readers.{Reads, seen_by};
 ghost use Rattle.hq_import.specs.First.{first_lines};
 ghost use Rattle.hq_import.specs.Seen.{KnowsPatterns};
-ghost use Rattle.hq_import.specs.Tables.{class_in, line_in, next_line, lines_under, lines_in};
+ghost use Rattle.hq_import.specs.Tables.{class_in, line_in, next_line, lines_under, lines_in, patterns_apart};
 
 use crate::fields::{text_at, told_as};
 use crate::records::{MOST_ROWS, file_records, under_header};
@@ -87,7 +87,8 @@ fn lines_under(alloc: Global, rows: &[ByteRecord]) -> Result<Vec<Line>, Fail>
 /// The lines of an access table, from its first records.
 #[tactic(auto, unfolding(crate::specs::First::first_lines))]
 fn first_lines(alloc: Global, file: &[u8]) -> Result<Vec<Line>, Fail>
-    ensures { Reads (seen_by (λ v. v.items) result) (first_lines file.now) }
+    ensures lines { Reads (seen_by (λ v. v.items) result) (first_lines file.now) }
+    ensures apart { IfOk result (λ v. IsTrue (patterns_apart v.items)) }
 {
     let bad = Refusal::BadCsv { row: 0 };
     let records = file_records(alloc, bad, file)?;
@@ -98,9 +99,11 @@ fn first_lines(alloc: Global, file: &[u8]) -> Result<Vec<Line>, Fail>
 /// The lines of an access table, in the order of its rows, under the header
 /// `class,pattern,action`. Refused at the first row that is not good: 50 `BadCsv` (row 0 for the
 /// header or the whole file), or 51 `DoubledPattern` where the row is good but its class and folded
-/// pattern stand in an earlier row. The only other error is want of memory.
+/// pattern stand in an earlier row. The only other error is want of memory. No two lines are of one
+/// class and one pattern.
 pub fn lines_of(alloc: Global, file: &[u8]) -> Result<Vec<Line>, Fail>
-    ensures { Reads (seen_by (λ v. v.items) result) (lines_in file.now) }
+    ensures lines { Reads (seen_by (λ v. v.items) result) (lines_in file.now) }
+    ensures apart { IfOk result (λ v. IsTrue (patterns_apart v.items)) }
 {
     first_lines(alloc, file)
 }

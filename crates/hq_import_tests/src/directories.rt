@@ -39,13 +39,34 @@ birch,birchkey00000001,100,1000000,100,10,0
 
 /// Rows under two customers, and the refusal that they lead to; none is read.
 const THIRD: [(&[u8], &str); 9] = [
-    (b"acme,cedarkey00000001,2,10000,10,5,0\n", "54 DoubledName row 3"),
-    (b"cedar,acmekey000000001,2,10000,10,5,0\n", "55 DoubledKey row 3"),
-    (b"cedar,birchkey00000001,2,10000,10,5,0\n", "55 DoubledKey row 3"),
-    (b"birch,acmekey000000001,2,10000,10,5,0\n", "54 DoubledName row 3"),
-    (b"acme,acmekey000000001,0,10000,10,5,0\n", "53 BadDirectory row 3"),
-    (b"acme,acmekey000000001,2,10000,10,5\n", "53 BadDirectory row 3"),
-    (b"Acme,cedarkey00000001,2,10000,10,5,0\n", "53 BadDirectory row 3"),
+    (
+        b"acme,cedarkey00000001,2,10000,10,5,0\n",
+        "54 DoubledName row 3",
+    ),
+    (
+        b"cedar,acmekey000000001,2,10000,10,5,0\n",
+        "55 DoubledKey row 3",
+    ),
+    (
+        b"cedar,birchkey00000001,2,10000,10,5,0\n",
+        "55 DoubledKey row 3",
+    ),
+    (
+        b"birch,acmekey000000001,2,10000,10,5,0\n",
+        "54 DoubledName row 3",
+    ),
+    (
+        b"acme,acmekey000000001,0,10000,10,5,0\n",
+        "53 BadDirectory row 3",
+    ),
+    (
+        b"acme,acmekey000000001,2,10000,10,5\n",
+        "53 BadDirectory row 3",
+    ),
+    (
+        b"Acme,cedarkey00000001,2,10000,10,5,0\n",
+        "53 BadDirectory row 3",
+    ),
     (
         b"cedar,cedarkey00000001,2,1,1,5,0\ncedar,acmekey000000001,2,1,1,5,0\n",
         "54 DoubledName row 4",
@@ -61,8 +82,10 @@ fn two_customers(rt: HostRuntime) -> Result<(), TestFail> {
     let mut file = Vec::new(rt.alloc());
     file.extend_from_slice(HEADER)?;
     file.extend_from_slice(TWO)?;
-    assert_eq!(rt; shown(rt.alloc(), file.as_slice())?.as_str(),
-        "acme acmekey000000001 2 10000 10 5 3600;birch birchkey00000001 100 1000000 100 10 0;");
+    assert_eq!(rt;
+        shown(rt.alloc(), file.as_slice())?.as_str(),
+        "acme acmekey000000001 2 10000 10 5 3600;birch birchkey00000001 100 1000000 100 10 0;"
+    );
     Ok(())
 }
 
@@ -82,22 +105,40 @@ fn third_rows(rt: HostRuntime) -> Result<(), TestFail> {
 const FIRST: [(&[u8], &str); 26] = [
     (b"", "53 BadDirectory row 0"),
     (b"\n\r\n", "53 BadDirectory row 0"),
-    (b"a,key0000000000000,1,1,1,1,0", "a key0000000000000 1 1 1 1 0;"),
+    (
+        b"a,key0000000000000,1,1,1,1,0",
+        "a key0000000000000 1 1 1 1 0;",
+    ),
     (
         b"a,key0000000000000,1000,2147483647000,5000,1000,431999",
         "a key0000000000000 1000 2147483647000 5000 1000 431999;",
     ),
-    (b"a,key0000000000000,0000000000007,1,1,1,00", "a key0000000000000 7 1 1 1 0;"),
-    (b"\"a\",\"key0000000000000\",\"1\",1,1,1,0\r\n", "a key0000000000000 1 1 1 1 0;"),
-    (b"a,key0000000000000,00000000000007,1,1,1,0", "53 BadDirectory row 1"),
+    (
+        b"a,key0000000000000,0000000000007,1,1,1,00",
+        "a key0000000000000 7 1 1 1 0;",
+    ),
+    (
+        b"\"a\",\"key0000000000000\",\"1\",1,1,1,0\r\n",
+        "a key0000000000000 1 1 1 1 0;",
+    ),
+    (
+        b"a,key0000000000000,00000000000007,1,1,1,0",
+        "53 BadDirectory row 1",
+    ),
     (b"a,key0000000000000,1001,1,1,1,0", "53 BadDirectory row 1"),
     (b"a,key0000000000000,1,0,1,1,0", "53 BadDirectory row 1"),
-    (b"a,key0000000000000,1,2147483647001,1,1,0", "53 BadDirectory row 1"),
+    (
+        b"a,key0000000000000,1,2147483647001,1,1,0",
+        "53 BadDirectory row 1",
+    ),
     (b"a,key0000000000000,1,1,0,1,0", "53 BadDirectory row 1"),
     (b"a,key0000000000000,1,1,5001,1,0", "53 BadDirectory row 1"),
     (b"a,key0000000000000,1,1,1,0,0", "53 BadDirectory row 1"),
     (b"a,key0000000000000,1,1,1,1001,0", "53 BadDirectory row 1"),
-    (b"a,key0000000000000,1,1,1,1,432000", "53 BadDirectory row 1"),
+    (
+        b"a,key0000000000000,1,1,1,1,432000",
+        "53 BadDirectory row 1",
+    ),
     (b"a,key0000000000000,+1,1,1,1,0", "53 BadDirectory row 1"),
     (b"a,key0000000000000,1,1,1,1,-0", "53 BadDirectory row 1"),
     (b"a,key0000000000000, 1,1,1,1,0", "53 BadDirectory row 1"),
@@ -106,7 +147,10 @@ const FIRST: [(&[u8], &str); 26] = [
     (b"a,key000000000000,1,1,1,1,0", "53 BadDirectory row 1"),
     (b",key0000000000000,1,1,1,1,0", "53 BadDirectory row 1"),
     (b"a\xff,key0000000000000,1,1,1,1,0", "53 BadDirectory row 1"),
-    (b"a,key00000000000\xc3\xa9,1,1,1,1,0", "53 BadDirectory row 1"),
+    (
+        b"a,key00000000000\xc3\xa9,1,1,1,1,0",
+        "53 BadDirectory row 1",
+    ),
     (b"a,key0000000000000,1,1,1,1,0,", "53 BadDirectory row 1"),
     (b"a", "53 BadDirectory row 1"),
 ];
@@ -135,7 +179,10 @@ fn other_headers(rt: HostRuntime) -> Result<(), TestFail> {
         let mut file = Vec::new(rt.alloc());
         file.extend_from_slice(header)?;
         file.extend_from_slice(TWO)?;
-        assert_eq!(rt; shown(rt.alloc(), file.as_slice())?.as_str(), "53 BadDirectory row 0");
+        assert_eq!(rt;
+            shown(rt.alloc(), file.as_slice())?.as_str(),
+            "53 BadDirectory row 0"
+        );
     }
     Ok(())
 }
