@@ -5,8 +5,9 @@ use Rattle.std.specs.List.{IsDistinct}
 use Rattle.std.specs.Ordering.{nat_cmp}
 use Rattle.std.specs.declared.cmp.Ordering.{Ordering}
 use Rattle.std.specs.Cmp.{nat_cmp_total}
+use Rattle.std.specs.Cmp.Lexicographic.{nat_list_cmp_total}
 use Rattle.std.specs.FinMap.{empty, entries, get, len, values, get-empty, len-empty, same_map}
-use Rattle.std.proofs.lemmas.Map.Lookups.{exact_unsigned}
+use Rattle.std.proofs.lemmas.Map.Lookups.{exact_unsigned, exact_bytes}
 use Rattle.hq_access.specs.declared.action.Action.{Action}
 use Rattle.hq_store.specs.declared.account.Account.{Account}
 use Rattle.hq_queue.specs.declared.message.Message.{Message}
@@ -15,12 +16,12 @@ use Rattle.hq_tables.specs.Owned.{by_both, part_of, rows_of, map_values}
 use Rattle.hq_tables.specs.Rows.{table}
 use Rattle.hq_tables.proofs.Parts.{get_part, get-map_values, both_total, both_exact}
 use Rattle.hq_tables.proofs.Pages.{no_entries}
-use Rattle.hq_store.specs.Tables.{Row, text_cmp, line_cmp, lines_cmp, account, opening, opening_account, opening_head, no_tables, own, joined, pending_of, message_cmp, recipient_cmp}
+use Rattle.hq_store.specs.Tables.{Row, text_cmp, line_cmp, lines_cmp, account, opening, opening_account, opening_head, no_tables, own, joined, pending_of, message_cmp, recipient_cmp, mark_cmp}
 use Rattle.hq_store.specs.Readings.{kept_of, kept_in}
 use Rattle.hq_store.proofs.Customers.{none_own}
 use Rattle.hq_store.proofs.LineOrder.{line_total, line_exact}
 use Rattle.hq_store.specs.Sound.{IsNext, SoundState, Sound, AreCounted, numbered, pending_count}
-use Rattle.hq_store.specs.Listed.{head_key, head_value, message_key, message_value, recipient_key, recipient_value, recipients_of, heads_of, messages_of, line_row_key, line_row_value, lines_of}
+use Rattle.hq_store.specs.Listed.{head_key, head_value, message_key, message_value, recipient_key, recipient_value, recipients_of, heads_of, messages_of, line_row_key, line_row_value, lines_of, mark_key, mark_value, marks_of}
 use Rattle.hq_store.specs.Lookups.{AreUnique, AreDealt, AreUniqueLines}
 use Rattle.hq_store.proofs.States.{none_some}
 
@@ -37,7 +38,7 @@ no_account : (customer : List ℕ) → account no_tables.heads customer ≡ open
 no_account customer = ap (λ o. unwrap_or o opening_account) (get-empty text_cmp customer)
 
 pub own_opening : (customer : List ℕ) → own customer no_tables ≡ opening
-own_opening customer = λ i. record { head = (no_account customer i).head; messages = no_message customer i; lines = none_own line_total line_exact customer i }
+own_opening customer = λ i. record { head = (no_account customer i).head; messages = no_message customer i; lines = none_own line_total line_exact customer i; marks = none_own nat_list_cmp_total exact_bytes customer i }
 
 -- stated for any number, since the limits are large
 next_one : (n : ℕ) → 1 ≤ n → (0 < 1) × (1 ≤ n)
@@ -109,5 +110,5 @@ pub none_unique_lines : AreUniqueLines []
 unfolding AreUniqueLines IsDistinct
 none_unique_lines = tt
 
-pub no_rows : record { heads = heads_of []; messages = messages_of []; recipients = recipients_of []; lines = lines_of [] } ≡ no_tables
-no_rows = λ i. record { heads = table_nothing text_cmp head_key head_value i; messages = table_nothing message_cmp message_key message_value i; recipients = table_nothing recipient_cmp recipient_key recipient_value i; lines = table_nothing lines_cmp line_row_key line_row_value i }
+pub no_rows : record { heads = heads_of []; messages = messages_of []; recipients = recipients_of []; lines = lines_of []; marks = marks_of [] } ≡ no_tables
+no_rows = λ i. record { heads = table_nothing text_cmp head_key head_value i; messages = table_nothing message_cmp message_key message_value i; recipients = table_nothing recipient_cmp recipient_key recipient_value i; lines = table_nothing lines_cmp line_row_key line_row_value i; marks = table_nothing mark_cmp mark_key mark_value i }

@@ -6,7 +6,7 @@ use Rattle.std.specs.Cmp.{IsTotalOrder, nat_cmp_total}
 use Rattle.std.specs.Cmp.Lexicographic.{nat_list_cmp_total}
 use Rattle.std.proofs.lemmas.Map.Lookups.{CmpEqualImpliesEq, exact_bytes, exact_unsigned}
 use Rattle.std.specs.FinMap.{get, insert, remove}
-use Rattle.hq_store.specs.Tables.{message_cmp, lines_cmp}
+use Rattle.hq_store.specs.Tables.{message_cmp, lines_cmp, mark_cmp}
 use Rattle.hq_store.proofs.LineOrder.{line_total, line_exact}
 use Rattle.hq_tables.proofs.Parts.{both_total, both_exact}
 use Rattle.hq_tables.proofs.Lists.{get_table, table_drop, table_put}
@@ -14,9 +14,10 @@ use Rattle.hq_tables.proofs.Unique.{unique_filter, unique_put}
 use Rattle.hq_access.specs.declared.pattern.Class.{Class}
 use Rattle.hq_store.specs.declared.rows.HeadRow.{HeadRow}
 use Rattle.hq_store.specs.declared.rows.LineRow.{LineRow}
+use Rattle.hq_store.specs.declared.rows.MarkRow.{MarkRow}
 use Rattle.hq_store.specs.declared.rows.MessageRow.{MessageRow}
-use Rattle.hq_store.specs.Listed.{head_key, head_value, message_key, message_value, heads_of, messages_of, line_row_key, line_row_value, lines_of}
-use Rattle.hq_store.specs.Lookups.{is_head, is_message, AreUnique, is_line, AreUniqueLines}
+use Rattle.hq_store.specs.Listed.{head_key, head_value, message_key, message_value, heads_of, messages_of, line_row_key, line_row_value, lines_of, mark_key, mark_value, marks_of}
+use Rattle.hq_store.specs.Lookups.{is_head, is_message, AreUnique, is_line, AreUniqueLines, is_mark}
 
 pub message_total : IsTotalOrder message_cmp
 message_total = both_total nat_list_cmp_total nat_cmp_total
@@ -77,3 +78,17 @@ unique_line_drop rows c p u = unique_filter lines_cmp line_row_key _ rows u
 pub unique_line_put : (rows : List LineRow) (r : LineRow) → AreUniqueLines rows → AreUniqueLines (filter (λ x. not (is_line r.customer r.line.pattern x)) rows ++ r ∷ [])
 unfolding AreUniqueLines is_line
 unique_line_put rows r u = unique_put lines_total line_row_key rows r u
+
+mark_total : IsTotalOrder mark_cmp
+mark_total = both_total nat_list_cmp_total nat_list_cmp_total
+
+mark_exact : CmpEqualImpliesEq mark_cmp
+mark_exact = both_exact exact_bytes exact_bytes
+
+pub mark_found : (rows : List MarkRow) (c label : List ℕ) → option_map mark_value (list.find (is_mark c label) rows) ≡ get (marks_of rows) (c, label)
+unfolding is_mark
+mark_found rows c label = sym (get_table mark_total mark_exact mark_key mark_value rows (c, label))
+
+pub mark_put : (rows : List MarkRow) (r : MarkRow) → marks_of (filter (λ x. not (is_mark r.customer r.mark.label x)) rows ++ r ∷ []) ≡ insert (marks_of rows) (r.customer, r.mark.label) r.mark
+unfolding is_mark
+mark_put rows r = table_put mark_total mark_exact mark_key mark_value rows r

@@ -5,7 +5,7 @@ use Rattle.std.specs.List.{sum_by}
 use Rattle.std.specs.Ordering.{nat_cmp}
 use Rattle.std.specs.Cmp.Lexicographic.{nat_list_cmp_total}
 use Rattle.std.specs.FinMap.{entries, values, find, get-entries}
-use Rattle.std.proofs.lemmas.Map.Lookups.{exact_unsigned}
+use Rattle.std.proofs.lemmas.Map.Lookups.{exact_unsigned, exact_bytes}
 use Rattle.std.proofs.lemmas.List.Sums.{sum_by-cons}
 use Rattle.hq_access.specs.declared.action.Action.{Action}
 use Rattle.hq_access.specs.declared.pattern.Class.{Class}
@@ -59,6 +59,7 @@ same_readings customer t =
       messages = messages i;
       line = λ class key. sym (read_own line_total line_exact customer t.lines (class, key)) i;
       lines = map line_of (sym (rows_own line_total line_exact customer t.lines) i);
+      mark = λ label. sym (read_own nat_list_cmp_total exact_bytes customer t.marks label) i;
     }
 
 -- a customer that keeps no line has none at any key

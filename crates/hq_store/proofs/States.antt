@@ -11,8 +11,9 @@ use Rattle.hq_access.specs.declared.action.Action.{Action}
 use Rattle.hq_queue.specs.declared.account.Head.{Head}
 use Rattle.hq_queue.specs.declared.message.Message.{Message}
 use Rattle.hq_store.specs.declared.change.Change.{Change}
-use Rattle.hq_store.specs.declared.change.Change.TheVariants.{PutHead, PutMessage, DropMessage, PutLine, DropLine}
-use Rattle.hq_store.specs.Tables.{State, change, line_cmp}
+use Rattle.hq_store.specs.declared.change.Change.TheVariants.{PutHead, PutMessage, DropMessage, PutLine, DropLine, PutMark}
+use Rattle.hq_store.specs.declared.mark.Mark.{Mark}
+use Rattle.hq_store.specs.Tables.{State, change, line_cmp, text_cmp}
 use Rattle.hq_store.specs.Sound.{ShapedState, IsQueued}
 use Rattle.hq_store.proofs.LineOrder.{line_total}
 use Rattle.hq_store.specs.Fits.{Fits, HeadFits, MessageFits}
@@ -96,9 +97,14 @@ drop_shaped s k h = record {
 lines_shaped : (s : State) (lines : FinMap line_cmp Action) → ShapedState s → len lines ≤ 5000 → ShapedState (record s { lines = lines })
 lines_shaped s lines h few = record { next_serial = h.next_serial; next_notice = h.next_notice; messages = h.messages; spools = h.spools; few_messages = h.few_messages; few_lines = few }
 
+-- imports bind nothing of the rest
+marks_shaped : (s : State) (marks : FinMap text_cmp Mark) → ShapedState s → ShapedState (record s { marks = marks })
+marks_shaped s marks h = record { next_serial = h.next_serial; next_notice = h.next_notice; messages = h.messages; spools = h.spools; few_messages = h.few_messages; few_lines = h.few_lines }
+
 pub change_shaped : (s : State) (ch : Change) → ShapedState s → Fits s ch → ShapedState (change ch s)
 change_shaped s (PutHead head) h fit = head_shaped s head h fit
 change_shaped s (PutMessage m) h fit = message_shaped s m h fit
 change_shaped s (DropMessage serial) h fit = drop_shaped s serial h
 change_shaped s (PutLine line) h fit = lines_shaped s _ h (few_put line_total 5000 s.lines h.few_lines line.pattern line.action fit)
 change_shaped s (DropLine pattern) h fit = lines_shaped s _ h (few_drop line_total 5000 s.lines h.few_lines pattern)
+change_shaped s (PutMark mark) h fit = marks_shaped s _ h

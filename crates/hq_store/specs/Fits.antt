@@ -4,7 +4,7 @@ use Rattle.std.specs.FinMap.{get, len}
 use Rattle.hq_queue.specs.declared.account.Head.{Head}
 use Rattle.hq_queue.specs.declared.message.Message.{Message}
 use Rattle.hq_store.specs.declared.change.Change.{Change}
-use Rattle.hq_store.specs.declared.change.Change.TheVariants.{PutHead, PutMessage, DropMessage, PutLine, DropLine}
+use Rattle.hq_store.specs.declared.change.Change.TheVariants.{PutHead, PutMessage, DropMessage, PutLine, DropLine, PutMark}
 use Rattle.hq_store.specs.Tables.{State, change}
 use Rattle.hq_store.specs.Sound.{IsNext, IsQueued}
 
@@ -20,13 +20,14 @@ pub record MessageFits (s : State) (m : Message) : Type 0 where
   pub spool : (serial : ℕ) (n : Message) → get s.messages serial ≡ Some n → n.spool ≡ m.spool → serial ≡ m.serial
   pub room : get s.messages m.serial ≡ None → len s.messages < 1000
 
--- drops always fit; a line fits with room where its pattern is new
+-- drops always fit; a line fits with room where its pattern is new, and an import under a new label
 abbrev pub Fits : State → Change → Type 0
 Fits s (PutHead head) = HeadFits s head
 Fits s (PutMessage m) = MessageFits s m
 Fits s (DropMessage serial) = ⊤
 Fits s (PutLine line) = get s.lines line.pattern ≡ None → len s.lines < 5000
 Fits s (DropLine pattern) = ⊤
+Fits s (PutMark mark) = get s.marks mark.label ≡ None
 
 -- each change fits the state that those before it leave
 abbrev pub AllFit : State → List Change → Type 0

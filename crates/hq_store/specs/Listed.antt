@@ -7,10 +7,12 @@ use Rattle.hq_access.specs.declared.pattern.Class.{Class}
 use Rattle.hq_store.specs.declared.account.Account.{Account}
 use Rattle.hq_store.specs.declared.rows.HeadRow.{HeadRow}
 use Rattle.hq_store.specs.declared.rows.LineRow.{LineRow}
+use Rattle.hq_store.specs.declared.mark.Mark.{Mark}
+use Rattle.hq_store.specs.declared.rows.MarkRow.{MarkRow}
 use Rattle.hq_store.specs.declared.rows.MessageRow.{MessageRow}
 use Rattle.hq_store.specs.declared.rows.RecipientRow.{RecipientRow}
 use Rattle.hq_store.specs.declared.list_rows.ListRows.{ListRows}
-use Rattle.hq_store.specs.Tables.{Tables, Row, text_cmp, message_cmp, recipient_cmp, lines_cmp}
+use Rattle.hq_store.specs.Tables.{Tables, Row, text_cmp, message_cmp, recipient_cmp, lines_cmp, mark_cmp}
 use Rattle.hq_tables.specs.Rows.{table}
 
 -- ---- keys and values of rows
@@ -39,6 +41,12 @@ line_row_key r = (r.customer, r.line.pattern)
 abbrev pub line_row_value : LineRow → Action
 line_row_value r = r.line.action
 
+abbrev pub mark_key : MarkRow → List ℕ × List ℕ
+mark_key r = (r.customer, r.mark.label)
+
+abbrev pub mark_value : MarkRow → Mark
+mark_value r = r.mark
+
 -- ---- the tables that rows stand for: of rows with one key the first counts
 
 abbrev pub heads_of : List HeadRow → FinMap text_cmp Account
@@ -53,5 +61,8 @@ recipients_of rows = table recipient_cmp recipient_key recipient_value rows
 abbrev pub lines_of : List LineRow → FinMap lines_cmp Action
 lines_of rows = table lines_cmp line_row_key line_row_value rows
 
+abbrev pub marks_of : List MarkRow → FinMap mark_cmp Mark
+marks_of rows = table mark_cmp mark_key mark_value rows
+
 abbrev pub tables_of : ListRows → Tables
-tables_of s = record { heads = heads_of s.heads.items; messages = messages_of s.messages.items; recipients = recipients_of s.recipients.items; lines = lines_of s.lines.items }
+tables_of s = record { heads = heads_of s.heads.items; messages = messages_of s.messages.items; recipients = recipients_of s.recipients.items; lines = lines_of s.lines.items; marks = marks_of s.marks.items }

@@ -8,10 +8,11 @@ use Rattle.hq_access.specs.declared.action.Action.{Action}
 use Rattle.hq_access.specs.declared.pattern.Class.{Class}
 use Rattle.hq_store.specs.declared.rows.HeadRow.{HeadRow}
 use Rattle.hq_store.specs.declared.rows.LineRow.{LineRow}
+use Rattle.hq_store.specs.declared.rows.MarkRow.{MarkRow}
 use Rattle.hq_store.specs.declared.rows.MessageRow.{MessageRow}
 use Rattle.hq_store.specs.declared.rows.RecipientRow.{RecipientRow}
 use Rattle.hq_store.specs.declared.list_rows.ListRows.{ListRows}
-use Rattle.hq_store.specs.Tables.{Row, text_cmp, message_cmp, line_cmp, lines_cmp, joined, pending_of}
+use Rattle.hq_store.specs.Tables.{Row, text_cmp, message_cmp, line_cmp, lines_cmp, mark_cmp, joined, pending_of}
 use Rattle.hq_tables.specs.Owned.{rows_of}
 use Rattle.hq_tables.specs.Rows.{HasUniqueKeys}
 use Rattle.hq_store.specs.Listed.{message_key, recipient_value, line_row_key, messages_of, recipients_of, lines_of}
@@ -50,6 +51,10 @@ is_after_pattern (Some first) pattern = is_lt (line_cmp first pattern)
 -- a line of the customer after a pattern, or any of its lines
 unfoldable pub is_line_past : List ℕ → Option (Class × List ℕ) → LineRow → Bool
 is_line_past customer after r = eq_by_cmp text_cmp customer r.customer && is_after_pattern after r.line.pattern
+
+-- the import of a label
+unfoldable pub is_mark : List ℕ → List ℕ → MarkRow → Bool
+is_mark customer label r = eq_by_cmp mark_cmp (customer, label) (r.customer, r.mark.label)
 
 -- ---- rows made
 

@@ -9,6 +9,7 @@ use Rattle.hq_queue.specs.declared.message.Message.{Message}
 use Rattle.hq_access.specs.declared.action.Action.{Action}
 use Rattle.hq_access.specs.declared.pattern.Class.{Class}
 use Rattle.hq_access.specs.declared.pattern.Line.{Line}
+use Rattle.hq_store.specs.declared.mark.Mark.{Mark}
 use Rattle.hq_store.specs.Tables.{State, Tables, Row, text_cmp, line_cmp, account, joined}
 use Rattle.hq_tables.specs.Owned.{rows_of}
 
@@ -21,6 +22,7 @@ pub record Readings : Type 0 where
   pub messages : List Message  -- in order of serial
   pub line : Class → List ℕ → Option Action  -- of a class, at a key
   pub lines : List Line  -- in order of class and pattern
+  pub mark : List ℕ → Option Mark  -- of a label
 
 -- a sum that stays at the greatest number of 64 bits
 abbrev pub saturated : ℕ → ℕ
@@ -66,6 +68,7 @@ read_state s = record {
   messages = values s.messages;
   line = λ class key. get s.lines (class, key);
   lines = map line_of (entries s.lines);
+  mark = get s.marks;
 }
 
 -- the customer's rows of messages with their recipients, in order of serial
@@ -86,4 +89,5 @@ read_tables customer t = record {
   messages = messages_in customer t;
   line = λ class key. get t.lines (customer, (class, key));
   lines = map line_of (rows_of text_cmp customer (entries t.lines));
+  mark = λ label. get t.marks (customer, label);
 }

@@ -15,7 +15,8 @@ use Rattle.hq_queue.specs.declared.message.Pending.{Pending}
 use Rattle.hq_queue.specs.declared.message.QueueState.{QueueState}
 use Rattle.hq_store.specs.declared.account.Account.{Account}
 use Rattle.hq_store.specs.declared.change.Change.{Change}
-use Rattle.hq_store.specs.declared.change.Change.TheVariants.{PutHead, PutMessage, DropMessage, PutLine, DropLine}
+use Rattle.hq_store.specs.declared.change.Change.TheVariants.{PutHead, PutMessage, DropMessage, PutLine, DropLine, PutMark}
+use Rattle.hq_store.specs.declared.mark.Mark.{Mark}
 use Rattle.hq_tables.specs.Owned.{by_both, part_of, map_values, given}
 
 -- names and texts in the order of their bytes
@@ -42,13 +43,18 @@ line_cmp = by_both class_cmp text_cmp
 abbrev pub lines_cmp : List ℕ × (Class × List ℕ) → List ℕ × (Class × List ℕ) → Ordering
 lines_cmp = by_both text_cmp line_cmp
 
+-- by customer, then by the label of an import
+abbrev pub mark_cmp : List ℕ × List ℕ → List ℕ × List ℕ → Ordering
+mark_cmp = by_both text_cmp text_cmp
+
 -- ---- one customer
 
--- a customer's state: its head, its messages by serial, and the actions of its lines by pattern
+-- a customer's state: its head, its messages by serial, the actions of its lines by pattern, and its imports by label
 pub record State : Type 0 where
   pub head : Head
   pub messages : FinMap nat_cmp Message
   pub lines : FinMap line_cmp Action
+  pub marks : FinMap text_cmp Mark
 
 -- the head of a customer of whom nothing is kept yet: both next numbers are 1
 abbrev pub opening_head : Head
@@ -56,15 +62,16 @@ opening_head = record { next_serial = 1; next_notice = 1; tally = record { accep
 
 -- a customer of whom nothing is kept yet
 abbrev pub opening : State
-opening = record { head = opening_head; messages = empty; lines = empty }
+opening = record { head = opening_head; messages = empty; lines = empty; marks = empty }
 
--- a change of one customer's state; a message stands at its serial
+-- a change of one customer's state; a message stands at its serial, and an import at its label
 abbrev pub change : Change → State → State
 change (PutHead head) s = record s { head = head }
 change (PutMessage message) s = record s { messages = insert s.messages message.serial message }
 change (DropMessage serial) s = record s { messages = remove s.messages serial }
 change (PutLine line) s = record s { lines = insert s.lines line.pattern line.action }
 change (DropLine pattern) s = record s { lines = remove s.lines pattern }
+change (PutMark mark) s = record s { marks = insert s.marks mark.label mark }
 
 -- all changes in order
 abbrev pub change_all : List Change → State → State
@@ -90,10 +97,11 @@ pub record Tables : Type 0 where
   pub messages : FinMap message_cmp Row
   pub recipients : FinMap recipient_cmp Pending
   pub lines : FinMap lines_cmp Action
+  pub marks : FinMap mark_cmp Mark
 
 -- tables of nobody
 abbrev pub no_tables : Tables
-no_tables = record { heads = empty; messages = empty; recipients = empty; lines = empty }
+no_tables = record { heads = empty; messages = empty; recipients = empty; lines = empty; marks = empty }
 
 -- the row of a message
 abbrev pub row_of : Message → Row
@@ -180,6 +188,7 @@ write customer (DropLine pattern) t = record t {
   heads = given t.heads (λ _. counted without_line customer t.heads) (get t.lines (customer, pattern));
   lines = remove t.lines (customer, pattern);
 }
+write customer (PutMark mark) t = record t { marks = insert t.marks (customer, mark.label) mark }
 
 -- all changes in order
 abbrev pub write_all : List ℕ → List Change → Tables → Tables
@@ -192,4 +201,5 @@ own customer t = record {
   head = (account t.heads customer).head;
   messages = map_values (joined customer t.recipients) (part_of text_cmp customer t.messages);
   lines = part_of text_cmp customer t.lines;
+  marks = part_of text_cmp customer t.marks;
 }

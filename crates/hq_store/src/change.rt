@@ -2,6 +2,7 @@
 
 ghost use Rattle.std.specs.Prelude.{◌≡◌};
 
+use crate::mark::Mark;
 use hq_access::{Line, Pattern};
 use hq_envelope::{Serial, TryCopy};
 use hq_queue::{Head, Message};
@@ -20,6 +21,8 @@ pub enum Change {
     PutLine(Line),
     /// Drops the line of this pattern; nothing where there is none.
     DropLine(Pattern),
+    /// Sets the mark of its label.
+    PutMark(Mark),
 }
 
 impl TryCopy for Change {
@@ -30,6 +33,7 @@ impl TryCopy for Change {
             Change::DropMessage(serial) => Ok(Change::DropMessage(*serial)),
             Change::PutLine(line) => Ok(Change::PutLine(line.copy(alloc)?)),
             Change::DropLine(pattern) => Ok(Change::DropLine(pattern.copy(alloc)?)),
+            Change::PutMark(mark) => Ok(Change::PutMark(mark.copy(alloc)?)),
         }
     }
 }

@@ -7,8 +7,8 @@ ghost use Rattle.hq_store.specs.Lookups.{AreInOrder};
 ghost use Rattle.hq_store.specs.declared.change.Change.TheVariants.{PutMessage, DropMessage, PutLine, DropLine};
 
 use crate::change::Change;
-use crate::rows::{HeadRow, LineRow, MessageRow, RecipientRow};
-use crate::{heads, lines, messages, recipients};
+use crate::rows::{HeadRow, LineRow, MarkRow, MessageRow, RecipientRow};
+use crate::{heads, lines, marks, messages, recipients};
 use hq_access::{Line, Pattern};
 use hq_envelope::{Name, Serial, TryCopy, copy_all};
 use hq_queue::Message;
@@ -21,6 +21,7 @@ pub(crate) struct ListRows {
     pub(crate) messages: Vec<MessageRow>,
     pub(crate) recipients: Vec<RecipientRow>,
     pub(crate) lines: Vec<LineRow>,
+    pub(crate) marks: Vec<MarkRow>,
 }
 
 impl ListRows {
@@ -33,11 +34,13 @@ impl ListRows {
         let messages = copy_all(alloc, self.messages.as_slice())?;
         let recipients = copy_all(alloc, self.recipients.as_slice())?;
         let lines = copy_all(alloc, self.lines.as_slice())?;
+        let marks = copy_all(alloc, self.marks.as_slice())?;
         Ok(ListRows {
             heads,
             messages,
             recipients,
             lines,
+            marks,
         })
     }
 
@@ -144,6 +147,7 @@ impl ListRows {
             Change::DropMessage(serial) => self.drop_message(alloc, customer, *serial),
             Change::PutLine(line) => self.put_line(alloc, customer, line),
             Change::DropLine(pattern) => self.drop_line(alloc, customer, pattern),
+            Change::PutMark(mark) => marks::put_mark(alloc, &mut self.marks, customer, mark),
         }
     }
 

@@ -6,10 +6,11 @@ ghost use Rattle.hq_store.specs.Listed.{tables_of};
 
 use crate::change::Change;
 use crate::list_rows::ListRows;
+use crate::mark::Mark;
 use crate::shelf::Shelf;
-use crate::{heads, lines, messages};
+use crate::{heads, lines, marks, messages};
 use hq_access::{Action, Class, Line, LookupKey, Pattern};
-use hq_envelope::{Fault, Items, Name, Serial, Spool};
+use hq_envelope::{Fault, Items, Label, Name, Serial, Spool};
 use hq_queue::{Counts, Head, Message};
 use std::alloc::Global;
 use std::marker::Model;
@@ -47,6 +48,7 @@ impl ListShelf {
             messages: Vec::new(alloc),
             recipients: Vec::new(alloc),
             lines: Vec::new(alloc),
+            marks: Vec::new(alloc),
         };
         ListShelf { alloc, rows }
     }
@@ -133,6 +135,10 @@ impl Shelf for ListShelf {
             after,
             limit,
         )?)
+    }
+
+    fn mark(&mut self, customer: &Name, label: &Label) -> Result<Option<Mark>, Fault> {
+        Ok(marks::mark_in(self.alloc, self.rows.marks.as_slice(), customer, label)?)
     }
 
     fn apply(&mut self, customer: &Name, changes: &[Change]) -> Result<(), Fault> {

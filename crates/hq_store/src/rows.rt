@@ -3,11 +3,12 @@
 ghost use Rattle.std.specs.Prelude.{◌≡◌, not, option_map};
 ghost use Rattle.std.specs.Ordering.{nat_cmp, eq_by_cmp};
 ghost use Rattle.hq_store.specs.Tables.{text_cmp, line_cmp};
-ghost use Rattle.hq_store.specs.Lookups.{is_head, is_message, is_recipient, is_past, has_spool, is_line, is_line_past};
+ghost use Rattle.hq_store.specs.Lookups.{is_head, is_message, is_recipient, is_past, has_spool, is_line, is_line_past, is_mark};
 
 use crate::account::Account;
+use crate::mark::Mark;
 use hq_access::{Class, Line, Pattern};
-use hq_envelope::{Moment, Name, Sender, Serial, Spool, TryCopy};
+use hq_envelope::{Label, Moment, Name, Sender, Serial, Spool, TryCopy};
 use hq_queue::{Pending, QueueState};
 use std::alloc::{AllocError, Global};
 use std::cmp::Ordering;
@@ -48,6 +49,13 @@ pub(crate) struct RecipientRow {
 pub(crate) struct LineRow {
     pub(crate) customer: Name,
     pub(crate) line: Line,
+}
+
+/// A row of marks.
+#[derive(Drop)]
+pub(crate) struct MarkRow {
+    pub(crate) customer: Name,
+    pub(crate) mark: Mark,
 }
 
 /// Whether two names are the same.
@@ -186,6 +194,27 @@ impl LineRow {
     }
 }
 
+impl MarkRow {
+    /// Whether it is the customer's mark of this label.
+    #[tactic(auto, unfolding(crate::specs::Lookups::is_mark))]
+    pub(crate) fn is_at(&self, customer: &Name, label: &Label) -> bool
+        ensures { result ≡ is_mark customer.now label.now self.now }
+    {
+        customer
+            .as_str()
+            .cmp(self.customer.as_str())
+            .then(label.as_str().cmp(self.mark.label.as_str()))
+            .is_eq()
+    }
+
+    /// Whether it is another mark.
+    pub(crate) fn is_other(&self, customer: &Name, label: &Label) -> bool
+        ensures { result ≡ not (is_mark customer.now label.now self.now) }
+    {
+        !self.is_at(customer, label)
+    }
+}
+
 impl TryCopy for HeadRow {
     fn copy(&self, alloc: Global) -> Result<HeadRow, AllocError> {
         let customer = self.customer.copy(alloc)?;
@@ -234,5 +263,13 @@ impl TryCopy for LineRow {
         let customer = self.customer.copy(alloc)?;
         let line = self.line.copy(alloc)?;
         Ok(LineRow { customer, line })
+    }
+}
+
+impl TryCopy for MarkRow {
+    fn copy(&self, alloc: Global) -> Result<MarkRow, AllocError> {
+        let customer = self.customer.copy(alloc)?;
+        let mark = self.mark.copy(alloc)?;
+        Ok(MarkRow { customer, mark })
     }
 }

@@ -6,8 +6,9 @@ ghost use Rattle.hq_store.specs.Readings.{page_of, after_pattern};
 ghost use Rattle.hq_store.specs.Shelves.{Sight, OnClean, Finds, Keeps, KeepsOnErr};
 
 use crate::change::Change;
+use crate::mark::Mark;
 use hq_access::{Action, Class, Line, LookupKey, Pattern};
-use hq_envelope::{Fault, Items, Name, Serial, Spool};
+use hq_envelope::{Fault, Items, Label, Name, Serial, Spool};
 use hq_queue::{Counts, Head, Message};
 
 /// The tables of all customers. Each call reads or changes the rows of the customer that it names.
@@ -80,6 +81,12 @@ pub trait Shelf {
     ) -> Result<Items<Line>, Fault>
         ensures found { Finds sight self.old self.new result customer.now (λ rows. take limit
             (after_pattern (option_map (λ p. p.now) after.entry) rows.lines)) }
+        ensures kept { Keeps sight self.old self.new result };
+
+    /// What is kept of the customer's import under this label.
+    fn mark(&mut self, customer: &Name, label: &Label) -> Result<Option<Mark>, Fault>
+        ensures found { Finds sight self.old self.new result customer.now
+            (λ rows. rows.mark label.now) }
         ensures kept { Keeps sight self.old self.new result };
 
     /// Makes all changes of the customer's rows, in order, or none.
