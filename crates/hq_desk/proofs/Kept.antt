@@ -1,12 +1,16 @@
 -- What a decision leaves of a sound state, and what the quota of an entry says.
-use Rattle.std.proofs.Common.{◌≡◌, ℕ, ◌^◌, ◌<◌, ◌≤◌, false, arith}
+use Rattle.std.proofs.Common.{◌≡◌, ℕ, ◌^◌, ◌<◌, ◌≤◌, false, None, arith}
 use Rattle.std.specs.Prelude.{IsTrue, nat_le}
+use Rattle.std.specs.FinMap.{get, len}
 use Rattle.std.proofs.lemmas.Bool.Decides.{nat_tests}
 use Rattle.hq_queue.specs.Limits.{is_quota}
 use Rattle.hq_queue.specs.declared.account.Entry.{Entry}
 use Rattle.hq_store.specs.Readings.{saturated}
 use Rattle.hq_store.specs.Sound.{SoundState}
-use Rattle.hq_store.specs.Tables.{State, change_all}
+use Rattle.hq_store.specs.Tables.{State, change, change_all}
+use Rattle.hq_access.specs.declared.pattern.Line.{Line}
+use Rattle.hq_store.specs.declared.change.Change.TheVariants.{PutLine}
+use Rattle.hq_store.proofs.States.{change_shaped}
 use Rattle.hq_desk.specs.declared.decision.Decision.{Decision}
 
 -- what a decision leaves of a state is sound
@@ -26,3 +30,7 @@ quota_of entry = quota_within entry.quota.messages entry.quota.bytes entry.quota
 
 pub below_quota : (quota n : ℕ) → nat_le quota n ≡ false → n < quota
 below_quota quota n h = grind (arith, nat_tests)
+
+-- a line takes the place of one, or there is room
+pub set_kept : (s : State) (line : Line) → SoundState s → (get s.lines line.pattern ≡ None → len s.lines < 5000) → SoundState (change (PutLine line) s)
+set_kept s line h room = record { shaped = change_shaped s (PutLine line) h.shaped room; conserved = h.conserved; bounded = h.bounded }

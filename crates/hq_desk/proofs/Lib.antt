@@ -1,9 +1,11 @@
+pub mod Imported
 pub mod Isolation
 pub mod Kept
 pub mod NoLines
 pub mod Pages
 pub mod Queued
 pub mod Reading
+pub mod Repeats
 pub mod SameAddresses
 pub mod ShelfLines
 pub mod Soundness

@@ -2,7 +2,7 @@
 use Rattle.std.proofs.Common.{◌≡◌, ℕ, ◌+◌, ◌<◌, Bool, true, false, List, length, sym, refl, ap, ◌∙◌, subst, Some, None, Option, arith}
 use Rattle.std.specs.Prelude.{if◌then◌else◌, nat_le}
 use Rattle.std.specs.Cmp.{nat_cmp_total}
-use Rattle.std.specs.FinMap.{get, entries, len, len-entries}
+use Rattle.std.specs.FinMap.{get, entries, len-entries}
 use Rattle.std.proofs.lemmas.Map.Lookups.{exact_unsigned}
 use Rattle.hq_base.specs.declared.failure.Refusal.TheVariants.{QuotaLines}
 use Rattle.hq_access.specs.declared.action.Action.{Action}
@@ -13,7 +13,7 @@ use Rattle.hq_queue.specs.declared.account.Entry.{Entry}
 use Rattle.hq_queue.specs.declared.message.Message.{Message}
 use Rattle.hq_queue.specs.declared.message.Pending.{Pending}
 use Rattle.hq_queue.specs.declared.message.QueueState.TheVariants.{Hold, Deferred}
-use Rattle.hq_store.specs.declared.change.Change.TheVariants.{PutHead, PutMessage, DropMessage, PutLine, DropLine}
+use Rattle.hq_store.specs.declared.change.Change.TheVariants.{PutHead, PutMessage, DropMessage, DropLine}
 use Rattle.hq_store.specs.Fits.{HeadFits, MessageFits}
 use Rattle.hq_store.specs.Readings.{Readings, read_state, read_tables, saturated}
 use Rattle.hq_store.specs.Sound.{Sound, SoundState, AreApart}
@@ -33,7 +33,8 @@ use Rattle.hq_desk.specs.declared.answer.LinePut.TheVariants.{Added, Changed, Sa
 use Rattle.hq_desk.specs.declared.call.Call.{Call}
 use Rattle.hq_desk.specs.declared.call.Call.TheVariants as call
 use Rattle.hq_desk.specs.declared.decision.Decision.{Decision}
-use Rattle.hq_desk.proofs.Kept.{Keeps, saturated_is, quota_of, below_quota}
+use Rattle.hq_desk.proofs.Imported.{import_kept}
+use Rattle.hq_desk.proofs.Kept.{Keeps, saturated_is, quota_of, below_quota, set_kept}
 use Rattle.hq_desk.proofs.Queued.{submit_kept}
 
 recipients : Message → ℕ
@@ -90,9 +91,6 @@ delete_kept s m h there =
 
 -- ---- lines
 
-set_kept : (s : State) (line : Line) → SoundState s → (get s.lines line.pattern ≡ None → len s.lines < 5000) → SoundState (change (PutLine line) s)
-set_kept s line h room = record { shaped = change_shaped s (PutLine line) h.shaped room; conserved = h.conserved; bounded = h.bounded }
-
 -- a line takes the place of one, or there is room
 put_kept : (s : State) (entry : Entry) (line : Line) → SoundState s → Keeps s (lines.put_line entry.quota.lines (read_state s).counts.lines line (get s.lines line.pattern))
 put_kept s entry line h = cases (get s.lines line.pattern) refl where
@@ -130,6 +128,7 @@ step_sound host entry s at (call.Lines after) h = h
 step_sound host entry s at (call.PutLine line) h = put_kept s entry line h
 step_sound host entry s at (call.DropLine pattern) h = drop_kept s pattern (get s.lines pattern) h
 step_sound host entry s at (call.Check class who) h = h
+step_sound host entry s at (call.Import label file) h = import_kept s entry label file h
 
 -- what holds of the machine holds of the shared step
 pub shared_sound : (host : List ℕ) (entry : Entry) (t : Tables) (at : ℕ) (call : Call) → Sound t → Sound (shared host entry t at call).1

@@ -4,6 +4,7 @@ use Rattle.std.specs.Prelude.{ℕ, List}
 use Rattle.hq_queue.specs.declared.account.Entry.{Entry}
 use Rattle.hq_store.specs.Readings.{Readings, after_pattern, after_serial}
 use Rattle.hq_desk.specs.AccessLines.{line_page, put_line, drop_line, check}
+use Rattle.hq_desk.specs.Imports.{import}
 use Rattle.hq_desk.specs.Messages.{page, show, hold, release, delete}
 use Rattle.hq_desk.specs.Submissions.{submit}
 use Rattle.hq_desk.specs.declared.call.Call.{Call}
@@ -21,3 +22,4 @@ decide host entry readings at (call.Lines after) = line_page (after_pattern afte
 decide host entry readings at (call.PutLine line) = put_line entry.quota.lines readings.counts.lines line (readings.line line.pattern.0 line.pattern.1)
 decide host entry readings at (call.DropLine pattern) = drop_line pattern (readings.line pattern.0 pattern.1)
 decide host entry readings at (call.Check class who) = check readings class who
+decide host entry readings at (call.Import label file) = import entry.quota.lines readings label file (readings.mark label)

@@ -3,6 +3,7 @@ pub mod Answering
 pub mod Answers
 pub mod Decision
 pub mod Desks
+pub mod Imports
 pub mod Limits
 pub mod Machine
 pub mod Messages

@@ -18,6 +18,17 @@ pub enum LinePut {
     Same,
 }
 
+/// What the rows of an import did.
+#[derive(Clone, Copy, Debug, PartialEq, Eq, Drop)]
+pub struct ImportCounts {
+    /// How many set a line where there was none.
+    pub added: u64,
+    /// How many set a line to another action.
+    pub changed: u64,
+    /// How many found their line with that very action, as actions are written.
+    pub same: u64,
+}
+
 /// The answer to a call.
 #[derive(Drop)]
 pub enum Answer {
@@ -46,6 +57,8 @@ pub enum Answer {
     /// The keys of the address in the order in which they are tried, and the first of them that
     /// has a line, with its action.
     Checked(Items<LookupKey>, Option<(LookupKey, Action)>),
+    /// What the rows of the import did, now or when its label was first used.
+    Imported(ImportCounts),
 }
 
 impl Answer {

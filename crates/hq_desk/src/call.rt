@@ -4,7 +4,7 @@ ghost use Rattle.std.specs.Prelude.{IsTrue, length};
 ghost use Rattle.hq_desk.specs.Limits.{is_recipient_count};
 
 use hq_access::{Class, Line, Pattern};
-use hq_envelope::{Address, Items, Sender, Serial, Spool};
+use hq_envelope::{Address, Items, Label, Sender, Serial, Spool};
 
 /// A message that a relay worker hands in.
 #[derive(Drop)]
@@ -44,4 +44,7 @@ pub enum Call {
     DropLine(Pattern),
     /// Tells which keys an address is looked up by, and what is found for it.
     Check(Class, Sender),
+    /// Takes the lines of a CSV file into the access tables, once for its label. The file is its
+    /// bytes.
+    Import(Label, Items<u8>),
 }

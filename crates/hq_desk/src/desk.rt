@@ -16,6 +16,7 @@ use crate::customer_lines::look_up;
 use crate::decision::{
     Decision, PAGE, delete, hold_found, page, refuse, release_found, show, tell,
 };
+use crate::imports::decide_import;
 use crate::lines::{drop_line, line_page, put_new, put_over};
 use crate::submit::decide_submit;
 use hq_access::{Class, Line, Pattern, keys_of};
@@ -191,6 +192,7 @@ fn decide<S: Shelf>(
         Call::PutLine(line) => decide_put_line(shelf, alloc, entry, line),
         Call::DropLine(pattern) => decide_drop_line(shelf, alloc, entry, pattern),
         Call::Check(class, who) => decide_check(shelf, alloc, entry, class, &who),
+        Call::Import(label, file) => decide_import(shelf, alloc, entry, label, &file),
     }
 }
 

@@ -3,10 +3,13 @@
 
 ghost use Rattle.std.specs.Prelude.{◌≡◌, ◌≢◌, ℕ, List};
 ghost use Rattle.hq_queue.specs.declared.account.Entry.{Entry};
-ghost use Rattle.hq_store.specs.Tables.{Tables, own};
+ghost use Rattle.hq_store.specs.Tables.{State, Tables, own};
 ghost use Rattle.hq_store.specs.Sound.{Sound};
+ghost use Rattle.hq_desk.specs.declared.answer.Answer.TheVariants.{Imported};
+ghost use Rattle.hq_desk.specs.declared.answer.ImportCounts.{ImportCounts};
 ghost use Rattle.hq_desk.specs.declared.call.Call.{Call};
-ghost use Rattle.hq_desk.specs.Machine.{step, shared};
+ghost use Rattle.hq_desk.specs.declared.call.Call.TheVariants.{Import};
+ghost use Rattle.hq_desk.specs.Machine.{step, shared, state_after};
 
 /// Isolation of one call, for every kind at once: the caller is answered what the machine answers
 /// that knows its state alone, its state afterwards is that machine's, and every other customer's
@@ -26,4 +29,14 @@ pub fn isolated()
 pub fn stays_sound()
     ensures { (host : List ℕ) (entry : Entry) (t : Tables) (at : ℕ) (call : Call)
         → Sound t → Sound (shared host entry t at call).1 }
+{}
+
+/// An import that was answered with counts is kept for good: after any calls of the customer, the
+/// same file under its label is answered with these counts and changes nothing.
+pub fn imports_are_kept()
+    ensures { (host : List ℕ) (entry : Entry) (s : State) (at : ℕ) (label file : List ℕ)
+        (counts : ImportCounts) (calls : List (ℕ × Call)) (later : ℕ)
+        → (step host entry s at (Import label file)).0 ≡ Imported counts
+        → (let after = state_after host entry (step host entry s at (Import label file)).1 calls in
+        step host entry after later (Import label file) ≡ (Imported counts, after)) }
 {}

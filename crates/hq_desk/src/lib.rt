@@ -9,12 +9,13 @@ mod customer_lines;
 mod decision;
 mod desk;
 mod distinct;
+mod imports;
 pub mod laws;
 mod lines;
 mod submissions;
 mod submit;
 
-pub use answer::{Answer, LinePut};
+pub use answer::{Answer, ImportCounts, LinePut};
 pub use call::{Call, Submission};
 pub use decision::Decision;
 pub use desk::{Desk, Render, Rendered};

@@ -22,7 +22,7 @@ pub(crate) fn line_page(alloc: Global, lines: Items<Line>) -> Decision
 }
 
 /// Whether two actions are written the same.
-fn same_action(alloc: Global, one: &Action, other: &Action) -> Result<bool, AllocError>
+pub(crate) fn same_action(alloc: Global, one: &Action, other: &Action) -> Result<bool, AllocError>
     ensures { IfOk result (λ same. same ≡ rules.same_action one.now other.now) }
 {
     let one = one.text(alloc)?;

@@ -4,13 +4,11 @@ use Rattle.std.specs.Ordering.{eq_by_cmp}
 use Rattle.hq_base.specs.Turns.{InTurn}
 use Rattle.hq_base.specs.declared.failure.Fault.{Fault}
 use Rattle.hq_base.specs.declared.failure.Refusal.{Refusal}
-use Rattle.hq_queue.specs.declared.account.Entry.{Entry}
 use Rattle.hq_store.specs.Shelves.{Sight, OnOpenSound}
 use Rattle.hq_store.specs.Sound.{Sound}
-use Rattle.hq_store.specs.Tables.{Tables, State, text_cmp, own}
+use Rattle.hq_store.specs.Tables.{Tables, text_cmp, own}
 use Rattle.hq_desk.specs.Desks.{Stays, host_of, on}
-use Rattle.hq_desk.specs.Machine.{step}
-use Rattle.hq_desk.specs.declared.answer.Answer.{Answer}
+use Rattle.hq_desk.specs.Machine.{answers, state_after}
 use Rattle.hq_desk.specs.declared.call.Call.{Call}
 use Rattle.hq_desk.specs.declared.desk.Desk.{Desk}
 use Rattle.hq_wire.specs.Directories.{entry_of}
@@ -45,17 +43,6 @@ share c _ _ = []
 abbrev pub heard : List ℕ → List Ask → List SeenReply → List SeenReply
 heard c (a ∷ asks) (r ∷ rs) = reply_to_one c a.called r ++ heard c asks rs
 heard c _ _ = []
-
--- ---- the machine of one customer, over a share
-
-abbrev pub answers : List ℕ → Entry → State → List (ℕ × Call) → List Answer
-answers host entry s [] = []
-answers host entry s (ask ∷ asks) = (step host entry s ask.0 ask.1).0 ∷ answers host entry (step host entry s ask.0 ask.1).1 asks
-
--- the state that it is left in
-abbrev pub state_after : List ℕ → Entry → State → List (ℕ × Call) → State
-state_after host entry s [] = s
-state_after host entry s (ask ∷ asks) = state_after host entry (step host entry s ask.0 ask.1).1 asks
 
 -- ---- the headline
 
