@@ -1,5 +1,5 @@
 -- The bodies that speak of lines of an access table: of a pattern {"class", "pattern"}, of a line {"class", "pattern",
--- "action"}, and of an address to look up {"class", "address"}.
+-- "action"}, of an address to look up {"class", "address"}, and of a file of lines {"label", "csv"}.
 use Rattle.std.specs.Prelude.{ℕ, List, [], ◌∷◌, codes, bytes_eq, Option, Some, None, option_and_then, Result, Ok, if◌then◌else◌}
 use Rattle.serde_json.specs.Data.{Data}
 use Rattle.serde_json.specs.Find.{as_object}
@@ -8,6 +8,7 @@ use Rattle.hq_base.specs.declared.failure.Refusal.{Refusal}
 use Rattle.hq_base.specs.declared.failure.Refusal.TheVariants.{BadJson, BadField}
 use Rattle.hq_envelope.specs.Addresses.{address_in}
 use Rattle.hq_envelope.specs.Senders.{sender_in}
+use Rattle.hq_envelope.specs.Words.{label_in}
 use Rattle.hq_envelope.specs.declared.address.Sender.{Sender}
 use Rattle.hq_envelope.specs.declared.address.Sender.TheVariants.{From}
 use Rattle.hq_access.specs.Actions.{action_in}
@@ -58,3 +59,13 @@ read_check bytes = do
   address ← or_refuse BadField (text_at (codes "address") d)
   who ← party_in class address
   Ok (class, who)
+
+-- the file is the UTF-8 bytes of its text
+unfoldable pub read_import : List ℕ → Result (List ℕ × List ℕ) Refusal
+read_import bytes = do
+  d ← or_refuse BadJson (json_of bytes)
+  known ← guard (has_only_members (codes "label" ∷ codes "csv" ∷ []) (as_object d)) BadField
+  label ← or_refuse BadField (text_at (codes "label") d)
+  file ← or_refuse BadField (text_at (codes "csv") d)
+  name ← label_in label
+  Ok (name, file)

@@ -6,4 +6,4 @@ mod reading;
 mod tables;
 
 pub use reading::{has_only, json_value, number_member, text_member, texts_member};
-pub use tables::{read_check, read_line, read_pattern};
+pub use tables::{read_check, read_import, read_line, read_pattern};

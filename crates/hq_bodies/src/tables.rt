@@ -1,18 +1,18 @@
 //! The bodies that speak of lines of an access table.
 
-ghost use Rattle.std.specs.Prelude.{◌≡◌, codes, map as map_list};
+ghost use Rattle.std.specs.Prelude.{◌≡◌, IfOk, codes, map as map_list};
 ghost use Rattle.serde_json.specs.Find.{as_object};
 ghost use Rattle.serde_json.specs.View.{view};
 ghost use Rattle.hq_base.specs.Readers.{Reads, or_refuse};
 ghost use Rattle.hq_base.specs.declared.failure.Refusal.TheVariants.{BadField};
 ghost use Rattle.hq_bodies.specs.Reading.{has_only_members};
-ghost use Rattle.hq_bodies.specs.Tables.{class_in, class_at, party_in, read_pattern, read_line, read_check};
+ghost use Rattle.hq_bodies.specs.Tables.{class_in, class_at, party_in, read_pattern, read_line, read_check, read_import};
 
 use crate::reading::{has_only, json_value, text_member};
 use hq_access::{Action, Class, Line, Pattern};
-use hq_envelope::{Address, Fail, Refusal, Sender};
+use hq_envelope::{Address, Fail, Items, Label, Refusal, Sender};
 use serde_json::Value;
-use std::alloc::Global;
+use std::alloc::{AllocError, Global};
 
 /// Whether a body is an object whose members have these names alone.
 fn has_only_members(value: &Value, names: &[&str]) -> bool
@@ -100,4 +100,29 @@ pub fn read_check(alloc: Global, body: &[u8]) -> Result<(Class, Sender), Fail>
     let address = text_member(&value, "address").ok_or(Refusal::BadField)?;
     let who = party(alloc, class, address)?;
     Ok((class, who))
+}
+
+/// The bytes of a text on their own.
+fn bytes_of(alloc: Global, text: &str) -> Result<Items<u8>, AllocError>
+    ensures { IfOk result (λ bytes. bytes ≡ text.now) }
+{
+    let text = String::from_str(alloc, text)?;
+    Ok(Items::from_vec(text.into_bytes()))
+}
+
+/// Reads a body that brings a file of lines: 7 and 8 as for a pattern, then 27 for the label. What
+/// the file holds is not looked at.
+#[tactic(auto, unfolding(crate::specs::Tables::read_import))]
+pub fn read_import(alloc: Global, body: &[u8]) -> Result<(Label, Items<u8>), Fail>
+    ensures { Reads result (read_import body.now) }
+{
+    let value = json_value(alloc, body)?;
+    if !has_only_members(&value, &["label", "csv"]) {
+        return Err(Fail::Refused(Refusal::BadField));
+    }
+    let label = text_member(&value, "label").ok_or(Refusal::BadField)?;
+    let file = text_member(&value, "csv").ok_or(Refusal::BadField)?;
+    let label = Label::parse(alloc, label)?;
+    let file = bytes_of(alloc, file)?;
+    Ok((label, file))
 }

@@ -16,7 +16,7 @@ use Rattle.hq_queue.specs.declared.message.QueueState.TheVariants.{Incoming, Def
 use Rattle.hq_desk.specs.declared.answer.Answer.{Answer}
 use Rattle.hq_desk.specs.declared.answer.Answer.TheVariants as answer
 use Rattle.hq_json.specs.Objects.{having, count, id}
-use Rattle.hq_json.specs.TableReplies.{refused_list, lines_listed, line_put, line_dropped, checked}
+use Rattle.hq_json.specs.TableReplies.{refused_list, lines_listed, line_put, line_dropped, checked, imported}
 
 -- ---- refusals
 
@@ -147,6 +147,7 @@ answer_data (answer.LinesListed lines more) = lines_listed lines more
 answer_data (answer.LinePut done) = line_put done
 answer_data answer.LineDropped = line_dropped
 answer_data (answer.Checked keys found) = checked keys found
+answer_data (answer.Imported counts) = imported counts
 
 -- the bytes of an answer
 unfoldable pub answer_text : Answer → List ℕ

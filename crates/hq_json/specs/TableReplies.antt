@@ -1,4 +1,4 @@
--- What is told of access tables: lines, lookups, and who is refused. Members stand in the order of their names.
+-- What is told of access tables: lines, lookups, imports, and who is refused. Members stand in the order of their names.
 use Rattle.std.specs.Prelude.{ℕ, Bool, List, [], ◌∷◌, map, codes, Option, None, Some}
 use Rattle.serde_json.specs.Data.{Data, null, boolean, string, array}
 use Rattle.serde_json.specs.View.{items_of}
@@ -8,6 +8,7 @@ use Rattle.hq_access.specs.Patterns.{class_name}
 use Rattle.hq_access.specs.declared.action.Action.{Action}
 use Rattle.hq_access.specs.declared.pattern.Line.{Line}
 use Rattle.hq_access.specs.declared.verdicts.Refused.{Refused}
+use Rattle.hq_desk.specs.declared.answer.ImportCounts.{ImportCounts}
 use Rattle.hq_desk.specs.declared.answer.LinePut.{LinePut}
 use Rattle.hq_desk.specs.declared.answer.LinePut.TheVariants.{Added, Changed, Same}
 use Rattle.hq_json.specs.Objects.{having, count, texts}
@@ -63,4 +64,11 @@ checked keys found = having (
     (codes "action", action_found found) ∷
     (codes "keys", texts keys) ∷
     (codes "pattern", pattern_found found) ∷
+    [])
+
+abbrev pub imported : ImportCounts → Data
+imported counts = having (
+    (codes "added", count counts.added) ∷
+    (codes "changed", count counts.changed) ∷
+    (codes "same", count counts.same) ∷
     [])

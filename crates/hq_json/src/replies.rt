@@ -9,7 +9,7 @@ ghost use Rattle.hq_json.specs.Replies as replies;
 ghost use Rattle.hq_json.specs.Objects as objects;
 
 use crate::table_replies::{
-    checked_value, line_dropped_value, line_put_value, lines_value, refused_list,
+    checked_value, imported_value, line_dropped_value, line_put_value, lines_value, refused_list,
 };
 use hq_access::Refused;
 use hq_desk::{Answer, Render};
@@ -223,6 +223,7 @@ fn answer_value(alloc: Global, answer: &Answer) -> Result<Value, AllocError>
         Answer::LinePut(done) => line_put_value(alloc, *done),
         Answer::LineDropped => line_dropped_value(alloc),
         Answer::Checked(keys, found) => checked_value(alloc, keys.as_slice(), found),
+        Answer::Imported(counts) => imported_value(alloc, *counts),
     }
 }
 

@@ -8,7 +8,7 @@ ghost use Rattle.hq_json.specs.Objects as objects;
 ghost use Rattle.hq_json.specs.TableReplies as replies;
 
 use hq_access::{Action, Line, LookupKey, Refused};
-use hq_desk::LinePut;
+use hq_desk::{ImportCounts, LinePut};
 use serde_json::{Value, json};
 use std::alloc::{AllocError, Global};
 
@@ -134,4 +134,13 @@ pub(crate) fn checked_value(
     let keys = key_list(alloc, keys)?;
     let pattern = pattern_found(alloc, found)?;
     json!(in alloc; {"action": action, "keys": keys, "pattern": pattern})
+}
+
+/// What the rows of an import did.
+pub(crate) fn imported_value(alloc: Global, counts: ImportCounts) -> Result<Value, AllocError>
+    ensures { IfOk result (λ v. view v ≡ replies.imported counts) }
+{
+    json!(in alloc; {
+        "added": counts.added, "changed": counts.changed, "same": counts.same
+    })
 }

@@ -7,7 +7,7 @@ use Rattle.matchit.specs.Route.{Scan, parse_route}
 use Rattle.matchit.specs.declared.error.InsertError.{InsertError}
 use Rattle.matchit.specs.Seek.{has_slash}
 use Rattle.hq_routes.specs.declared.Path.{Path}
-use Rattle.hq_routes.specs.declared.Path.TheVariants.{Messages, MessagesAfter, Message, Hold, Release, Lines, LinesAfter, LinePut, LineDrop, Check, Submit}
+use Rattle.hq_routes.specs.declared.Path.TheVariants.{Messages, MessagesAfter, Message, Hold, Release, Import, Lines, LinesAfter, LinePut, LineDrop, Check, Submit}
 
 -- what stands for a parameter at the end of a pattern: it is no byte
 abbrev pub parameter : ℕ
@@ -34,6 +34,7 @@ table =
     (with_parameter (codes "/relay/submit/"), Submit)
     ∷ (codes "/v1/check", Check)
     ∷ (with_parameter (codes "/v1/hold/"), Hold)
+    ∷ (codes "/v1/import", Import)
     ∷ (codes "/v1/line-drop", LineDrop)
     ∷ (codes "/v1/line-put", LinePut)
     ∷ (codes "/v1/lines-after", LinesAfter)

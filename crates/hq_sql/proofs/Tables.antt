@@ -12,9 +12,9 @@ use Rattle.sqlite_keyed.proofs.ListLemmas.{all_weaker, all_from_test}
 use Rattle.hq_keyed.specs.Changed.{Sets}
 use Rattle.hq_schema.specs.Schema.{desk_schema}
 use Rattle.hq_store.specs.Tables.{Tables}
-use Rattle.hq_store.specs.Listed.{heads_of, messages_of, recipients_of, lines_of}
-use Rattle.hq_sql.specs.Rows.{head_read, message_read, recipient_read, line_read}
-use Rattle.hq_sql.specs.Tables.{IsDesk, Leaves, AreHeads, AreMessages, AreRecipients, AreLines, tables_in}
+use Rattle.hq_store.specs.Listed.{heads_of, messages_of, recipients_of, lines_of, marks_of}
+use Rattle.hq_sql.specs.Rows.{head_read, message_read, recipient_read, line_read, mark_read}
+use Rattle.hq_sql.specs.Tables.{IsDesk, Leaves, AreHeads, AreMessages, AreRecipients, AreLines, AreMarks, tables_in}
 
 -- a tree of a table is no index
 pub no_index : (t : ℕ) → list_all (λ (i : Index). not (eqb i.tree t)) desk_schema.indexes ≡ true → IsNoIndex desk_schema t
@@ -41,9 +41,9 @@ heads_left old new command text params count rows desk w sets are =
         recipients = subst AreRecipients (sym recipients) desk.recipients;
         lines = subst AreLines (sym lines) desk.lines;
         no_notices = notices ∙ desk.no_notices;
-        no_marks = marks ∙ desk.no_marks;
+        marks = subst AreMarks (sym marks) desk.marks;
       };
-      tables = λ i. record { heads = heads_of (map head_read (sets.rows_are i)); messages = messages_of (map message_read (messages i)); recipients = recipients_of (map recipient_read (recipients i)); lines = lines_of (map line_read (lines i)) };
+      tables = λ i. record { heads = heads_of (map head_read (sets.rows_are i)); messages = messages_of (map message_read (messages i)); recipients = recipients_of (map recipient_read (recipients i)); lines = lines_of (map line_read (lines i)); marks = marks_of (map mark_read (marks i)) };
       is_open = w.shown.is_open;
       was_open = w.shown.was_open;
       mode = w.shown.mode;
@@ -68,9 +68,9 @@ messages_left old new command text params count rows desk w sets are =
         recipients = subst AreRecipients (sym recipients) desk.recipients;
         lines = subst AreLines (sym lines) desk.lines;
         no_notices = notices ∙ desk.no_notices;
-        no_marks = marks ∙ desk.no_marks;
+        marks = subst AreMarks (sym marks) desk.marks;
       };
-      tables = λ i. record { heads = heads_of (map head_read (heads i)); messages = messages_of (map message_read (sets.rows_are i)); recipients = recipients_of (map recipient_read (recipients i)); lines = lines_of (map line_read (lines i)) };
+      tables = λ i. record { heads = heads_of (map head_read (heads i)); messages = messages_of (map message_read (sets.rows_are i)); recipients = recipients_of (map recipient_read (recipients i)); lines = lines_of (map line_read (lines i)); marks = marks_of (map mark_read (marks i)) };
       is_open = w.shown.is_open;
       was_open = w.shown.was_open;
       mode = w.shown.mode;
@@ -95,9 +95,9 @@ recipients_left old new command text params count rows desk w sets are =
         recipients = subst AreRecipients (sym sets.rows_are) are;
         lines = subst AreLines (sym lines) desk.lines;
         no_notices = notices ∙ desk.no_notices;
-        no_marks = marks ∙ desk.no_marks;
+        marks = subst AreMarks (sym marks) desk.marks;
       };
-      tables = λ i. record { heads = heads_of (map head_read (heads i)); messages = messages_of (map message_read (messages i)); recipients = recipients_of (map recipient_read (sets.rows_are i)); lines = lines_of (map line_read (lines i)) };
+      tables = λ i. record { heads = heads_of (map head_read (heads i)); messages = messages_of (map message_read (messages i)); recipients = recipients_of (map recipient_read (sets.rows_are i)); lines = lines_of (map line_read (lines i)); marks = marks_of (map mark_read (marks i)) };
       is_open = w.shown.is_open;
       was_open = w.shown.was_open;
       mode = w.shown.mode;
@@ -122,9 +122,36 @@ lines_left old new command text params count rows desk w sets are =
         recipients = subst AreRecipients (sym recipients) desk.recipients;
         lines = subst AreLines (sym sets.rows_are) are;
         no_notices = notices ∙ desk.no_notices;
-        no_marks = marks ∙ desk.no_marks;
+        marks = subst AreMarks (sym marks) desk.marks;
       };
-      tables = λ i. record { heads = heads_of (map head_read (heads i)); messages = messages_of (map message_read (messages i)); recipients = recipients_of (map recipient_read (recipients i)); lines = lines_of (map line_read (sets.rows_are i)) };
+      tables = λ i. record { heads = heads_of (map head_read (heads i)); messages = messages_of (map message_read (messages i)); recipients = recipients_of (map recipient_read (recipients i)); lines = lines_of (map line_read (sets.rows_are i)); marks = marks_of (map mark_read (marks i)) };
+      is_open = w.shown.is_open;
+      was_open = w.shown.was_open;
+      mode = w.shown.mode;
+      committed = λ within. w.shown.committed_is ∙ ap (λ b. cond b old.committed new.now) within;
+    }
+
+pub marks_left : (old new : State) (command : Command) (text : List ℕ) (params : Row) (count : ℕ) (rows : List Row) → IsDesk old.now → Writes old new None command text params count → Sets desk_schema old.now new.now 12 rows → AreMarks rows
+    → Leaves old new (record (tables_in old.now) { marks = marks_of (map mark_read rows) })
+marks_left old new command text params count rows desk w sets are =
+    let version = sets.others 0 (apart 0 12 refl) (no_index 0 refl) in
+    let heads = sets.others 1 (apart 1 12 refl) (no_index 1 refl) in
+    let messages = sets.others 3 (apart 3 12 refl) (no_index 3 refl) in
+    let recipients = sets.others 6 (apart 6 12 refl) (no_index 6 refl) in
+    let lines = sets.others 8 (apart 8 12 refl) (no_index 8 refl) in
+    let notices = sets.others 10 (apart 10 12 refl) (no_index 10 refl) in
+    record {
+      desk = record {
+        schema_is = sets.schema_is;
+        version = ap (map (λ r. column r 1)) version ∙ desk.version;
+        heads = subst AreHeads (sym heads) desk.heads;
+        messages = subst AreMessages (sym messages) desk.messages;
+        recipients = subst AreRecipients (sym recipients) desk.recipients;
+        lines = subst AreLines (sym lines) desk.lines;
+        no_notices = notices ∙ desk.no_notices;
+        marks = subst AreMarks (sym sets.rows_are) are;
+      };
+      tables = λ i. record { heads = heads_of (map head_read (heads i)); messages = messages_of (map message_read (messages i)); recipients = recipients_of (map recipient_read (recipients i)); lines = lines_of (map line_read (lines i)); marks = marks_of (map mark_read (sets.rows_are i)) };
       is_open = w.shown.is_open;
       was_open = w.shown.was_open;
       mode = w.shown.mode;

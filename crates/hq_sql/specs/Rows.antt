@@ -4,7 +4,7 @@ use Rattle.std.specs.List.{after_first, before_first}
 use Rattle.std.specs.Ordering.{int_eq}
 use Rattle.std.specs.Str.{bytes_eq}
 use Rattle.sqlite.specs.declared.types.Value.{Value}
-use Rattle.sqlite.specs.declared.types.Value.TheVariants.{Null, Int, Text}
+use Rattle.sqlite.specs.declared.types.Value.TheVariants.{Null, Int, Text, Blob}
 use Rattle.sqlite.specs.Order.{Row, column}
 use Rattle.hq_envelope.specs.Senders.{sender_text}
 use Rattle.hq_envelope.specs.declared.address.Sender.{Sender}
@@ -19,6 +19,7 @@ use Rattle.hq_queue.specs.declared.message.QueueState.{QueueState}
 use Rattle.hq_queue.specs.declared.message.QueueState.TheVariants.{Incoming, Deferred, Hold}
 use Rattle.hq_store.specs.declared.rows.HeadRow.{HeadRow}
 use Rattle.hq_store.specs.declared.rows.LineRow.{LineRow}
+use Rattle.hq_store.specs.declared.rows.MarkRow.{MarkRow}
 use Rattle.hq_store.specs.declared.rows.MessageRow.{MessageRow}
 use Rattle.hq_store.specs.declared.rows.RecipientRow.{RecipientRow}
 use Rattle.hq_keyed.specs.Values.{number}
@@ -28,6 +29,10 @@ use Rattle.hq_keyed.specs.Values.{number}
 abbrev pub text_in : Value → List ℕ
 text_in (Text t) = t
 text_in _ = []
+
+abbrev pub blob_in : Value → List ℕ
+blob_in (Blob b) = b
+blob_in _ = []
 
 abbrev pub number_in : Value → ℕ
 number_in (Int (pos n)) = n
@@ -158,6 +163,18 @@ line_read r = record {
   line = record { pattern = (class_of (text_in (column r 2)), text_in (column r 3)); action = action_of (text_in (column r 4)) };
 }
 
+abbrev pub mark_columns : MarkRow → Row
+mark_columns r = Text r.customer ∷ Text r.mark.label ∷ Blob r.mark.digest ∷ number r.mark.added ∷ number r.mark.changed ∷ number r.mark.same ∷ []
+
+abbrev pub mark_stored : ℤ × MarkRow → Row
+mark_stored k = Int k.0 ∷ mark_columns k.1
+
+abbrev pub mark_read : Row → MarkRow
+mark_read r = record {
+  customer = text_in (column r 1);
+  mark = record { label = text_in (column r 2); digest = blob_in (column r 3); added = number_in (column r 4); changed = number_in (column r 5); same = number_in (column r 6) };
+}
+
 -- ---- rows of answers, which have no rowid
 
 abbrev pub head_shown : Row → HeadRow
@@ -171,3 +188,6 @@ recipient_shown r = recipient_read (Null ∷ r)
 
 abbrev pub line_shown : Row → LineRow
 line_shown r = line_read (Null ∷ r)
+
+abbrev pub mark_shown : Row → MarkRow
+mark_shown r = mark_read (Null ∷ r)

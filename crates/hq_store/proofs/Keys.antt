@@ -79,10 +79,10 @@ pub unique_line_put : (rows : List LineRow) (r : LineRow) → AreUniqueLines row
 unfolding AreUniqueLines is_line
 unique_line_put rows r u = unique_put lines_total line_row_key rows r u
 
-mark_total : IsTotalOrder mark_cmp
+pub mark_total : IsTotalOrder mark_cmp
 mark_total = both_total nat_list_cmp_total nat_list_cmp_total
 
-mark_exact : CmpEqualImpliesEq mark_cmp
+pub mark_exact : CmpEqualImpliesEq mark_cmp
 mark_exact = both_exact exact_bytes exact_bytes
 
 pub mark_found : (rows : List MarkRow) (c label : List ℕ) → option_map mark_value (list.find (is_mark c label) rows) ≡ get (marks_of rows) (c, label)

@@ -13,6 +13,7 @@ use Rattle.hq_queue.specs.declared.message.QueueState.{QueueState}
 use Rattle.hq_queue.specs.declared.message.QueueState.TheVariants.{Incoming, Deferred, Hold}
 use Rattle.hq_desk.specs.declared.answer.Answer.{Answer}
 use Rattle.hq_desk.specs.declared.answer.Answer.TheVariants as answers
+use Rattle.hq_desk.specs.declared.answer.ImportCounts.{ImportCounts}
 use Rattle.hq_desk.specs.declared.answer.LinePut.{LinePut}
 use Rattle.hq_desk.specs.declared.answer.LinePut.TheVariants as put
 
@@ -82,6 +83,10 @@ match_shown (Some found) = codes " found" ++ word found.0 ++ word (action_text f
 abbrev pub checked : List (List ℕ) → Option (List ℕ × Action) → List ℕ
 checked keys found = codes "keys" ++ flat_map word keys ++ match_shown found
 
+-- how many rows added, changed and found a line
+abbrev pub imported : ImportCounts → List ℕ
+imported counts = codes "imported" ++ number counts.added ++ number counts.changed ++ number counts.same
+
 -- ---- every answer
 
 abbrev pub answer : Answer → List ℕ
@@ -97,3 +102,4 @@ answer (answers.LinesListed ls more) = lines ls more
 answer (answers.LinePut done) = codes "put " ++ put_word done
 answer answers.LineDropped = codes "dropped"
 answer (answers.Checked keys found) = checked keys found
+answer (answers.Imported counts) = imported counts

@@ -6,9 +6,9 @@ ghost use Rattle.hq_trial.specs.Shelves.{inner_of, trial_of};
 
 use crate::failure::{Failure, Trial};
 use hq_access::{Action, Class, Line, LookupKey, Pattern};
-use hq_envelope::{Fault, Items, Name, Serial, Spool};
+use hq_envelope::{Fault, Items, Label, Name, Serial, Spool};
 use hq_queue::{Counts, Head, Message};
-use hq_store::{Change, Shelf};
+use hq_store::{Change, Mark, Shelf};
 
 /// A shelf before another: it hands each call on, or fails it as told without handing it on.
 ///
@@ -129,6 +129,14 @@ impl<S: Shelf> Shelf for FailingShelf<S> {
         let answer = match self.trial.count() {
             Some(fault) => Err(fault),
             None => self.inner.lines(customer, after, limit),
+        };
+        self.trial.answer(answer)
+    }
+
+    fn mark(&mut self, customer: &Name, label: &Label) -> Result<Option<Mark>, Fault> {
+        let answer = match self.trial.count() {
+            Some(fault) => Err(fault),
+            None => self.inner.mark(customer, label),
         };
         self.trial.answer(answer)
     }

@@ -5,7 +5,7 @@ ghost use Rattle.hq_access.specs.Actions.{action_text};
 ghost use Rattle.hq_trial.specs.Texts as texts;
 
 use hq_access::{Action, Line, LookupKey, Refused};
-use hq_desk::{Answer, LinePut, Render};
+use hq_desk::{Answer, ImportCounts, LinePut, Render};
 use hq_queue::{Message, Pending, QueueState};
 use std::alloc::{AllocError, Global};
 
@@ -236,6 +236,17 @@ fn checked_text(
     Ok(text)
 }
 
+/// How many rows of an import added, changed and found a line.
+fn imported_text(alloc: Global, counts: &ImportCounts) -> Result<String, AllocError>
+    ensures { IfOk result (λ text. string_bytes text ≡ texts.imported counts.now) }
+{
+    let mut text = String::from_str(alloc, "imported")?;
+    push_number(alloc, &mut text, counts.added)?;
+    push_number(alloc, &mut text, counts.changed)?;
+    push_number(alloc, &mut text, counts.same)?;
+    Ok(text)
+}
+
 /// An answer in words.
 fn answer_text(alloc: Global, answer: &Answer) -> Result<String, AllocError>
     ensures { IfOk result (λ text. string_bytes text ≡ texts.answer answer.now) }
@@ -256,6 +267,7 @@ fn answer_text(alloc: Global, answer: &Answer) -> Result<String, AllocError>
         Answer::LinePut(done) => format!(in alloc; "put {}", put_word(*done)),
         Answer::LineDropped => String::from_str(alloc, "dropped"),
         Answer::Checked(keys, found) => checked_text(alloc, keys.as_slice(), found),
+        Answer::Imported(counts) => imported_text(alloc, counts),
     }
 }
 

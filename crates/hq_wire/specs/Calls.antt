@@ -6,7 +6,7 @@ use Rattle.hq_base.specs.declared.failure.Refusal.{Refusal}
 use Rattle.hq_base.specs.declared.failure.Refusal.TheVariants.{BodyTooLong, NoRoute, WrongMethod, BadField}
 use Rattle.hq_desk.specs.declared.call.Call.{Call}
 use Rattle.hq_desk.specs.declared.call.Call.TheVariants as call
-use Rattle.hq_bodies.specs.Tables.{read_pattern, read_line, read_check}
+use Rattle.hq_bodies.specs.Tables.{read_pattern, read_line, read_check, read_import}
 use Rattle.hq_json.specs.Submissions.{read_submission}
 use Rattle.hq_routes.specs.Routes.{path_of, last_segment}
 use Rattle.hq_routes.specs.declared.Path.{Path}
@@ -35,6 +35,7 @@ route_of path.LinesAfter method = at_method method (codes "POST") route.LinesAft
 route_of path.LinePut method = at_method method (codes "POST") route.PutLine None
 route_of path.LineDrop method = at_method method (codes "POST") route.DropLine None
 route_of path.Check method = at_method method (codes "POST") route.Check None
+route_of path.Import method = at_method method (codes "POST") route.Import None
 route_of path.Submit method = at_method method (codes "POST") route.Submit None
 
 abbrev pub is_for_relay : Route → Bool
@@ -68,6 +69,9 @@ asked_of route.DropLine segment body = do
 asked_of route.Check segment body = do
   asked ← read_check body
   Ok (call.Check asked.0 asked.1)
+asked_of route.Import segment body = do
+  asked ← read_import body
+  Ok (call.Import asked.0 asked.1)
 asked_of route.Submit segment body = do
   submission ← read_submission body
   Ok (call.Submit submission)

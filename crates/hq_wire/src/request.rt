@@ -9,7 +9,7 @@ ghost use Rattle.hq_wire.specs.Calls as calls;
 
 use crate::asked::Exchange;
 use crate::directory::Directory;
-use hq_bodies::{read_check, read_line, read_pattern};
+use hq_bodies::{read_check, read_import, read_line, read_pattern};
 use hq_desk::Call;
 use hq_envelope::{Fail, Refusal, Serial};
 use hq_json::read_submission;
@@ -52,6 +52,8 @@ pub(crate) enum Route {
     DropLine,
     /// What is found for the address of the body.
     Check,
+    /// The lines of the file of the body, taken into the access tables.
+    Import,
     /// A message for the queue.
     Submit,
 }
@@ -73,6 +75,7 @@ fn route_of(path: Path, method: &str) -> Option<Route>
         Path::LinePut if method == "POST" => Some(Route::PutLine),
         Path::LineDrop if method == "POST" => Some(Route::DropLine),
         Path::Check if method == "POST" => Some(Route::Check),
+        Path::Import if method == "POST" => Some(Route::Import),
         Path::Submit if method == "POST" => Some(Route::Submit),
         _ => None,
     }
@@ -119,6 +122,10 @@ fn asked_of(alloc: Global, route: Route, segment: &str, body: &[u8]) -> Result<C
         Route::Check => {
             let (class, who) = read_check(alloc, body)?;
             Ok(Call::Check(class, who))
+        }
+        Route::Import => {
+            let (label, file) = read_import(alloc, body)?;
+            Ok(Call::Import(label, file))
         }
         Route::Submit => Ok(Call::Submit(read_submission(alloc, body)?)),
     }
