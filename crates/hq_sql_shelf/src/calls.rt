@@ -3,11 +3,12 @@
 use crate::accounts;
 use crate::shelf::SqlShelf;
 use hq_access::{Action, Class, Line, LookupKey, Pattern};
-use hq_envelope::{Fault, Items, Name, Serial, Spool};
+use hq_envelope::{Fault, Items, Label, Name, Serial, Spool};
 use hq_queue::{Counts, Head, Message};
 use hq_sql::{line_pages, lines};
+use hq_sql_marks::marks;
 use hq_sql_queue::queued;
-use hq_store::{Change, Shelf};
+use hq_store::{Change, Mark, Shelf};
 use sqlite::Alter;
 
 impl<S: Alter> Shelf for SqlShelf<S> {
@@ -97,6 +98,16 @@ impl<S: Alter> Shelf for SqlShelf<S> {
         }
         match line_pages::page(self.alloc, &mut self.conn, customer, after, limit) {
             Ok(page) => Ok(page),
+            Err(error) => Err(self.give_up(error)),
+        }
+    }
+
+    fn mark(&mut self, customer: &Name, label: &Label) -> Result<Option<Mark>, Fault> {
+        if self.closed {
+            return Err(self.refuse());
+        }
+        match marks::mark(self.alloc, &mut self.conn, customer, label) {
+            Ok(found) => Ok(found),
             Err(error) => Err(self.give_up(error)),
         }
     }

@@ -15,6 +15,7 @@ use hq_access::{Line, Pattern};
 use hq_envelope::{Name, Serial};
 use hq_queue::Message;
 use hq_sql::lines;
+use hq_sql_marks::marks;
 use hq_sql_open::transaction::{begin, commit};
 use hq_sql_queue::{messages, recipients};
 use hq_store::Change;
@@ -102,6 +103,7 @@ fn make<S: Alter>(
         Change::DropMessage(serial) => drop_message(conn, customer, *serial),
         Change::PutLine(line) => put_line(alloc, conn, customer, line),
         Change::DropLine(pattern) => drop_line(conn, customer, pattern),
+        Change::PutMark(mark) => marks::put(conn, customer, mark),
     }
 }
 
