@@ -1,5 +1,5 @@
 -- What the statements on `marks` do.
-use Rattle.std.proofs.Common.{◌≡◌, ◌&&◌, ℕ, ℤ, pos, Bool, true, List, [], ◌∷◌, map, drop, slice_get, option_map, cond, Some, None, Option, Ok, IsTrue, refl, sym, ap, ◌∙◌, subst}
+use Rattle.std.proofs.Common.{◌≡◌, ℕ, ℤ, pos, Bool, true, false, List, [], ◌∷◌, drop, slice_get, option_map, cond, Some, None, Option, Ok, IsTrue, refl, sym, ap, ◌∙◌, subst}
 use Rattle.std.specs.List.{list_all}
 use Rattle.std.specs.Ordering.{eq_by_cmp}
 use Rattle.std.specs.Cmp.{tied_then}
@@ -26,8 +26,8 @@ use Rattle.hq_tables.proofs.Lists.{remove_is}
 use Rattle.hq_tables.proofs.Parts.{tied_true}
 use Rattle.hq_store.specs.declared.mark.Mark.{Mark}
 use Rattle.hq_store.specs.declared.rows.MarkRow.{MarkRow}
-use Rattle.hq_store.specs.Tables.{Tables, text_cmp, mark_cmp}
-use Rattle.hq_store.specs.Listed.{mark_key, mark_value, marks_of}
+use Rattle.hq_store.specs.Tables.{text_cmp, mark_cmp}
+use Rattle.hq_store.specs.Listed.{mark_key, mark_value}
 use Rattle.hq_store.proofs.Keys.{mark_total, mark_exact}
 use Rattle.hq_sql.specs.Rows.{mark_columns, mark_stored, mark_read, mark_shown}
 use Rattle.hq_sql.specs.Tables.{IsDesk, Leaves, tables_in}

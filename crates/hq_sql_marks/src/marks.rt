@@ -49,11 +49,7 @@ pub fn mark<S: Alter>(
 }
 
 /// Drops the mark of a label; nothing where there is none.
-fn remove<S: Alter>(
-    conn: &mut Connection<S>,
-    customer: &Name,
-    label: &Label,
-) -> Result<(), Error>
+fn remove<S: Alter>(conn: &mut Connection<S>, customer: &Name, label: &Label) -> Result<(), Error>
     ensures made { Makes (state S.Store conn.old) (state S.Store conn.new) result
         (without_mark (customer.now, label.now)) }
     ensures kept { KeepsCommitted (state S.Store conn.old) (state S.Store conn.new) }
@@ -90,5 +86,6 @@ pub fn put<S: Alter>(conn: &mut Connection<S>, customer: &Name, mark: &Mark) -> 
     ensures kept { KeepsCommitted (state S.Store conn.old) (state S.Store conn.new) }
 {
     remove(conn, customer, &mark.label)?;
-    insert(conn, customer, mark)
+    insert(conn, customer, mark)?;
+    Ok(())
 }
