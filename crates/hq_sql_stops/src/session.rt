@@ -1,15 +1,31 @@
-//! A submission, a hold and a deletion, as calls of a desk on any shelf, and all that the shelf
+//! Calls of a desk on any shelf, on queued mail or on the access tables, and all that the shelf
 //! keeps of the customer, in words.
 
+use hq_access::{Action, Class, Line, Pattern};
 use hq_desk::{Answer, Call, Desk, Render, Submission};
-use hq_envelope::{Address, Host, Items, Moment, Name, Sender, Serial, Spool};
+use hq_envelope::{Address, Host, Items, Label, Moment, Name, Sender, Serial, Spool};
 use hq_queue::{Counts, Entry, Head, Message, Pending, Quota, Tally};
-use hq_store::Shelf;
+use hq_store::{Mark, Shelf};
 use std::alloc::{AllocError, Global};
 use std::test::Fail;
 
-/// How many calls there are.
+/// Which calls are made.
+#[derive(Clone, Copy, Debug, PartialEq, Eq, Drop)]
+pub enum Session {
+    /// A submission, a hold and a deletion.
+    Queue,
+    /// A line put, an import that changes it and adds another, and the line dropped.
+    Table,
+}
+
+/// How many calls there are in each.
 pub const CALLS: usize = 3;
+
+/// The file of the import.
+const FILE: &str = "class,pattern,action\nrecipient,bob@,REJECT\nsender,a.example,HOLD\n";
+
+/// Its label.
+const LABEL: &str = "jan";
 
 /// The customer.
 const CUSTOMER: &str = "acme";
@@ -61,12 +77,33 @@ fn first_serial() -> Result<Serial, Fail> {
     Ok(Serial::new(1).ok_or("no serial")?)
 }
 
+/// The pattern of the line that is put, changed and dropped.
+fn pattern(alloc: Global) -> Result<Pattern, Fail> {
+    Ok(Pattern::parse(alloc, Class::SenderSide, "a.example")?)
+}
+
+fn line(alloc: Global) -> Result<Line, Fail> {
+    Ok(Line {
+        pattern: pattern(alloc)?,
+        action: Action::parse(alloc, "OK")?,
+    })
+}
+
+fn import(alloc: Global) -> Result<Call, Fail> {
+    let label = Label::parse(alloc, LABEL)?;
+    let file = String::from_str(alloc, FILE)?;
+    Ok(Call::Import(label, Items::from_vec(file.into_bytes())))
+}
+
 /// The calls, from 0 on.
-fn call(alloc: Global, index: usize) -> Result<Call, Fail> {
-    match index {
-        0 => Ok(Call::Submit(submission(alloc)?)),
-        1 => Ok(Call::Hold(first_serial()?)),
-        _ => Ok(Call::Delete(first_serial()?)),
+fn call(alloc: Global, session: Session, index: usize) -> Result<Call, Fail> {
+    match (session, index) {
+        (Session::Queue, 0) => Ok(Call::Submit(submission(alloc)?)),
+        (Session::Queue, 1) => Ok(Call::Hold(first_serial()?)),
+        (Session::Queue, _) => Ok(Call::Delete(first_serial()?)),
+        (Session::Table, 0) => Ok(Call::PutLine(line(alloc)?)),
+        (Session::Table, 1) => import(alloc),
+        (Session::Table, _) => Ok(Call::DropLine(pattern(alloc)?)),
     }
 }
 
@@ -85,11 +122,12 @@ fn is_acknowledged<S: Shelf + Drop>(
 fn acknowledged<S: Shelf + Drop>(
     alloc: Global,
     desk: &mut Desk<S>,
+    session: Session,
     calls: usize,
 ) -> Result<usize, Fail> {
     let entry = entry(alloc)?;
     for index in 0..calls {
-        if !is_acknowledged(alloc, desk, &entry, call(alloc, index)?)? {
+        if !is_acknowledged(alloc, desk, &entry, call(alloc, session, index)?)? {
             return Ok(index);
         }
     }
@@ -150,7 +188,32 @@ fn messages_text(alloc: Global, front: &str, messages: &[Message]) -> Result<Str
     Ok(text)
 }
 
-/// All that a shelf keeps of the customer: its account, the first message, and all messages.
+/// Lines, each behind a word.
+fn lines_text(alloc: Global, lines: &[Line]) -> Result<String, AllocError> {
+    let mut text = String::new(alloc);
+    for line in lines {
+        let (class, pattern) = (line.pattern.class().name(), line.pattern.as_str());
+        let action = line.action.text(alloc)?;
+        let shown = format!(in alloc; " line {class} {pattern} {}", action.as_str())?;
+        text.push_str(shown.as_str())?;
+    }
+    Ok(text)
+}
+
+/// What is kept of an import, behind a word.
+fn mark_text(alloc: Global, mark: &Mark) -> Result<String, AllocError> {
+    let Mark {
+        label,
+        added,
+        changed,
+        same,
+        ..
+    } = mark;
+    format!(in alloc; " import {} {added} {changed} {same}", label.as_str())
+}
+
+/// All that a shelf keeps of the customer: its account, the first message, all messages, lines and
+/// the import.
 fn kept<S: Shelf>(alloc: Global, shelf: &mut S) -> Result<String, Fail> {
     let customer = Name::parse(alloc, CUSTOMER)?;
     let head = shelf.head(&customer)?;
@@ -161,6 +224,11 @@ fn kept<S: Shelf>(alloc: Global, shelf: &mut S) -> Result<String, Fail> {
     }
     let messages = shelf.messages(&customer, None, 10)?;
     text.push_str(messages_text(alloc, " all", messages.as_slice())?.as_str())?;
+    let lines = shelf.lines(&customer, None, 10)?;
+    text.push_str(lines_text(alloc, lines.as_slice())?.as_str())?;
+    if let Some(mark) = shelf.mark(&customer, &Label::parse(alloc, LABEL)?)? {
+        text.push_str(mark_text(alloc, &mark)?.as_str())?;
+    }
     Ok(text)
 }
 
@@ -203,14 +271,15 @@ fn told_by<S: Shelf>(
 }
 
 /// The first calls over a desk on a shelf that was opened, and the shelf again.
-pub fn session<S: Shelf + Drop>(
+pub fn outcome_of<S: Shelf + Drop>(
     alloc: Global,
     shelf: S,
     host: Host,
+    session: Session,
     calls: usize,
 ) -> (Result<Outcome, Fail>, S) {
     let mut desk = Desk::new(shelf, host);
-    let told = acknowledged(alloc, &mut desk, calls);
+    let told = acknowledged(alloc, &mut desk, session, calls);
     let mut shelf = desk.into_shelf();
     let outcome = told_by(alloc, &mut shelf, told, calls);
     (outcome, shelf)

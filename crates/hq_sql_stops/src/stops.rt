@@ -7,7 +7,7 @@
 //! process alone stopped, so that all that was written is there, and where the power went, so that
 //! what was not synced is gone.
 
-use crate::session::{CALLS, Outcome, session};
+use crate::session::{CALLS, Outcome, Session, outcome_of};
 use hq_envelope::Host;
 use hq_sql_shelf::SqlShelf;
 use sqlite::{Alter, Connection, FileStore, Files, Options};
@@ -21,7 +21,7 @@ const NO_STOP: u64 = 1_000_000;
 
 /// What is kept once nothing, the opening, the submission, the hold and the deletion are
 /// acknowledged.
-const KEPT: [&str; 5] = [
+const KEPT_OF_THE_QUEUE: [&str; 5] = [
     "next 1 1 tally 0 0 0 0 0 keeps 0 0 0",
     "next 1 1 tally 0 0 0 0 0 keeps 0 0 0",
     "next 2 1 tally 2 0 0 0 0 keeps 1 900 0 \
@@ -36,6 +36,25 @@ const KEPT: [&str; 5] = [
      bob@far.example false () cat@far.example false ()",
     "next 2 1 tally 2 0 0 2 0 keeps 0 0 0",
 ];
+
+/// What is kept once nothing, the opening, the put of a line, the import and the drop of the line
+/// are acknowledged.
+const KEPT_OF_THE_TABLE: [&str; 5] = [
+    "next 1 1 tally 0 0 0 0 0 keeps 0 0 0",
+    "next 1 1 tally 0 0 0 0 0 keeps 0 0 0",
+    "next 1 1 tally 0 0 0 0 0 keeps 0 0 1 line sender a.example OK",
+    "next 1 1 tally 0 0 0 0 0 keeps 0 0 2 line recipient bob@ REJECT line sender a.example HOLD \
+     import jan 1 1 0",
+    "next 1 1 tally 0 0 0 0 0 keeps 0 0 1 line recipient bob@ REJECT import jan 1 1 0",
+];
+
+/// What is kept after the steps of a session.
+fn kept_of(session: Session) -> [&'static str; 5] {
+    match session {
+        Session::Queue => KEPT_OF_THE_QUEUE,
+        Session::Table => KEPT_OF_THE_TABLE,
+    }
+}
 
 /// A connection to these files, or the files again where they are not opened.
 fn connected<D: Disk + Drop>(
@@ -72,11 +91,11 @@ fn over<S: Alter + Drop>(
     alloc: Global,
     conn: Connection<S>,
     host: Host,
-    calls: usize,
+    calls: (Session, usize),
 ) -> (Result<Outcome, Fail>, S) {
     match adopted(alloc, conn) {
         Ok(shelf) => {
-            let (outcome, shelf) = session(alloc, shelf, host, calls);
+            let (outcome, shelf) = outcome_of(alloc, shelf, host, calls.0, calls.1);
             (outcome, store_of(shelf))
         }
         Err(store) => (Ok(Outcome::nothing(alloc)), store),
@@ -88,7 +107,7 @@ fn over_files<D: Disk + Drop>(
     alloc: Global,
     files: Files<D>,
     checkpoint_frames: usize,
-    calls: usize,
+    calls: (Session, usize),
 ) -> Result<(Outcome, Files<D>), Fail> {
     let host = Host::parse(alloc, "relay.example")?;
     match connected(alloc, files, checkpoint_frames) {
@@ -114,7 +133,7 @@ fn found(alloc: Global, files: &Files<Fuse<Memory>>) -> Result<String, Fail> {
         log: copied(alloc, &files.log)?,
         db: copied(alloc, &files.db)?,
     };
-    let (outcome, _) = over_files(alloc, copies, 1_000, 0)?;
+    let (outcome, _) = over_files(alloc, copies, 1_000, (Session::Queue, 0))?;
     Ok(outcome.kept)
 }
 
@@ -133,6 +152,7 @@ fn fused(alloc: Global, calls: u64) -> Fuse<Memory> {
 /// How much is acknowledged over new files that stop after so many calls, and the files.
 fn stopped(
     alloc: Global,
+    session: Session,
     calls: (u64, u64),
     checkpoint_frames: usize,
 ) -> Result<(usize, Files<Fuse<Memory>>), Fail> {
@@ -140,18 +160,20 @@ fn stopped(
         log: fused(alloc, calls.0),
         db: fused(alloc, calls.1),
     };
-    let (outcome, left) = over_files(alloc, files, checkpoint_frames, CALLS)?;
+    let (outcome, left) = over_files(alloc, files, checkpoint_frames, (session, CALLS))?;
     Ok((outcome.told, left))
 }
 
 /// What is found is what is kept after all that was acknowledged, or after one call more.
 fn expect_kept(
     rt: &(impl Abort + AllocGlobal),
+    session: Session,
     told: usize,
     files: &Files<Fuse<Memory>>,
 ) -> Result<(), Fail> {
     let found = found(rt.alloc(), files)?;
-    let (before, after) = (KEPT.get(told), KEPT.get(told.saturating_add(1)));
+    let kept = kept_of(session);
+    let (before, after) = (kept.get(told), kept.get(told.saturating_add(1)));
     let is_expected = before == Some(&found.as_str()) || after == Some(&found.as_str());
     assert!(rt; is_expected, "{told} acknowledged: {found}");
     Ok(())
@@ -161,6 +183,7 @@ fn expect_kept(
 /// the opening and in each call of the desk, and an end at which all is acknowledged.
 fn stop_at_all(
     rt: &(impl Abort + AllocGlobal),
+    session: Session,
     on_log: bool,
     checkpoint_frames: usize,
 ) -> Result<(), Fail> {
@@ -171,9 +194,9 @@ fn stop_at_all(
         } else {
             (NO_STOP, count)
         };
-        let (told, left) = stopped(rt.alloc(), calls, checkpoint_frames)?;
-        expect_kept(rt, told, &left)?;
-        expect_kept(rt, told, &without_power(left))?;
+        let (told, left) = stopped(rt.alloc(), session, calls, checkpoint_frames)?;
+        expect_kept(rt, session, told, &left)?;
+        expect_kept(rt, session, told, &without_power(left))?;
         if let Some(met) = met.get_mut(told) {
             *met = true;
         }
@@ -187,17 +210,20 @@ fn stop_at_all(
 
 #[test]
 fn stops_of_the_log(rt: HostRuntime) -> Result<(), Fail> {
-    stop_at_all(&rt, true, 1_000)
+    stop_at_all(&rt, Session::Queue, true, 1_000)?;
+    stop_at_all(&rt, Session::Table, true, 1_000)
 }
 
 /// The log is copied into the database file after each commit.
 #[test]
 fn stops_of_the_log_that_is_copied(rt: HostRuntime) -> Result<(), Fail> {
-    stop_at_all(&rt, true, 1)
+    stop_at_all(&rt, Session::Queue, true, 1)?;
+    stop_at_all(&rt, Session::Table, true, 1)
 }
 
 /// The log is copied into the database file after each commit, and so the file has more calls.
 #[test]
 fn stops_of_the_database_file(rt: HostRuntime) -> Result<(), Fail> {
-    stop_at_all(&rt, false, 1)
+    stop_at_all(&rt, Session::Queue, false, 1)?;
+    stop_at_all(&rt, Session::Table, false, 1)
 }

@@ -9,9 +9,9 @@ use crate::PlainText;
 use crate::plain_text::message_text;
 use hq_access::{Action, Class, Line, Pattern};
 use hq_desk::{Call, Desk, Rendered, Submission};
-use hq_envelope::{Address, Fault, Host, Items, Moment, Name, Sender, Serial, Spool};
+use hq_envelope::{Address, Fault, Host, Items, Label, Moment, Name, Sender, Serial, Spool};
 use hq_queue::{Counts, Entry, Head, Message, Quota};
-use hq_store::Shelf;
+use hq_store::{Mark, Shelf};
 use std::alloc::{AllocError, Global};
 use std::test::Fail;
 
@@ -104,6 +104,7 @@ fn call(alloc: Global, line: &str) -> Result<Call, Fail> {
         "put" => Ok(Call::PutLine(table_line(alloc, line)?)),
         "drop" => Ok(Call::DropLine(pattern(alloc, line)?)),
         "check" => Ok(Call::Check(class(line), sender(alloc, word(line, 4))?)),
+        "import" => import(alloc, line),
         kind => call_at(kind, serial(word(line, 3))?),
     }
 }
@@ -129,6 +130,17 @@ fn table_line(alloc: Global, line: &str) -> Result<Line, Fail> {
         pattern: pattern(alloc, line)?,
         action: Action::parse(alloc, action)?,
     })
+}
+
+/// `LABEL CLASS,PATTERN,ACTION;..` from the fourth word on: the rows of the file under its header.
+fn import(alloc: Global, line: &str) -> Result<Call, Fail> {
+    let mut file = String::from_str(alloc, "class,pattern,action\n")?;
+    for row in line.splitn(5, ' ').nth(4).unwrap_or("").split(';') {
+        file.push_str(row)?;
+        file.push_str("\n")?;
+    }
+    let label = Label::parse(alloc, word(line, 3))?;
+    Ok(Call::Import(label, Items::from_vec(file.into_bytes())))
 }
 
 fn call_at(kind: &str, serial: Serial) -> Result<Call, Fail> {
@@ -184,6 +196,30 @@ fn messages_text(alloc: Global, messages: &[Message]) -> Result<String, AllocErr
     Ok(text)
 }
 
+/// Lines, each behind a word.
+fn lines_text(alloc: Global, lines: &[Line]) -> Result<String, AllocError> {
+    let mut text = String::new(alloc);
+    for line in lines {
+        let (class, pattern) = (line.pattern.class().name(), line.pattern.as_str());
+        let action = line.action.text(alloc)?;
+        let shown = format!(in alloc; " line {class} {pattern} {}", action.as_str())?;
+        text.push_str(shown.as_str())?;
+    }
+    Ok(text)
+}
+
+/// What is kept of an import, behind a word; nothing where it was not made.
+fn mark_text(alloc: Global, found: Option<Mark>) -> Result<String, AllocError> {
+    let Some(mark) = found else {
+        return Ok(String::new(alloc));
+    };
+    let (added, changed, same) = (mark.added, mark.changed, mark.same);
+    format!(in alloc; " import {} {added} {changed} {same}", mark.label.as_str())
+}
+
+/// The labels of the imports of these tests.
+const LABELS: [&str; 2] = ["jan", "feb"];
+
 /// All that a shelf keeps of a customer, read back.
 fn kept<S: Shelf>(alloc: Global, shelf: &mut S, customer: &str) -> Result<String, Fail> {
     let name = Name::parse(alloc, customer)?;
@@ -191,7 +227,14 @@ fn kept<S: Shelf>(alloc: Global, shelf: &mut S, customer: &str) -> Result<String
     let counts = shelf.counts(&name)?;
     let messages = shelf.messages(&name, None, 1_000)?;
     let messages = messages_text(alloc, messages.as_slice())?;
-    Ok(format!(in alloc; "{head:?} {counts:?}{messages}")?)
+    let lines = shelf.lines(&name, None, 5_000)?;
+    let lines = lines_text(alloc, lines.as_slice())?;
+    let mut text = format!(in alloc; "{head:?} {counts:?}{messages}{lines}")?;
+    for label in LABELS {
+        let mark = shelf.mark(&name, &Label::parse(alloc, label)?)?;
+        text.push_str(mark_text(alloc, mark)?.as_str())?;
+    }
+    Ok(text)
 }
 
 /// How much a shelf keeps of a customer, by its head and its counts.

@@ -98,9 +98,55 @@ const REDIRECTED: &[(&str, &str)] = &[
     ),
 ];
 
+/// An import counts its rows by the lines before it, and is done once for its label; a bad row, a
+/// quota passed and a label used leave all as it was.
+const IMPORTED: &[(&str, &str)] = &[
+    ("0 acme put sender a.example OK", "0 put added"),
+    (
+        "0 acme import jan sender,a.example,HOLD;sender,<>,DISCARD;recipient,bob@,REJECT",
+        "0 imported 2 1 0",
+    ),
+    ("0 acme put sender a.example REJECT", "0 put changed"),
+    (
+        "0 acme import jan sender,a.example,HOLD;sender,<>,DISCARD;recipient,bob@,REJECT",
+        "0 imported 2 1 0",
+    ),
+    (
+        "0 acme lines",
+        "0 lines recipient bob@ REJECT sender <> DISCARD sender a.example REJECT end",
+    ),
+    (
+        "0 acme import jan sender,a.example,HOLD",
+        "52 refused 52 LabelUsed",
+    ),
+    (
+        "0 acme import feb sender,a.example,HOLD;sender,A.example,OK;sender,b,BOUNCE",
+        "51 refused 51 DoubledPattern row 2",
+    ),
+    (
+        "0 acme import feb sender,b,OK;sender,b..c,OK",
+        "50 refused 50 BadCsv row 2",
+    ),
+    (
+        "0 acme import feb sender,b,OK;sender,c,OK;sender,d,OK;sender,e,OK;sender,f,OK;sender,g,OK;\
+         sender,h,OK;sender,i,OK",
+        "42 refused 42 QuotaLines",
+    ),
+    (
+        "0 acme import feb sender,b,OK;sender,<>,discard;sender,c,OK;sender,d,OK;sender,e,OK;\
+         sender,f,OK;sender,g,OK;sender,h,OK",
+        "0 imported 7 0 1",
+    ),
+    ("0 birch import jan sender,b,OK", "0 imported 1 0 0"),
+    (
+        "0 birch count",
+        "next 1 accepted 0 messages 0 bytes 0 lines 1",
+    ),
+];
+
 #[test]
 fn tables(rt: HostRuntime) -> Result<(), Fail> {
-    for rows in [COUNTED, REDIRECTED] {
+    for rows in [COUNTED, REDIRECTED, IMPORTED] {
         expect_answers(&rt, ListShelf::new(rt.alloc()), rows)?;
     }
     Ok(())
@@ -111,6 +157,7 @@ const BEFORE: &[&str] = &[
     "0 acme put recipient x@r REJECT",
     "0 acme put recipient r HOLD",
     "0 birch put recipient y@r DISCARD",
+    "0 acme import jan recipient,z@r,OK",
 ];
 
 /// A submission with three recipients, which makes 15 calls of the shelf, and a call of each kind on
@@ -122,6 +169,8 @@ const CALLS: &[&str] = &[
     "3 acme drop recipient r",
     "3 acme lines",
     "3 acme check recipient y@r",
+    "3 acme import feb recipient,r,DISCARD;recipient,x@r,REJECT;sender,a,OK",
+    "3 acme import jan recipient,z@r,OK",
 ];
 
 #[test]
