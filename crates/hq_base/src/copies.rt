@@ -1,9 +1,10 @@
 //! Copies of values that own memory, and lists of values as contracts see them.
 
-ghost use Rattle.std.specs.Prelude.{◌≡◌, ◌==◌, IfOk, length};
+ghost use Rattle.std.specs.Prelude.{◌≡◌, ◌==◌, [], IfOk, length};
 
 use std::alloc::{AllocError, Global};
 use std::marker::Model;
+use std::mem;
 
 /// A value that can be copied where memory allows.
 pub trait TryCopy: Sized + Drop {
@@ -74,6 +75,15 @@ impl<T> Items<T> {
         ensures { result.items ≡ self }
     {
         self.values
+    }
+
+    /// Takes the values out, without taking memory: the list is empty then.
+    pub fn take(&mut self) -> Vec<T>
+        ensures taken { result.items ≡ self.old }
+        ensures empty { self.new ≡ [] }
+    {
+        let alloc = *self.values.allocator();
+        mem::replace(&mut self.values, Vec::new(alloc))
     }
 }
 

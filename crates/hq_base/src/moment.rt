@@ -2,6 +2,7 @@
 
 ghost use Rattle.std.specs.Prelude.{◌≡◌, ◌≤◌};
 ghost use Rattle.std.specs.Option.{SomeIff};
+ghost use Rattle.hq_base.specs.Moments.{no_later};
 
 use std::marker::Model;
 
@@ -35,6 +36,15 @@ impl Moment {
             Some(Moment { seconds })
         } else {
             None
+        }
+    }
+
+    /// The moment of so many seconds, or the last one where they are past it.
+    pub fn no_later(seconds: u64) -> Moment
+        ensures { result ≡ no_later seconds }
+    {
+        Moment {
+            seconds: seconds.min(LAST_MOMENT),
         }
     }
 

@@ -1,23 +1,15 @@
 -- Addresses without the later ones that are the same.
 use Rattle.std.proofs.Common.{◌≡◌, ℕ, Bool, true, false, cond, not, ◌&&◌, ◌||◌, List, [], ◌∷◌, ◌++◌, filter, sym, refl, ap, ◌∙◌}
-use Rattle.std.specs.Prelude.{IsTrue, ◌↔◌, if◌then◌else◌}
+use Rattle.std.specs.Prelude.{if◌then◌else◌}
 use Rattle.std.specs.List.{list_any}
 use Rattle.std.specs.Ordering.{eq_by_cmp}
-use Rattle.std.specs.Cmp.Lexicographic.{nat_list_cmp_total}
-use Rattle.std.proofs.lemmas.Bool.{false≢true}
 use Rattle.std.proofs.lemmas.List.Elements.{filter-append}
 use Rattle.std.proofs.lemmas.Map.Lookups.{exact_bytes}
 use Rattle.std.proofs.lemmas.Map.Views.{tells_apart, any-filter_same}
 use Rattle.hq_envelope.specs.Addresses.{folded}
 use Rattle.hq_store.specs.Tables.{text_cmp}
 use Rattle.hq_store.specs.Sound.{same_address}
-use Rattle.hq_tables.proofs.Parts.{tied_true, tied_false}
 use Rattle.hq_desk.specs.Submissions.{distinct}
-
--- a test that holds exactly where the folded texts are equal is the test of sameness
-pub same_is : (r : Bool) (a b : List ℕ) → (IsTrue r ↔ (folded a ≡ folded b)) → r ≡ same_address a b
-same_is true a b h = sym (ap (λ x. eq_by_cmp text_cmp (folded a) x) (sym (h.0 refl)) ∙ tied_true nat_list_cmp_total (folded a))
-same_is false a b h = sym (tied_false exact_bytes (folded a) (folded b) (λ e. absurd (false≢true (h.1 e))))
 
 -- the same addresses are the same to a third
 alike : (x k a : List ℕ) → same_address k a ≡ true → not (same_address x k) ≡ not (same_address x a)

@@ -2,7 +2,9 @@
 use Rattle.std.specs.Prelude.{ℕ, Bool, false, ◌&&◌, ◌||◌, not, ◌==◌, nat_lt, nat_le, List, [], ◌∷◌, length, map, if◌then◌else◌, Option, Some, None, Result}
 use Rattle.std.specs.Option.{option_map_or}
 use Rattle.std.specs.Char.{to_ascii_lowercase}
+use Rattle.std.specs.Cmp.Lexicographic.{slice_cmp}
 use Rattle.std.specs.List.{list_all, slice_split}
+use Rattle.std.specs.Ordering.{nat_cmp, eq_by_cmp}
 use Rattle.hq_base.specs.Readers.{checked}
 use Rattle.hq_base.specs.declared.failure.Refusal.{Refusal}
 use Rattle.hq_base.specs.declared.failure.Refusal.TheVariants.{BadAddress}
@@ -62,3 +64,7 @@ domain_of bytes = option_map_or (λ parts. parts.1) (parts_of bytes) []
 -- A to Z in lower case; two addresses are the same where their folded texts are equal (access(5) folds so)
 abbrev pub folded : List ℕ → List ℕ
 folded bytes = map to_ascii_lowercase bytes
+
+-- equal but for the case of ASCII letters, as a test
+abbrev pub same_address : List ℕ → List ℕ → Bool
+same_address a b = eq_by_cmp (slice_cmp nat_cmp) (folded a) (folded b)

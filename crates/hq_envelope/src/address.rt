@@ -1,7 +1,7 @@
 //! Mail addresses and senders: RFC 5321, 4.1.2, without quoted local parts and domain literals.
 
 ghost use Rattle.std.specs.Prelude.{◌≡◌, ◌↔◌, IsTrue, IfOk, MatchOption, Some, None, Ok, string_bytes};
-ghost use Rattle.hq_envelope.specs.Addresses.{is_local_byte, is_label_byte, is_local, is_domain_label, is_domain, is_address, address_in, parts_of, local_of, domain_of, folded};
+ghost use Rattle.hq_envelope.specs.Addresses.{is_local_byte, is_label_byte, is_local, is_domain_label, is_domain, is_address, address_in, parts_of, local_of, domain_of, folded, same_address};
 ghost use Rattle.hq_base.specs.Readers.{Reads};
 ghost use Rattle.hq_envelope.specs.Senders.{sender_in, sender_text};
 
@@ -68,6 +68,14 @@ pub fn is_address(text: &str) -> bool
             None => false,
             Some((local, domain)) => is_local(local.as_bytes()) && is_domain(domain),
         }
+}
+
+/// Whether two texts are equal but for the case of ASCII letters.
+fn are_same(one: &str, other: &str) -> bool
+    ensures same { IsTrue result ↔ (folded one.now ≡ folded other.now) }
+    ensures test { result ≡ same_address one.now other.now }
+{
+    one.eq_ignore_ascii_case(other)
 }
 
 /// A mail address, in the spelling that it was given: at most 254 bytes, a local part, `@`, and a
@@ -143,9 +151,10 @@ impl Address {
 
     /// Whether both are the same address: equal but for the case of ASCII letters.
     pub fn same(&self, other: &Address) -> bool
-        ensures { IsTrue result ↔ (folded self.now ≡ folded other.now) }
+        ensures same { IsTrue result ↔ (folded self.now ≡ folded other.now) }
+        ensures test { result ≡ same_address self.now other.now }
     {
-        self.text.as_str().eq_ignore_ascii_case(other.text.as_str())
+        are_same(self.text.as_str(), other.text.as_str())
     }
 }
 

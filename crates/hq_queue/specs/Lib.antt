@@ -1,4 +1,7 @@
 pub mod Admission
+pub mod Attempts
+pub mod Backoff
 pub mod Limits
 pub mod Moves
 pub mod Statuses
+pub mod Sweeps

@@ -1,6 +1,7 @@
 -- The moves of a message (postsuper(1)): each gives the message after it, or nothing where it does not apply.
-use Rattle.std.specs.Prelude.{ℕ, ◌≡◌, Bool, true, false, Option, Some, None, if◌then◌else◌}
+use Rattle.std.specs.Prelude.{ℕ, ◌≡◌, Bool, true, false, not, ◌&&◌, nat_le, [], map, Option, Some, None, if◌then◌else◌}
 use Rattle.hq_queue.specs.declared.message.Message.{Message}
+use Rattle.hq_queue.specs.declared.message.Pending.{Pending}
 use Rattle.hq_queue.specs.declared.message.QueueState.{QueueState}
 use Rattle.hq_queue.specs.declared.message.QueueState.TheVariants.{Incoming, Deferred, Hold}
 
@@ -16,6 +17,18 @@ held m = if is_on_hold m.state then None else Some (record m { state = Hold })
 -- release (-H): a message on hold is deferred, and may be tried from that moment on
 abbrev pub released : ℕ → Message → Option Message
 released at m = if is_on_hold m.state then Some (record m { state = Deferred; next_try = at }) else None
+
+-- a recipient as before any attempt
+abbrev pub cleared : Pending → Pending
+cleared p = record p { status = None; text = [] }
+
+-- requeue (-r): as if it were submitted at that moment, under another serial
+abbrev pub requeued : ℕ → ℕ → Message → Message
+requeued at serial m = record m { serial = serial; arrival = at; state = Incoming; next_try = at; attempts = 0; warned = false; pending = map cleared m.pending }
+
+-- incoming or deferred, and to be tried by that moment
+abbrev pub is_due : ℕ → Message → Bool
+is_due at m = not (is_on_hold m.state) && nat_le m.next_try at
 
 -- What a call makes of a message, by a move: true, and the message is the move's; or false where the move does
 -- not apply, and the message is as it was.

@@ -1,17 +1,28 @@
-//! Queued messages of one customer: what they are, how they move, and when a new one is admitted,
-//! in the words of postsuper(1). The crate is pure: it knows no store, no clock and no wire.
+//! Queued messages of one customer: what they are, how they move, when a new one is admitted, what
+//! the report of an attempt makes of one, and what its age does, in the words of postsuper(1) and
+//! qmgr(8). The crate is pure: it knows no store, no clock and no wire.
 #![tactic(auto)]
 
 mod account;
 mod admission;
 mod attempt;
+mod backoff;
 mod message;
 mod moves;
+mod outcome;
+mod renewal;
+mod reports;
 mod status;
+mod sweep;
 
 pub use account::{Counts, Customer, Entry, Head, Quota, Tally};
 pub use admission::admit;
 pub use attempt::Attempt;
+pub use backoff::next_try;
 pub use message::{Message, Pending, QueueState};
-pub use moves::{hold, release};
+pub use moves::{due, hold, release};
+pub use outcome::{Delivery, Outcome, Reported, Told};
+pub use renewal::requeue;
+pub use reports::report;
 pub use status::Status;
+pub use sweep::{Swept, sweep_one};

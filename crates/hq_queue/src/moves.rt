@@ -1,7 +1,8 @@
 //! The moves that a customer makes with a message of its own (postsuper(1)). What a report, an
 //! attempt or the passing of time does to a message is not said here.
 
-ghost use Rattle.hq_queue.specs.Moves.{held, released, Makes};
+ghost use Rattle.std.specs.Prelude.{◌≡◌};
+ghost use Rattle.hq_queue.specs.Moves.{held, released, is_due, Makes};
 
 use crate::message::{Message, QueueState};
 use hq_envelope::Moment;
@@ -37,4 +38,12 @@ pub fn release(message: &mut Message, at: Moment) -> bool
         }
         QueueState::Incoming | QueueState::Deferred => false,
     }
+}
+
+/// Whether a message may be tried at a moment: it is incoming or deferred, and its next try is not
+/// later. Takes no memory.
+pub fn due(message: &Message, at: Moment) -> bool
+    ensures { result ≡ is_due at message.now }
+{
+    message.state != QueueState::Hold && message.next_try <= at
 }

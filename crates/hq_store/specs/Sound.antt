@@ -1,18 +1,14 @@
 -- What holds of the tables, and of every customer's state, after any calls of a desk.
-use Rattle.std.specs.Prelude.{◌≡◌, ℕ, suc, ◌+◌, ◌-◌, ◌*◌, ◌^◌, ◌<◌, ◌≤◌, Bool, List, [], ◌∷◌, length, map, Some, None}
+use Rattle.std.specs.Prelude.{◌≡◌, ℕ, suc, ◌+◌, ◌-◌, ◌*◌, ◌^◌, ◌<◌, ◌≤◌, List, [], ◌∷◌, length, map, Some, None}
 use Rattle.std.specs.List.{sum_by, IsDistinct}
-use Rattle.std.specs.Ordering.{nat_cmp, eq_by_cmp}
+use Rattle.std.specs.Ordering.{nat_cmp}
 use Rattle.std.specs.FinMap.{get, len, entries, values}
-use Rattle.hq_envelope.specs.Addresses.{folded}
+pub use Rattle.hq_envelope.specs.Addresses.{same_address}
 use Rattle.hq_queue.specs.declared.message.Message.{Message}
 use Rattle.hq_queue.specs.declared.message.Pending.{Pending}
 use Rattle.hq_store.specs.Tables.{State, Tables, text_cmp, own, account, pending_of}
 use Rattle.hq_store.specs.Readings.{kept_in}
 use Rattle.hq_tables.specs.Owned.{part_of}
-
--- equal but for the case of ASCII letters
-abbrev pub same_address : List ℕ → List ℕ → Bool
-same_address a b = eq_by_cmp text_cmp (folded a) (folded b)
 
 -- no two recipients have the same address
 abbrev pub AreApart : List Pending → Type 0

@@ -1,0 +1,86 @@
+//! What a delivery attempt came to, recipient by recipient, and what is answered to its report.
+
+use crate::status::Status;
+use hq_envelope::{Address, Items, Text, TryCopy};
+use std::alloc::{AllocError, Global};
+
+/// What became of one recipient in an attempt.
+#[derive(Drop)]
+pub enum Delivery {
+    /// It was delivered.
+    Delivered,
+    /// It is to be tried again: the status, and what the remote server said.
+    Deferred(Status, Text),
+    /// It failed for good: the status, and what the remote server said.
+    Failed(Status, Text),
+}
+
+impl TryCopy for Delivery {
+    fn copy(&self, alloc: Global) -> Result<Delivery, AllocError> {
+        match self {
+            Delivery::Delivered => Ok(Delivery::Delivered),
+            Delivery::Deferred(status, text) => {
+                Ok(Delivery::Deferred(status.copy(), text.copy(alloc)?))
+            }
+            Delivery::Failed(status, text) => {
+                Ok(Delivery::Failed(status.copy(), text.copy(alloc)?))
+            }
+        }
+    }
+}
+
+/// The outcome of an attempt for one recipient.
+#[derive(Drop)]
+pub struct Outcome {
+    /// The recipient, in any case of its ASCII letters.
+    pub address: Address,
+    /// What became of it.
+    pub result: Delivery,
+}
+
+impl TryCopy for Outcome {
+    fn copy(&self, alloc: Global) -> Result<Outcome, AllocError> {
+        let address = self.address.copy(alloc)?;
+        let result = self.result.copy(alloc)?;
+        Ok(Outcome { address, result })
+    }
+}
+
+/// A recipient of whom a notice tells (bounce(5)).
+#[derive(Drop)]
+pub struct Told {
+    /// As it was submitted.
+    pub address: Address,
+    /// Why it is told of.
+    pub status: Status,
+    /// What the remote server said; it may be empty.
+    pub text: Text,
+}
+
+impl TryCopy for Told {
+    fn copy(&self, alloc: Global) -> Result<Told, AllocError> {
+        let address = self.address.copy(alloc)?;
+        let text = self.text.copy(alloc)?;
+        Ok(Told {
+            address,
+            status: self.status.copy(),
+            text,
+        })
+    }
+}
+
+/// What the report of an attempt came to.
+#[derive(Drop)]
+pub enum Reported {
+    /// The attempt was reported before, and nothing is changed.
+    Repeat,
+    /// The message is as after the attempt; where nobody is pending, the caller removes it.
+    Done {
+        /// How many recipients were delivered.
+        delivered: u64,
+        /// How many are to be tried again.
+        deferred: u64,
+        /// Those that failed for good, in the order of the message.
+        failed: Items<Told>,
+    },
+}

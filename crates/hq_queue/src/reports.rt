@@ -1,0 +1,254 @@
+//! The report of a delivery attempt: who failed, who is still pending, and when the message is
+//! tried next. The message is changed after the last growth alone.
+
+ghost use Rattle.std.specs.Prelude.{◌≡◌, IfOk, option_map, not};
+ghost use Rattle.std.specs.List.{find, list_any};
+ghost use Rattle.hq_envelope.specs.Addresses.{same_address};
+ghost use Rattle.hq_queue.specs.Attempts as rules;
+ghost use Rattle.hq_queue.specs.Attempts.{Reports};
+
+use crate::attempt::Attempt;
+use crate::backoff::next_try;
+use crate::message::{Message, Pending, QueueState};
+use crate::outcome::{Delivery, Outcome, Reported, Told};
+use hq_envelope::{Fail, Items, Moment, Refusal, TryCopy};
+use std::alloc::{AllocError, Global};
+
+/// The first outcome that names a recipient.
+fn outcome_of<'o>(outcomes: &'o [Outcome], recipient: &Pending) -> Option<&'o Outcome>
+    ensures { option_map (λ o. o.now) result ≡ rules.outcome_of outcomes.now recipient.now }
+{
+    outcomes
+        .iter()
+        .find(|outcome| outcome.address.same(&recipient.address))
+}
+
+/// Whether one of these outcomes names the address of another outcome.
+fn is_named(outcomes: &[Outcome], outcome: &Outcome) -> bool
+    ensures { result ≡ list_any (λ x. same_address outcome.now.address x.address) outcomes.now }
+{
+    outcomes
+        .iter()
+        .any(|other| outcome.address.same(&other.address))
+}
+
+/// Whether two outcomes name the same address.
+fn is_doubled(outcomes: &[Outcome]) -> bool
+    ensures { result ≡ rules.is_doubled outcomes.now }
+{
+    match outcomes {
+        [] => false,
+        [first, rest @ ..] => is_named(rest, first) || is_doubled(rest),
+    }
+}
+
+/// Whether an outcome names one of these.
+fn is_known(recipients: &[Pending], outcome: &Outcome) -> bool
+    ensures { result ≡ list_any (λ p. same_address outcome.now.address p.address) recipients.now }
+{
+    recipients
+        .iter()
+        .any(|recipient| outcome.address.same(&recipient.address))
+}
+
+/// Whether an outcome names nobody of these.
+fn is_unknown(recipients: &[Pending], outcome: &Outcome) -> bool
+    ensures { result ≡ rules.is_unknown recipients.now outcome.now }
+{
+    !is_known(recipients, outcome)
+}
+
+/// Whether one of the outcomes names nobody of these.
+fn is_any_unknown(recipients: &[Pending], outcomes: &[Outcome]) -> bool
+    ensures { result ≡ list_any (rules.is_unknown recipients.now) outcomes.now }
+{
+    outcomes
+        .iter()
+        .any(|outcome| is_unknown(recipients, outcome))
+}
+
+/// What a recipient is after the attempt, where it is still pending.
+fn left_one(
+    alloc: Global,
+    recipient: &Pending,
+    outcomes: &[Outcome],
+) -> Result<Option<Pending>, AllocError>
+    ensures { IfOk result (λ left. left ≡ rules.left_with recipient.now
+        (rules.outcome_of outcomes.now recipient.now)) }
+{
+    let Some(outcome) = outcome_of(outcomes, recipient) else {
+        return Ok(Some(recipient.copy(alloc)?));
+    };
+    match &outcome.result {
+        Delivery::Deferred(status, text) => {
+            let address = recipient.address.copy(alloc)?;
+            let text = text.copy(alloc)?;
+            Ok(Some(Pending {
+                address,
+                status: Some(status.copy()),
+                text,
+            }))
+        }
+        Delivery::Delivered | Delivery::Failed(_, _) => Ok(None),
+    }
+}
+
+/// Who is still pending after the attempt.
+fn left(
+    alloc: Global,
+    recipients: &[Pending],
+    outcomes: &[Outcome],
+) -> Result<Vec<Pending>, AllocError>
+    ensures { IfOk result (λ left. left.items ≡ rules.left outcomes.now recipients.now) }
+{
+    let mut left = Vec::new(alloc);
+    for recipient in recipients {
+        if let Some(pending) = left_one(alloc, recipient, outcomes)? {
+            left.push(pending)?;
+        }
+    }
+    Ok(left)
+}
+
+/// What is told of a recipient, where it failed.
+fn failed_one(
+    alloc: Global,
+    recipient: &Pending,
+    outcomes: &[Outcome],
+) -> Result<Option<Told>, AllocError>
+    ensures { IfOk result (λ told. told ≡ rules.told_with recipient.now
+        (rules.outcome_of outcomes.now recipient.now)) }
+{
+    let Some(outcome) = outcome_of(outcomes, recipient) else {
+        return Ok(None);
+    };
+    match &outcome.result {
+        Delivery::Failed(status, text) => {
+            let address = recipient.address.copy(alloc)?;
+            let text = text.copy(alloc)?;
+            Ok(Some(Told {
+                address,
+                status: status.copy(),
+                text,
+            }))
+        }
+        Delivery::Delivered | Delivery::Deferred(_, _) => Ok(None),
+    }
+}
+
+/// Who failed in the attempt.
+fn failed(
+    alloc: Global,
+    recipients: &[Pending],
+    outcomes: &[Outcome],
+) -> Result<Vec<Told>, AllocError>
+    ensures { IfOk result (λ failed. failed.items ≡ rules.failed outcomes.now recipients.now) }
+{
+    let mut failed = Vec::new(alloc);
+    for recipient in recipients {
+        if let Some(told) = failed_one(alloc, recipient, outcomes)? {
+            failed.push(told)?;
+        }
+    }
+    Ok(failed)
+}
+
+/// Whether a recipient was delivered.
+fn is_delivered(recipient: &Pending, outcomes: &[Outcome]) -> bool
+    ensures { result ≡ rules.delivered_with (rules.outcome_of outcomes.now recipient.now) }
+{
+    match outcome_of(outcomes, recipient) {
+        Some(outcome) => matches!(&outcome.result, Delivery::Delivered),
+        None => false,
+    }
+}
+
+/// Whether a recipient is to be tried again.
+fn is_deferred(recipient: &Pending, outcomes: &[Outcome]) -> bool
+    ensures { result ≡ rules.deferred_with (rules.outcome_of outcomes.now recipient.now) }
+{
+    match outcome_of(outcomes, recipient) {
+        Some(outcome) => matches!(&outcome.result, Delivery::Deferred(_, _)),
+        None => false,
+    }
+}
+
+/// How many recipients were delivered.
+fn delivered(recipients: &[Pending], outcomes: &[Outcome]) -> u64
+    ensures { result ≡ rules.delivered outcomes.now recipients.now }
+{
+    let mut count = 0;
+    for recipient in recipients {
+        if is_delivered(recipient, outcomes) {
+            count += 1;
+        }
+    }
+    count
+}
+
+/// How many recipients are to be tried again.
+fn deferred(recipients: &[Pending], outcomes: &[Outcome]) -> u64
+    ensures { result ≡ rules.deferred outcomes.now recipients.now }
+{
+    let mut count = 0;
+    for recipient in recipients {
+        if is_deferred(recipient, outcomes) {
+            count += 1;
+        }
+    }
+    count
+}
+
+/// Takes the report of a delivery attempt at the moment `at`: its outcomes name some of the
+/// recipients, and what became of each.
+///
+/// The first of these that applies: an attempt that was reported before is a repeat; 30
+/// `AttemptAhead`, with the attempts so far, where it is not the next one; 33 `NoOutcome`; 32
+/// `DoubledRecipient`, where two outcomes name the same address; 31 `UnknownRecipient`, where one
+/// names nobody who is pending. Else the recipients that were delivered or failed are pending no
+/// more, those that were deferred have their new status and text, an incoming message becomes
+/// deferred, and it has the attempt's number and its next try. After a repeat, a refusal or want of
+/// memory the message is as it was.
+pub fn report(
+    alloc: Global,
+    message: &mut Message,
+    at: Moment,
+    attempt: Attempt,
+    outcomes: &[Outcome],
+) -> Result<Reported, Fail>
+    ensures { Reports (rules.reported message.old at attempt outcomes.now) message.old message.new
+        result }
+{
+    let number = attempt.get();
+    if number <= message.attempts {
+        return Ok(Reported::Repeat);
+    }
+    if number > message.attempts + 1 {
+        let attempts = message.attempts;
+        return Err(Fail::Refused(Refusal::AttemptAhead { attempts }));
+    }
+    if outcomes.is_empty() {
+        return Err(Fail::Refused(Refusal::NoOutcome));
+    }
+    if is_doubled(outcomes) {
+        return Err(Fail::Refused(Refusal::DoubledRecipient));
+    }
+    if is_any_unknown(message.pending.as_slice(), outcomes) {
+        return Err(Fail::Refused(Refusal::UnknownRecipient));
+    }
+    let delivered = delivered(message.pending.as_slice(), outcomes);
+    let deferred = deferred(message.pending.as_slice(), outcomes);
+    let failed = failed(alloc, message.pending.as_slice(), outcomes)?;
+    let left = left(alloc, message.pending.as_slice(), outcomes)?;
+    message.pending = Items::from_vec(left);
+    message.attempts = number;
+    message.next_try = next_try(message.arrival, at);
+    if message.state == QueueState::Incoming {
+        message.state = QueueState::Deferred;
+    }
+    Ok(Reported::Done {
+        delivered,
+        deferred,
+        failed: Items::from_vec(failed),
+    })
+}
