@@ -7,7 +7,7 @@ use Rattle.hq_base.specs.Readers.{◌>>=◌, guard, Reads, seen_by}
 use Rattle.hq_base.specs.declared.failure.Fail.{Fail}
 use Rattle.hq_base.specs.declared.failure.Refusal.{Refusal}
 use Rattle.hq_queue.specs.declared.account.Customer.{Customer}
-use Rattle.hq_import.specs.Customers.{is_same_text, names_apart, keys_apart, are_customers}
+use Rattle.hq_queue.specs.Customers.{is_same_text, names_apart, keys_apart, are_customers}
 use Rattle.hq_import.specs.Directories.{is_named, is_taken, next_customer, customers_under}
 use Rattle.hq_import.proofs.Seeing.{same_either_way}
 

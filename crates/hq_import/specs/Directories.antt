@@ -10,7 +10,7 @@ use Rattle.hq_queue.specs.Limits.{is_quota, is_delay}
 use Rattle.hq_queue.specs.declared.account.Customer.{Customer}
 use Rattle.hq_queue.specs.declared.account.Entry.{Entry}
 use Rattle.hq_queue.specs.declared.account.Quota.{Quota}
-use Rattle.hq_import.specs.Customers.{has_name, has_key}
+use Rattle.hq_queue.specs.Customers.{has_name, has_key}
 use Rattle.hq_import.specs.Fields.{text_at, number_at, told_as}
 use Rattle.hq_import.specs.Records.{Record, most_rows, rows_in}
 

@@ -1,4 +1,3 @@
-pub mod Customers
 pub mod Directories
 pub mod Fields
 pub mod First

@@ -6,7 +6,7 @@ use Rattle.hq_access.specs.declared.pattern.Class.{Class}
 use Rattle.hq_access.specs.declared.pattern.Class.TheVariants.{SenderSide, RecipientSide}
 use Rattle.hq_access.specs.declared.pattern.Line.{Line}
 use Rattle.hq_queue.specs.declared.account.Customer.{Customer}
-use Rattle.hq_import.specs.Customers.{is_same_text}
+use Rattle.hq_queue.specs.Customers.{is_same_text}
 use Rattle.hq_import.specs.Directories.{is_named, is_taken}
 use Rattle.hq_import.specs.Tables.{is_same_class, is_same_pattern}
 use Rattle.hq_import.specs.declared.seen.Seen.{Seen}

@@ -10,7 +10,7 @@ use Rattle.hq_access.specs.Patterns.{class_name, pattern_in}
 use Rattle.hq_access.specs.declared.pattern.Class.{Class}
 use Rattle.hq_access.specs.declared.pattern.Class.TheVariants.{SenderSide, RecipientSide}
 use Rattle.hq_access.specs.declared.pattern.Line.{Line}
-use Rattle.hq_import.specs.Customers.{is_same_text}
+use Rattle.hq_queue.specs.Customers.{is_same_text}
 use Rattle.hq_import.specs.Fields.{text_at, told_as}
 use Rattle.hq_import.specs.Records.{Record, most_rows, rows_in}
 

@@ -4,7 +4,7 @@ ghost use Rattle.std.specs.Prelude.{◌≡◌, ◌<◌, ◌≤◌, [], ◌∷◌
 ghost use Rattle.csv.specs.Records.{fields_of};
 ghost use Rattle.hq_base.specs.Readers.{Reads, seen_by};
 ghost use Rattle.hq_queue.specs.Limits.{is_quota};
-ghost use Rattle.hq_import.specs.Customers.{are_customers};
+ghost use Rattle.hq_queue.specs.Customers.{are_customers};
 ghost use Rattle.hq_import.specs.First.{first_customers};
 ghost use Rattle.hq_import.specs.Seen.{KnowsNames, KnowsKeys};
 ghost use Rattle.hq_import.specs.Directories.{quota_of, quota_in, entry_of, customer_in, next_customer, customers_under, customers_in};

@@ -2,7 +2,7 @@
 
 ghost use Rattle.std.specs.Prelude.{◌≡◌, ◌||◌, List, ℕ, IfOk, OnOk, not, false};
 ghost use Rattle.hq_access.specs.declared.pattern.Class.{Class as AnyClass};
-ghost use Rattle.hq_import.specs.Customers.{is_same_text};
+ghost use Rattle.hq_queue.specs.Customers.{is_same_text};
 ghost use Rattle.hq_import.specs.Seen.{has, has_pattern, is_same};
 
 use hq_access::{Class, Pattern};
