@@ -1,0 +1,14 @@
+use Rattle.std.proofs.Common.{◌≡◌, ◌∙◌, ap, ap₂, codes, true}
+use Rattle.std.proofs.lemmas.Result.{IfOk-weaker}
+use Rattle.clap.specs.Simple.{App, app_of, app_of_fields, new_app, new_shape, with_subcommand}
+use Rattle.hq_words.proofs.command.program.Goals as goal
+
+pub returns : goal.returns
+returns c =
+    let start = ap app_of_fields c.in_ok-bin_name.ensures.0 ∙ c.new.ensures.app in
+    let plain = ap app_of_fields c.override_usage.ensures ∙ start in
+    let words = ap app_of_fields c.no_binary_name.ensures ∙ ap (λ (a : App). record a { top = record a.top { no_binary_name = true } }) plain in
+    let alone = ap app_of_fields c.disable_help_subcommand.ensures ∙ ap (λ (a : App). record a { top = record a.top { disable_help_subcommand = true } }) words in
+    let needed = ap app_of_fields c.subcommand_required.ensures ∙ ap (λ (a : App). record a { top = record a.top { subcommand_required = true } }) alone in
+    let told = ap app_of_fields c.after_help.ensures ∙ ap app_of_fields c.about.ensures ∙ needed in
+    IfOk-weaker c.subcommand.result _ _ (λ made added. added.shape c.in_ok-batch.ensures.local ∙ ap₂ with_subcommand told c.in_ok-batch.ensures.shape) c.subcommand.ensures
