@@ -1,0 +1,45 @@
+-- What a desk is set up with, and what is refused of it. The order of the refusals is this product's own: the relay's name,
+-- the form of its key, the directory, and then whether its key is a customer's.
+use Rattle.std.specs.Prelude.{ℕ, not, List, Result, Ok}
+use Rattle.std.specs.List.{list_any}
+use Rattle.hq_base.specs.Readers.{◌>>=◌, checked, guard}
+use Rattle.hq_base.specs.declared.failure.Refusal.{Refusal}
+use Rattle.hq_base.specs.declared.failure.Refusal.TheVariants.{BadRelayKey}
+use Rattle.hq_envelope.specs.Words.{host_in, is_key}
+use Rattle.hq_import.specs.Directories.{customers_in}
+use Rattle.hq_queue.specs.Customers.{has_key}
+use Rattle.hq_queue.specs.declared.account.Customer.{Customer}
+
+-- a relay: its name and its key
+pub record Named : Type 0 where
+  pub host : List ℕ
+  pub key : List ℕ
+
+-- a relay and its customers
+pub record Set : Type 0 where
+  pub relay : Named
+  pub customers : List Customer
+
+-- a relay's key has the form of a key
+abbrev pub relay_key_in : List ℕ → Result (List ℕ) Refusal
+relay_key_in text = checked text (is_key text) BadRelayKey
+
+-- the relay of a name and a key: 56, or else 57
+abbrev pub relay_in : List ℕ → List ℕ → Result Named Refusal
+relay_in host_text key_text = do
+  host ← host_in host_text
+  key ← relay_key_in key_text
+  Ok (record { host = host; key = key })
+
+-- a relay with the customers of a directory: the first fault of the file, or else 57 where its key is a customer's
+abbrev pub settings_of : Named → List ℕ → Result Set Refusal
+settings_of relay file = do
+  customers ← customers_in file
+  own ← guard (not (list_any (has_key relay.key) customers)) BadRelayKey
+  Ok (record { relay = relay; customers = customers })
+
+-- all of it, in the order in which it is checked
+abbrev pub settings_in : List ℕ → List ℕ → List ℕ → Result Set Refusal
+settings_in host_text key_text file = do
+  relay ← relay_in host_text key_text
+  settings_of relay file

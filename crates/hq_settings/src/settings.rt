@@ -1,0 +1,36 @@
+//! The relay and its customers.
+
+use crate::relay::Relay;
+use hq_envelope::{Fail, Host};
+use hq_import::directory_of;
+use hq_wire::Directory;
+use std::alloc::Global;
+
+/// What a desk is set up with.
+#[derive(Drop)]
+pub struct Settings {
+    /// The relay's name.
+    pub host: Host,
+    /// The relay's key, and the customers.
+    pub directory: Directory,
+}
+
+impl Settings {
+    ghost use Rattle.hq_base.specs.Readers.{Reads, seen_by};
+    ghost use Rattle.hq_settings.specs.Seen.{relay_seen, settings_seen};
+    ghost use Rattle.hq_settings.specs.Settings.{settings_of};
+
+    /// The relay with the customers of a directory, a CSV file. Refused at the file's first fault,
+    /// as 53 `BadDirectory`, 54 `DoubledName` or 55 `DoubledKey`; where it is good, as 57
+    /// `BadRelayKey` if the relay's key is a customer's. The only other error is want of memory.
+    pub fn new(alloc: Global, relay: Relay, file: &[u8]) -> Result<Settings, Fail>
+        ensures { Reads (seen_by settings_seen result) (settings_of (relay_seen relay) file.now) }
+    {
+        let customers = directory_of(alloc, file)?;
+        let directory = Directory::new(alloc, relay.key, customers)?;
+        Ok(Settings {
+            host: relay.host,
+            directory,
+        })
+    }
+}
