@@ -1,14 +1,10 @@
--- What the programs serve as long as they read no directory: two customers.
-use Rattle.std.specs.Prelude.{◌≡◌, ℕ, List, [], ◌∷◌, true, codes}
+-- What the program serves without words: a relay with two customers.
+use Rattle.std.specs.Prelude.{List, [], ◌∷◌, true, codes}
 use Rattle.hq_queue.specs.declared.account.Customer.{Customer}
-use Rattle.hq_wire.specs.Directories.{relay_of, customers_of}
-use Rattle.hq_wire.specs.declared.directory.Directory.{Directory}
+use Rattle.hq_settings.specs.Settings.{Named, Set}
 
-abbrev pub host : List ℕ
-host = codes "relay.example"
-
-abbrev pub relay_key : List ℕ
-relay_key = codes "relaykey00000001"
+abbrev pub relay : Named
+relay = record { host = codes "relay.example"; key = codes "relaykey00000001" }
 
 -- a customer with small quotas
 abbrev pub acme : Customer
@@ -34,5 +30,5 @@ birch = record {
   key = codes "birchkey00000001";
 }
 
-abbrev pub IsBuiltin : Directory → Type 0
-IsBuiltin d = (relay_of d ≡ relay_key) × (customers_of d ≡ acme ∷ birch ∷ [])
+abbrev pub settings : Set
+settings = record { relay = relay; customers = acme ∷ birch ∷ [] }

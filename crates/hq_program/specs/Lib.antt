@@ -1,2 +1,3 @@
 pub mod Builtin
 pub mod Runs
+pub mod SettingUp

@@ -4,26 +4,23 @@ use Rattle.hq_base.specs.Refusals.{fail_shown, no_memory_fail}
 use Rattle.hq_store.specs.Shelves.{Sight}
 use Rattle.hq_desk.specs.Desks.{host_of, shelf_of}
 use Rattle.hq_desk.specs.declared.desk.Desk.{Desk}
-use Rattle.hq_wire.specs.declared.directory.Directory.{Directory}
+use Rattle.hq_settings.specs.declared.settings.Settings.{Settings}
 use Rattle.hq_lines.specs.Ends.{Ends}
 use Rattle.hq_lines.specs.Fields.{Request}
 use Rattle.hq_lines.specs.Lines.{Streams}
 use Rattle.hq_lines.specs.declared.batch.EngineFault.{EngineFault}
 use Rattle.hq_lines.specs.declared.batch.EngineFault.TheVariants.{Read, Write, TooManyReads, WantOfMemory}
 use Rattle.hq_batch.specs.Batches.{Replied}
-use Rattle.hq_program.specs.Builtin.{IsBuiltin, host}
 use Rattle.hq_program.specs.declared.trouble.Trouble.{Trouble}
-use Rattle.hq_program.specs.declared.trouble.Trouble.TheVariants.{Input, Output, Desk as OfDesk}
+use Rattle.hq_program.specs.declared.trouble.Trouble.TheVariants.{File, Input, Output, Desk as OfDesk}
 
--- What lines ask for is replied to as a batch of the built-in customers, with a desk over this shelf.
-pub record ServesOver {S : Type 0} (sight : Sight S) (shelf : S) (asked : List (Option Request)) (lines : List (List ℕ)) : Type 0 where
-  pub directory : Directory
-  pub is_builtin : IsBuiltin directory
+-- What lines ask for is replied to as a batch of the customers of these settings, with a desk over this shelf.
+pub record ServesOver {S : Type 0} (sight : Sight S) (settings : Settings) (shelf : S) (asked : List (Option Request)) (lines : List (List ℕ)) : Type 0 where
   pub old : Desk S
-  pub host_is : host_of old ≡ host
+  pub host_is : host_of old ≡ settings.host
   pub shelf_is : shelf_of old ≡ shelf
   pub new : Desk S
-  pub replied : Replied sight directory old asked lines new
+  pub replied : Replied sight settings.directory old asked lines new
 
 -- what a fault of a batch is told as
 abbrev pub trouble_of : EngineFault → Trouble
@@ -34,6 +31,7 @@ trouble_of WantOfMemory = OfDesk no_memory_fail
 
 -- as it is told: what failed, or the refusal or fault of the desk
 abbrev pub trouble_shown : Trouble → List ℕ
+trouble_shown File = codes "file"
 trouble_shown Input = codes "input"
 trouble_shown Output = codes "output"
 trouble_shown (OfDesk fail) = fail_shown fail

@@ -1,11 +1,13 @@
-//! The customers that the programs serve as long as they read no directory.
+//! The relay and the customers that the program serves without words.
 
 ghost use Rattle.std.specs.Prelude.{◌≡◌, MatchResult};
 ghost use Rattle.hq_base.specs.Refusals.{no_memory_fail};
 ghost use Rattle.hq_program.specs.Builtin as builtin;
+ghost use Rattle.hq_settings.specs.Seen.{settings_seen};
 
 use hq_envelope::{Fail, Host, Key, Name};
 use hq_queue::{Customer, Entry, Quota};
+use hq_settings::Settings;
 use hq_wire::Directory;
 use std::alloc::Global;
 
@@ -14,13 +16,6 @@ const HOST: &str = "relay.example";
 
 /// The key of the relay's workers.
 const RELAY_KEY: &str = "relaykey00000001";
-
-/// The name of the relay, or want of memory.
-pub fn host(alloc: Global) -> Result<Host, Fail>
-    ensures { MatchResult result (λ host. host ≡ builtin.host) (λ fail. fail ≡ no_memory_fail) }
-{
-    Host::parse(alloc, HOST)
-}
 
 fn acme(alloc: Global) -> Result<Customer, Fail>
     ensures { MatchResult result (λ customer. customer ≡ builtin.acme)
@@ -58,13 +53,17 @@ fn birch(alloc: Global) -> Result<Customer, Fail>
     Ok(Customer { entry, key })
 }
 
-/// Two customers: `acme` with small quotas and `birch` with large ones; or want of memory.
-pub fn directory(alloc: Global) -> Result<Directory, Fail>
-    ensures { MatchResult result builtin.IsBuiltin (λ fail. fail ≡ no_memory_fail) }
+/// The relay `relay.example` and two customers: `acme` with small quotas and `birch` with large
+/// ones; or want of memory.
+pub fn settings(alloc: Global) -> Result<Settings, Fail>
+    ensures { MatchResult result (λ settings. settings_seen settings ≡ builtin.settings)
+        (λ fail. fail ≡ no_memory_fail) }
 {
+    let host = Host::parse(alloc, HOST)?;
     let mut customers = Vec::new(alloc);
     customers.push(acme(alloc)?)?;
     customers.push(birch(alloc)?)?;
     let relay = Key::parse(alloc, RELAY_KEY)?;
-    Directory::new(alloc, relay, customers)
+    let directory = Directory::new(alloc, relay, customers)?;
+    Ok(Settings { host, directory })
 }

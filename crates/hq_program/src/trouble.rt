@@ -1,6 +1,6 @@
 //! Why a program ended before its input, how that is told, and its exit status.
 
-ghost use Rattle.std.specs.Prelude.{◌≡◌, Some};
+ghost use Rattle.std.specs.Prelude.{◌≡◌, ◌≤◌, Some};
 ghost use Rattle.std.specs.IoError.{error_kind};
 ghost use Rattle.hq_base.specs.declared.failure.Fail.TheVariants.{Fault as AsFault};
 ghost use Rattle.hq_program.specs.Runs.{trouble_of, trouble_shown, status};
@@ -23,6 +23,8 @@ pub const BAD_WORDS: u8 = 2;
 /// Why the program ended before its input.
 #[derive(Clone, Copy, Debug, PartialEq, Eq, Drop)]
 pub enum Trouble {
+    /// A file that words name could not be read.
+    File,
     /// The input could not be read, or had not ended after the most reads.
     Input,
     /// A reply could not be written.
@@ -36,6 +38,7 @@ impl fmt::Display for Trouble {
 
     fn fmt<W: fmt::Write>(&self, f: &mut fmt::Formatter<W>) -> fmt::Result {
         match self {
+            Trouble::File => f.write_str("file"),
             Trouble::Input => f.write_str("input"),
             Trouble::Output => f.write_str("output"),
             Trouble::Desk(fail) => write!(f, "{fail}"),
@@ -69,6 +72,25 @@ impl From<EngineFault> for Trouble {
             EngineFault::WantOfMemory => Trouble::Desk(Fail::Fault(Fault::WantOfMemory)),
         }
     }
+}
+
+/// Shows a text that was asked for, and answers the exit status: 0, or 1 where it cannot be
+/// written.
+pub fn show<W: Write, E: Write>(text: &str, output: &mut W, errors: &mut E) -> u8
+    ensures { result ≤ 1 }
+{
+    let shown = output
+        .write_all(text.as_bytes())
+        .and_then(|()| output.flush());
+    tell(shown.map_err(|_| Trouble::Output), errors)
+}
+
+/// Tells in a text why words are not taken, and answers the exit status, 2.
+pub fn refuse<E: Write>(text: &str, errors: &mut E) -> u8
+    ensures { result ≡ 2 }
+{
+    let _told = errors.write_all(text.as_bytes());
+    BAD_WORDS
 }
 
 /// Tells how a run ended, and answers its exit status: 0 when the input has ended, and else 1, with
