@@ -14,6 +14,9 @@ use Rattle.hq_wire.specs.Runs.{AllReplied, Alone}
 use Rattle.hq_wire.proofs.Serving.{all_replied}
 use Rattle.hq_lines.specs.Fields.{Request}
 use Rattle.hq_batch.specs.Batches.{ask_in}
+use Rattle.hq_settings.specs.Seen.{settings_seen}
+use Rattle.hq_settings.specs.declared.settings.Settings.{Settings}
+use Rattle.hq_program.specs.Builtin.{settings}
 use Rattle.hq_program.specs.Runs.{ServesOver}
 use Rattle.hq_main.specs.Runs.{Serves}
 
@@ -28,9 +31,10 @@ plain = record {
   may_answer = λ fault. fault ≡ WantOfMemory;
 }
 
-pub serves : (shelf : ListRows) → tables_of shelf ≡ no_tables → (asked : List (Option Request)) (lines : List (List ℕ)) → ServesOver plain shelf asked lines → Serves asked lines
-serves shelf none asked lines it =
-    let d = it.directory in
+pub serves : (set : Settings) → settings_seen set ≡ settings → (shelf : ListRows) → tables_of shelf ≡ no_tables
+    → (asked : List (Option Request)) (lines : List (List ℕ)) → ServesOver plain set shelf asked lines → Serves asked lines
+serves set builtin shelf none asked lines it =
+    let d = set.directory in
     let old = it.old in
     let new = it.new in
     let p = it.replied in
@@ -43,8 +47,8 @@ serves shelf none asked lines it =
     let alone = p.2.alone tt tt refl sound in
     let few = p.2.counted (lit< tt) in
     record {
-      directory = d;
-      is_builtin = it.is_builtin;
+      set = set;
+      is_builtin = builtin;
       replies = p.0;
       lines_are = p.1;
       tables = after;

@@ -1,22 +1,58 @@
--- What the program does with lines, from an empty desk in memory.
-use Rattle.std.specs.Prelude.{◌≡◌, ℕ, List, map, Option}
+-- What the program does: with lines of the built-in customers, from an empty desk in memory; with those of a directory; and
+-- with its words.
+use Rattle.std.specs.Prelude.{◌≡◌, ◌≤◌, ⊤, ℕ, [], List, map, Option, Some, None, Result, Ok, Err, IfOk}
+use Rattle.std.specs.declared.alloc.AllocError.{AllocError}
 use Rattle.hq_base.specs.Refusals.{no_memory}
 use Rattle.hq_store.specs.Tables.{Tables, no_tables}
 use Rattle.hq_wire.specs.Replies.{SeenReply, store_faults}
 use Rattle.hq_wire.specs.Runs.{AllReplied, Alone}
-use Rattle.hq_wire.specs.declared.directory.Directory.{Directory}
+use Rattle.hq_settings.specs.Seen.{settings_seen}
+use Rattle.hq_settings.specs.declared.settings.Settings.{Settings}
 use Rattle.hq_lines.specs.Fields.{Request}
+use Rattle.hq_lines.specs.Lines.{Streams}
 use Rattle.hq_batch.specs.Batches.{ask_in, reply_line}
-use Rattle.hq_program.specs.Builtin.{IsBuiltin, host}
+use Rattle.hq_program.specs.Builtin.{settings}
+use Rattle.hq_program.specs.Runs.{RunEnds, Exits}
+use Rattle.hq_program.specs.SettingUp.{SetsUp}
+use Rattle.hq_program.specs.declared.trouble.Trouble.{Trouble}
+use Rattle.hq_sql_program.specs.Runs.{MemoryEnds}
+use Rattle.hq_words.specs.Asked.{Given, Says, given_of}
+use Rattle.hq_words.specs.declared.words.Words.{Words}
+use Rattle.hq_words.specs.declared.words.Words.TheVariants.{Builtin, Batch, Help, Refused}
 
--- What lines ask for is replied to as a batch of these customers from empty tables, with no fault but want of memory; to
--- each customer the desk is its own.
+-- What lines ask for is replied to as a batch of the built-in customers from empty tables, with no fault but want of
+-- memory; to each customer the desk is its own.
 pub record Serves (asked : List (Option Request)) (lines : List (List ℕ)) : Type 0 where
-  pub directory : Directory
-  pub is_builtin : IsBuiltin directory
+  pub set : Settings
+  pub is_builtin : settings_seen set ≡ settings
   pub replies : List SeenReply
   pub lines_are : lines ≡ map reply_line replies
   pub tables : Tables
-  pub replied : AllReplied (λ fault. fault ≡ no_memory) host directory no_tables (map (ask_in directory) asked) replies tables
-  pub alone : Alone host directory (map (ask_in directory) asked) replies no_tables tables
+  pub replied : AllReplied (λ fault. fault ≡ no_memory) set.host set.directory no_tables (map (ask_in set.directory) asked) replies tables
+  pub alone : Alone set.host set.directory (map (ask_in set.directory) asked) replies no_tables tables
   pub no_faults : store_faults replies ≡ 0
+
+-- How a batch ends with the settings that its words name: with the trouble of these, and then nothing is read or written;
+-- or as its store has it. What a file holds is said by no contract, so nothing is said here of a store in one.
+abbrev pub SetEnds : Option (List ℕ) → Type 0 → Streams → Streams → Result Settings Trouble → Result ⊤ Trouble → Type 0
+SetEnds store untouched old new (Err trouble) result = untouched × (result ≡ Err trouble)
+SetEnds None untouched old new (Ok set) result = MemoryEnds set untouched old new result
+SetEnds (Some path) untouched old new (Ok set) result = ⊤
+
+abbrev pub BatchEnds : Given → Type 0 → Streams → Streams → Result ⊤ Trouble → Type 0
+BatchEnds given untouched old new result = (set : Result Settings Trouble) × SetsUp given.host given.relay_key set × SetEnds given.store untouched old new set result
+
+-- what is done for what words ask, and the exit status; want of memory may come in place of what they ask
+abbrev pub Does : Result Words AllocError → Type 0 → Type 0 → Streams → Streams → ℕ → Type 0
+Does (Ok Builtin) unread unwritten old new status = Exits (RunEnds Serves (unread × unwritten) old new) status
+Does (Ok (Batch batch)) unread unwritten old new status = Exits (BatchEnds (given_of batch) (unread × unwritten) old new) status
+Does (Ok (Help text)) unread unwritten old new status = unread × (status ≤ 1)
+Does (Ok (Refused text)) unread unwritten old new status = unread × unwritten × (status ≡ 2)
+Does (Err error) unread unwritten old new status = unread × unwritten × (status ≡ 1)
+
+-- The program does what its words ask for.
+pub record Commands (words : List (List ℕ)) (unread unwritten : Type 0) (old new : Streams) (status : ℕ) : Type 0 where
+  pub asked : Result Words AllocError
+  pub says : IfOk asked (Says words)
+  pub none : words ≡ [] → asked ≡ Ok Builtin
+  pub does : Does asked unread unwritten old new status

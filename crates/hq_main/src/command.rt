@@ -1,14 +1,18 @@
 //! What the program does, over any input and outputs, and what it tells of its end.
 
-ghost use Rattle.std.specs.Prelude.{◌≡◌, []};
+ghost use Rattle.std.specs.Prelude.{◌≡◌, [], map as map_list, string_bytes};
 ghost use Rattle.hq_program.specs.Runs.{RunEnds, Exits};
-ghost use Rattle.hq_main.specs.Runs.{Serves};
+ghost use Rattle.hq_words.specs.Asked.{given_of};
+ghost use Rattle.hq_main.specs.Runs.{Serves, BatchEnds, Commands};
 
-use hq_program::{BAD_WORDS, Trouble, serve, tell};
+use hq_envelope::Fault;
+use hq_program::{Trouble, builtin_settings, refuse, serve, set_up, show, tell};
+use hq_sql_program::serve_stored;
 use hq_store::ListShelf;
+use hq_words::{Batch, Words, read_words};
 use std::io::{Read, Write};
 
-/// Serves the customers from an empty desk in memory.
+/// Serves the built-in customers from an empty desk in memory, over plain lists.
 fn serve_lists<R: Read, W: Write>(
     rt: &HostRuntime,
     input: &mut R,
@@ -18,16 +22,32 @@ fn serve_lists<R: Read, W: Write>(
         (record { input = R.remaining input.old; output = W.contents output.old })
         (record { input = R.remaining input.new; output = W.contents output.new }) result }
 {
-    serve(rt.alloc(), ListShelf::new(rt.alloc()), input, output)
+    let settings = builtin_settings(rt.alloc())?;
+    let shelf = ListShelf::new(rt.alloc());
+    serve(rt.alloc(), shelf, settings, input, output)
+}
+
+/// Serves the customers of a directory, over a store in memory or in a file.
+fn serve_batch<R: Read, W: Write>(
+    rt: &HostRuntime,
+    batch: &Batch,
+    input: &mut R,
+    output: &mut W,
+) -> Result<(), Trouble>
+    ensures { BatchEnds (given_of batch.now) ((input.new ≡ input.old) × (output.new ≡ output.old))
+        (record { input = R.remaining input.old; output = W.contents output.old })
+        (record { input = R.remaining input.new; output = W.contents output.new }) result }
+{
+    let settings = set_up(rt, batch.host, batch.relay_key, batch.directory)?;
+    serve_stored(rt, batch.store, settings, input, output)
 }
 
 /// Runs the program with the words after its name, and answers its exit status: 0 when the input
-/// has ended, 1 for a refusal or a fault, 2 for any word, since none is taken yet. Each of the last
-/// two is told in one line of `errors`; where that cannot be written, the status tells it alone.
+/// has ended or help was shown, 1 for a refusal or a fault, 2 for words that are not taken. Each of
+/// the last two is told on `errors`, where that can be written.
 ///
 /// After a failed input the whole lines before are replied to; after a failed output the exchanges
-/// of the first lines are done; where the desk could not begin for want of memory, nothing is read
-/// or written.
+/// of the first lines are done; where the desk could not begin, nothing is read or written.
 pub fn command<R: Read, W: Write, E: Write>(
     rt: &HostRuntime,
     words: &[String],
@@ -35,19 +55,26 @@ pub fn command<R: Read, W: Write, E: Write>(
     output: &mut W,
     errors: &mut E,
 ) -> u8
-    ensures words { (words.now ≡ [] → ⊥) → (result ≡ 2) × (input.new ≡ input.old)
-        × (output.new ≡ output.old) }
-    ensures run { words.now ≡ [] → Exits (RunEnds Serves
+    ensures none { words.now ≡ [] → Exits (RunEnds Serves
         ((input.new ≡ input.old) × (output.new ≡ output.old))
         (record { input = R.remaining input.old; output = W.contents output.old })
         (record { input = R.remaining input.new; output = W.contents output.new })) result }
+    ensures words { Commands (map_list string_bytes words.now) (input.new ≡ input.old)
+        (output.new ≡ output.old)
+        (record { input = R.remaining input.old; output = W.contents output.old })
+        (record { input = R.remaining input.new; output = W.contents output.new }) result }
 {
-    if !words.is_empty() {
-        let _told = errors.write_all(
-            b"hq: no words are taken yet: lines are read from standard input\n",
-        );
-        return BAD_WORDS;
+    match read_words(rt.alloc(), words) {
+        Ok(Words::Builtin) => {
+            let ended = serve_lists(rt, input, output);
+            tell(ended, errors)
+        }
+        Ok(Words::Batch(batch)) => {
+            let ended = serve_batch(rt, &batch, input, output);
+            tell(ended, errors)
+        }
+        Ok(Words::Help(text)) => show(text.as_str(), output, errors),
+        Ok(Words::Refused(text)) => refuse(text.as_str(), errors),
+        Err(_) => tell(Err(Trouble::from(Fault::WantOfMemory)), errors),
     }
-    let ended = serve_lists(rt, input, output);
-    tell(ended, errors)
 }

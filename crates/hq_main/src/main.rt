@@ -1,11 +1,11 @@
-//! The program `hq`: the desk of two customers, in memory, over batch lines.
+//! The program `hq_main`: the desk of a mail relay's customers, over batch lines.
 //!
-//! Without words it replies to the lines of standard input on standard output until the input ends.
+//! Without words it serves two built-in customers from an empty desk in memory; the word `batch`
+//! serves those of a directory, in memory or over a file. It replies to the lines of standard input
+//! on standard output until the input ends.
 #![tactic(auto)]
 
 mod command;
-#[cfg(test)]
-mod tests;
 
 use command::command;
 use hq_program::{not_begun, words};

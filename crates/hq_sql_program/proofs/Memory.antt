@@ -13,6 +13,7 @@ use Rattle.hq_sql.specs.Tables.{tables_in}
 use Rattle.hq_sql_shelf.specs.Shelf.{IsOurs}
 use Rattle.hq_sql_shelf.specs.declared.shelf.SqlShelf.{SqlShelf}
 use Rattle.hq_desk.specs.Desks.{on, host_of, shelf_of}
+use Rattle.hq_settings.specs.declared.settings.Settings.{Settings}
 use Rattle.hq_wire.specs.Runs.{AllReplied, Alone}
 use Rattle.hq_wire.proofs.Serving.{all_replied}
 use Rattle.hq_lines.specs.Fields.{Request}
@@ -21,12 +22,12 @@ use Rattle.hq_batch.specs.Batches.{ask_in}
 use Rattle.hq_program.specs.Runs.{ServesOver}
 use Rattle.hq_program.specs.declared.trouble.Trouble.{Trouble}
 use Rattle.hq_program.proofs.Ends.{run_ends_as}
-use Rattle.hq_sql_main.specs.Runs.{memory, Serves, OpenedEnds, MemoryEnds}
+use Rattle.hq_sql_program.specs.Runs.{memory, Serves, OpenedEnds, MemoryEnds}
 
-serves : (shelf : SqlShelf MemStore) → IsOurs (state over_memory shelf.conn) → tables_in (state over_memory shelf.conn).committed ≡ no_tables
-    → (asked : List (Option Request)) (lines : List (List ℕ)) → ServesOver memory shelf asked lines → Serves asked lines
-serves shelf ours none asked lines it =
-    let d = it.directory in
+serves : (settings : Settings) (shelf : SqlShelf MemStore) → IsOurs (state over_memory shelf.conn) → tables_in (state over_memory shelf.conn).committed ≡ no_tables
+    → (asked : List (Option Request)) (lines : List (List ℕ)) → ServesOver memory settings shelf asked lines → Serves settings asked lines
+serves settings shelf ours none asked lines it =
+    let d = settings.directory in
     let old = it.old in
     let new = it.new in
     let p = it.replied in
@@ -48,8 +49,8 @@ serves shelf ours none asked lines it =
           subst (λ n. Alone n d asks p.0 no_tables after) named (subst (λ t. Alone (host_of old) d asks p.0 t after) empty alone);
     }
 
-pub memory_ends : (opened : Result (SqlShelf MemStore) Fault) (untouched : Type 0) (old new : Streams) (result : Result ⊤ Trouble)
+pub memory_ends : (settings : Settings) (opened : Result (SqlShelf MemStore) Fault) (untouched : Type 0) (old new : Streams) (result : Result ⊤ Trouble)
     → IfOk opened (λ s. IsOurs (state over_memory s.conn)) → IfOk opened (λ s. tables_in (state over_memory s.conn).committed ≡ no_tables)
-    → OpenedEnds (state over_memory) opened untouched old new result → MemoryEnds untouched old new result
-memory_ends (Ok shelf) untouched old new result ours none p = inl (run_ends_as (ServesOver memory shelf) Serves untouched (serves shelf ours none) old new result p)
-memory_ends (Err fault) untouched old new result ours none p = inr (fault, p)
+    → OpenedEnds (state over_memory) settings opened untouched old new result → MemoryEnds settings untouched old new result
+memory_ends settings (Ok shelf) untouched old new result ours none p = inl (run_ends_as (ServesOver memory settings shelf) (Serves settings) untouched (serves settings shelf ours none) old new result p)
+memory_ends settings (Err fault) untouched old new result ours none p = inr (fault, p)

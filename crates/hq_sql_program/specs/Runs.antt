@@ -1,0 +1,48 @@
+-- What a batch of the program does over a store of `sqlite`, however it ends.
+use Rattle.std.specs.Prelude.{◌≡◌, ◌⊎◌, ⊤, ℕ, false, List, map, Option, Some, None, Result, Ok, Err}
+use Rattle.sqlite.specs.Held.{Held, state}
+use Rattle.sqlite.specs.State.{State}
+use Rattle.sqlite.specs.Steps.{over_memory}
+use Rattle.sqlite_trees.specs.declared.memory.MemStore.{MemStore}
+use Rattle.hq_base.specs.declared.failure.Fail.TheVariants.{Fault as AsFault}
+use Rattle.hq_base.specs.declared.failure.Fault.{Fault}
+use Rattle.hq_store.specs.Shelves.{Sight}
+use Rattle.hq_store.specs.Tables.{no_tables}
+use Rattle.hq_sql_shelf.specs.Shelf.{sight_over}
+use Rattle.hq_sql_shelf.specs.declared.shelf.SqlShelf.{SqlShelf}
+use Rattle.hq_desk.specs.Desks.{on}
+use Rattle.hq_settings.specs.declared.settings.Settings.{Settings}
+use Rattle.hq_wire.specs.Runs.{AllReplied, Alone}
+use Rattle.hq_lines.specs.Fields.{Request}
+use Rattle.hq_lines.specs.Lines.{Streams}
+use Rattle.hq_batch.specs.Batches.{ask_in}
+use Rattle.hq_program.specs.Runs.{ServesOver, RunEnds}
+use Rattle.hq_program.specs.declared.trouble.Trouble.{Trouble}
+use Rattle.hq_program.specs.declared.trouble.Trouble.TheVariants.{Desk}
+
+-- the store could not be opened: nothing is read or written, and its fault is told
+abbrev pub IsUnopened : Type 0 → Fault → Result ⊤ Trouble → Type 0
+IsUnopened untouched fault result = untouched × (result ≡ Err (Desk (AsFault fault)))
+
+-- How a run ends over a store as it was opened: the lines are those of a batch over this shelf, or there is none.
+abbrev pub OpenedEnds : {S : Type 0} → (Held S → State) → Settings → Result (SqlShelf S) Fault → Type 0 → Streams → Streams → Result ⊤ Trouble → Type 0
+OpenedEnds seen settings (Ok shelf) untouched old new result = RunEnds (ServesOver (sight_over seen) settings shelf) untouched old new result
+OpenedEnds seen settings (Err fault) untouched old new result = IsUnopened untouched fault result
+
+-- ---- in memory
+
+abbrev pub memory : Sight (SqlShelf MemStore)
+memory = sight_over (state over_memory)
+
+-- Lines are replied to as a batch of these customers over a shelf in memory. Where its store was not closed by a
+-- transaction that could not be undone, it began with empty tables, and to each customer the desk is its own.
+pub record Serves (settings : Settings) (asked : List (Option Request)) (lines : List (List ℕ)) : Type 0 where
+  pub shelf : SqlShelf MemStore
+  pub over : ServesOver memory settings shelf asked lines
+  pub replied : (on memory).is_closed over.new ≡ false → AllReplied memory.may_answer settings.host settings.directory no_tables
+      (map (ask_in settings.directory) asked) over.replied.0 ((on memory).tables over.new)
+  pub alone : (on memory).is_closed over.new ≡ false
+      → Alone settings.host settings.directory (map (ask_in settings.directory) asked) over.replied.0 no_tables ((on memory).tables over.new)
+
+abbrev pub MemoryEnds : Settings → Type 0 → Streams → Streams → Result ⊤ Trouble → Type 0
+MemoryEnds settings untouched old new result = RunEnds (Serves settings) untouched old new result ⊎ ((fault : Fault) × IsUnopened untouched fault result)

@@ -1,0 +1,68 @@
+//! The program's batch over a store on `sqlite`, in memory or in a file.
+#![tactic(auto)]
+
+ghost use Rattle.std.specs.Prelude.{◌≡◌, None};
+ghost use Rattle.sqlite.specs.Held.{state};
+ghost use Rattle.hq_sql_program.specs.Runs.{OpenedEnds, MemoryEnds};
+
+use hq_envelope::Fault;
+use hq_program::{Trouble, serve};
+use hq_settings::Settings;
+use hq_sql_file::open_file;
+use hq_sql_shelf::SqlShelf;
+use sqlite::Alter;
+use std::io::{Read, Write};
+
+/// Replies to the lines of an input for the customers of these settings, over a store as it was
+/// opened; or tells why it could not be opened, and then nothing is read or written.
+fn serve_opened<S: Alter + Drop, R: Read, W: Write>(
+    rt: &HostRuntime,
+    opened: Result<SqlShelf<S>, Fault>,
+    settings: Settings,
+    input: &mut R,
+    output: &mut W,
+) -> Result<(), Trouble>
+    ensures { OpenedEnds (state S.Store) settings opened
+        ((input.new ≡ input.old) × (output.new ≡ output.old))
+        (record { input = R.remaining input.old; output = W.contents output.old })
+        (record { input = R.remaining input.new; output = W.contents output.new }) result }
+{
+    serve(rt.alloc(), opened?, settings, input, output)
+}
+
+/// Serves the customers from an empty desk, whose store stands in memory.
+fn serve_memory<R: Read, W: Write>(
+    rt: &HostRuntime,
+    settings: Settings,
+    input: &mut R,
+    output: &mut W,
+) -> Result<(), Trouble>
+    ensures { MemoryEnds settings ((input.new ≡ input.old) × (output.new ≡ output.old))
+        (record { input = R.remaining input.old; output = W.contents output.old })
+        (record { input = R.remaining input.new; output = W.contents output.new }) result }
+{
+    let opened = SqlShelf::open_memory(rt.alloc());
+    serve_opened(rt, opened, settings, input, output)
+}
+
+/// Replies to the lines of an input for the customers of these settings, over the store of a path,
+/// which is made where it is missing, or without a path over an empty one in memory. A store that
+/// cannot be opened is told as 90, 91, 92 or 93; then, and where there is no memory to begin with,
+/// nothing is read or written.
+pub fn serve_stored<R: Read, W: Write>(
+    rt: &HostRuntime,
+    store: Option<&str>,
+    settings: Settings,
+    input: &mut R,
+    output: &mut W,
+) -> Result<(), Trouble>
+    ensures { store.entry ≡ None → MemoryEnds settings
+        ((input.new ≡ input.old) × (output.new ≡ output.old))
+        (record { input = R.remaining input.old; output = W.contents output.old })
+        (record { input = R.remaining input.new; output = W.contents output.new }) result }
+{
+    match store {
+        None => serve_memory(rt, settings, input, output),
+        Some(path) => serve_opened(rt, open_file(rt, path), settings, input, output),
+    }
+}
