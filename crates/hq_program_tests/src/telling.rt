@@ -3,10 +3,60 @@
 use hq_batch::EngineFault;
 use hq_envelope::{Fail as Failure, Fault, Refusal};
 use hq_program::{Trouble, not_begun, refuse, show, tell};
-use std::alloc::AllocError;
+use std::alloc::{AllocError, Global};
 use std::io::{self, ErrorKind, Write};
 use std::process::Abort;
 use std::test::Fail;
+
+/// Takes nothing.
+#[derive(Drop)]
+struct Full {}
+
+impl Write for Full {
+    fn write(&mut self, _buf: &[u8]) -> io::Result<usize> {
+        Err(io::Error::from(ErrorKind::BrokenPipe))
+    }
+
+    fn flush(&mut self) -> io::Result<()> {
+        Ok(())
+    }
+}
+
+/// A status, and what was written of it.
+#[derive(Debug, PartialEq, Eq, Drop)]
+struct Told {
+    status: u8,
+    errors: Vec<u8>,
+}
+
+fn expect_told(rt: &impl Abort, told: &Told, status: u8, line: &str) {
+    assert_eq!(rt; told.status, status);
+    assert_eq!(rt; told.errors.as_slice(), line.as_bytes());
+}
+
+fn before_the_first_line(alloc: Global, kind: ErrorKind) -> Told {
+    let mut errors = Vec::new(alloc);
+    let status = not_begun(&io::Error::from(kind), &mut errors);
+    Told { status, errors }
+}
+
+fn of_an_end(alloc: Global, end: Result<(), Trouble>) -> Told {
+    let mut errors = Vec::new(alloc);
+    let status = tell(end, &mut errors);
+    Told { status, errors }
+}
+
+fn of_words(alloc: Global, text: &str) -> Told {
+    let mut errors = Vec::new(alloc);
+    let status = refuse(text, &mut errors);
+    Told { status, errors }
+}
+
+fn of_a_text<W: Write>(alloc: Global, text: &str, output: &mut W) -> Told {
+    let mut errors = Vec::new(alloc);
+    let status = show(text, output, &mut errors);
+    Told { status, errors }
+}
 
 #[test]
 fn what_is_told_before_the_first_line(rt: HostRuntime) {
@@ -14,10 +64,55 @@ fn what_is_told_before_the_first_line(rt: HostRuntime) {
         (ErrorKind::InvalidData, 2, "hq: a word is not UTF-8\n"),
         (ErrorKind::OutOfMemory, 1, "hq: 90 WantOfMemory\n"),
     ] {
-        let mut errors = Vec::new(rt.alloc());
-        let status = not_begun(&io::Error::from(kind), &mut errors);
-        assert_eq!(rt; (status, errors.as_slice()), (want, line.as_bytes()));
+        let told = before_the_first_line(rt.alloc(), kind);
+        expect_told(&rt, &told, want, line);
     }
+}
+
+#[test]
+fn what_is_told_of_an_end(rt: HostRuntime) {
+    for (end, want, line) in [
+        (Ok(()), 0, ""),
+        (Err(Trouble::File), 1, "hq: file\n"),
+        (Err(Trouble::from(Fault::Disk)), 1, "hq: 91 Disk\n"),
+        (
+            Err(Trouble::from(Fault::BadSchema)),
+            1,
+            "hq: 92 BadSchema\n",
+        ),
+    ] {
+        let told = of_an_end(rt.alloc(), end);
+        expect_told(&rt, &told, want, line);
+    }
+}
+
+#[test]
+fn a_text_that_is_shown(rt: HostRuntime) {
+    let mut output = Vec::new(rt.alloc());
+    let told = of_a_text(rt.alloc(), "text\n", &mut output);
+    expect_told(&rt, &told, 0, "");
+    assert_eq!(rt; output.as_slice(), b"text\n".as_slice());
+}
+
+#[test]
+fn a_text_that_cannot_be_shown(rt: HostRuntime) {
+    let told = of_a_text(rt.alloc(), "text\n", &mut Full {});
+    expect_told(&rt, &told, 1, "hq: output\n");
+}
+
+#[test]
+fn words_that_are_not_taken(rt: HostRuntime) {
+    let told = of_words(rt.alloc(), "why\n");
+    expect_told(&rt, &told, 2, "why\n");
+}
+
+/// Where nothing can be told, the status tells it alone.
+#[test]
+fn errors_that_cannot_be_written(rt: HostRuntime) {
+    let mut full = Full {};
+    let refused = refuse("why\n", &mut full);
+    let failed = tell(Err(Trouble::File), &mut full);
+    assert_eq!(rt; (refused, failed), (2, 1));
 }
 
 fn expect_shown(
@@ -48,60 +143,4 @@ fn what_is_told_of_a_refusal(rt: HostRuntime) -> Result<(), Fail> {
     let refused = Failure::Refused(Refusal::BadDirectory { row: 0 });
     expect_shown(&rt, Trouble::from(refused), "53 BadDirectory row 0")?;
     Ok(())
-}
-
-#[test]
-fn what_is_told_of_an_end(rt: HostRuntime) {
-    for (end, want, line) in [
-        (Ok(()), 0, ""),
-        (Err(Trouble::File), 1, "hq: file\n"),
-        (Err(Trouble::from(Fault::Disk)), 1, "hq: 91 Disk\n"),
-        (
-            Err(Trouble::from(Fault::BadSchema)),
-            1,
-            "hq: 92 BadSchema\n",
-        ),
-    ] {
-        let mut errors = Vec::new(rt.alloc());
-        let status = tell(end, &mut errors);
-        assert_eq!(rt; (status, errors.as_slice()), (want, line.as_bytes()));
-    }
-}
-
-/// Takes nothing.
-#[derive(Drop)]
-struct Full {}
-
-impl Write for Full {
-    fn write(&mut self, _buf: &[u8]) -> io::Result<usize> {
-        Err(io::Error::from(ErrorKind::BrokenPipe))
-    }
-
-    fn flush(&mut self) -> io::Result<()> {
-        Ok(())
-    }
-}
-
-#[test]
-fn texts_that_are_shown(rt: HostRuntime) {
-    let mut output = Vec::new(rt.alloc());
-    let mut errors = Vec::new(rt.alloc());
-    let shown = show("text\n", &mut output, &mut errors);
-    assert_eq!(rt; (shown, output.as_slice()), (0, b"text\n".as_slice()));
-    let unshown = show("text\n", &mut Full {}, &mut errors);
-    assert_eq!(rt;
-        (unshown, errors.as_slice()),
-        (1, b"hq: output\n".as_slice())
-    );
-}
-
-#[test]
-fn words_that_are_not_taken(rt: HostRuntime) {
-    let mut errors = Vec::new(rt.alloc());
-    let status = refuse("why\n", &mut errors);
-    assert_eq!(rt; (status, errors.as_slice()), (2, b"why\n".as_slice()));
-    assert_eq!(rt;
-        (refuse("why\n", &mut Full {}), tell(Ok(()), &mut Full {})),
-        (2, 0)
-    );
 }
