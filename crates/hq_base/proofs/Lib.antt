@@ -1,3 +1,4 @@
+pub mod Ascii
 pub mod Hex
 pub mod QueueIds
 pub mod Truths

@@ -1,3 +1,2 @@
 pub mod NoFloats
-pub mod QueueIds
 pub mod Submitted

@@ -27,7 +27,8 @@ fn clear_all(recipients: &mut [Pending])
 /// another serial.
 ///
 /// In any state it becomes incoming, with `at` as its arrival and its next try, without attempts
-/// and not warned; its recipients stay, without what the last attempt left at them. Takes no memory.
+/// and not warned; its recipients stay, without what the last attempt left at them. Takes no
+/// memory.
 pub fn requeue(message: &mut Message, at: Moment, serial: Serial)
     ensures { message.new ≡ requeued at serial message.old }
 {

@@ -1,6 +1,6 @@
 use Rattle.std.proofs.Common.{sym, subst}
 use Rattle.std.specs.Str.{IsUtf8}
-use Rattle.hq_json.proofs.QueueIds.{serial_utf8}
+use Rattle.hq_base.proofs.Ascii.{serial_utf8}
 use Rattle.hq_json.proofs.replies.id_value.Goals as goal
 
 pub unreachable-requires : goal.unreachable-requires

@@ -1,0 +1,4 @@
+pub mod Columns
+pub mod Days
+pub mod Joined
+pub mod Writing

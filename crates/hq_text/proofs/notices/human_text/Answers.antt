@@ -1,0 +1,9 @@
+use Rattle.std.proofs.Common.{arith}
+use Rattle.hq_text.proofs.Joined.{one_line_more}
+use Rattle.hq_text.specs.Lines.{crlf}
+use Rattle.hq_text.specs.Notices.{told_line}
+use Rattle.hq_text.proofs.notices.human_text.Goals as goal
+
+pub loop-one-preserved : goal.loop-one-preserved
+loop-one-preserved c =
+    one_line_more crlf _ _ _ told_line c.args.told.now c.loop-one.one-index c.one-item.result (omega arith) c.one-item.is c.loop-one.invariant c.in_ok-put_told.ensures

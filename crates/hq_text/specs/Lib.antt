@@ -1,0 +1,4 @@
+pub mod Dates
+pub mod Lines
+pub mod Notices
+pub mod Reports

@@ -1,0 +1,12 @@
+//! The texts that the desk writes for people and for mail: dates, the two texts of a notice, and
+//! the queue report, each exactly by its definition. The crate is pure: it sends nothing, and knows
+//! no store and no clock.
+#![tactic(auto)]
+
+mod dates;
+mod notices;
+mod reports;
+
+pub use dates::date_text;
+pub use notices::{Kind, human_text, status_text};
+pub use reports::{Report, report_text};

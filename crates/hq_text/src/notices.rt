@@ -1,0 +1,256 @@
+//! The texts of a notice (bounce(5)): what `message/delivery-status` holds (RFC 3464, 2.1), and
+//! what a person reads. Who is told, and when, is not said here.
+
+ghost use Rattle.std.specs.Prelude.{◌≡◌, [], ◌∷◌, ◌++◌, IfOk, OnOk, Some, option_map, string_bytes};
+ghost use Rattle.hq_base.specs.Serials.{serial_text};
+ghost use Rattle.hq_text.specs.Lines.{crlf, said, text_of};
+ghost use Rattle.hq_text.specs.Notices as notices;
+
+use crate::dates::date_text;
+use hq_envelope::{Host, Moment, Serial};
+use hq_queue::{Message, Told};
+use std::alloc::{AllocError, Global};
+use std::fmt::Write;
+use std::str;
+
+/// How many seconds after its arrival a message expires.
+const EXPIRY_SECONDS: u64 = 432_000;
+
+/// What a notice tells of.
+#[derive(Clone, Copy, Debug, PartialEq, Eq, Drop)]
+pub enum Kind {
+    /// No further attempt is made.
+    Failure,
+    /// Attempts go on.
+    Delay,
+}
+
+/// Until when attempts go on for those who are delayed, as a date.
+fn retry_date(alloc: Global, kind: Kind, arrival: Moment) -> Result<Option<String>, AllocError>
+    ensures { IfOk result (λ date. option_map string_bytes date
+        ≡ notices.retry_date kind arrival) }
+{
+    match kind {
+        Kind::Failure => Ok(None),
+        Kind::Delay => {
+            let until = Moment::no_later(arrival.get() + EXPIRY_SECONDS);
+            Ok(Some(date_text(alloc, until)?))
+        }
+    }
+}
+
+/// A date that may be missing, lent.
+fn lent(date: &Option<String>) -> Option<&str>
+    ensures { option_map (λ text. text.now) result ≡ option_map string_bytes date.now }
+{
+    date.as_ref().map(String::as_str)
+}
+
+/// The queue ID as a text.
+pub(crate) fn queue_id(alloc: Global, serial: Serial) -> Result<String, AllocError>
+    ensures { IfOk result (λ id. string_bytes id ≡ serial_text serial) }
+{
+    let text = serial.text();
+    match str::from_utf8(&text) {
+        Ok(id) => String::from_str(alloc, id),
+        Err(_) => unreachable!(),
+    }
+}
+
+/// Adds a line of a name and a value.
+fn put_field(text: &mut String, name: &str, value: &str) -> Result<(), AllocError>
+    ensures { OnOk result (string_bytes text.new
+        ≡ string_bytes text.old ++ (name.now ++ value.now ++ crlf)) }
+{
+    write!(text, "{name}{value}\r\n")
+}
+
+// ---- for programs
+
+/// Adds the fields of the message.
+fn put_message(
+    alloc: Global,
+    text: &mut String,
+    host: &Host,
+    message: &Message,
+) -> Result<(), AllocError>
+    ensures { OnOk result (string_bytes text.new
+        ≡ string_bytes text.old ++ text_of crlf (notices.message_lines host.now message.now)) }
+{
+    let arrival = date_text(alloc, message.arrival)?;
+    let id = queue_id(alloc, message.serial)?;
+    put_field(text, "Reporting-MTA: dns; ", host.as_str())?;
+    put_field(text, "Arrival-Date: ", arrival.as_str())?;
+    put_field(text, "X-Desk-Queue-Id: ", id.as_str())?;
+    Ok(())
+}
+
+/// What is done about a recipient (RFC 3464, 2.3.3).
+#[tactic(auto, unfolding(crate::specs::Notices::action))]
+fn action(kind: Kind) -> &'static str
+    ensures { result.now ≡ notices.action kind }
+{
+    match kind {
+        Kind::Failure => "failed",
+        Kind::Delay => "delayed",
+    }
+}
+
+/// Adds what the remote server said, where it said something.
+fn put_diagnostic(text: &mut String, said: &str) -> Result<(), AllocError>
+    ensures { OnOk result (string_bytes text.new
+        ≡ string_bytes text.old ++ text_of crlf (notices.diagnostic_lines said.now)) }
+{
+    if said.is_empty() {
+        return Ok(());
+    }
+    put_field(text, "Diagnostic-Code: x-desk; ", said)?;
+    Ok(())
+}
+
+/// Adds until when attempts go on, where they do.
+fn put_retry(text: &mut String, until: Option<&str>) -> Result<(), AllocError>
+    ensures { OnOk result (string_bytes text.new ≡ string_bytes text.old
+        ++ text_of crlf (notices.retry_lines (option_map (λ date. date.now) until.entry))) }
+{
+    match until {
+        None => Ok(()),
+        Some(date) => {
+            put_field(text, "Will-Retry-Until: ", date)?;
+            Ok(())
+        }
+    }
+}
+
+/// Adds the fields of a recipient, behind an empty line.
+fn put_recipient(
+    text: &mut String,
+    kind: Kind,
+    until: Option<&str>,
+    told: &Told,
+) -> Result<(), AllocError>
+    ensures { OnOk result (string_bytes text.new ≡ string_bytes text.old
+        ++ text_of crlf (notices.recipient_lines kind (option_map (λ date. date.now) until.entry)
+        told.now)) }
+{
+    put_field(text, "", "")?;
+    put_field(text, "Final-Recipient: rfc822; ", told.address.as_str())?;
+    put_field(text, "Action: ", action(kind))?;
+    put_field(text, "Status: ", told.status.as_str())?;
+    put_diagnostic(text, told.text.as_str())?;
+    put_retry(text, until)?;
+    Ok(())
+}
+
+/// The body of `message/delivery-status` for those who are told of (RFC 3464, 2.1 to 2.3): the
+/// fields of the message, and for each of them, in order, an empty line and the fields of that
+/// recipient. Every line ends in CR LF. The only error is want of memory.
+#[tactic(auto, unfolding(crate::specs::Notices::status_text, crate::specs::Notices::status_lines))]
+pub fn status_text(
+    alloc: Global,
+    host: &Host,
+    message: &Message,
+    kind: Kind,
+    told: &[Told],
+) -> Result<String, AllocError>
+    ensures { IfOk result (λ text. string_bytes text
+        ≡ notices.status_text host.now message.now kind told.now) }
+{
+    let until = retry_date(alloc, kind, message.arrival)?;
+    let until = lent(&until);
+    let mut text = String::new(alloc);
+    put_message(alloc, &mut text, host, message)?;
+    for one in told {
+        put_recipient(&mut text, kind, until, one)?;
+    }
+    Ok(text)
+}
+
+// ---- for people
+
+/// Adds a line of three parts.
+fn put_line(text: &mut String, before: &str, value: &str, after: &str) -> Result<(), AllocError>
+    ensures { OnOk result (string_bytes text.new
+        ≡ string_bytes text.old ++ (before.now ++ value.now ++ after.now ++ crlf)) }
+{
+    write!(text, "{before}{value}{after}\r\n")
+}
+
+/// What happened to the message.
+#[tactic(auto, unfolding(crate::specs::Notices::what_happened))]
+fn what_happened(kind: Kind) -> &'static str
+    ensures { result.now ≡ notices.what_happened kind }
+{
+    match kind {
+        Kind::Failure => " could not be delivered to the recipients below.",
+        Kind::Delay => " is delayed for the recipients below.",
+    }
+}
+
+/// Adds what is done next.
+fn put_what_follows(text: &mut String, until: Option<&str>) -> Result<(), AllocError>
+    ensures { OnOk result (string_bytes text.new ≡ string_bytes text.old
+        ++ (notices.what_follows (option_map (λ date. date.now) until.entry) ++ crlf)) }
+{
+    match until {
+        None => put_field(text, "No further attempt is made for them.", ""),
+        Some(date) => put_line(text, "Attempts go on until ", date, "."),
+    }
+}
+
+/// Adds the lines before those of the recipients.
+fn put_opening(
+    alloc: Global,
+    text: &mut String,
+    host: &Host,
+    message: &Message,
+    kind: Kind,
+) -> Result<(), AllocError>
+    ensures { OnOk result (string_bytes text.new
+        ≡ string_bytes text.old ++ text_of crlf (notices.opening_lines host.now message.now kind)) }
+{
+    let until = retry_date(alloc, kind, message.arrival)?;
+    let id = queue_id(alloc, message.serial)?;
+    put_line(text, "This is the mail relay at ", host.as_str(), ".")?;
+    put_field(text, "", "")?;
+    put_line(text, "Message ", id.as_str(), what_happened(kind))?;
+    put_what_follows(text, lent(&until))?;
+    put_field(text, "", "")?;
+    Ok(())
+}
+
+/// Adds the line of a recipient.
+fn put_told(text: &mut String, told: &Told) -> Result<(), AllocError>
+    ensures { OnOk result (string_bytes text.new
+        ≡ string_bytes text.old ++ (notices.told_line told.now ++ crlf)) }
+{
+    let address = told.address.as_str();
+    let status = told.status.as_str();
+    if told.text.as_str().is_empty() {
+        return write!(text, "{address}: {status}\r\n");
+    }
+    let said = told.text.as_str();
+    write!(text, "{address}: {status} {said}\r\n")
+}
+
+/// The text of the notice for a person: which message it is, what happened and what follows, and a
+/// line for each of those who are told of, in order. Every line ends in CR LF. The only error is
+/// want of memory.
+#[tactic(auto, unfolding(crate::specs::Notices::human_text, crate::specs::Notices::human_lines))]
+pub fn human_text(
+    alloc: Global,
+    host: &Host,
+    message: &Message,
+    kind: Kind,
+    told: &[Told],
+) -> Result<String, AllocError>
+    ensures { IfOk result (λ text. string_bytes text
+        ≡ notices.human_text host.now message.now kind told.now) }
+{
+    let mut text = String::new(alloc);
+    put_opening(alloc, &mut text, host, message, kind)?;
+    for one in told {
+        put_told(&mut text, one)?;
+    }
+    Ok(text)
+}
