@@ -1,4 +1,5 @@
 pub mod Dates
+pub mod Determined
 pub mod Lines
 pub mod Notices
 pub mod Reports

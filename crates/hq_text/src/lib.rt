@@ -4,6 +4,7 @@
 #![tactic(auto)]
 
 mod dates;
+pub mod laws;
 mod notices;
 mod reports;
 
