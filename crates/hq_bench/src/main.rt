@@ -1,21 +1,17 @@
 //! The program `hq_bench`: it exists to be measured.
 //!
-//! It replies to the lines of standard input on standard output, as `hq` does: over plain lists, or
-//! over a `sqlite` store in memory with the word `memory`, or over the store at the path that is
-//! its word. Each of its customers may have 1,000 messages, the most that a directory takes, so
-//! that large tables can be tried.
+//! It replies to the lines of standard input on standard output over plain lists, as `hq_main` does
+//! without words. Each of its customers may have 1,000 messages, the most that a directory takes,
+//! so that large tables can be tried.
 #![tactic(auto)]
 
 use hq_batch::{EngineFault, batch};
 use hq_desk::Desk;
-use hq_envelope::{Fail, Fault, Host, Key, Name};
+use hq_envelope::{Fail, Host, Key, Name};
 use hq_queue::{Customer, Entry, Quota};
-use hq_sql_file::open_file;
-use hq_sql_shelf::SqlShelf;
-use hq_store::{ListShelf, Shelf};
+use hq_store::ListShelf;
 use hq_wire::{Directory, are_customers};
 use std::alloc::Global;
-use std::{env, io};
 
 /// How much each customer may keep.
 const QUOTA: Quota = Quota {
@@ -43,8 +39,6 @@ const CUSTOMERS: [(&str, &str); 11] = [
 /// Why the program ended before its input did.
 #[derive(Debug, Drop)]
 enum BenchError {
-    /// The words could not be read.
-    Words(io::Error),
     /// The customers may not stand in one directory.
     Customers,
     /// The desk could not be set up.
@@ -56,18 +50,6 @@ enum BenchError {
 impl From<Fail> for BenchError {
     fn from(fail: Fail) -> BenchError {
         BenchError::SetUp(fail)
-    }
-}
-
-impl From<Fault> for BenchError {
-    fn from(fault: Fault) -> BenchError {
-        BenchError::SetUp(Fail::Fault(fault))
-    }
-}
-
-impl From<io::Error> for BenchError {
-    fn from(error: io::Error) -> BenchError {
-        BenchError::Words(error)
     }
 }
 
@@ -101,25 +83,13 @@ fn directory(alloc: Global) -> Result<Directory, BenchError> {
     Ok(Directory::new(alloc, relay, customers)?)
 }
 
-/// Replies to the lines of standard input over a shelf.
-fn serve<S: Shelf + Drop>(rt: &HostRuntime, shelf: S) -> Result<(), BenchError> {
+/// Replies to the lines of standard input.
+fn main(rt: HostRuntime) -> Result<(), BenchError> {
     let alloc = rt.alloc();
     let directory = directory(alloc)?;
-    let mut desk = Desk::new(shelf, Host::parse(alloc, "relay.example")?);
+    let host = Host::parse(alloc, "relay.example")?;
+    let mut desk = Desk::new(ListShelf::new(alloc), host);
     let mut input = rt.stdin();
     let mut output = rt.stdout();
     batch(alloc, &mut input, &mut output, &mut desk, &directory).map_err(BenchError::Lines)
-}
-
-fn main(rt: HostRuntime) -> Result<(), BenchError> {
-    let alloc = rt.alloc();
-    match env::args(&rt)?.nth(1) {
-        None => serve(&rt, ListShelf::new(alloc)),
-        Some(word) => {
-            if word.as_str() == "memory" {
-                return serve(&rt, SqlShelf::open_memory(alloc)?);
-            }
-            serve(&rt, open_file(&rt, word.as_str())?)
-        }
-    }
 }
