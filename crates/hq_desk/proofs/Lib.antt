@@ -6,6 +6,7 @@ pub mod Pages
 pub mod Queued
 pub mod Reading
 pub mod Repeats
+pub mod Requeued
 pub mod SameAddresses
 pub mod ShelfLines
 pub mod Soundness

@@ -186,7 +186,7 @@ queue_kept s at sub addresses state refused h may spool room serials =
     let head = rules.with_message (length n.pending) s.head in
     let raised = change (PutHead head) s in
     let next = h.shaped.next_serial in
-    let rises : HeadFits s head = record { next_serial = (omega arith, omega arith); next_notice = h.shaped.next_notice; above = λ k m f. let was = (h.shaped.messages k m f).below in omega arith } in
+    let rises : HeadFits s head = record { next_serial = (omega arith, omega arith); next_notice = h.shaped.next_notice; above = λ k m f. let was = (h.shaped.messages k m f).below in omega arith; above_notices = λ k n f. (h.shaped.notices k n f).1 } in
     let many : length n.pending ≡ length addresses = length-map addresses rules.not_tried in
     let some = may.some in
     let most : length addresses ≤ 100 = may.few in

@@ -1,7 +1,7 @@
 -- An import that was done is kept for good: whatever the customer calls for afterwards, the same file under its label is
 -- told the same and changes nothing.
 use Rattle.std.proofs.Common.{◌≡◌, ◌≢◌, ⊎_elim, ℕ, Bool, true, false, cond, List, [], ◌∷◌, map, refl, sym, ap, ◌∙◌, subst, Some, None, Option, Ok, Err, Result}
-use Rattle.std.specs.Prelude.{if◌then◌else◌, nat_lt, nat_le}
+use Rattle.std.specs.Prelude.{if◌then◌else◌, ◌==◌, nat_lt, nat_le}
 use Rattle.std.specs.List.{flat_map}
 use Rattle.std.specs.FinMap.{get, insert, get-insert}
 use Rattle.std.specs.Cmp.Lexicographic.{nat_list_cmp_total}
@@ -11,18 +11,19 @@ use Rattle.std.proofs.lemmas.Map.Lookups.{exact_bytes}
 use Rattle.sha2.specs.Sha256.{sha256}
 use Rattle.hq_tables.proofs.Parts.{tied_true, tied_false}
 use Rattle.hq_base.specs.declared.failure.Refusal.{Refusal}
-use Rattle.hq_base.specs.declared.failure.Refusal.TheVariants.{QuotaLines, LabelUsed}
+use Rattle.hq_base.specs.declared.failure.Refusal.TheVariants.{QuotaLines, LabelUsed, SerialsSpent}
 use Rattle.hq_import.specs.Tables.{lines_in}
 use Rattle.hq_access.specs.declared.action.Action.{Action}
 use Rattle.hq_access.specs.declared.pattern.Class.{Class}
 use Rattle.hq_access.specs.declared.pattern.Line.{Line}
 use Rattle.hq_access.specs.declared.verdicts.Verdict.{Verdict}
 use Rattle.hq_access.specs.declared.verdicts.Verdict.TheVariants as verdict
-use Rattle.hq_queue.specs.Moves.{held, released}
+use Rattle.hq_queue.specs.Admission.{spent}
+use Rattle.hq_queue.specs.Moves.{held, released, requeued}
 use Rattle.hq_queue.specs.declared.account.Entry.{Entry}
 use Rattle.hq_queue.specs.declared.message.Message.{Message}
 use Rattle.hq_store.specs.Readings.{read_state}
-use Rattle.hq_store.specs.declared.change.Change.TheVariants.{PutMark}
+use Rattle.hq_store.specs.declared.change.Change.TheVariants.{PutHead, PutMessage, DropMessage, PutMark}
 use Rattle.hq_store.specs.declared.mark.Mark.{Mark}
 use Rattle.hq_store.specs.Tables.{State, change_all}
 use Rattle.hq_store.proofs.Customers.{cases_name}
@@ -65,6 +66,13 @@ hold_leaves s (Some m) = moved_leaves s (held m)
 release_leaves : (s : State) (at : ℕ) (o : Option Message) → Leaves s (messages.release at o)
 release_leaves s at None = refl
 release_leaves s at (Some m) = moved_leaves s (released at m)
+
+requeue_leaves : (s : State) (at : ℕ) (o : Option Message) → Leaves s (messages.requeue s.head at o)
+requeue_leaves s at None = refl
+requeue_leaves s at (Some m) = cases (s.head.next_serial == spent) where
+  cases : (b : Bool) → Leaves s (if b then refuse SerialsSpent else record { answer = answer.Requeued s.head.next_serial; changes = DropMessage m.serial ∷ PutHead (messages.next_head s.head) ∷ PutMessage (requeued at s.head.next_serial m) ∷ [] })
+  cases true = refl
+  cases false = refl
 
 delete_leaves : (s : State) (o : Option Message) → Leaves s (messages.delete s.head o)
 delete_leaves s None = refl
@@ -143,6 +151,7 @@ step_has host entry s label mark at (call.List after) has = has
 step_has host entry s label mark at (call.Show serial) has = ap (λ marks. get marks label) (show_leaves s (get s.messages serial)) ∙ has
 step_has host entry s label mark at (call.Hold serial) has = ap (λ marks. get marks label) (hold_leaves s (get s.messages serial)) ∙ has
 step_has host entry s label mark at (call.Release serial) has = ap (λ marks. get marks label) (release_leaves s at (get s.messages serial)) ∙ has
+step_has host entry s label mark at (call.Requeue serial) has = ap (λ marks. get marks label) (requeue_leaves s at (get s.messages serial)) ∙ has
 step_has host entry s label mark at (call.Delete serial) has = ap (λ marks. get marks label) (delete_leaves s (get s.messages serial)) ∙ has
 step_has host entry s label mark at (call.Lines after) has = has
 step_has host entry s label mark at (call.PutLine line) has = ap (λ marks. get marks label) (put_leaves s entry.quota.lines (read_state s).counts.lines line (get s.lines line.pattern)) ∙ has

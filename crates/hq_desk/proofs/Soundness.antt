@@ -36,6 +36,7 @@ use Rattle.hq_desk.specs.declared.decision.Decision.{Decision}
 use Rattle.hq_desk.proofs.Imported.{import_kept}
 use Rattle.hq_desk.proofs.Kept.{Keeps, saturated_is, quota_of, below_quota, set_kept}
 use Rattle.hq_desk.proofs.Queued.{submit_kept}
+use Rattle.hq_desk.proofs.Requeued.{requeue_kept}
 
 recipients : Message → ℕ
 recipients m = length m.pending
@@ -80,7 +81,7 @@ delete_kept : (s : State) (m : Message) → SoundState s → get s.messages m.se
 delete_kept s m h there =
     let dropped = change (DropMessage m.serial) s in
     let head = rules.with_deleted (length m.pending) s.head in
-    let fits : HeadFits dropped head = record { next_serial = h.shaped.next_serial; next_notice = h.shaped.next_notice; above = λ k n f. (h.shaped.messages k n (left s.messages m.serial k n f)).below } in
+    let fits : HeadFits dropped head = record { next_serial = h.shaped.next_serial; next_notice = h.shaped.next_notice; above = λ k n f. (h.shaped.messages k n (left s.messages m.serial k n f)).below; above_notices = λ k n f. (h.shaped.notices k n f).1 } in
     let sums = total-remove nat_cmp_total exact_unsigned (λ (x : Message). length x.pending) s.messages m.serial in
     let old : given 0 (λ (x : Message). length x.pending) (get s.messages m.serial) ≡ length m.pending = ap (given 0 (λ (x : Message). length x.pending)) there in
     let was = h.conserved in
@@ -123,6 +124,7 @@ step_sound host entry s at (call.List after) h = h
 step_sound host entry s at (call.Show serial) h = on_found s serial rules.show h (λ m there. h)
 step_sound host entry s at (call.Hold serial) h = on_found s serial rules.hold h (λ m there. hold_kept s m (is_on_hold m.state) h (own_place s serial m h there))
 step_sound host entry s at (call.Release serial) h = on_found s serial (rules.release at) h (λ m there. release_kept s m at (is_on_hold m.state) h (own_place s serial m h there))
+step_sound host entry s at (call.Requeue serial) h = on_found s serial (rules.requeue s.head at) h (λ m there. requeue_kept s at m h (own_place s serial m h there))
 step_sound host entry s at (call.Delete serial) h = on_found s serial (rules.delete s.head) h (λ m there. delete_kept s m h (own_place s serial m h there))
 step_sound host entry s at (call.Lines after) h = h
 step_sound host entry s at (call.PutLine line) h = put_kept s entry line h

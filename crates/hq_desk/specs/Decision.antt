@@ -5,7 +5,7 @@ use Rattle.hq_queue.specs.declared.account.Entry.{Entry}
 use Rattle.hq_store.specs.Readings.{Readings, after_pattern, after_serial}
 use Rattle.hq_desk.specs.AccessLines.{line_page, put_line, drop_line, check}
 use Rattle.hq_desk.specs.Imports.{import}
-use Rattle.hq_desk.specs.Messages.{page, show, hold, release, delete}
+use Rattle.hq_desk.specs.Messages.{page, show, hold, release, requeue, delete}
 use Rattle.hq_desk.specs.Submissions.{submit}
 use Rattle.hq_desk.specs.declared.call.Call.{Call}
 use Rattle.hq_desk.specs.declared.call.Call.TheVariants as call
@@ -17,6 +17,7 @@ decide host entry readings at (call.List after) = page (after_serial after readi
 decide host entry readings at (call.Show serial) = show (readings.message serial)
 decide host entry readings at (call.Hold serial) = hold (readings.message serial)
 decide host entry readings at (call.Release serial) = release at (readings.message serial)
+decide host entry readings at (call.Requeue serial) = requeue readings.head at (readings.message serial)
 decide host entry readings at (call.Delete serial) = delete readings.head (readings.message serial)
 decide host entry readings at (call.Lines after) = line_page (after_pattern after readings.lines)
 decide host entry readings at (call.PutLine line) = put_line entry.quota.lines readings.counts.lines line (readings.line line.pattern.0 line.pattern.1)

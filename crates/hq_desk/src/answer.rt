@@ -46,6 +46,8 @@ pub enum Answer {
     Listed(Items<Message>, bool),
     /// The message whole.
     Shown(Message),
+    /// The message is queued anew, under this serial.
+    Requeued(Serial),
     /// How many messages were changed.
     Changed(u64),
     /// The first lines, in order of class and pattern, and whether more follow.

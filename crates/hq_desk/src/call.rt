@@ -34,6 +34,8 @@ pub enum Call {
     Hold(Serial),
     /// Releases a message from hold.
     Release(Serial),
+    /// Queues a message anew, under another serial.
+    Requeue(Serial),
     /// Deletes a message.
     Delete(Serial),
     /// Lists the first 100 lines of the access tables after a pattern, or from the start.

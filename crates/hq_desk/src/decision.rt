@@ -1,13 +1,13 @@
 //! What is answered and changed, by what was read of a message or of a page. Nothing is read or
 //! written here.
 
-ghost use Rattle.std.specs.Prelude.{◌≡◌, IfOk, Some};
+ghost use Rattle.std.specs.Prelude.{◌≡◌, ◌<◌, ◌≤◌, ◌^◌, IfOk, Some};
 ghost use Rattle.hq_desk.specs.Answering as answering;
 ghost use Rattle.hq_desk.specs.Messages as rules;
 
 use crate::answer::Answer;
-use hq_envelope::{Items, Moment, Refusal};
-use hq_queue::{Head, Message, hold, release};
+use hq_envelope::{Items, Moment, Refusal, Serial};
+use hq_queue::{Head, Message, hold, release, requeue};
 use hq_store::Change;
 use std::alloc::{AllocError, Global};
 
@@ -90,6 +90,33 @@ pub(crate) fn release_found(
     } else {
         Ok(tell(alloc, Answer::Changed(0)))
     }
+}
+
+/// Queues a message anew under the head's next serial, or refuses it where none is left.
+pub(crate) fn requeue_with(
+    alloc: Global,
+    mut head: Head,
+    at: Moment,
+    mut message: Message,
+) -> Result<Decision, AllocError>
+    ensures { 0 < head.next_serial → head.next_serial ≤ 2 ^ 40
+        → IfOk result (λ decision. decision ≡ rules.requeue_with head at message) }
+{
+    let Some(serial) = Serial::new(head.next_serial) else {
+        return Ok(refuse(alloc, Refusal::SerialsSpent));
+    };
+    let old = message.serial;
+    requeue(&mut message, at, serial);
+    head.next_serial = serial.get() + 1;
+    let changes = vec![in alloc;
+        Change::DropMessage(old),
+        Change::PutHead(head),
+        Change::PutMessage(message),
+    ]?;
+    Ok(Decision {
+        answer: Answer::Requeued(serial),
+        changes: Items::from_vec(changes),
+    })
 }
 
 /// Deletes a message, and counts its recipients.

@@ -14,7 +14,7 @@ use crate::answer::Answer;
 use crate::call::Call;
 use crate::customer_lines::look_up;
 use crate::decision::{
-    Decision, PAGE, delete, hold_found, page, refuse, release_found, show, tell,
+    Decision, PAGE, delete, hold_found, page, refuse, release_found, requeue_with, show, tell,
 };
 use crate::imports::decide_import;
 use crate::lines::{drop_line, line_page, put_new, put_over};
@@ -63,6 +63,26 @@ fn decide_delete<S: Shelf>(
     };
     let head = shelf.head(&entry.name)?;
     let decision = delete(alloc, head, &message)?;
+    Ok(decision)
+}
+
+/// What a requeue is answered and changes.
+fn decide_requeue<S: Shelf>(
+    shelf: &mut S,
+    alloc: Global,
+    at: Moment,
+    entry: &Entry,
+    serial: Serial,
+) -> Result<Decision, Fault>
+    ensures found { FindsSound S.sight shelf.old shelf.new result entry.now.name
+        (λ rows. messages.requeue rows.head at (rows.message serial)) }
+    ensures kept { Keeps (with_memory S.sight) shelf.old shelf.new result }
+{
+    let Some(message) = shelf.message(&entry.name, serial)? else {
+        return Ok(refuse(alloc, Refusal::NoMessage));
+    };
+    let head = shelf.head(&entry.name)?;
+    let decision = requeue_with(alloc, head, at, message)?;
     Ok(decision)
 }
 
@@ -187,6 +207,7 @@ fn decide<S: Shelf>(
             let found = shelf.message(&entry.name, serial)?;
             Ok(release_found(alloc, at, found)?)
         }
+        Call::Requeue(serial) => decide_requeue(shelf, alloc, at, entry, serial),
         Call::Delete(serial) => decide_delete(shelf, alloc, entry, serial),
         Call::Lines(after) => decide_lines(shelf, alloc, entry, after.as_ref()),
         Call::PutLine(line) => decide_put_line(shelf, alloc, entry, line),

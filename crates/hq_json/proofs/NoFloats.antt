@@ -45,3 +45,4 @@ answer_has_no_float answer.LineDropped = refl
 answer_has_no_float (answer.Checked keys None) = rw (list_no_float (λ (k : List ℕ). string k) (λ _. refl) keys) refl
 answer_has_no_float (answer.Checked keys (Some found)) = rw (list_no_float (λ (k : List ℕ). string k) (λ _. refl) keys) refl
 answer_has_no_float (answer.Imported counts) = refl
+answer_has_no_float (answer.Requeued serial) = refl

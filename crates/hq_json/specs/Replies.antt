@@ -120,6 +120,10 @@ queued m refused = having (
     (codes "verdict", string (codes "queued")) ∷
     [])
 
+-- queued anew, under this queue ID
+abbrev pub requeued : ℕ → Data
+requeued serial = having ((codes "id", id serial) ∷ [])
+
 abbrev pub repeated : ℕ → Data
 repeated serial = having ((codes "id", id serial) ∷ (codes "verdict", string (codes "repeat")) ∷ [])
 
@@ -138,6 +142,7 @@ abbrev pub answer_data : Answer → Data
 answer_data (answer.Refused r) = refusal_data r
 answer_data (answer.Queued m refused) = queued m refused
 answer_data (answer.Repeated serial) = repeated serial
+answer_data (answer.Requeued serial) = requeued serial
 answer_data (answer.Listed ms more) = listed ms more
 answer_data (answer.Shown m) = shown m
 answer_data (answer.Changed n) = changed n

@@ -185,6 +185,13 @@ fn repeated_value(alloc: Global, serial: Serial) -> Result<Value, AllocError>
     json!(in alloc; {"id": id, "verdict": "repeat"})
 }
 
+fn requeued_value(alloc: Global, serial: Serial) -> Result<Value, AllocError>
+    ensures { IfOk result (λ v. view v ≡ replies.requeued serial) }
+{
+    let id = id_value(alloc, serial)?;
+    json!(in alloc; {"id": id})
+}
+
 fn rejected_value(alloc: Global, refused: &[Refused]) -> Result<Value, AllocError>
     ensures { IfOk result (λ v. view v ≡ replies.rejected refused.now) }
 {
@@ -214,6 +221,7 @@ fn answer_value(alloc: Global, answer: &Answer) -> Result<Value, AllocError>
         Answer::Refused(refusal) => refusal_value(alloc, refusal),
         Answer::Queued(message, refused) => queued_value(alloc, message, refused.as_slice()),
         Answer::Repeated(serial) => repeated_value(alloc, *serial),
+        Answer::Requeued(serial) => requeued_value(alloc, *serial),
         Answer::Listed(messages, more) => list_value(alloc, messages.as_slice(), *more),
         Answer::Shown(message) => shown_value(alloc, message),
         Answer::Changed(count) => changed_value(alloc, *count),

@@ -40,12 +40,14 @@ SetEnds None untouched old new (Ok set) result = MemoryEnds set untouched old ne
 SetEnds (Some path) untouched old new (Ok set) result = ⊤
 
 abbrev pub BatchEnds : Given → Type 0 → Streams → Streams → Result ⊤ Trouble → Type 0
-BatchEnds given untouched old new result = (set : Result Settings Trouble) × SetsUp given.host given.relay_key set × SetEnds given.store untouched old new set result
+BatchEnds given untouched old new result =
+    (set : Result Settings Trouble) × SetsUp given.host given.relay_key set × SetEnds given.store untouched old new set result
 
 -- what is done for what words ask, and the exit status; want of memory may come in place of what they ask
 abbrev pub Does : Result Words AllocError → Type 0 → Type 0 → Streams → Streams → ℕ → Type 0
 Does (Ok Builtin) unread unwritten old new status = Exits (RunEnds Serves (unread × unwritten) old new) status
-Does (Ok (Batch batch)) unread unwritten old new status = Exits (BatchEnds (given_of batch) (unread × unwritten) old new) status
+Does (Ok (Batch batch)) unread unwritten old new status =
+    Exits (BatchEnds (given_of batch) (unread × unwritten) old new) status
 Does (Ok (Help text)) unread unwritten old new status = unread × (status ≤ 1)
 Does (Ok (Refused text)) unread unwritten old new status = unread × unwritten × (status ≡ 2)
 Does (Err error) unread unwritten old new status = unread × unwritten × (status ≡ 1)

@@ -19,7 +19,8 @@ IsUnread _ = ⊥
 -- and the key are good.
 abbrev pub SetsUp : List ℕ → List ℕ → Result Settings Trouble → Type 0
 SetsUp host key (Ok settings) = (file : List ℕ) × (settings_in host key file ≡ Ok (settings_seen settings))
-SetsUp host key (Err (Desk (Refused refusal))) = (relay_in host key ≡ Err refusal) ⊎ ((file : List ℕ) × (settings_in host key file ≡ Err refusal))
+SetsUp host key (Err (Desk (Refused refusal))) =
+    (relay_in host key ≡ Err refusal) ⊎ ((file : List ℕ) × (settings_in host key file ≡ Err refusal))
 SetsUp host key (Err File) = IsOk (relay_in host key)
 SetsUp host key (Err (Desk (AsFault fault))) = fault ≡ no_memory
 SetsUp host key (Err Input) = ⊥

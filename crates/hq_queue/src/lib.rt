@@ -25,4 +25,4 @@ pub use outcome::{Delivery, Outcome, Reported, Told};
 pub use renewal::requeue;
 pub use reports::report;
 pub use status::Status;
-pub use sweep::{Swept, sweep_one};
+pub use sweep::{EXPIRY_SECONDS, Swept, sweep_one};

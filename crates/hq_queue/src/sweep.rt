@@ -8,8 +8,8 @@ use crate::backoff::age;
 use crate::message::{Message, QueueState};
 use hq_envelope::Moment;
 
-/// At how many seconds a message expires: five days.
-const EXPIRY_SECONDS: u64 = 432_000;
+/// At how many seconds after its arrival a message expires: five days.
+pub const EXPIRY_SECONDS: u64 = 432_000;
 
 /// What a sweep makes of a message.
 #[derive(Clone, Copy, Debug, PartialEq, Eq, Drop)]

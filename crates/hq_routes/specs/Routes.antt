@@ -7,7 +7,7 @@ use Rattle.matchit.specs.Route.{Scan, parse_route}
 use Rattle.matchit.specs.declared.error.InsertError.{InsertError}
 use Rattle.matchit.specs.Seek.{has_slash}
 use Rattle.hq_routes.specs.declared.Path.{Path}
-use Rattle.hq_routes.specs.declared.Path.TheVariants.{Messages, MessagesAfter, Message, Hold, Release, Import, Lines, LinesAfter, LinePut, LineDrop, Check, Submit}
+use Rattle.hq_routes.specs.declared.Path.TheVariants.{Messages, MessagesAfter, Message, Hold, Release, Requeue, Import, Lines, LinesAfter, LinePut, LineDrop, Check, Submit}
 
 -- what stands for a parameter at the end of a pattern: it is no byte
 abbrev pub parameter : ℕ
@@ -43,6 +43,7 @@ table =
     ∷ (with_parameter (codes "/v1/messages-after/"), MessagesAfter)
     ∷ (codes "/v1/messages", Messages)
     ∷ (with_parameter (codes "/v1/release/"), Release)
+    ∷ (with_parameter (codes "/v1/requeue/"), Requeue)
     ∷ []
 
 unfoldable pub path_of : List ℕ → Option Path

@@ -23,6 +23,8 @@ pub enum Path {
     Hold,
     /// `/v1/release/{id}`
     Release,
+    /// `/v1/requeue/{id}`
+    Requeue,
     /// `/v1/import`
     Import,
     /// `/v1/lines`
@@ -40,12 +42,13 @@ pub enum Path {
 }
 
 /// Every path of the desk, as the router spells it.
-const PATHS: [(&str, Path); 12] = [
+const PATHS: [(&str, Path); 13] = [
     ("/v1/messages", Path::Messages),
     ("/v1/messages-after/{id}", Path::MessagesAfter),
     ("/v1/message/{id}", Path::Message),
     ("/v1/hold/{id}", Path::Hold),
     ("/v1/release/{id}", Path::Release),
+    ("/v1/requeue/{id}", Path::Requeue),
     ("/v1/import", Path::Import),
     ("/v1/lines", Path::Lines),
     ("/v1/lines-after", Path::LinesAfter),

@@ -12,9 +12,9 @@ use Rattle.sqlite_keyed.proofs.ListLemmas.{all_weaker, all_from_test}
 use Rattle.hq_keyed.specs.Changed.{Sets}
 use Rattle.hq_schema.specs.Schema.{desk_schema}
 use Rattle.hq_store.specs.Tables.{Tables}
-use Rattle.hq_store.specs.Listed.{heads_of, messages_of, recipients_of, lines_of, marks_of}
-use Rattle.hq_sql.specs.Rows.{head_read, message_read, recipient_read, line_read, mark_read}
-use Rattle.hq_sql.specs.Tables.{IsDesk, Leaves, AreHeads, AreMessages, AreRecipients, AreLines, AreMarks, tables_in}
+use Rattle.hq_store.specs.Listed.{heads_of, messages_of, recipients_of, lines_of, marks_of, notices_of}
+use Rattle.hq_sql.specs.Rows.{head_read, message_read, recipient_read, line_read, mark_read, notice_read}
+use Rattle.hq_sql.specs.Tables.{IsDesk, Leaves, AreHeads, AreMessages, AreRecipients, AreLines, AreMarks, AreNotices, tables_in}
 
 -- a tree of a table is no index
 pub no_index : (t : ℕ) → list_all (λ (i : Index). not (eqb i.tree t)) desk_schema.indexes ≡ true → IsNoIndex desk_schema t
@@ -40,10 +40,10 @@ heads_left old new command text params count rows desk w sets are =
         messages = subst AreMessages (sym messages) desk.messages;
         recipients = subst AreRecipients (sym recipients) desk.recipients;
         lines = subst AreLines (sym lines) desk.lines;
-        no_notices = notices ∙ desk.no_notices;
+        notices = subst AreNotices (sym notices) desk.notices;
         marks = subst AreMarks (sym marks) desk.marks;
       };
-      tables = λ i. record { heads = heads_of (map head_read (sets.rows_are i)); messages = messages_of (map message_read (messages i)); recipients = recipients_of (map recipient_read (recipients i)); lines = lines_of (map line_read (lines i)); marks = marks_of (map mark_read (marks i)) };
+      tables = λ i. record { heads = heads_of (map head_read (sets.rows_are i)); messages = messages_of (map message_read (messages i)); recipients = recipients_of (map recipient_read (recipients i)); lines = lines_of (map line_read (lines i)); marks = marks_of (map mark_read (marks i)); notices = notices_of (map notice_read (notices i)) };
       is_open = w.shown.is_open;
       was_open = w.shown.was_open;
       mode = w.shown.mode;
@@ -67,10 +67,10 @@ messages_left old new command text params count rows desk w sets are =
         messages = subst AreMessages (sym sets.rows_are) are;
         recipients = subst AreRecipients (sym recipients) desk.recipients;
         lines = subst AreLines (sym lines) desk.lines;
-        no_notices = notices ∙ desk.no_notices;
+        notices = subst AreNotices (sym notices) desk.notices;
         marks = subst AreMarks (sym marks) desk.marks;
       };
-      tables = λ i. record { heads = heads_of (map head_read (heads i)); messages = messages_of (map message_read (sets.rows_are i)); recipients = recipients_of (map recipient_read (recipients i)); lines = lines_of (map line_read (lines i)); marks = marks_of (map mark_read (marks i)) };
+      tables = λ i. record { heads = heads_of (map head_read (heads i)); messages = messages_of (map message_read (sets.rows_are i)); recipients = recipients_of (map recipient_read (recipients i)); lines = lines_of (map line_read (lines i)); marks = marks_of (map mark_read (marks i)); notices = notices_of (map notice_read (notices i)) };
       is_open = w.shown.is_open;
       was_open = w.shown.was_open;
       mode = w.shown.mode;
@@ -94,10 +94,10 @@ recipients_left old new command text params count rows desk w sets are =
         messages = subst AreMessages (sym messages) desk.messages;
         recipients = subst AreRecipients (sym sets.rows_are) are;
         lines = subst AreLines (sym lines) desk.lines;
-        no_notices = notices ∙ desk.no_notices;
+        notices = subst AreNotices (sym notices) desk.notices;
         marks = subst AreMarks (sym marks) desk.marks;
       };
-      tables = λ i. record { heads = heads_of (map head_read (heads i)); messages = messages_of (map message_read (messages i)); recipients = recipients_of (map recipient_read (sets.rows_are i)); lines = lines_of (map line_read (lines i)); marks = marks_of (map mark_read (marks i)) };
+      tables = λ i. record { heads = heads_of (map head_read (heads i)); messages = messages_of (map message_read (messages i)); recipients = recipients_of (map recipient_read (sets.rows_are i)); lines = lines_of (map line_read (lines i)); marks = marks_of (map mark_read (marks i)); notices = notices_of (map notice_read (notices i)) };
       is_open = w.shown.is_open;
       was_open = w.shown.was_open;
       mode = w.shown.mode;
@@ -121,10 +121,10 @@ lines_left old new command text params count rows desk w sets are =
         messages = subst AreMessages (sym messages) desk.messages;
         recipients = subst AreRecipients (sym recipients) desk.recipients;
         lines = subst AreLines (sym sets.rows_are) are;
-        no_notices = notices ∙ desk.no_notices;
+        notices = subst AreNotices (sym notices) desk.notices;
         marks = subst AreMarks (sym marks) desk.marks;
       };
-      tables = λ i. record { heads = heads_of (map head_read (heads i)); messages = messages_of (map message_read (messages i)); recipients = recipients_of (map recipient_read (recipients i)); lines = lines_of (map line_read (sets.rows_are i)); marks = marks_of (map mark_read (marks i)) };
+      tables = λ i. record { heads = heads_of (map head_read (heads i)); messages = messages_of (map message_read (messages i)); recipients = recipients_of (map recipient_read (recipients i)); lines = lines_of (map line_read (sets.rows_are i)); marks = marks_of (map mark_read (marks i)); notices = notices_of (map notice_read (notices i)) };
       is_open = w.shown.is_open;
       was_open = w.shown.was_open;
       mode = w.shown.mode;
@@ -148,10 +148,37 @@ marks_left old new command text params count rows desk w sets are =
         messages = subst AreMessages (sym messages) desk.messages;
         recipients = subst AreRecipients (sym recipients) desk.recipients;
         lines = subst AreLines (sym lines) desk.lines;
-        no_notices = notices ∙ desk.no_notices;
+        notices = subst AreNotices (sym notices) desk.notices;
         marks = subst AreMarks (sym sets.rows_are) are;
       };
-      tables = λ i. record { heads = heads_of (map head_read (heads i)); messages = messages_of (map message_read (messages i)); recipients = recipients_of (map recipient_read (recipients i)); lines = lines_of (map line_read (lines i)); marks = marks_of (map mark_read (sets.rows_are i)) };
+      tables = λ i. record { heads = heads_of (map head_read (heads i)); messages = messages_of (map message_read (messages i)); recipients = recipients_of (map recipient_read (recipients i)); lines = lines_of (map line_read (lines i)); marks = marks_of (map mark_read (sets.rows_are i)); notices = notices_of (map notice_read (notices i)) };
+      is_open = w.shown.is_open;
+      was_open = w.shown.was_open;
+      mode = w.shown.mode;
+      committed = λ within. w.shown.committed_is ∙ ap (λ b. cond b old.committed new.now) within;
+    }
+
+pub notices_left : (old new : State) (command : Command) (text : List ℕ) (params : Row) (count : ℕ) (rows : List Row) → IsDesk old.now → Writes old new None command text params count → Sets desk_schema old.now new.now 10 rows → AreNotices rows
+    → Leaves old new (record (tables_in old.now) { notices = notices_of (map notice_read rows) })
+notices_left old new command text params count rows desk w sets are =
+    let version = sets.others 0 (apart 0 10 refl) (no_index 0 refl) in
+    let heads = sets.others 1 (apart 1 10 refl) (no_index 1 refl) in
+    let messages = sets.others 3 (apart 3 10 refl) (no_index 3 refl) in
+    let recipients = sets.others 6 (apart 6 10 refl) (no_index 6 refl) in
+    let lines = sets.others 8 (apart 8 10 refl) (no_index 8 refl) in
+    let marks = sets.others 12 (apart 12 10 refl) (no_index 12 refl) in
+    record {
+      desk = record {
+        schema_is = sets.schema_is;
+        version = ap (map (λ r. column r 1)) version ∙ desk.version;
+        heads = subst AreHeads (sym heads) desk.heads;
+        messages = subst AreMessages (sym messages) desk.messages;
+        recipients = subst AreRecipients (sym recipients) desk.recipients;
+        lines = subst AreLines (sym lines) desk.lines;
+        notices = subst AreNotices (sym sets.rows_are) are;
+        marks = subst AreMarks (sym marks) desk.marks;
+      };
+      tables = λ i. record { heads = heads_of (map head_read (heads i)); messages = messages_of (map message_read (messages i)); recipients = recipients_of (map recipient_read (recipients i)); lines = lines_of (map line_read (lines i)); marks = marks_of (map mark_read (marks i)); notices = notices_of (map notice_read (sets.rows_are i)) };
       is_open = w.shown.is_open;
       was_open = w.shown.was_open;
       mode = w.shown.mode;

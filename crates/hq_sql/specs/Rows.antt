@@ -21,7 +21,10 @@ use Rattle.hq_store.specs.declared.rows.HeadRow.{HeadRow}
 use Rattle.hq_store.specs.declared.rows.LineRow.{LineRow}
 use Rattle.hq_store.specs.declared.rows.MarkRow.{MarkRow}
 use Rattle.hq_store.specs.declared.rows.MessageRow.{MessageRow}
+use Rattle.hq_store.specs.declared.rows.NoticeRow.{NoticeRow}
 use Rattle.hq_store.specs.declared.rows.RecipientRow.{RecipientRow}
+use Rattle.hq_text.specs.declared.notices.Kind.{Kind}
+use Rattle.hq_text.specs.declared.notices.Kind.TheVariants.{Failure, Delay}
 use Rattle.hq_keyed.specs.Values.{number}
 
 -- ---- values
@@ -60,6 +63,15 @@ abbrev pub state_of : ℕ → QueueState
 state_of zero = Incoming
 state_of (suc zero) = Deferred
 state_of (suc (suc n)) = Hold
+
+-- 0 failure, 1 delay
+abbrev pub kind_code : Kind → ℕ
+kind_code Failure = 0
+kind_code Delay = 1
+
+abbrev pub kind_of : ℕ → Kind
+kind_of zero = Failure
+kind_of (suc n) = Delay
 
 -- the empty text stands for no status
 abbrev pub status_text : Option (List ℕ) → List ℕ
@@ -175,6 +187,28 @@ mark_read r = record {
   mark = record { label = text_in (column r 2); digest = blob_in (column r 3); added = number_in (column r 4); changed = number_in (column r 5); same = number_in (column r 6) };
 }
 
+abbrev pub notice_columns : NoticeRow → Row
+notice_columns r =
+    Text r.customer ∷ number r.notice.number ∷ number (kind_code r.notice.kind) ∷ number r.notice.serial ∷ number r.notice.at
+    ∷ Text r.notice.to ∷ Text r.notice.human ∷ Text r.notice.status ∷ []
+
+abbrev pub notice_stored : ℤ × NoticeRow → Row
+notice_stored k = Int k.0 ∷ notice_columns k.1
+
+abbrev pub notice_read : Row → NoticeRow
+notice_read r = record {
+  customer = text_in (column r 1);
+  notice = record {
+    number = number_in (column r 2);
+    kind = kind_of (number_in (column r 3));
+    serial = number_in (column r 4);
+    at = number_in (column r 5);
+    to = text_in (column r 6);
+    human = text_in (column r 7);
+    status = text_in (column r 8);
+  };
+}
+
 -- ---- rows of answers, which have no rowid
 
 abbrev pub head_shown : Row → HeadRow
@@ -191,3 +225,6 @@ line_shown r = line_read (Null ∷ r)
 
 abbrev pub mark_shown : Row → MarkRow
 mark_shown r = mark_read (Null ∷ r)
+
+abbrev pub notice_shown : Row → NoticeRow
+notice_shown r = notice_read (Null ∷ r)

@@ -20,11 +20,11 @@ use Rattle.hq_keyed.proofs.Select.{answer_is}
 use Rattle.hq_keyed.proofs.Stops.{may_end, write_leaves_no_more, query_leaves_no_more}
 use Rattle.hq_keyed.proofs.Writes.{inserted, cast_null, cast_int}
 use Rattle.hq_schema.specs.Schema.{desk_schema, version_alone, version}
-use Rattle.hq_store.specs.Tables.{no_tables, text_cmp, message_cmp, recipient_cmp, lines_cmp, mark_cmp}
-use Rattle.hq_store.specs.Listed.{head_key, message_key, recipient_key, line_row_key, mark_key, heads_of, messages_of, recipients_of, lines_of, marks_of}
+use Rattle.hq_store.specs.Tables.{no_tables, text_cmp, message_cmp, recipient_cmp, lines_cmp, mark_cmp, notice_cmp}
+use Rattle.hq_store.specs.Listed.{head_key, message_key, recipient_key, line_row_key, mark_key, notice_key, heads_of, messages_of, recipients_of, lines_of, marks_of, notices_of}
 use Rattle.hq_store.proofs.Empty.{no_rows}
 use Rattle.hq_tables.specs.Rows.{HasUniqueKeys}
-use Rattle.hq_sql.specs.Rows.{head_read, message_read, recipient_read, line_read, mark_read}
+use Rattle.hq_sql.specs.Rows.{head_read, message_read, recipient_read, line_read, mark_read, notice_read}
 use Rattle.hq_sql.specs.Tables.{Leaves, tables_in}
 use Rattle.hq_sql.proofs.Tables.{no_index}
 use Rattle.hq_sql_open.specs.Making.{AreEmpty}
@@ -37,9 +37,9 @@ use Rattle.hq_sql_open.proofs.Texts.{stamp_text, stamp_terms, stamp_is, stamp_pl
 abbrev version_row : ℤ × ℕ → Row
 version_row k = Int k.0 ∷ Int (pos k.1) ∷ []
 
-no_rows_of : (trees : Trees) → trees 1 ≡ [] → trees 3 ≡ [] → trees 6 ≡ [] → trees 8 ≡ [] → trees 12 ≡ [] → tables_in (record { schema = desk_schema; trees = trees }) ≡ no_tables
-no_rows_of trees h m r l k =
-    (λ i. record { heads = heads_of (map head_read (h i)); messages = messages_of (map message_read (m i)); recipients = recipients_of (map recipient_read (r i)); lines = lines_of (map line_read (l i)); marks = marks_of (map mark_read (k i)) })
+no_rows_of : (trees : Trees) → trees 1 ≡ [] → trees 3 ≡ [] → trees 6 ≡ [] → trees 8 ≡ [] → trees 12 ≡ [] → trees 10 ≡ [] → tables_in (record { schema = desk_schema; trees = trees }) ≡ no_tables
+no_rows_of trees h m r l k n =
+    (λ i. record { heads = heads_of (map head_read (h i)); messages = messages_of (map message_read (m i)); recipients = recipients_of (map recipient_read (r i)); lines = lines_of (map line_read (l i)); marks = marks_of (map mark_read (k i)); notices = notices_of (map notice_read (n i)) })
     ∙ no_rows
 
 apart : (m n : ℕ) → eqb m n ≡ false → m ≢ n
@@ -55,6 +55,7 @@ stamped old new count has empty h =
     let ms : new.now.trees 3 ≡ [] = sets.others 3 (apart 3 0 refl) (no_index 3 refl) ∙ empty.1.1.0 in
     let rs : new.now.trees 6 ≡ [] = sets.others 6 (apart 6 0 refl) (no_index 6 refl) ∙ empty.1.1.1.0 in
     let ls : new.now.trees 8 ≡ [] = sets.others 8 (apart 8 0 refl) (no_index 8 refl) ∙ empty.1.1.1.1.0 in
+    let ns : new.now.trees 10 ≡ [] = sets.others 10 (apart 10 0 refl) (no_index 10 refl) ∙ empty.1.1.1.1.1.0 in
     let ks : new.now.trees 12 ≡ [] = sets.others 12 (apart 12 0 refl) (no_index 12 refl) ∙ empty.1.1.1.1.1.1.0 in
     record {
       desk = record {
@@ -64,10 +65,10 @@ stamped old new count has empty h =
         messages = record { kept = []; rows_are = ms; rises = tt; back = tt; unique = subst (λ rows. HasUniqueKeys message_cmp message_key (map message_read rows)) (sym ms) tt };
         recipients = record { kept = []; rows_are = rs; rises = tt; back = tt; unique = subst (λ rows. HasUniqueKeys recipient_cmp recipient_key (map recipient_read rows)) (sym rs) tt };
         lines = record { kept = []; rows_are = ls; rises = tt; back = tt; unique = subst (λ rows. HasUniqueKeys lines_cmp line_row_key (map line_read rows)) (sym ls) tt };
-        no_notices = sets.others 10 (apart 10 0 refl) (no_index 10 refl) ∙ empty.1.1.1.1.1.0;
+        notices = record { kept = []; rows_are = ns; rises = tt; back = tt; unique = subst (λ rows. HasUniqueKeys notice_cmp notice_key (map notice_read rows)) (sym ns) tt };
         marks = record { kept = []; rows_are = ks; rises = tt; back = tt; unique = subst (λ rows. HasUniqueKeys mark_cmp mark_key (map mark_read rows)) (sym ks) tt };
       };
-      tables = no_rows_of new.now.trees hs ms rs ls ks;
+      tables = no_rows_of new.now.trees hs ms rs ls ks ns;
       is_open = w.shown.is_open;
       was_open = w.shown.was_open;
       mode = w.shown.mode;

@@ -25,8 +25,10 @@ abbrev pub IsUnopened : Type 0 → Fault → Result ⊤ Trouble → Type 0
 IsUnopened untouched fault result = untouched × (result ≡ Err (Desk (AsFault fault)))
 
 -- How a run ends over a store as it was opened: the lines are those of a batch over this shelf, or there is none.
-abbrev pub OpenedEnds : {S : Type 0} → (Held S → State) → Settings → Result (SqlShelf S) Fault → Type 0 → Streams → Streams → Result ⊤ Trouble → Type 0
-OpenedEnds seen settings (Ok shelf) untouched old new result = RunEnds (ServesOver (sight_over seen) settings shelf) untouched old new result
+abbrev pub OpenedEnds : {S : Type 0} → (Held S → State) → Settings → Result (SqlShelf S) Fault → Type 0 → Streams → Streams
+    → Result ⊤ Trouble → Type 0
+OpenedEnds seen settings (Ok shelf) untouched old new result =
+    RunEnds (ServesOver (sight_over seen) settings shelf) untouched old new result
 OpenedEnds seen settings (Err fault) untouched old new result = IsUnopened untouched fault result
 
 -- ---- in memory
@@ -45,4 +47,5 @@ pub record Serves (settings : Settings) (asked : List (Option Request)) (lines :
       → Alone settings.host settings.directory (map (ask_in settings.directory) asked) over.replied.0 no_tables ((on memory).tables over.new)
 
 abbrev pub MemoryEnds : Settings → Type 0 → Streams → Streams → Result ⊤ Trouble → Type 0
-MemoryEnds settings untouched old new result = RunEnds (Serves settings) untouched old new result ⊎ ((fault : Fault) × IsUnopened untouched fault result)
+MemoryEnds settings untouched old new result =
+    RunEnds (Serves settings) untouched old new result ⊎ ((fault : Fault) × IsUnopened untouched fault result)

@@ -7,8 +7,9 @@ use hq_envelope::{Fault, Items, Label, Name, Serial, Spool};
 use hq_queue::{Counts, Head, Message};
 use hq_sql::{line_pages, lines};
 use hq_sql_marks::marks;
+use hq_sql_notices::{notices, pages};
 use hq_sql_queue::queued;
-use hq_store::{Change, Mark, Shelf};
+use hq_store::{Change, Mark, Notice, Shelf};
 use sqlite::Alter;
 
 impl<S: Alter> Shelf for SqlShelf<S> {
@@ -108,6 +109,31 @@ impl<S: Alter> Shelf for SqlShelf<S> {
         }
         match marks::mark(self.alloc, &mut self.conn, customer, label) {
             Ok(found) => Ok(found),
+            Err(error) => Err(self.give_up(error)),
+        }
+    }
+
+    fn notice(&mut self, customer: &Name, number: u64) -> Result<Option<Notice>, Fault> {
+        if self.closed {
+            return Err(self.refuse());
+        }
+        match notices::notice(self.alloc, &mut self.conn, customer, number) {
+            Ok(found) => Ok(found),
+            Err(error) => Err(self.give_up(error)),
+        }
+    }
+
+    fn notices(
+        &mut self,
+        customer: &Name,
+        after: Option<u64>,
+        limit: usize,
+    ) -> Result<Items<Notice>, Fault> {
+        if self.closed {
+            return Err(self.refuse());
+        }
+        match pages::page(self.alloc, &mut self.conn, customer, after, limit) {
+            Ok(page) => Ok(page),
             Err(error) => Err(self.give_up(error)),
         }
     }

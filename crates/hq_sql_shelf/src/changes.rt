@@ -16,6 +16,7 @@ use hq_envelope::{Name, Serial};
 use hq_queue::Message;
 use hq_sql::lines;
 use hq_sql_marks::marks;
+use hq_sql_notices::notices;
 use hq_sql_open::transaction::{begin, commit};
 use hq_sql_queue::{messages, recipients};
 use hq_store::Change;
@@ -104,6 +105,8 @@ fn make<S: Alter>(
         Change::PutLine(line) => put_line(alloc, conn, customer, line),
         Change::DropLine(pattern) => drop_line(conn, customer, pattern),
         Change::PutMark(mark) => marks::put(conn, customer, mark),
+        Change::AddNotice(notice) => notices::put(conn, customer, notice),
+        Change::DropNoticesBelow(number) => notices::drop_below(conn, customer, *number),
     }
 }
 

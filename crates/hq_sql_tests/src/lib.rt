@@ -1,5 +1,7 @@
-//! For tests alone: stores in memory, opened as desks.
+//! For tests alone: stores in memory, opened as desks, and the notices that they keep.
 #![tactic(auto)]
 
+#[cfg(test)]
+mod notices;
 #[cfg(test)]
 mod openings;

@@ -8,7 +8,7 @@ use Rattle.hq_queue.specs.declared.account.Counts.{Counts}
 use Rattle.hq_queue.specs.declared.account.Head.{Head}
 use Rattle.hq_store.specs.declared.account.Account.{Account}
 use Rattle.hq_store.specs.declared.change.Change.{Change}
-use Rattle.hq_store.specs.declared.change.Change.TheVariants.{PutHead, PutMessage, DropMessage, PutLine, DropLine, PutMark}
+use Rattle.hq_store.specs.declared.change.Change.TheVariants.{PutHead, PutMessage, DropMessage, PutLine, DropLine, PutMark, AddNotice, DropNoticesBelow}
 use Rattle.hq_tables.specs.Owned.{given}
 use Rattle.hq_tables.proofs.Parts.{tied_true, tied_false}
 use Rattle.hq_store.specs.Tables.{Tables, Row, text_cmp, opening_account, recounted, account, headed, counted, with_message, without_message, with_line, without_line, uncounted_message, write}
@@ -63,6 +63,8 @@ account_other c d (DropMessage serial) t apart = uncounted_other c d serial t ap
 account_other c d (PutLine line) t apart = by_given (λ heads. account heads d ≡ account t.heads d) _ _ (get t.lines (c, line.pattern)) (counted_other with_line c d t.heads apart) (λ _. refl)
 account_other c d (DropLine pattern) t apart = by_given (λ heads. account heads d ≡ account t.heads d) _ _ (get t.lines (c, pattern)) refl (λ _. counted_other without_line c d t.heads apart)
 account_other c d (PutMark mark) t apart = refl
+account_other c d (AddNotice n) t apart = refl
+account_other c d (DropNoticesBelow number) t apart = refl
 
 -- counts change no head
 abbrev SameHead : List ℕ → Tables → Heads → Type 0

@@ -44,10 +44,10 @@ replaced_sound s o n h there spool same queued =
 
 -- a dropped message, whose recipients the new head tells as delivered, failed, deleted or expired
 pub dropped_sound : (s : State) (m : Message) (head : Head) → SoundState s → get s.messages m.serial ≡ Some m
-    → head.next_serial ≡ s.head.next_serial → IsNext head.next_notice → head.tally.accepted ≡ s.head.tally.accepted
+    → head.next_serial ≡ s.head.next_serial → IsNext head.next_notice → s.head.next_notice ≤ head.next_notice → head.tally.accepted ≡ s.head.tally.accepted
     → head.tally.delivered + head.tally.failed + head.tally.deleted + head.tally.expired ≡ s.head.tally.delivered + s.head.tally.failed + s.head.tally.deleted + s.head.tally.expired + pending m
     → SoundState (change (PutHead head) (change (DropMessage m.serial) s))
-dropped_sound s m head h there serial notice accepted told =
+dropped_sound s m head h there serial notice later accepted told =
     let drop = pending_drop s.messages m.serial in
     let old : given 0 pending (get s.messages m.serial) ≡ pending m = ap (given 0 pending) there in
     let was = h.conserved in
@@ -59,6 +59,7 @@ dropped_sound s m head h there serial notice accepted told =
         next_serial = subst IsNext (sym serial) next;
         next_notice = notice;
         above = λ k n at. subst (λ x. k < x) (sym serial) ((dropped.messages k n at).below);
+        above_notices = λ k n at. let below = (dropped.notices k n at).1 in omega arith;
       });
       conserved = omega arith;
       bounded = subst (λ (x : ℕ × ℕ). x.0 ≤ 100 * (x.1 - 1)) (λ i. (sym accepted i, sym serial i)) bound;
@@ -73,12 +74,12 @@ free s h = cases (get s.messages s.head.next_serial) refl where
 
 -- a message queued under the next serial: the head is put first, so that the serial is below the next one
 pub queued_sound : (s : State) (m : Message) (head : Head) → SoundState s
-    → m.serial ≡ s.head.next_serial → head.next_serial ≡ s.head.next_serial + 1 → IsNext head.next_serial → IsNext head.next_notice
+    → m.serial ≡ s.head.next_serial → head.next_serial ≡ s.head.next_serial + 1 → IsNext head.next_serial → IsNext head.next_notice → s.head.next_notice ≤ head.next_notice
     → head.tally.accepted ≡ s.head.tally.accepted + pending m
     → head.tally.delivered + head.tally.failed + head.tally.deleted + head.tally.expired ≡ s.head.tally.delivered + s.head.tally.failed + s.head.tally.deleted + s.head.tally.expired
     → 0 < pending m → pending m ≤ 100 → AreApart m.pending → ((serial : ℕ) (n : Message) → get s.messages serial ≡ Some n → n.spool ≢ m.spool) → len s.messages < 1000
     → SoundState (change (PutMessage m) (change (PutHead head) s))
-queued_sound s m head h own next serial notice accepted told some few apart new room =
+queued_sound s m head h own next serial notice later accepted told some few apart new room =
     let put = pending_put s.messages m in
     let none : given 0 pending (get s.messages m.serial) ≡ 0 = ap (given 0 pending) (ap (get s.messages) own ∙ free s h) in
     let was = h.conserved in
@@ -88,6 +89,7 @@ queued_sound s m head h own next serial notice accepted told some few apart new 
       next_serial = serial;
       next_notice = notice;
       above = λ k n at. let below = (h.shaped.messages k n at).below in omega arith;
+      above_notices = λ k n at. let below = (h.shaped.notices k n at).1 in omega arith;
     }) in
     record {
       shaped = change_shaped (change (PutHead head) s) (PutMessage m) headed (record {

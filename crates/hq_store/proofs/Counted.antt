@@ -10,7 +10,7 @@ use Rattle.std.specs.FinMap.{FinMap, entries, values, get, insert, remove}
 use Rattle.hq_queue.specs.declared.account.Counts.{Counts}
 use Rattle.hq_store.specs.declared.account.Account.{Account}
 use Rattle.hq_store.specs.declared.change.Change.{Change}
-use Rattle.hq_store.specs.declared.change.Change.TheVariants.{PutHead, PutMessage, DropMessage, PutLine, DropLine, PutMark}
+use Rattle.hq_store.specs.declared.change.Change.TheVariants.{PutHead, PutMessage, DropMessage, PutLine, DropLine, PutMark, AddNotice, DropNoticesBelow}
 use Rattle.hq_tables.specs.Owned.{part_of, given}
 use Rattle.hq_tables.proofs.Totals.{total_put, total_drop, many_put}
 use Rattle.hq_store.specs.Tables.{Tables, Row, text_cmp, line_cmp, row_of, account, counted, with_message, without_message, with_line, without_line, uncounted_message, write, write_all}
@@ -140,6 +140,8 @@ kept_after c (DropLine pattern) t = cases (get t.lines (c, pattern)) where
   cases None = refl
   cases (Some o) = at_counted without_line c t.heads
 kept_after c (PutMark mark) t = refl
+kept_after c (AddNotice n) t = refl
+kept_after c (DropNoticesBelow number) t = refl
 
 -- every other customer's rows stay
 pub found_other : (c d : List ℕ) (ch : Change) (t : Tables) → d ≢ c → kept_in d (write c ch t) ≡ kept_in d t

@@ -11,17 +11,13 @@ use Rattle.std.proofs.lemmas.Map.Lookups.{CmpEqualImpliesEq, exact_bytes}
 use Rattle.std.proofs.lemmas.Map.Views.{tells_apart}
 use Rattle.hq_tables.specs.Owned.{by_both, part_of, rows_of}
 use Rattle.hq_tables.proofs.Parts.{get_part, entries_part, part_insert, part_insert_other, part_remove, part_remove_other, part_retain, part_retain_all, tied_true, tied_false}
-use Rattle.hq_store.specs.Tables.{text_cmp}
+use Rattle.hq_store.specs.Tables.{text_cmp, left_of}
 
 pub cases_name : (d c : List ℕ) → (d ≡ c) ⊎ (d ≢ c)
 cases_name d c = elim (eq_by_cmp text_cmp d c) as (λ b. eq_by_cmp text_cmp d c ≡ b → (d ≡ c) ⊎ (d ≢ c)) [
   | true ↦ λ h. inl (tells_apart exact_bytes d c h)
   | false ↦ λ h. inr (λ e. both_ways _ h (ap (eq_by_cmp text_cmp d) (sym e) ∙ tied_true nat_list_cmp_total d))
 ] refl
-
--- of one customer's keys those that fail a test are dropped, as with old notices
-abbrev pub left_of : {K : Type 0} → List ℕ → (K → Bool) → List ℕ × K → Bool
-left_of c p k = not (eq_by_cmp text_cmp c k.0 && not (p k.1))
 
 module _ {K X : Type 0} {R : K → K → Ordering} (r : IsTotalOrder R) (re : CmpEqualImpliesEq R) where
   pub read_own : (c : List ℕ) (m : FinMap (by_both text_cmp R) X) (k : K) → get (part_of text_cmp c m) k ≡ get m (c, k)

@@ -1,5 +1,5 @@
 -- Empty tables are sound, and have the opening state of everybody.
-use Rattle.std.proofs.Common.{◌≡◌, ℕ, ◌+◌, ◌^◌, ◌<◌, ◌≤◌, List, [], map, sym, refl, ap, ◌∙◌, subst, Some, None, arith}
+use Rattle.std.proofs.Common.{◌≡◌, ℕ, ◌+◌, ◌^◌, ◌<◌, ◌≤◌, List, [], map, sym, refl, ap, ◌∙◌, subst, Some, arith}
 use Rattle.std.specs.Prelude.{option_map, unwrap_or}
 use Rattle.std.specs.List.{IsDistinct}
 use Rattle.std.specs.Ordering.{nat_cmp}
@@ -16,13 +16,13 @@ use Rattle.hq_tables.specs.Owned.{by_both, part_of, rows_of, map_values}
 use Rattle.hq_tables.specs.Rows.{table}
 use Rattle.hq_tables.proofs.Parts.{get_part, get-map_values, both_total, both_exact}
 use Rattle.hq_tables.proofs.Pages.{no_entries}
-use Rattle.hq_store.specs.Tables.{Row, text_cmp, line_cmp, lines_cmp, account, opening, opening_account, opening_head, no_tables, own, joined, pending_of, message_cmp, recipient_cmp, mark_cmp}
+use Rattle.hq_store.specs.Tables.{Row, text_cmp, line_cmp, lines_cmp, account, opening, opening_account, no_tables, own, joined, pending_of, message_cmp, recipient_cmp, mark_cmp, notice_cmp}
 use Rattle.hq_store.specs.Readings.{kept_of, kept_in}
 use Rattle.hq_store.proofs.Customers.{none_own}
 use Rattle.hq_store.proofs.LineOrder.{line_total, line_exact}
 use Rattle.hq_store.specs.Sound.{IsNext, SoundState, Sound, AreCounted, numbered, pending_count}
-use Rattle.hq_store.specs.Listed.{head_key, head_value, message_key, message_value, recipient_key, recipient_value, recipients_of, heads_of, messages_of, line_row_key, line_row_value, lines_of, mark_key, mark_value, marks_of}
-use Rattle.hq_store.specs.Lookups.{AreUnique, AreDealt, AreUniqueLines}
+use Rattle.hq_store.specs.Listed.{head_key, head_value, message_key, message_value, recipient_key, recipient_value, recipients_of, heads_of, messages_of, line_row_key, line_row_value, lines_of, mark_key, mark_value, marks_of, notice_key, notice_value, notices_of}
+use Rattle.hq_store.specs.Lookups.{AreUnique, AreDealt, AreUniqueLines, AreUniqueNotices}
 use Rattle.hq_store.proofs.States.{none_some}
 
 part_empty : (serial : ℕ) → part_of nat_cmp serial (empty {X = Pending} {R = by_both nat_cmp nat_cmp}) ≡ empty
@@ -38,7 +38,7 @@ no_account : (customer : List ℕ) → account no_tables.heads customer ≡ open
 no_account customer = ap (λ o. unwrap_or o opening_account) (get-empty text_cmp customer)
 
 pub own_opening : (customer : List ℕ) → own customer no_tables ≡ opening
-own_opening customer = λ i. record { head = (no_account customer i).head; messages = no_message customer i; lines = none_own line_total line_exact customer i; marks = none_own nat_list_cmp_total exact_bytes customer i }
+own_opening customer = λ i. record { head = (no_account customer i).head; messages = no_message customer i; lines = none_own line_total line_exact customer i; marks = none_own nat_list_cmp_total exact_bytes customer i; notices = none_own nat_cmp_total exact_unsigned customer i }
 
 -- stated for any number, since the limits are large
 next_one : (n : ℕ) → 1 ≤ n → (0 < 1) × (1 ≤ n)
@@ -61,6 +61,7 @@ opening_sound = record {
     messages = λ k m h. absurd (nothing k m h);
     spools = λ k l m n h g e. absurd (nothing k m h);
     few_messages = let none : len opening.messages ≡ 0 = len-empty nat_cmp Message in omega arith;
+    notices = λ k n h. absurd (none_some n (sym (get-empty nat_cmp k) ∙ h));
     few_lines = let none : len opening.lines ≡ 0 = len-empty line_cmp Action in omega arith;
   };
   conserved = ap (λ ms. pending_count ms + 0 + 0 + 0 + 0) (sym no_values);
@@ -106,9 +107,13 @@ pub none_dealt : AreDealt []
 unfolding AreDealt
 none_dealt customer serial = sym (ap (pending_of customer serial) (table_nothing recipient_cmp recipient_key recipient_value) ∙ no_pending customer serial)
 
+pub none_unique_notices : AreUniqueNotices []
+unfolding AreUniqueNotices IsDistinct
+none_unique_notices = tt
+
 pub none_unique_lines : AreUniqueLines []
 unfolding AreUniqueLines IsDistinct
 none_unique_lines = tt
 
-pub no_rows : record { heads = heads_of []; messages = messages_of []; recipients = recipients_of []; lines = lines_of []; marks = marks_of [] } ≡ no_tables
-no_rows = λ i. record { heads = table_nothing text_cmp head_key head_value i; messages = table_nothing message_cmp message_key message_value i; recipients = table_nothing recipient_cmp recipient_key recipient_value i; lines = table_nothing lines_cmp line_row_key line_row_value i; marks = table_nothing mark_cmp mark_key mark_value i }
+pub no_rows : record { heads = heads_of []; messages = messages_of []; recipients = recipients_of []; lines = lines_of []; marks = marks_of []; notices = notices_of [] } ≡ no_tables
+no_rows = λ i. record { heads = table_nothing text_cmp head_key head_value i; messages = table_nothing message_cmp message_key message_value i; recipients = table_nothing recipient_cmp recipient_key recipient_value i; lines = table_nothing lines_cmp line_row_key line_row_value i; marks = table_nothing mark_cmp mark_key mark_value i; notices = table_nothing notice_cmp notice_key notice_value i }

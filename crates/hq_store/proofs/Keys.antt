@@ -1,23 +1,26 @@
 -- Heads and messages in rows: the general lemmas at their keys.
-use Rattle.std.proofs.Common.{◌≡◌, ℕ, not, List, [], ◌∷◌, ◌++◌, filter, sym}
-use Rattle.std.specs.Prelude.{option_map}
+use Rattle.std.proofs.Common.{◌≡◌, ℕ, Bool, true, false, not, cond, List, [], ◌∷◌, ◌++◌, filter, refl, sym, ap, ◌∙◌, Some, None, Option}
+use Rattle.std.specs.Prelude.{option_map, nat_le}
 use Rattle.std.specs.List as list
 use Rattle.std.specs.Cmp.{IsTotalOrder, nat_cmp_total}
 use Rattle.std.specs.Cmp.Lexicographic.{nat_list_cmp_total}
+use Rattle.std.proofs.lemmas.Map.Views.{tells_apart}
+use Rattle.std.specs.Ordering.{eq_by_cmp}
 use Rattle.std.proofs.lemmas.Map.Lookups.{CmpEqualImpliesEq, exact_bytes, exact_unsigned}
-use Rattle.std.specs.FinMap.{get, insert, remove}
-use Rattle.hq_store.specs.Tables.{message_cmp, lines_cmp, mark_cmp}
+use Rattle.std.specs.FinMap.{get, insert, remove, retain_keys}
+use Rattle.hq_store.specs.Tables.{message_cmp, lines_cmp, mark_cmp, notice_cmp, Noted, left_of, noted_of, notice_of}
 use Rattle.hq_store.proofs.LineOrder.{line_total, line_exact}
 use Rattle.hq_tables.proofs.Parts.{both_total, both_exact}
-use Rattle.hq_tables.proofs.Lists.{get_table, table_drop, table_put}
+use Rattle.hq_tables.proofs.Lists.{get_table, table_drop, table_keep, table_put}
 use Rattle.hq_tables.proofs.Unique.{unique_filter, unique_put}
 use Rattle.hq_access.specs.declared.pattern.Class.{Class}
 use Rattle.hq_store.specs.declared.rows.HeadRow.{HeadRow}
 use Rattle.hq_store.specs.declared.rows.LineRow.{LineRow}
 use Rattle.hq_store.specs.declared.rows.MarkRow.{MarkRow}
 use Rattle.hq_store.specs.declared.rows.MessageRow.{MessageRow}
-use Rattle.hq_store.specs.Listed.{head_key, head_value, message_key, message_value, heads_of, messages_of, line_row_key, line_row_value, lines_of, mark_key, mark_value, marks_of}
-use Rattle.hq_store.specs.Lookups.{is_head, is_message, AreUnique, is_line, AreUniqueLines, is_mark}
+use Rattle.hq_store.specs.declared.rows.NoticeRow.{NoticeRow}
+use Rattle.hq_store.specs.Listed.{head_key, head_value, message_key, message_value, heads_of, messages_of, line_row_key, line_row_value, lines_of, mark_key, mark_value, marks_of, notice_key, notice_value, notices_of}
+use Rattle.hq_store.specs.Lookups.{is_head, is_message, AreUnique, is_line, AreUniqueLines, is_mark, is_notice, is_kept_notice, AreUniqueNotices}
 
 pub message_total : IsTotalOrder message_cmp
 message_total = both_total nat_list_cmp_total nat_cmp_total
@@ -92,3 +95,45 @@ mark_found rows c label = sym (get_table mark_total mark_exact mark_key mark_val
 pub mark_put : (rows : List MarkRow) (r : MarkRow) → marks_of (filter (λ x. not (is_mark r.customer r.mark.label x)) rows ++ r ∷ []) ≡ insert (marks_of rows) (r.customer, r.mark.label) r.mark
 unfolding is_mark
 mark_put rows r = table_put mark_total mark_exact mark_key mark_value rows r
+
+noted_found : (rows : List NoticeRow) (c : List ℕ) (number : ℕ) → option_map notice_value (list.find (is_notice c number) rows) ≡ get (notices_of rows) (c, number)
+unfolding is_notice
+noted_found rows c number = sym (get_table message_total message_exact notice_key notice_value rows (c, number))
+
+pub notice_put : (rows : List NoticeRow) (r : NoticeRow) → notices_of (filter (λ x. not (is_notice r.customer r.notice.number x)) rows ++ r ∷ []) ≡ insert (notices_of rows) (r.customer, r.notice.number) (noted_of r.notice)
+unfolding is_notice
+notice_put rows r = table_put message_total message_exact notice_key notice_value rows r
+
+pub notices_kept : (rows : List NoticeRow) (c : List ℕ) (number : ℕ) → notices_of (filter (is_kept_notice c number) rows) ≡ retain_keys (notices_of rows) (left_of c (nat_le number))
+unfolding is_kept_notice
+notices_kept rows c number = table_keep message_total message_exact notice_key notice_value (left_of c (nat_le number)) rows
+
+pub unique_notice_put : (rows : List NoticeRow) (r : NoticeRow) → AreUniqueNotices rows → AreUniqueNotices (filter (λ x. not (is_notice r.customer r.notice.number x)) rows ++ r ∷ [])
+unfolding AreUniqueNotices is_notice
+unique_notice_put rows r u = unique_put message_total notice_key rows r u
+
+pub unique_notices_kept : (rows : List NoticeRow) (c : List ℕ) (number : ℕ) → AreUniqueNotices rows → AreUniqueNotices (filter (is_kept_notice c number) rows)
+unfolding AreUniqueNotices
+unique_notices_kept rows c number u = unique_filter message_cmp notice_key _ rows u
+
+-- a row that is found has that number
+whole_notice : (c : List ℕ) (number : ℕ) (rows : List NoticeRow) → option_map (λ (r : NoticeRow). r.notice) (list.find (is_notice c number) rows) ≡ option_map (λ (r : NoticeRow). notice_of (number, noted_of r.notice)) (list.find (is_notice c number) rows)
+unfolding is_notice
+whole_notice c number [] = refl
+whole_notice c number (r ∷ rows) = cases (eq_by_cmp notice_cmp (c, number) (r.customer, r.notice.number)) refl (whole_notice c number rows) where
+  rest : Option NoticeRow
+  rest = list.find (is_notice c number) rows
+
+  cases : (b : Bool) → eq_by_cmp notice_cmp (c, number) (r.customer, r.notice.number) ≡ b → option_map (λ (x : NoticeRow). x.notice) rest ≡ option_map (λ (x : NoticeRow). notice_of (number, noted_of x.notice)) rest
+      → option_map (λ (x : NoticeRow). x.notice) (cond b (Some r) rest) ≡ option_map (λ (x : NoticeRow). notice_of (number, noted_of x.notice)) (cond b (Some r) rest)
+  cases true e later = ap (λ (k : ℕ). Some (notice_of (k, noted_of r.notice))) (sym (ap (λ (k : List ℕ × ℕ). k.1) (tells_apart message_exact (c, number) (r.customer, r.notice.number) e)))
+  cases false e later = later
+
+pub notice_found : (rows : List NoticeRow) (c : List ℕ) (number : ℕ) → option_map (λ (r : NoticeRow). r.notice) (list.find (is_notice c number) rows) ≡ option_map (λ (n : Noted). notice_of (number, n)) (get (notices_of rows) (c, number))
+notice_found rows c number =
+    whole_notice c number rows
+    ∙ sym (option_map-map (λ (n : Noted). notice_of (number, n)) notice_value (list.find (is_notice c number) rows))
+    ∙ ap (option_map (λ (n : Noted). notice_of (number, n))) (noted_found rows c number) where
+      option_map-map : {A B C : Type 0} (g : B → C) (f : A → B) (o : Option A) → option_map g (option_map f o) ≡ option_map (λ a. g (f a)) o
+      option_map-map g f None = refl
+      option_map-map g f (Some a) = refl

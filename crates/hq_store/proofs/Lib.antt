@@ -9,6 +9,7 @@ pub mod Keys
 pub mod LineOrder
 pub mod LinePages
 pub mod Many
+pub mod NoticePages
 pub mod Own
 pub mod Read
 pub mod Then

@@ -161,21 +161,23 @@ moved_sound f s does h =
 
 -- changes that take recipients, and then a head that tells of as many
 pub taken_sound : (f : Message → List Change) (w : Message → ℕ) (s : State) (head : Head) → ((u : State) (m : Message) → ShapedState u → get u.messages m.serial ≡ Some m → Does u (change_all (f m) u) m (w m)) → SoundState s
-    → head.next_serial ≡ s.head.next_serial → IsNext head.next_notice → head.tally.accepted ≡ s.head.tally.accepted
+    → head.next_serial ≡ s.head.next_serial → IsNext head.next_notice → s.head.next_notice ≤ head.next_notice → head.tally.accepted ≡ s.head.tally.accepted
     → head.tally.delivered + head.tally.failed + head.tally.deleted + head.tally.expired ≡ s.head.tally.delivered + s.head.tally.failed + s.head.tally.deleted + s.head.tally.expired + sum_by w (values s.messages)
     → SoundState (change (PutHead head) (change_all (flat_map f (values s.messages)) s))
-taken_sound f w s head does h serial notice accepted told =
+taken_sound f w s head does h serial notice later accepted told =
     let ms = values s.messages in
     let done = each_done f w does ms s h.shaped (stand_values s.messages (λ k m g. (h.shaped.messages k m g).own_serial)) in
     let after = change_all (flat_map f ms) s in
     let sums = done.sum in
     let was = h.conserved in
     let same : head.next_serial ≡ after.head.next_serial = serial ∙ ap (λ (x : Head). x.next_serial) (sym done.head) in
+    let risen : after.head.next_notice ≤ head.next_notice = subst (λ (x : Head). x.next_notice ≤ head.next_notice) (sym done.head) later in
     record {
       shaped = change_shaped after (PutHead head) done.shaped (record {
         next_serial = subst IsNext (sym serial) h.shaped.next_serial;
         next_notice = notice;
         above = λ k n at. subst (λ x. k < x) (sym same) ((done.shaped.messages k n at).below);
+        above_notices = λ k n at. let below = (done.shaped.notices k n at).1 in omega arith;
       });
       conserved = omega arith;
       bounded = subst (λ (x : ℕ × ℕ). x.0 ≤ 100 * (x.1 - 1)) (λ i. (sym accepted i, sym serial i)) h.bounded;

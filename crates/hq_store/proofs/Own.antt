@@ -1,6 +1,6 @@
 -- A change of one customer's rows is that change of the customer's state, and changes no other.
 use Rattle.std.proofs.Common.{◌≡◌, ◌≢◌, ℕ, Bool, true, false, cond, List, [], ◌∷◌, sym, refl, ap, ◌∙◌, Some, None}
-use Rattle.std.specs.Prelude.{Option, option_map}
+use Rattle.std.specs.Prelude.{Option, option_map, nat_le}
 use Rattle.std.specs.Ordering.{nat_cmp, eq_by_cmp}
 use Rattle.std.specs.Cmp.{nat_cmp_total}
 use Rattle.std.specs.Cmp.Lexicographic.{nat_list_cmp_total}
@@ -9,13 +9,13 @@ use Rattle.std.proofs.lemmas.Map.Lookups.{exact_unsigned, exact_bytes}
 use Rattle.std.proofs.lemmas.Map.Views.{tells_apart}
 use Rattle.std.proofs.lemmas.Bool.{both_ways}
 use Rattle.hq_store.specs.declared.change.Change.{Change}
-use Rattle.hq_store.specs.declared.change.Change.TheVariants.{PutHead, PutMessage, DropMessage, PutLine, DropLine, PutMark}
+use Rattle.hq_store.specs.declared.change.Change.TheVariants.{PutHead, PutMessage, DropMessage, PutLine, DropLine, PutMark, AddNotice, DropNoticesBelow}
 use Rattle.hq_queue.specs.declared.message.Message.{Message}
 use Rattle.hq_queue.specs.declared.message.Pending.{Pending}
 use Rattle.hq_tables.specs.Owned.{part_of, map_values}
-use Rattle.hq_store.specs.Tables.{text_cmp, message_cmp, Tables, Row, with_line, without_line, change, change_all, write, write_all, row_of, message_of, pending_of, joined, deal, own}
+use Rattle.hq_store.specs.Tables.{text_cmp, message_cmp, Tables, Row, with_line, without_line, change, change_all, write, write_all, row_of, message_of, pending_of, joined, deal, own, noted_of}
 use Rattle.hq_tables.proofs.Parts.{part_insert, part_remove, tied_true, get-map_values}
-use Rattle.hq_store.proofs.Customers.{put_own, put_other, drop_own, drop_other}
+use Rattle.hq_store.proofs.Customers.{put_own, put_other, drop_own, drop_other, sweep_own, sweep_other}
 use Rattle.hq_store.proofs.Accounts.{headed_own, message_head, uncounted_head, line_head, no_line_head, account_other}
 use Rattle.hq_store.proofs.LineOrder.{line_total, line_exact}
 use Rattle.hq_store.proofs.Dealt.{Recipients, pending_same, pending_other_message, pending_other_owner}
@@ -72,15 +72,19 @@ own_write c (PutMessage m) t = λ i. record (own c t) { head = message_head c m.
 own_write c (DropMessage serial) t = λ i. record (own c t) { head = uncounted_head c serial t i; messages = queue_drop c t.messages t.recipients serial i }
 own_write c (PutLine line) t = λ i. record (own c t) { head = line_head c with_line t (get t.lines (c, line.pattern)) i; lines = put_own line_total line_exact c t.lines line.pattern line.action i }
 own_write c (PutMark mark) t = λ i. record (own c t) { marks = put_own nat_list_cmp_total exact_bytes c t.marks mark.label mark i }
+own_write c (AddNotice n) t = λ i. record (own c t) { notices = put_own nat_cmp_total exact_unsigned c t.notices n.number (noted_of n) i }
+own_write c (DropNoticesBelow number) t = λ i. record (own c t) { notices = sweep_own nat_cmp_total exact_unsigned c t.notices (nat_le number) i }
 own_write c (DropLine pattern) t = λ i. record (own c t) { head = no_line_head c without_line t (get t.lines (c, pattern)) i; lines = drop_own line_total line_exact c t.lines pattern i }
 
 -- and for each other customer: head and rows
-other_rows : (c d : List ℕ) (ch : Change) (t : Tables) → d ≢ c → record (own d t) { messages = (own d (write c ch t)).messages; lines = (own d (write c ch t)).lines; marks = (own d (write c ch t)).marks } ≡ own d t
+other_rows : (c d : List ℕ) (ch : Change) (t : Tables) → d ≢ c → record (own d t) { messages = (own d (write c ch t)).messages; lines = (own d (write c ch t)).lines; marks = (own d (write c ch t)).marks; notices = (own d (write c ch t)).notices } ≡ own d t
 other_rows c d (PutHead head) t apart = refl
 other_rows c d (PutMessage m) t apart = λ i. record (own d t) { messages = queue_other c d t.messages _ t.recipients m.serial m.pending apart (put_other nat_cmp_total exact_unsigned c d t.messages m.serial (row_of m) apart) i }
 other_rows c d (DropMessage serial) t apart = λ i. record (own d t) { messages = queue_other c d t.messages _ t.recipients serial [] apart (drop_other nat_cmp_total exact_unsigned c d t.messages serial apart) i }
 other_rows c d (PutLine line) t apart = λ i. record (own d t) { lines = put_other line_total line_exact c d t.lines line.pattern line.action apart i }
 other_rows c d (PutMark mark) t apart = λ i. record (own d t) { marks = put_other nat_list_cmp_total exact_bytes c d t.marks mark.label mark apart i }
+other_rows c d (AddNotice n) t apart = λ i. record (own d t) { notices = put_other nat_cmp_total exact_unsigned c d t.notices n.number (noted_of n) apart i }
+other_rows c d (DropNoticesBelow number) t apart = λ i. record (own d t) { notices = sweep_other nat_cmp_total exact_unsigned c d t.notices (nat_le number) apart i }
 other_rows c d (DropLine pattern) t apart = λ i. record (own d t) { lines = drop_other line_total line_exact c d t.lines pattern apart i }
 
 pub other_write : (c d : List ℕ) (ch : Change) (t : Tables) → d ≢ c → own d (write c ch t) ≡ own d t

@@ -15,7 +15,7 @@ use Rattle.std.specs.Cmp.{nat_cmp_total}
 use Rattle.hq_tables.proofs.Parts.{entries_part, get-map_values, entries-map_values}
 use Rattle.hq_store.proofs.Customers.{read_own, rows_own}
 use Rattle.hq_store.proofs.LineOrder.{line_total, line_exact}
-use Rattle.hq_store.specs.Tables.{Tables, Row, text_cmp, line_cmp, own, joined}
+use Rattle.hq_store.specs.Tables.{Tables, Row, Noted, text_cmp, line_cmp, own, joined, notice_of}
 use Rattle.hq_store.specs.Readings.{read_state, read_tables, messages_in, with_spool, kept_of, kept_in, told, line_of}
 
 seconds : {K X Y : Type 0} (f : K → X → Y) (es : List (K × X)) → map (λ (e : K × Y). e.1) (map (λ (e : K × X). (e.0, f e.0 e.1)) es) ≡ map (λ e. f e.0 e.1) es
@@ -60,6 +60,8 @@ same_readings customer t =
       line = λ class key. sym (read_own line_total line_exact customer t.lines (class, key)) i;
       lines = map line_of (sym (rows_own line_total line_exact customer t.lines) i);
       mark = λ label. sym (read_own nat_list_cmp_total exact_bytes customer t.marks label) i;
+      notice = λ number. option_map (λ (n : Noted). notice_of (number, n)) (sym (read_own nat_cmp_total exact_unsigned customer t.notices number) i);
+      notices = map notice_of (sym (rows_own nat_cmp_total exact_unsigned customer t.notices) i);
     }
 
 -- a customer that keeps no line has none at any key

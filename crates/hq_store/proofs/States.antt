@@ -1,19 +1,19 @@
 -- A change that fits keeps a customer's state shaped.
 use Rattle.std.proofs.Common.{◌≡◌, ◌⊎◌, inl, inr, ⊎_elim, ℕ, ◌+◌, ◌-◌, ◌<◌, ◌≤◌, Bool, true, false, cond, sym, refl, ap, ◌∙◌, subst, Some, None, Option, arith}
-use Rattle.std.specs.Prelude.{is_some}
+use Rattle.std.specs.Prelude.{is_some, nat_le}
 use Rattle.std.specs.Ordering.{nat_cmp, eq_by_cmp}
 use Rattle.std.specs.declared.cmp.Ordering.{Ordering}
 use Rattle.std.specs.Cmp.{IsTotalOrder, nat_cmp_total}
 use Rattle.std.proofs.lemmas.Map.Lookups.{exact_unsigned}
 use Rattle.std.proofs.lemmas.Map.Views.{tells_apart}
-use Rattle.std.specs.FinMap.{FinMap, get, insert, remove, len, contains_key, get-insert, get-remove, len-insert, len-remove}
+use Rattle.std.specs.FinMap.{FinMap, get, insert, remove, retain_keys, len, contains_key, get-insert, get-remove, get-retain_keys, len-insert, len-remove}
 use Rattle.hq_access.specs.declared.action.Action.{Action}
 use Rattle.hq_queue.specs.declared.account.Head.{Head}
 use Rattle.hq_queue.specs.declared.message.Message.{Message}
 use Rattle.hq_store.specs.declared.change.Change.{Change}
-use Rattle.hq_store.specs.declared.change.Change.TheVariants.{PutHead, PutMessage, DropMessage, PutLine, DropLine, PutMark}
+use Rattle.hq_store.specs.declared.change.Change.TheVariants.{PutHead, PutMessage, DropMessage, PutLine, DropLine, PutMark, AddNotice, DropNoticesBelow}
 use Rattle.hq_store.specs.declared.mark.Mark.{Mark}
-use Rattle.hq_store.specs.Tables.{State, change, line_cmp, text_cmp}
+use Rattle.hq_store.specs.Tables.{State, Noted, change, line_cmp, text_cmp, noted_of}
 use Rattle.hq_store.specs.Sound.{ShapedState, IsQueued}
 use Rattle.hq_store.proofs.LineOrder.{line_total}
 use Rattle.hq_store.specs.Fits.{Fits, HeadFits, MessageFits}
@@ -46,6 +46,7 @@ head_shaped s head h fit = record {
   spools = h.spools;
   few_messages = h.few_messages;
   few_lines = h.few_lines;
+  notices = λ number n f. ((h.notices number n f).0, fit.above_notices number n f);
 }
 
 -- a put keeps within a limit where a new key has room, and a drop does
@@ -81,6 +82,7 @@ message_shaped s n h fit = record {
       (found s.messages n.serial n k m f);
   few_messages = few_put nat_cmp_total 1000 s.messages h.few_messages n.serial n fit.room;
   few_lines = h.few_lines;
+  notices = h.notices;
 }
 
 drop_shaped : (s : State) (k : ℕ) → ShapedState s → ShapedState (change (DropMessage k) s)
@@ -91,15 +93,32 @@ drop_shaped s k h = record {
   spools = λ x y m m' f f' e. h.spools x y m m' (left s.messages k x m f) (left s.messages k y m' f') e;
   few_messages = few_drop nat_cmp_total 1000 s.messages h.few_messages k;
   few_lines = h.few_lines;
+  notices = h.notices;
 }
 
 -- lines are bound by their number alone
 lines_shaped : (s : State) (lines : FinMap line_cmp Action) → ShapedState s → len lines ≤ 5000 → ShapedState (record s { lines = lines })
-lines_shaped s lines h few = record { next_serial = h.next_serial; next_notice = h.next_notice; messages = h.messages; spools = h.spools; few_messages = h.few_messages; few_lines = few }
+lines_shaped s lines h few = record { next_serial = h.next_serial; next_notice = h.next_notice; messages = h.messages; spools = h.spools; few_messages = h.few_messages; few_lines = few; notices = h.notices }
 
 -- imports bind nothing of the rest
 marks_shaped : (s : State) (marks : FinMap text_cmp Mark) → ShapedState s → ShapedState (record s { marks = marks })
-marks_shaped s marks h = record { next_serial = h.next_serial; next_notice = h.next_notice; messages = h.messages; spools = h.spools; few_messages = h.few_messages; few_lines = h.few_lines }
+marks_shaped s marks h = record { next_serial = h.next_serial; next_notice = h.next_notice; messages = h.messages; spools = h.spools; few_messages = h.few_messages; few_lines = h.few_lines; notices = h.notices }
+
+-- what a look-up of notices finds after one was added, and after some were dropped
+added : (s : State) (k : ℕ) (v : Noted) (x : ℕ) (n : Noted) → get (insert s.notices k v) x ≡ Some n → (x ≡ k) ⊎ (get s.notices x ≡ Some n)
+added s k v x n h = cases (eq_by_cmp nat_cmp x k) refl (sym (get-insert nat_cmp_total s.notices k v x) ∙ h) where
+  cases : (b : Bool) → eq_by_cmp nat_cmp x k ≡ b → cond b (Some v) (get s.notices x) ≡ Some n → (x ≡ k) ⊎ (get s.notices x ≡ Some n)
+  cases true e f = inl (tells_apart exact_unsigned x k e)
+  cases false e f = inr f
+
+kept : (s : State) (p : ℕ → Bool) (x : ℕ) (n : Noted) → get (retain_keys s.notices p) x ≡ Some n → get s.notices x ≡ Some n
+kept s p x n h = cases (p x) (sym (get-retain_keys s.notices p x (λ y e. ap p (sym (exact_unsigned x y e)))) ∙ h) where
+  cases : (b : Bool) → cond b (get s.notices x) None ≡ Some n → get s.notices x ≡ Some n
+  cases true f = f
+  cases false f = absurd (none_some n f)
+
+notices_shaped : (s : State) (notices : FinMap nat_cmp Noted) → ShapedState s → ((number : ℕ) (n : Noted) → get notices number ≡ Some n → (0 < number) × (number < s.head.next_notice)) → ShapedState (record s { notices = notices })
+notices_shaped s notices h given_out = record { next_serial = h.next_serial; next_notice = h.next_notice; messages = h.messages; spools = h.spools; few_messages = h.few_messages; few_lines = h.few_lines; notices = given_out }
 
 pub change_shaped : (s : State) (ch : Change) → ShapedState s → Fits s ch → ShapedState (change ch s)
 change_shaped s (PutHead head) h fit = head_shaped s head h fit
@@ -108,3 +127,8 @@ change_shaped s (DropMessage serial) h fit = drop_shaped s serial h
 change_shaped s (PutLine line) h fit = lines_shaped s _ h (few_put line_total 5000 s.lines h.few_lines line.pattern line.action fit)
 change_shaped s (DropLine pattern) h fit = lines_shaped s _ h (few_drop line_total 5000 s.lines h.few_lines pattern)
 change_shaped s (PutMark mark) h fit = marks_shaped s _ h
+change_shaped s (AddNotice notice) h fit = notices_shaped s _ h (λ x n f. ⊎_elim
+    (λ (same : x ≡ notice.number). (subst (λ y. 0 < y) (sym same) fit.0, subst (λ y. y < s.head.next_notice) (sym same) fit.1.0))
+    (λ (old : get s.notices x ≡ Some n). h.notices x n old)
+    (added s notice.number (noted_of notice) x n f))
+change_shaped s (DropNoticesBelow number) h fit = notices_shaped s _ h (λ x n f. h.notices x n (kept s (nat_le number) x n f))

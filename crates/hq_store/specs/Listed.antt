@@ -10,9 +10,10 @@ use Rattle.hq_store.specs.declared.rows.LineRow.{LineRow}
 use Rattle.hq_store.specs.declared.mark.Mark.{Mark}
 use Rattle.hq_store.specs.declared.rows.MarkRow.{MarkRow}
 use Rattle.hq_store.specs.declared.rows.MessageRow.{MessageRow}
+use Rattle.hq_store.specs.declared.rows.NoticeRow.{NoticeRow}
 use Rattle.hq_store.specs.declared.rows.RecipientRow.{RecipientRow}
 use Rattle.hq_store.specs.declared.list_rows.ListRows.{ListRows}
-use Rattle.hq_store.specs.Tables.{Tables, Row, text_cmp, message_cmp, recipient_cmp, lines_cmp, mark_cmp}
+use Rattle.hq_store.specs.Tables.{Tables, Row, Noted, text_cmp, message_cmp, recipient_cmp, lines_cmp, mark_cmp, notice_cmp, noted_of}
 use Rattle.hq_tables.specs.Rows.{table}
 
 -- ---- keys and values of rows
@@ -47,6 +48,12 @@ mark_key r = (r.customer, r.mark.label)
 abbrev pub mark_value : MarkRow → Mark
 mark_value r = r.mark
 
+abbrev pub notice_key : NoticeRow → List ℕ × ℕ
+notice_key r = (r.customer, r.notice.number)
+
+abbrev pub notice_value : NoticeRow → Noted
+notice_value r = noted_of r.notice
+
 -- ---- the tables that rows stand for: of rows with one key the first counts
 
 abbrev pub heads_of : List HeadRow → FinMap text_cmp Account
@@ -64,5 +71,8 @@ lines_of rows = table lines_cmp line_row_key line_row_value rows
 abbrev pub marks_of : List MarkRow → FinMap mark_cmp Mark
 marks_of rows = table mark_cmp mark_key mark_value rows
 
+abbrev pub notices_of : List NoticeRow → FinMap notice_cmp Noted
+notices_of rows = table notice_cmp notice_key notice_value rows
+
 abbrev pub tables_of : ListRows → Tables
-tables_of s = record { heads = heads_of s.heads.items; messages = messages_of s.messages.items; recipients = recipients_of s.recipients.items; lines = lines_of s.lines.items; marks = marks_of s.marks.items }
+tables_of s = record { heads = heads_of s.heads.items; messages = messages_of s.messages.items; recipients = recipients_of s.recipients.items; lines = lines_of s.lines.items; marks = marks_of s.marks.items; notices = notices_of s.notices.items }

@@ -1,5 +1,5 @@
 -- The words of the functions of the plain lists: tests of rows, rows made, their order, pages. No claim rests on them.
-use Rattle.std.specs.Prelude.{◌≡◌, ℕ, suc, Bool, true, nat_lt, None, Some, ◌&&◌, List, [], ◌∷◌, map, filter, Option, option_map}
+use Rattle.std.specs.Prelude.{◌≡◌, ℕ, suc, Bool, true, nat_le, nat_lt, None, Some, ◌&&◌, List, [], ◌∷◌, map, filter, Option, option_map}
 use Rattle.std.specs.Ordering.{nat_cmp, eq_by_cmp, is_lt}
 use Rattle.std.specs.FinMap.{entries, get}
 use Rattle.hq_queue.specs.declared.message.Message.{Message}
@@ -10,12 +10,13 @@ use Rattle.hq_store.specs.declared.rows.HeadRow.{HeadRow}
 use Rattle.hq_store.specs.declared.rows.LineRow.{LineRow}
 use Rattle.hq_store.specs.declared.rows.MarkRow.{MarkRow}
 use Rattle.hq_store.specs.declared.rows.MessageRow.{MessageRow}
+use Rattle.hq_store.specs.declared.rows.NoticeRow.{NoticeRow}
 use Rattle.hq_store.specs.declared.rows.RecipientRow.{RecipientRow}
 use Rattle.hq_store.specs.declared.list_rows.ListRows.{ListRows}
-use Rattle.hq_store.specs.Tables.{Row, text_cmp, message_cmp, line_cmp, lines_cmp, mark_cmp, joined, pending_of}
+use Rattle.hq_store.specs.Tables.{Row, text_cmp, message_cmp, line_cmp, lines_cmp, mark_cmp, notice_cmp, Noted, left_of, joined, pending_of}
 use Rattle.hq_tables.specs.Owned.{rows_of}
 use Rattle.hq_tables.specs.Rows.{HasUniqueKeys}
-use Rattle.hq_store.specs.Listed.{message_key, recipient_value, line_row_key, messages_of, recipients_of, lines_of}
+use Rattle.hq_store.specs.Listed.{message_key, recipient_value, line_row_key, notice_key, messages_of, recipients_of, lines_of, notices_of}
 
 -- ---- tests of rows
 
@@ -56,6 +57,18 @@ is_line_past customer after r = eq_by_cmp text_cmp customer r.customer && is_aft
 unfoldable pub is_mark : List ℕ → List ℕ → MarkRow → Bool
 is_mark customer label r = eq_by_cmp mark_cmp (customer, label) (r.customer, r.mark.label)
 
+-- the notice of a number
+unfoldable pub is_notice : List ℕ → ℕ → NoticeRow → Bool
+is_notice customer number r = eq_by_cmp notice_cmp (customer, number) (r.customer, r.notice.number)
+
+-- a notice of the customer after a number, or any of its notices
+unfoldable pub is_notice_past : List ℕ → Option ℕ → NoticeRow → Bool
+is_notice_past customer after r = eq_by_cmp text_cmp customer r.customer && is_after after r.notice.number
+
+-- another customer's notice, or one of a number that is not below this one
+unfoldable pub is_kept_notice : List ℕ → ℕ → NoticeRow → Bool
+is_kept_notice customer number r = left_of customer (nat_le number) (r.customer, r.notice.number)
+
 -- ---- rows made
 
 abbrev pub message_row : List ℕ → Message → MessageRow
@@ -84,8 +97,12 @@ AreUnique rows = HasUniqueKeys message_cmp message_key rows
 unfoldable pub AreUniqueLines : List LineRow → Type 0
 AreUniqueLines rows = HasUniqueKeys lines_cmp line_row_key rows
 
+-- no notice stands twice
+unfoldable pub AreUniqueNotices : List NoticeRow → Type 0
+AreUniqueNotices rows = HasUniqueKeys notice_cmp notice_key rows
+
 abbrev pub AreInOrder : ListRows → Type 0
-AreInOrder s = AreUnique s.messages.items × AreDealt s.recipients.items × AreUniqueLines s.lines.items
+AreInOrder s = AreUnique s.messages.items × AreDealt s.recipients.items × AreUniqueLines s.lines.items × AreUniqueNotices s.notices.items
 
 -- ---- pages
 
@@ -108,6 +125,10 @@ serials_with_spool spool es = map (λ (e : ℕ × Row). e.0) (filter (λ (e : �
 -- the customer's rows of lines, by class and pattern
 abbrev pub line_rows_with : List ℕ → List LineRow → List ((Class × List ℕ) × Action)
 line_rows_with customer rows = rows_of text_cmp customer (entries (lines_of rows))
+
+-- the customer's rows of notices, by number
+abbrev pub notice_rows_with : List ℕ → List NoticeRow → List (ℕ × Noted)
+notice_rows_with customer rows = rows_of text_cmp customer (entries (notices_of rows))
 
 abbrev pub message_at : List ℕ → List MessageRow → List RecipientRow → ℕ → Option Message
 message_at customer messages recipients serial = option_map (joined customer (recipients_of recipients) serial) (get (messages_of messages) (customer, serial))

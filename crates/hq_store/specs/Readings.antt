@@ -10,7 +10,8 @@ use Rattle.hq_access.specs.declared.action.Action.{Action}
 use Rattle.hq_access.specs.declared.pattern.Class.{Class}
 use Rattle.hq_access.specs.declared.pattern.Line.{Line}
 use Rattle.hq_store.specs.declared.mark.Mark.{Mark}
-use Rattle.hq_store.specs.Tables.{State, Tables, Row, text_cmp, line_cmp, account, joined}
+use Rattle.hq_store.specs.declared.notice.Notice.{Notice}
+use Rattle.hq_store.specs.Tables.{State, Tables, Row, Noted, text_cmp, line_cmp, account, joined, notice_of}
 use Rattle.hq_tables.specs.Owned.{rows_of}
 
 -- what can be read of one customer
@@ -23,6 +24,8 @@ pub record Readings : Type 0 where
   pub line : Class → List ℕ → Option Action  -- of a class, at a key
   pub lines : List Line  -- in order of class and pattern
   pub mark : List ℕ → Option Mark  -- of a label
+  pub notice : ℕ → Option Notice  -- of a number
+  pub notices : List Notice  -- in order of number
 
 -- a sum that stays at the greatest number of 64 bits
 abbrev pub saturated : ℕ → ℕ
@@ -44,6 +47,11 @@ line_of e = record { pattern = e.0; action = e.1 }
 abbrev pub after_pattern : Option (Class × List ℕ) → List Line → List Line
 after_pattern None ls = ls
 after_pattern (Some pattern) ls = filter (λ (l : Line). is_lt (line_cmp pattern l.pattern)) ls
+
+-- the notices after a number, or all
+abbrev pub after_number : Option ℕ → List Notice → List Notice
+after_number None ns = ns
+after_number (Some number) ns = filter (λ (n : Notice). nat_lt number n.number) ns
 
 -- the first message with that spool name
 abbrev pub with_spool : List ℕ → List Message → Option Message
@@ -69,6 +77,8 @@ read_state s = record {
   line = λ class key. get s.lines (class, key);
   lines = map line_of (entries s.lines);
   mark = get s.marks;
+  notice = λ number. option_map (λ (n : Noted). notice_of (number, n)) (get s.notices number);
+  notices = map notice_of (entries s.notices);
 }
 
 -- the customer's rows of messages with their recipients, in order of serial
@@ -90,4 +100,6 @@ read_tables customer t = record {
   line = λ class key. get t.lines (customer, (class, key));
   lines = map line_of (rows_of text_cmp customer (entries t.lines));
   mark = λ label. get t.marks (customer, label);
+  notice = λ number. option_map (λ (n : Noted). notice_of (number, n)) (get t.notices (customer, number));
+  notices = map notice_of (rows_of text_cmp customer (entries t.notices));
 }

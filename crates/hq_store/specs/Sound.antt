@@ -6,7 +6,7 @@ use Rattle.std.specs.FinMap.{get, len, entries, values}
 pub use Rattle.hq_envelope.specs.Addresses.{same_address}
 use Rattle.hq_queue.specs.declared.message.Message.{Message}
 use Rattle.hq_queue.specs.declared.message.Pending.{Pending}
-use Rattle.hq_store.specs.Tables.{State, Tables, text_cmp, own, account, pending_of}
+use Rattle.hq_store.specs.Tables.{State, Tables, Noted, text_cmp, own, account, pending_of}
 use Rattle.hq_store.specs.Readings.{kept_in}
 use Rattle.hq_tables.specs.Owned.{part_of}
 
@@ -35,6 +35,8 @@ pub record ShapedState (s : State) : Type 0 where
   pub spools : (k l : ℕ) (m n : Message) → get s.messages k ≡ Some m → get s.messages l ≡ Some n → m.spool ≡ n.spool → k ≡ l
   pub few_messages : len s.messages ≤ 1000
   pub few_lines : len s.lines ≤ 5000
+  -- numbers of notices were given out
+  pub notices : (number : ℕ) (n : Noted) → get s.notices number ≡ Some n → (0 < number) × (number < s.head.next_notice)
 
 -- recipients with the places from i on
 abbrev pub numbered : ℕ → List Pending → List (ℕ × Pending)

@@ -1,5 +1,5 @@
 -- One customer's state, the tables of all customers, and what a change does to each.
-use Rattle.std.specs.Prelude.{ℕ, suc, ◌+◌, ◌-◌, Bool, not, ◌&&◌, List, [], ◌∷◌, unwrap_or}
+use Rattle.std.specs.Prelude.{ℕ, suc, nat_le, ◌+◌, ◌-◌, Bool, not, ◌&&◌, List, [], ◌∷◌, unwrap_or}
 use Rattle.std.specs.declared.cmp.Ordering.{Ordering}
 use Rattle.std.specs.Ordering.{nat_cmp, eq_by_cmp}
 use Rattle.std.specs.Cmp.Lexicographic.{slice_cmp}
@@ -15,8 +15,10 @@ use Rattle.hq_queue.specs.declared.message.Pending.{Pending}
 use Rattle.hq_queue.specs.declared.message.QueueState.{QueueState}
 use Rattle.hq_store.specs.declared.account.Account.{Account}
 use Rattle.hq_store.specs.declared.change.Change.{Change}
-use Rattle.hq_store.specs.declared.change.Change.TheVariants.{PutHead, PutMessage, DropMessage, PutLine, DropLine, PutMark}
+use Rattle.hq_store.specs.declared.change.Change.TheVariants.{PutHead, PutMessage, DropMessage, PutLine, DropLine, PutMark, AddNotice, DropNoticesBelow}
 use Rattle.hq_store.specs.declared.mark.Mark.{Mark}
+use Rattle.hq_store.specs.declared.notice.Notice.{Notice}
+use Rattle.hq_text.specs.declared.notices.Kind.{Kind}
 use Rattle.hq_tables.specs.Owned.{by_both, part_of, map_values, given}
 
 -- names and texts in the order of their bytes
@@ -47,14 +49,36 @@ lines_cmp = by_both text_cmp line_cmp
 abbrev pub mark_cmp : List ℕ × List ℕ → List ℕ × List ℕ → Ordering
 mark_cmp = by_both text_cmp text_cmp
 
+-- by customer, then by the number of a notice
+abbrev pub notice_cmp : List ℕ × ℕ → List ℕ × ℕ → Ordering
+notice_cmp = by_both text_cmp nat_cmp
+
 -- ---- one customer
 
--- a customer's state: its head, its messages by serial, the actions of its lines by pattern, and its imports by label
+-- a notice without its number
+pub record Noted : Type 0 where
+  pub kind : Kind
+  pub serial : ℕ
+  pub at : ℕ
+  pub to : List ℕ
+  pub human : List ℕ
+  pub status : List ℕ
+
+abbrev pub noted_of : Notice → Noted
+noted_of n = record { kind = n.kind; serial = n.serial; at = n.at; to = n.to; human = n.human; status = n.status }
+
+-- the notice of a number
+abbrev pub notice_of : ℕ × Noted → Notice
+notice_of e = record { number = e.0; kind = e.1.kind; serial = e.1.serial; at = e.1.at; to = e.1.to; human = e.1.human; status = e.1.status }
+
+-- a customer's state: its head, its messages by serial, the actions of its lines by pattern, its imports by label, and its
+-- notices by number
 pub record State : Type 0 where
   pub head : Head
   pub messages : FinMap nat_cmp Message
   pub lines : FinMap line_cmp Action
   pub marks : FinMap text_cmp Mark
+  pub notices : FinMap nat_cmp Noted
 
 -- the head of a customer of whom nothing is kept yet: both next numbers are 1
 abbrev pub opening_head : Head
@@ -62,7 +86,7 @@ opening_head = record { next_serial = 1; next_notice = 1; tally = record { accep
 
 -- a customer of whom nothing is kept yet
 abbrev pub opening : State
-opening = record { head = opening_head; messages = empty; lines = empty; marks = empty }
+opening = record { head = opening_head; messages = empty; lines = empty; marks = empty; notices = empty }
 
 -- a change of one customer's state; a message stands at its serial, and an import at its label
 abbrev pub change : Change → State → State
@@ -72,6 +96,8 @@ change (DropMessage serial) s = record s { messages = remove s.messages serial }
 change (PutLine line) s = record s { lines = insert s.lines line.pattern line.action }
 change (DropLine pattern) s = record s { lines = remove s.lines pattern }
 change (PutMark mark) s = record s { marks = insert s.marks mark.label mark }
+change (AddNotice notice) s = record s { notices = insert s.notices notice.number (noted_of notice) }
+change (DropNoticesBelow number) s = record s { notices = retain_keys s.notices (nat_le number) }
 
 -- all changes in order
 abbrev pub change_all : List Change → State → State
@@ -98,10 +124,11 @@ pub record Tables : Type 0 where
   pub recipients : FinMap recipient_cmp Pending
   pub lines : FinMap lines_cmp Action
   pub marks : FinMap mark_cmp Mark
+  pub notices : FinMap notice_cmp Noted
 
 -- tables of nobody
 abbrev pub no_tables : Tables
-no_tables = record { heads = empty; messages = empty; recipients = empty; lines = empty; marks = empty }
+no_tables = record { heads = empty; messages = empty; recipients = empty; lines = empty; marks = empty; notices = empty }
 
 -- the row of a message
 abbrev pub row_of : Message → Row
@@ -167,6 +194,10 @@ counted f customer heads = insert heads customer (recounted f (account heads cus
 abbrev pub uncounted_message : List ℕ → ℕ → Tables → FinMap text_cmp Account
 uncounted_message customer serial t = given t.heads (λ (r : Row). counted (without_message r.size) customer t.heads) (get t.messages (customer, serial))
 
+-- of the keys that begin with the customer's name, those that pass a test; and all others
+abbrev pub left_of : {K : Type 0} → List ℕ → (K → Bool) → List ℕ × K → Bool
+left_of customer p k = not (eq_by_cmp text_cmp customer k.0 && not (p k.1))
+
 -- a change of one customer's rows in the tables; the counts in its head row follow
 abbrev pub write : List ℕ → Change → Tables → Tables
 write customer (PutHead head) t = record t { heads = headed customer head t.heads }
@@ -189,6 +220,8 @@ write customer (DropLine pattern) t = record t {
   lines = remove t.lines (customer, pattern);
 }
 write customer (PutMark mark) t = record t { marks = insert t.marks (customer, mark.label) mark }
+write customer (AddNotice notice) t = record t { notices = insert t.notices (customer, notice.number) (noted_of notice) }
+write customer (DropNoticesBelow number) t = record t { notices = retain_keys t.notices (left_of customer (nat_le number)) }
 
 -- all changes in order
 abbrev pub write_all : List ℕ → List Change → Tables → Tables
@@ -202,4 +235,5 @@ own customer t = record {
   messages = map_values (joined customer t.recipients) (part_of text_cmp customer t.messages);
   lines = part_of text_cmp customer t.lines;
   marks = part_of text_cmp customer t.marks;
+  notices = part_of text_cmp customer t.notices;
 }

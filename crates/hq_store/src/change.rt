@@ -3,6 +3,7 @@
 ghost use Rattle.std.specs.Prelude.{◌≡◌};
 
 use crate::mark::Mark;
+use crate::notice::Notice;
 use hq_access::{Line, Pattern};
 use hq_envelope::{Serial, TryCopy};
 use hq_queue::{Head, Message};
@@ -23,6 +24,10 @@ pub enum Change {
     DropLine(Pattern),
     /// Sets the mark of its label.
     PutMark(Mark),
+    /// Sets the notice of its number.
+    AddNotice(Notice),
+    /// Drops the notices of numbers below this one.
+    DropNoticesBelow(u64),
 }
 
 impl TryCopy for Change {
@@ -34,6 +39,8 @@ impl TryCopy for Change {
             Change::PutLine(line) => Ok(Change::PutLine(line.copy(alloc)?)),
             Change::DropLine(pattern) => Ok(Change::DropLine(pattern.copy(alloc)?)),
             Change::PutMark(mark) => Ok(Change::PutMark(mark.copy(alloc)?)),
+            Change::AddNotice(notice) => Ok(Change::AddNotice(notice.copy(alloc)?)),
+            Change::DropNoticesBelow(number) => Ok(Change::DropNoticesBelow(*number)),
         }
     }
 }

@@ -7,8 +7,8 @@ ghost use Rattle.hq_store.specs.Lookups.{AreInOrder};
 ghost use Rattle.hq_store.specs.declared.change.Change.TheVariants.{PutMessage, DropMessage, PutLine, DropLine};
 
 use crate::change::Change;
-use crate::rows::{HeadRow, LineRow, MarkRow, MessageRow, RecipientRow};
-use crate::{heads, lines, marks, messages, recipients};
+use crate::rows::{HeadRow, LineRow, MarkRow, MessageRow, NoticeRow, RecipientRow};
+use crate::{heads, lines, marks, messages, notices, recipients};
 use hq_access::{Line, Pattern};
 use hq_envelope::{Name, Serial, TryCopy, copy_all};
 use hq_queue::Message;
@@ -22,6 +22,7 @@ pub(crate) struct ListRows {
     pub(crate) recipients: Vec<RecipientRow>,
     pub(crate) lines: Vec<LineRow>,
     pub(crate) marks: Vec<MarkRow>,
+    pub(crate) notices: Vec<NoticeRow>,
 }
 
 impl ListRows {
@@ -35,12 +36,14 @@ impl ListRows {
         let recipients = copy_all(alloc, self.recipients.as_slice())?;
         let lines = copy_all(alloc, self.lines.as_slice())?;
         let marks = copy_all(alloc, self.marks.as_slice())?;
+        let notices = copy_all(alloc, self.notices.as_slice())?;
         Ok(ListRows {
             heads,
             messages,
             recipients,
             lines,
             marks,
+            notices,
         })
     }
 
@@ -148,6 +151,13 @@ impl ListRows {
             Change::PutLine(line) => self.put_line(alloc, customer, line),
             Change::DropLine(pattern) => self.drop_line(alloc, customer, pattern),
             Change::PutMark(mark) => marks::put_mark(alloc, &mut self.marks, customer, mark),
+            Change::AddNotice(notice) => {
+                notices::put_notice(alloc, &mut self.notices, customer, notice)
+            }
+            Change::DropNoticesBelow(number) => {
+                notices::drop_below(&mut self.notices, customer, *number);
+                Ok(())
+            }
         }
     }
 

@@ -7,8 +7,9 @@ ghost use Rattle.hq_store.specs.Listed.{tables_of};
 use crate::change::Change;
 use crate::list_rows::ListRows;
 use crate::mark::Mark;
+use crate::notice::Notice;
 use crate::shelf::Shelf;
-use crate::{heads, lines, marks, messages};
+use crate::{heads, lines, marks, messages, notices};
 use hq_access::{Action, Class, Line, LookupKey, Pattern};
 use hq_envelope::{Fault, Items, Label, Name, Serial, Spool};
 use hq_queue::{Counts, Head, Message};
@@ -49,6 +50,7 @@ impl ListShelf {
             recipients: Vec::new(alloc),
             lines: Vec::new(alloc),
             marks: Vec::new(alloc),
+            notices: Vec::new(alloc),
         };
         ListShelf { alloc, rows }
     }
@@ -139,6 +141,25 @@ impl Shelf for ListShelf {
 
     fn mark(&mut self, customer: &Name, label: &Label) -> Result<Option<Mark>, Fault> {
         Ok(marks::mark_in(self.alloc, self.rows.marks.as_slice(), customer, label)?)
+    }
+
+    fn notice(&mut self, customer: &Name, number: u64) -> Result<Option<Notice>, Fault> {
+        Ok(notices::notice_in(self.alloc, self.rows.notices.as_slice(), customer, number)?)
+    }
+
+    fn notices(
+        &mut self,
+        customer: &Name,
+        after: Option<u64>,
+        limit: usize,
+    ) -> Result<Items<Notice>, Fault> {
+        Ok(notices::page_in(
+            self.alloc,
+            self.rows.notices.as_slice(),
+            customer,
+            after,
+            limit,
+        )?)
     }
 
     fn apply(&mut self, customer: &Name, changes: &[Change]) -> Result<(), Fault> {

@@ -3,10 +3,11 @@
 ghost use Rattle.std.specs.Prelude.{◌≡◌, not, option_map};
 ghost use Rattle.std.specs.Ordering.{nat_cmp, eq_by_cmp};
 ghost use Rattle.hq_store.specs.Tables.{text_cmp, line_cmp};
-ghost use Rattle.hq_store.specs.Lookups.{is_head, is_message, is_recipient, is_past, has_spool, is_line, is_line_past, is_mark};
+ghost use Rattle.hq_store.specs.Lookups.{is_head, is_message, is_recipient, is_past, has_spool, is_line, is_line_past, is_mark, is_notice, is_notice_past, is_kept_notice};
 
 use crate::account::Account;
 use crate::mark::Mark;
+use crate::notice::Notice;
 use hq_access::{Class, Line, Pattern};
 use hq_envelope::{Label, Moment, Name, Sender, Serial, Spool, TryCopy};
 use hq_queue::{Pending, QueueState};
@@ -56,6 +57,13 @@ pub(crate) struct LineRow {
 pub(crate) struct MarkRow {
     pub(crate) customer: Name,
     pub(crate) mark: Mark,
+}
+
+/// A row of notices.
+#[derive(Drop)]
+pub(crate) struct NoticeRow {
+    pub(crate) customer: Name,
+    pub(crate) notice: Notice,
 }
 
 /// Whether two names are the same.
@@ -215,6 +223,48 @@ impl MarkRow {
     }
 }
 
+impl NoticeRow {
+    /// Whether it is the customer's notice of this number.
+    #[tactic(auto, unfolding(crate::specs::Lookups::is_notice))]
+    pub(crate) fn is_at(&self, customer: &Name, number: u64) -> bool
+        ensures { result ≡ is_notice customer.now number self.now }
+    {
+        customer
+            .as_str()
+            .cmp(self.customer.as_str())
+            .then(number.cmp(&self.notice.number))
+            .is_eq()
+    }
+
+    /// Whether it is another notice.
+    pub(crate) fn is_other(&self, customer: &Name, number: u64) -> bool
+        ensures { result ≡ not (is_notice customer.now number self.now) }
+    {
+        !self.is_at(customer, number)
+    }
+
+    /// Whether it is a notice of the customer after a number, or any of its notices where there is
+    /// none.
+    #[tactic(auto, unfolding(crate::specs::Lookups::is_notice_past))]
+    pub(crate) fn is_past(&self, customer: &Name, after: Option<u64>) -> bool
+        ensures { result ≡ is_notice_past customer.now after self.now }
+    {
+        is_name(customer, &self.customer)
+            && match after {
+                None => true,
+                Some(number) => number < self.notice.number,
+            }
+    }
+
+    /// Whether it is another customer's, or of a number that is not below this one.
+    #[tactic(auto, unfolding(crate::specs::Lookups::is_kept_notice))]
+    pub(crate) fn is_kept(&self, customer: &Name, number: u64) -> bool
+        ensures { result ≡ is_kept_notice customer.now number self.now }
+    {
+        !(is_name(customer, &self.customer) && !(number <= self.notice.number))
+    }
+}
+
 impl TryCopy for HeadRow {
     fn copy(&self, alloc: Global) -> Result<HeadRow, AllocError> {
         let customer = self.customer.copy(alloc)?;
@@ -271,5 +321,13 @@ impl TryCopy for MarkRow {
         let customer = self.customer.copy(alloc)?;
         let mark = self.mark.copy(alloc)?;
         Ok(MarkRow { customer, mark })
+    }
+}
+
+impl TryCopy for NoticeRow {
+    fn copy(&self, alloc: Global) -> Result<NoticeRow, AllocError> {
+        let customer = self.customer.copy(alloc)?;
+        let notice = self.notice.copy(alloc)?;
+        Ok(NoticeRow { customer, notice })
     }
 }

@@ -2,11 +2,12 @@
 
 ghost use Rattle.std.specs.Prelude.{◌≡◌, OnOk, take, option_map};
 ghost use Rattle.hq_store.specs.Tables.{write_all};
-ghost use Rattle.hq_store.specs.Readings.{page_of, after_pattern};
+ghost use Rattle.hq_store.specs.Readings.{page_of, after_pattern, after_number};
 ghost use Rattle.hq_store.specs.Shelves.{Sight, OnClean, Finds, Keeps, KeepsOnErr};
 
 use crate::change::Change;
 use crate::mark::Mark;
+use crate::notice::Notice;
 use hq_access::{Action, Class, Line, LookupKey, Pattern};
 use hq_envelope::{Fault, Items, Label, Name, Serial, Spool};
 use hq_queue::{Counts, Head, Message};
@@ -87,6 +88,23 @@ pub trait Shelf {
     fn mark(&mut self, customer: &Name, label: &Label) -> Result<Option<Mark>, Fault>
         ensures found { Finds sight self.old self.new result customer.now
             (λ rows. rows.mark label.now) }
+        ensures kept { Keeps sight self.old self.new result };
+
+    /// The customer's notice of this number.
+    fn notice(&mut self, customer: &Name, number: u64) -> Result<Option<Notice>, Fault>
+        ensures found { Finds sight self.old self.new result customer.now
+            (λ rows. rows.notice number) }
+        ensures kept { Keeps sight self.old self.new result };
+
+    /// The customer's notices in order of number: the first `limit` after the number, or of all.
+    fn notices(
+        &mut self,
+        customer: &Name,
+        after: Option<u64>,
+        limit: usize,
+    ) -> Result<Items<Notice>, Fault>
+        ensures found { Finds sight self.old self.new result customer.now
+            (λ rows. take limit (after_number after rows.notices)) }
         ensures kept { Keeps sight self.old self.new result };
 
     /// Makes all changes of the customer's rows, in order, or none.

@@ -8,13 +8,10 @@ ghost use Rattle.hq_text.specs.Notices as notices;
 
 use crate::dates::date_text;
 use hq_envelope::{Host, Moment, Serial};
-use hq_queue::{Message, Told};
+use hq_queue::{EXPIRY_SECONDS, Message, Told};
 use std::alloc::{AllocError, Global};
 use std::fmt::Write;
 use std::str;
-
-/// How many seconds after its arrival a message expires.
-const EXPIRY_SECONDS: u64 = 432_000;
 
 /// What a notice tells of.
 #[derive(Clone, Copy, Debug, PartialEq, Eq, Drop)]

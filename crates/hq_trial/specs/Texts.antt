@@ -97,6 +97,7 @@ answer (answers.Rejected rs) = all_refused (codes "rejected") rs
 answer (answers.Discarded rs) = all_refused (codes "discarded") rs
 answer (answers.Listed ms more) = list ms more
 answer (answers.Shown m) = message (codes "shown") m
+answer (answers.Requeued n) = codes "requeued " ++ decimal n
 answer (answers.Changed count) = codes "changed " ++ decimal count
 answer (answers.LinesListed ls more) = lines ls more
 answer (answers.LinePut done) = codes "put " ++ put_word done

@@ -8,7 +8,7 @@ use crate::failure::{Failure, Trial};
 use hq_access::{Action, Class, Line, LookupKey, Pattern};
 use hq_envelope::{Fault, Items, Label, Name, Serial, Spool};
 use hq_queue::{Counts, Head, Message};
-use hq_store::{Change, Mark, Shelf};
+use hq_store::{Change, Mark, Notice, Shelf};
 
 /// A shelf before another: it hands each call on, or fails it as told without handing it on.
 ///
@@ -137,6 +137,27 @@ impl<S: Shelf> Shelf for FailingShelf<S> {
         let answer = match self.trial.count() {
             Some(fault) => Err(fault),
             None => self.inner.mark(customer, label),
+        };
+        self.trial.answer(answer)
+    }
+
+    fn notice(&mut self, customer: &Name, number: u64) -> Result<Option<Notice>, Fault> {
+        let answer = match self.trial.count() {
+            Some(fault) => Err(fault),
+            None => self.inner.notice(customer, number),
+        };
+        self.trial.answer(answer)
+    }
+
+    fn notices(
+        &mut self,
+        customer: &Name,
+        after: Option<u64>,
+        limit: usize,
+    ) -> Result<Items<Notice>, Fault> {
+        let answer = match self.trial.count() {
+            Some(fault) => Err(fault),
+            None => self.inner.notices(customer, after, limit),
         };
         self.trial.answer(answer)
     }

@@ -260,6 +260,10 @@ fn answer_text(alloc: Global, answer: &Answer) -> Result<String, AllocError>
         }
         Answer::Listed(messages, more) => list_text(alloc, messages.as_slice(), *more),
         Answer::Shown(message) => message_text(alloc, "shown", message),
+        Answer::Requeued(serial) => {
+            let serial = serial.get();
+            format!(in alloc; "requeued {serial}")
+        }
         Answer::Changed(count) => format!(in alloc; "changed {count}"),
         Answer::Rejected(refused) => refused_text(alloc, "rejected", refused.as_slice()),
         Answer::Discarded(refused) => refused_text(alloc, "discarded", refused.as_slice()),

@@ -149,6 +149,7 @@ fn call_at(kind: &str, serial: Serial) -> Result<Call, Fail> {
         "show" => Ok(Call::Show(serial)),
         "hold" => Ok(Call::Hold(serial)),
         "release" => Ok(Call::Release(serial)),
+        "requeue" => Ok(Call::Requeue(serial)),
         "delete" => Ok(Call::Delete(serial)),
         _ => Err(Fail::new("no such kind")),
     }

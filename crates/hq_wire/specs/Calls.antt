@@ -30,6 +30,7 @@ route_of path.MessagesAfter method = at_method method (codes "GET") (route.About
 route_of path.Message method = at_method method (codes "GET") (route.About about.Show) (at_method method (codes "DELETE") (route.About about.Delete) None)
 route_of path.Hold method = at_method method (codes "POST") (route.About about.Hold) None
 route_of path.Release method = at_method method (codes "POST") (route.About about.Release) None
+route_of path.Requeue method = at_method method (codes "POST") (route.About about.Requeue) None
 route_of path.Lines method = at_method method (codes "GET") route.Lines None
 route_of path.LinesAfter method = at_method method (codes "POST") route.LinesAfter None
 route_of path.LinePut method = at_method method (codes "POST") route.PutLine None
@@ -48,6 +49,7 @@ call_about about.ListAfter serial = call.List (Some serial)
 call_about about.Show serial = call.Show serial
 call_about about.Hold serial = call.Hold serial
 call_about about.Release serial = call.Release serial
+call_about about.Requeue serial = call.Requeue serial
 call_about about.Delete serial = call.Delete serial
 
 -- what a route asks, of its parameter or its body

@@ -31,6 +31,8 @@ pub(crate) enum MessageRoute {
     Hold,
     /// The message released.
     Release,
+    /// The message queued anew.
+    Requeue,
     /// The message gone.
     Delete,
 }
@@ -70,6 +72,7 @@ fn route_of(path: Path, method: &str) -> Option<Route>
         Path::Message if method == "DELETE" => Some(Route::About(MessageRoute::Delete)),
         Path::Hold if method == "POST" => Some(Route::About(MessageRoute::Hold)),
         Path::Release if method == "POST" => Some(Route::About(MessageRoute::Release)),
+        Path::Requeue if method == "POST" => Some(Route::About(MessageRoute::Requeue)),
         Path::Lines if method == "GET" => Some(Route::Lines),
         Path::LinesAfter if method == "POST" => Some(Route::LinesAfter),
         Path::LinePut if method == "POST" => Some(Route::PutLine),
@@ -100,6 +103,7 @@ fn call_about(about: MessageRoute, serial: Serial) -> Call
         MessageRoute::Show => Call::Show(serial),
         MessageRoute::Hold => Call::Hold(serial),
         MessageRoute::Release => Call::Release(serial),
+        MessageRoute::Requeue => Call::Requeue(serial),
         MessageRoute::Delete => Call::Delete(serial),
     }
 }

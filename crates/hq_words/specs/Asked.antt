@@ -19,7 +19,12 @@ pub record Given : Type 0 where
   pub store : Option Text
 
 abbrev pub given_of : Batch → Given
-given_of b = record { directory = b.directory.now; host = b.host.now; relay_key = b.relay_key.now; store = option_map (λ s. s.now) b.store }
+given_of b = record {
+  directory = b.directory.now;
+  host = b.host.now;
+  relay_key = b.relay_key.now;
+  store = option_map (λ s. s.now) b.store;
+}
 
 -- the values of its options; the first three are there
 abbrev pub given_in : List Row → Option Given
@@ -36,6 +41,10 @@ given_by words = option_and_then (λ found. given_in found.1) (subcommand_of pro
 abbrev pub Faults : ErrorKind → List Text → Type 0
 Faults kind words = IsAmong kind (fault_of program words)
 
+-- a fault, and not that help is asked for
+abbrev pub HasAFault : List Text → Type 0
+HasAFault words = (kind : ErrorKind) × (kind ≢ DisplayHelp) × Faults kind words
+
 -- `clap` has no fault with the words
 abbrev pub IsTaken : List Text → Type 0
 IsTaken words = fault_of program words ≡ []
@@ -46,4 +55,4 @@ abbrev pub Says : List Text → Words → Type 0
 Says words Builtin = words ≡ []
 Says words (OfBatch b) = (words ≢ []) × IsTaken words × (given_by words ≡ Some (given_of b))
 Says words (Help told) = (words ≢ []) × Faults DisplayHelp words
-Says words (Refused told) = (words ≢ []) × (((kind : ErrorKind) × (kind ≢ DisplayHelp) × Faults kind words) ⊎ (IsTaken words × (given_by words ≡ None)))
+Says words (Refused told) = (words ≢ []) × (HasAFault words ⊎ (IsTaken words × (given_by words ≡ None)))

@@ -70,7 +70,8 @@ fn batch_of<'w>(matches: &ArgMatches<'w>) -> Option<Batch<'w>>
 
 /// What `clap` tells in place of matches: help, or why the words are refused; or want of memory.
 fn told<'w>(alloc: Global, error: &Error) -> Result<Words<'w>, AllocError>
-    ensures { (words : List (List ℕ)) → (words ≢ []) → HasKind (fault_of program words) error.now → IfOk result (Says words) }
+    ensures { (words : List (List ℕ)) → (words ≢ []) → HasKind (fault_of program words) error.now
+        → IfOk result (Says words) }
 {
     match error.kind() {
         ErrorKind::OutOfMemory => Err(AllocError),

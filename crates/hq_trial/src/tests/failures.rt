@@ -16,13 +16,14 @@ const BEFORE: [&str; 4] = [
 ];
 
 /// A call of each kind that is then made to fail, and one that is refused.
-const CALLS: [&str; 8] = [
+const CALLS: [&str; 9] = [
     "3 acme submit s2 11 ann@a.example fay@far.example FAY@far.example",
     "3 acme hold 1",
     "3 acme submit s1 11 ann@a.example fay@far.example",
     "3 birch list",
     "3 birch show 2",
     "3 birch release 1",
+    "3 birch requeue 1",
     "3 birch delete 2",
     "3 acme delete 2",
 ];
@@ -129,6 +130,6 @@ fn every_call_after_closing(rt: HostRuntime) -> Result<(), Fail> {
         shelf = next;
         assert_eq!(rt; text.as_str(), "fault 93 Closed", "{line}");
     }
-    assert_eq!(rt; shelf.faults(), 8);
+    assert_eq!(rt; shelf.faults(), 9);
     Ok(())
 }

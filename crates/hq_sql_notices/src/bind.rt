@@ -1,0 +1,117 @@
+//! Notices as the parameters of statements.
+
+ghost use Rattle.std.specs.Prelude.{◌≡◌, ℕ, pos, Option as AnyOption, IfOk};
+ghost use Rattle.sqlite.specs.Values.{bound};
+ghost use Rattle.hq_sql.specs.Rows.{kind_code, notice_columns};
+ghost use Rattle.hq_sql_notices.specs.Notices.{from_number, key_columns, notice_numbers, notice_row, page_columns};
+
+use hq_envelope::Name;
+use hq_sql::bind::{RowLimit, large};
+use hq_store::Notice;
+use hq_text::Kind;
+use sqlite::Error;
+use sqlite::types::ValueRef;
+
+/// The number of a notice, as a column takes it.
+#[derive(Clone, Copy, Debug, PartialEq, Eq, Drop)]
+pub(crate) struct NumberColumn {
+    number: i64,
+}
+
+/// A number as a column takes it; an error for one of 2^63 or more.
+pub(crate) fn number(number: u64) -> Result<NumberColumn, Error>
+    ensures { IfOk result (λ column. column.number ≡ pos number) }
+{
+    Ok(NumberColumn {
+        number: large(number)?,
+    })
+}
+
+/// The key of a notice.
+pub(crate) fn key<'a>(customer: &'a Name, column: &NumberColumn) -> [ValueRef<'a>; 2]
+    ensures { (n : ℕ) → column.now.number ≡ pos n → bound result ≡ key_columns (customer.now, n) }
+{
+    [
+        ValueRef::Text(customer.as_str().as_bytes()),
+        ValueRef::Int(column.number),
+    ]
+}
+
+/// The numbers of a notice, as columns take them.
+#[derive(Clone, Copy, Debug, PartialEq, Eq, Drop)]
+pub(crate) struct NoticeNumbers {
+    number: i64,
+    kind: i64,
+    serial: i64,
+    at: i64,
+}
+
+/// The number that stands for a kind.
+fn kind(kind: Kind) -> i64
+    ensures { result ≡ pos (kind_code kind) }
+{
+    match kind {
+        Kind::Failure => 0,
+        Kind::Delay => 1,
+    }
+}
+
+/// The numbers of a notice; one of 2^63 or more fits no column.
+pub(crate) fn numbers(notice: &Notice) -> Result<NoticeNumbers, Error>
+    ensures { IfOk result (λ bound. bound ≡ notice_numbers notice.now) }
+{
+    Ok(NoticeNumbers {
+        number: large(notice.number)?,
+        kind: kind(notice.kind),
+        serial: large(notice.serial.get())?,
+        at: large(notice.at.get())?,
+    })
+}
+
+/// The columns of a notice, in the order of the table.
+pub(crate) fn notice<'a>(
+    customer: &'a Name,
+    notice: &'a Notice,
+    numbers: &NoticeNumbers,
+) -> [ValueRef<'a>; 8]
+    ensures { numbers.now ≡ notice_numbers notice.now
+        → bound result ≡ notice_columns (notice_row customer.now notice.now) }
+{
+    [
+        ValueRef::Text(customer.as_str().as_bytes()),
+        ValueRef::Int(numbers.number),
+        ValueRef::Int(numbers.kind),
+        ValueRef::Int(numbers.serial),
+        ValueRef::Int(numbers.at),
+        ValueRef::Text(notice.to.as_str().as_bytes()),
+        ValueRef::Text(notice.human.as_str().as_bytes()),
+        ValueRef::Text(notice.status.as_str().as_bytes()),
+    ]
+}
+
+/// The number above which notices are wanted, as a column takes it: -1 for all; an error for one of
+/// 2^63 or more.
+pub(crate) fn after(after: Option<u64>) -> Result<NumberColumn, Error>
+    ensures { IfOk result (λ column. column.number ≡ from_number after) }
+{
+    match after {
+        None => Ok(NumberColumn { number: -1 }),
+        Some(last) => number(last),
+    }
+}
+
+/// What a page is asked with.
+pub(crate) fn page<'a>(
+    customer: &'a Name,
+    from: &NumberColumn,
+    most: &RowLimit,
+) -> [ValueRef<'a>; 3]
+    ensures { (limit : ℕ) (after : AnyOption ℕ) → most.now.rows ≡ pos limit → from.now.number ≡ from_number after
+        → bound result ≡ page_columns customer.now after limit }
+{
+    [
+        ValueRef::Text(customer.as_str().as_bytes()),
+        ValueRef::Int(from.number),
+        ValueRef::Int(most.rows),
+    ]
+}

@@ -1,0 +1,82 @@
+//! Rows of answers as notices. A value that no row of the desk has is an error.
+
+ghost use Rattle.std.specs.Prelude.{◌≡◌, IfOk, option_map, slice_get};
+ghost use Rattle.sqlite.specs.Order.{column};
+ghost use Rattle.hq_sql.specs.Rows.{kind_of, number_in, text_in, notice_shown};
+
+use hq_envelope::{Address, Moment, Serial};
+use hq_sql::read;
+use hq_store::{Notice, NoticeText};
+use hq_text::Kind;
+use sqlite::{Error, Row};
+use std::alloc::Global;
+
+fn kind(row: &Row, at: usize) -> Result<Kind, Error>
+    ensures { IfOk result (λ kind. kind ≡ kind_of (number_in (column row.now at))) }
+{
+    match read::number(row, at)? {
+        0 => Ok(Kind::Failure),
+        1 => Ok(Kind::Delay),
+        _ => Err(Error::InvalidQuery),
+    }
+}
+
+fn serial(row: &Row, at: usize) -> Result<Serial, Error>
+    ensures { IfOk result (λ serial. serial ≡ number_in (column row.now at)) }
+{
+    match Serial::new(read::number(row, at)?) {
+        Some(serial) => Ok(serial),
+        None => Err(Error::InvalidQuery),
+    }
+}
+
+fn moment(row: &Row, at: usize) -> Result<Moment, Error>
+    ensures { IfOk result (λ moment. moment ≡ number_in (column row.now at)) }
+{
+    match Moment::new(read::number(row, at)?) {
+        Some(moment) => Ok(moment),
+        None => Err(Error::InvalidQuery),
+    }
+}
+
+fn address(alloc: Global, row: &Row, at: usize) -> Result<Address, Error>
+    ensures { IfOk result (λ address. address ≡ text_in (column row.now at)) }
+{
+    let text = read::text(row, at)?;
+    match Address::parse(alloc, text.as_str()) {
+        Ok(address) => Ok(address),
+        Err(fail) => Err(read::unread(fail)),
+    }
+}
+
+fn text(row: &Row, at: usize) -> Result<NoticeText, Error>
+    ensures { IfOk result (λ text. text ≡ text_in (column row.now at)) }
+{
+    let text = read::text(row, at)?;
+    Ok(NoticeText::new(text))
+}
+
+/// The notice of a row.
+pub(crate) fn notice(alloc: Global, row: &Row) -> Result<Notice, Error>
+    ensures { IfOk result (λ notice. notice ≡ (notice_shown row.now).notice) }
+{
+    Ok(Notice {
+        number: read::number(row, 1)?,
+        kind: kind(row, 2)?,
+        serial: serial(row, 3)?,
+        at: moment(row, 4)?,
+        to: address(alloc, row, 5)?,
+        human: text(row, 6)?,
+        status: text(row, 7)?,
+    })
+}
+
+pub(crate) fn first_notice(alloc: Global, rows: &[Row]) -> Result<Option<Notice>, Error>
+    ensures { IfOk result (λ found. found
+        ≡ option_map (λ r. (notice_shown r).notice) (slice_get rows.now 0)) }
+{
+    match rows.first() {
+        None => Ok(None),
+        Some(row) => Ok(Some(notice(alloc, row)?)),
+    }
+}

@@ -1,0 +1,118 @@
+//! The table of notices: one, put or found, and old ones dropped.
+
+ghost use Rattle.std.specs.Prelude.{option_map, slice_get};
+ghost use Rattle.std.specs.FinMap.{get};
+ghost use Rattle.sqlite.specs.Held.{state};
+ghost use Rattle.hq_store.specs.Tables.{Noted, notice_of};
+ghost use Rattle.hq_sql.specs.Kept.{Shows, Finds, Makes, Inserts, Keeps, KeepsCommitted};
+ghost use Rattle.hq_sql.specs.Rows.{notice_shown};
+ghost use Rattle.hq_sql_notices.specs.Notices.{notice_row, with_notice, without_notice, without_below};
+
+use crate::{bind, decode};
+use hq_envelope::Name;
+use hq_store::Notice;
+use sqlite::{Alter, Connection, Error, Row};
+use std::alloc::Global;
+
+fn query<S: Alter>(
+    conn: &mut Connection<S>,
+    customer: &Name,
+    number: u64,
+) -> Result<Vec<Row>, Error>
+    ensures found { Shows (state S.Store conn.old) (state S.Store conn.new) result
+        (λ rows. option_map (λ r. (notice_shown r).notice) (slice_get rows.items 0))
+        (λ t. option_map (λ (n : Noted). notice_of (number, n))
+        (get t.notices (customer.now, number))) }
+    ensures kept { Keeps (state S.Store conn.old) (state S.Store conn.new) result }
+{
+    let column = bind::number(number)?;
+    let params = bind::key(customer, &column);
+    let rows = conn.query_all(
+        "SELECT customer, number, kind, serial, moment, sender, human, status FROM notices \
+         WHERE customer = ?1 AND number = ?2",
+        &params,
+    )?;
+    Ok(rows)
+}
+
+/// The customer's notice of this number; an error for a number of 2^63 or more.
+pub fn notice<S: Alter>(
+    alloc: Global,
+    conn: &mut Connection<S>,
+    customer: &Name,
+    number: u64,
+) -> Result<Option<Notice>, Error>
+    ensures found { Finds (state S.Store conn.old) (state S.Store conn.new) result
+        (λ t. option_map (λ (n : Noted). notice_of (number, n))
+        (get t.notices (customer.now, number))) }
+    ensures kept { Keeps (state S.Store conn.old) (state S.Store conn.new) result }
+{
+    let rows = query(conn, customer, number)?;
+    decode::first_notice(alloc, rows.as_slice())
+}
+
+/// Drops the notice of a number; nothing where there is none.
+fn remove<S: Alter>(conn: &mut Connection<S>, customer: &Name, number: u64) -> Result<(), Error>
+    ensures made { Makes (state S.Store conn.old) (state S.Store conn.new) result
+        (without_notice (customer.now, number)) }
+    ensures kept { KeepsCommitted (state S.Store conn.old) (state S.Store conn.new) }
+{
+    let column = bind::number(number)?;
+    let params = bind::key(customer, &column);
+    conn.execute(
+        "DELETE FROM notices WHERE customer = ?1 AND number = ?2",
+        &params,
+    )?;
+    Ok(())
+}
+
+/// Adds a notice of a new number.
+fn insert<S: Alter>(conn: &mut Connection<S>, customer: &Name, notice: &Notice) -> Result<(), Error>
+    ensures made { Inserts (state S.Store conn.old) (state S.Store conn.new) result
+        (λ t. get t.notices (customer.now, notice.now.number))
+        (with_notice (notice_row customer.now notice.now)) }
+    ensures kept { KeepsCommitted (state S.Store conn.old) (state S.Store conn.new) }
+{
+    let numbers = bind::numbers(notice)?;
+    let params = bind::notice(customer, notice, &numbers);
+    conn.execute(
+        "INSERT INTO notices (customer, number, kind, serial, moment, sender, human, status) \
+         VALUES (?1, ?2, ?3, ?4, ?5, ?6, ?7, ?8)",
+        &params,
+    )?;
+    Ok(())
+}
+
+/// Sets the notice of its number, in a new row.
+pub fn put<S: Alter>(
+    conn: &mut Connection<S>,
+    customer: &Name,
+    notice: &Notice,
+) -> Result<(), Error>
+    ensures made { Makes (state S.Store conn.old) (state S.Store conn.new) result
+        (with_notice (notice_row customer.now notice.now)) }
+    ensures kept { KeepsCommitted (state S.Store conn.old) (state S.Store conn.new) }
+{
+    remove(conn, customer, notice.number)?;
+    insert(conn, customer, notice)?;
+    Ok(())
+}
+
+/// Drops the notices of numbers below this one.
+pub fn drop_below<S: Alter>(
+    conn: &mut Connection<S>,
+    customer: &Name,
+    number: u64,
+) -> Result<(), Error>
+    ensures made { Makes (state S.Store conn.old) (state S.Store conn.new) result
+        (without_below customer.now number) }
+    ensures kept { KeepsCommitted (state S.Store conn.old) (state S.Store conn.new) }
+{
+    let column = bind::number(number)?;
+    let params = bind::key(customer, &column);
+    conn.execute(
+        "DELETE FROM notices WHERE customer = ?1 AND number < ?2",
+        &params,
+    )?;
+    Ok(())
+}
