@@ -1,5 +1,5 @@
-//! The bodies of calls as JSON: their members, and those that speak of the lines of an access table.
-//! Which path and method a body belongs to is not said here.
+//! The bodies of calls as JSON: their members, and those that speak of the lines of an access
+//! table. Which path and method a body belongs to is not said here.
 #![tactic(auto)]
 
 mod reading;

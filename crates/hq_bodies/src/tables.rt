@@ -86,8 +86,8 @@ pub fn read_line(alloc: Global, body: &[u8]) -> Result<Line, Fail>
     Ok(Line { pattern, action })
 }
 
-/// Reads a body that asks for a lookup: 7 and 8 as for a pattern, then 20 for the address. The empty
-/// text is the null sender, on the side of senders alone.
+/// Reads a body that asks for a lookup: 7 and 8 as for a pattern, then 20 for the address. The
+/// empty text is the null sender, on the side of senders alone.
 #[tactic(auto, unfolding(crate::specs::Tables::read_check))]
 pub fn read_check(alloc: Global, body: &[u8]) -> Result<(Class, Sender), Fail>
     ensures { Reads result (read_check body.now) }

@@ -177,26 +177,20 @@ fn is_deferred(recipient: &Pending, outcomes: &[Outcome]) -> bool
 fn delivered(recipients: &[Pending], outcomes: &[Outcome]) -> u64
     ensures { result ≡ rules.delivered outcomes.now recipients.now }
 {
-    let mut count = 0;
-    for recipient in recipients {
-        if is_delivered(recipient, outcomes) {
-            count += 1;
-        }
-    }
-    count
+    recipients
+        .iter()
+        .filter(|recipient| is_delivered(recipient, outcomes))
+        .count() as u64
 }
 
 /// How many recipients are to be tried again.
 fn deferred(recipients: &[Pending], outcomes: &[Outcome]) -> u64
     ensures { result ≡ rules.deferred outcomes.now recipients.now }
 {
-    let mut count = 0;
-    for recipient in recipients {
-        if is_deferred(recipient, outcomes) {
-            count += 1;
-        }
-    }
-    count
+    recipients
+        .iter()
+        .filter(|recipient| is_deferred(recipient, outcomes))
+        .count() as u64
 }
 
 /// Takes the report of a delivery attempt at the moment `at`: its outcomes name some of the

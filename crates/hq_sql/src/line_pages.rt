@@ -22,7 +22,8 @@ struct TakenLines {
 }
 
 impl Taker for TakenLines {
-    ghost takes = { λ before row after. after.lines.items ≡ before.lines.items ++ line_in row ∷ [] };
+    ghost takes = { λ before row after.
+        after.lines.items ≡ before.lines.items ++ line_in row ∷ [] };
 
     fn take(&mut self, row: &Row) -> Result<(), Error> {
         let line = decode::line(self.alloc, row)?;

@@ -106,7 +106,8 @@ pub(crate) fn page<'a>(
     from: &NumberColumn,
     most: &RowLimit,
 ) -> [ValueRef<'a>; 3]
-    ensures { (limit : ℕ) (after : AnyOption ℕ) → most.now.rows ≡ pos limit → from.now.number ≡ from_number after
+    ensures { (limit : ℕ) (after : AnyOption ℕ) → most.now.rows ≡ pos limit
+        → from.now.number ≡ from_number after
         → bound result ≡ page_columns customer.now after limit }
 {
     [

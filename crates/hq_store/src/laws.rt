@@ -52,7 +52,8 @@ pub fn counts_are_kept()
 /// A customer that keeps no line has none at any key.
 pub fn no_line_is_read()
     ensures { (customer : List ℕ) (t : Tables) (class : Class) (key : List ℕ)
-        → (read_tables customer t).counts.lines ≡ 0 → (read_tables customer t).line class key ≡ None }
+        → (read_tables customer t).counts.lines ≡ 0
+        → (read_tables customer t).line class key ≡ None }
 {}
 
 /// Sound tables are shaped.

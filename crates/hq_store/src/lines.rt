@@ -120,8 +120,9 @@ pub(crate) fn page_in(
     after: Option<&Pattern>,
     limit: usize,
 ) -> Result<Items<Line>, AllocError>
-    ensures { AreUniqueLines rows.now → IfOk result (λ page. page ≡ take limit (after_pattern
-        (option_map (λ p. p.now) after.entry) (map line_of (line_rows_with customer.now rows.now)))) }
+    ensures { AreUniqueLines rows.now → IfOk result (λ page.
+        page ≡ take limit (after_pattern (option_map (λ p. p.now) after.entry)
+            (map line_of (line_rows_with customer.now rows.now)))) }
 {
     let mut lines = lines_past(alloc, rows, customer, after)?;
     lines.sort_unstable_by(|a, b| line_order(a, b));

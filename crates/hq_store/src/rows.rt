@@ -190,7 +190,8 @@ impl LineRow {
     /// none.
     #[tactic(auto, unfolding(crate::specs::Lookups::is_line_past))]
     pub(crate) fn is_past(&self, customer: &Name, after: Option<&Pattern>) -> bool
-        ensures { result ≡ is_line_past customer.now (option_map (λ p. p.now) after.entry) self.now }
+        ensures { result
+            ≡ is_line_past customer.now (option_map (λ p. p.now) after.entry) self.now }
     {
         is_name(customer, &self.customer)
             && match after {

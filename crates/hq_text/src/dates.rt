@@ -10,7 +10,7 @@ use jiff::ToSpan;
 use jiff::civil::{Date, date};
 use std::alloc::{AllocError, Global};
 
-/// How many seconds a day has.
+/// How many seconds a day has. The last moment is on day 47,481 after 1 January 1970.
 const DAY_SECONDS: u64 = 86_400;
 
 /// The date that comes so many days after 1 January 1970.

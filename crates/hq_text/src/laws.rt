@@ -1,5 +1,5 @@
-//! Laws over the texts of notices, with no program in them. Each is an empty function whose contract
-//! is the law.
+//! Laws over the texts of notices, with no program in them. Each is an empty function whose
+//! contract is the law.
 
 ghost use Rattle.std.specs.Prelude.{◌≡◌, ℕ, List, IsTrue};
 ghost use Rattle.hq_envelope.specs.Addresses.{is_address};

@@ -160,8 +160,8 @@ const BEFORE: &[&str] = &[
     "0 acme import jan recipient,z@r,OK",
 ];
 
-/// A submission with three recipients, which makes 15 calls of the shelf, and a call of each kind on
-/// the lines.
+/// A submission with three recipients, which makes 15 calls of the shelf, and a call of each kind
+/// on the lines.
 const CALLS: &[&str] = &[
     "3 acme submit s2 11 ann@a.example x@r y@r fay@far.example",
     "3 acme put sender a.example OK",
