@@ -235,8 +235,7 @@ fn answer_value(alloc: Global, answer: &Answer) -> Result<Value, AllocError>
     }
 }
 
-#[tactic(auto, using(crate::proofs::NoFloats::answer_has_no_float),
-    unfolding(crate::specs::Replies::answer_text))]
+#[tactic(auto, using(crate::proofs::NoFloats::answer_has_no_float), unfolding(crate::specs::Replies::answer_text))]
 fn answer_bytes(alloc: Global, answer: &Answer) -> Result<Vec<u8>, AllocError>
     ensures { IfOk result (λ bytes. bytes.items ≡ replies.answer_text answer.now) }
 {

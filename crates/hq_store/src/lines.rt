@@ -122,7 +122,7 @@ pub(crate) fn page_in(
 ) -> Result<Items<Line>, AllocError>
     ensures { AreUniqueLines rows.now → IfOk result (λ page.
         page ≡ take limit (after_pattern (option_map (λ p. p.now) after.entry)
-            (map line_of (line_rows_with customer.now rows.now)))) }
+        (map line_of (line_rows_with customer.now rows.now)))) }
 {
     let mut lines = lines_past(alloc, rows, customer, after)?;
     lines.sort_unstable_by(|a, b| line_order(a, b));
