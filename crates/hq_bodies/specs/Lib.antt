@@ -1,2 +1,4 @@
+pub mod Due
+pub mod Outcomes
 pub mod Reading
 pub mod Tables

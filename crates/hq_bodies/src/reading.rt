@@ -2,10 +2,11 @@
 
 ghost use Rattle.std.specs.Prelude.{◌≡◌, ◌≤◌, List, ℕ, IfOk, length, bytes_eq, option_map, option_and_then, map as map_list, string_bytes};
 ghost use Rattle.std.specs.List.{list_any};
+ghost use Rattle.serde_json.specs.Find.{as_object};
 ghost use Rattle.serde_json.specs.View.{view, members_view, items_view};
 ghost use Rattle.hq_base.specs.declared.failure.Refusal.TheVariants.{BadJson, BadField};
 ghost use Rattle.hq_base.specs.Readers.{Reads, seen_by, or_refuse};
-ghost use Rattle.hq_bodies.specs.Reading.{json_of, has_only, text_at, number_at, texts_of, texts_at};
+ghost use Rattle.hq_bodies.specs.Reading.{json_of, has_only, has_only_members, text_at, number_at, texts_of, texts_at};
 
 use hq_envelope::{Fail, Fault, Refusal};
 use serde_json::{Map, Value};
@@ -68,6 +69,17 @@ pub fn has_only(map: &Map<String, Value>, names: &[&str]) -> bool
         }
     }
     true
+}
+
+/// Whether a value is an object whose members have these names alone.
+pub(crate) fn has_only_members(value: &Value, names: &[&str]) -> bool
+    ensures { result ≡ has_only_members (map_list (λ n. n.now) names.now)
+        (as_object (view value.now)) }
+{
+    match value.as_object() {
+        Some(map) => has_only(map, names),
+        None => false,
+    }
 }
 
 fn texts(alloc: Global, values: &[Value]) -> Result<Vec<String>, Fail>

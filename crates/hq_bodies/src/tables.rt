@@ -1,29 +1,16 @@
 //! The bodies that speak of lines of an access table.
 
-ghost use Rattle.std.specs.Prelude.{◌≡◌, IfOk, codes, map as map_list};
-ghost use Rattle.serde_json.specs.Find.{as_object};
+ghost use Rattle.std.specs.Prelude.{◌≡◌, IfOk};
 ghost use Rattle.serde_json.specs.View.{view};
 ghost use Rattle.hq_base.specs.Readers.{Reads, or_refuse};
 ghost use Rattle.hq_base.specs.declared.failure.Refusal.TheVariants.{BadField};
-ghost use Rattle.hq_bodies.specs.Reading.{has_only_members};
 ghost use Rattle.hq_bodies.specs.Tables.{class_in, class_at, party_in, read_pattern, read_line, read_check, read_import};
 
-use crate::reading::{has_only, json_value, text_member};
+use crate::reading::{has_only_members, json_value, text_member};
 use hq_access::{Action, Class, Line, Pattern};
 use hq_envelope::{Address, Fail, Items, Label, Refusal, Sender};
 use serde_json::Value;
 use std::alloc::{AllocError, Global};
-
-/// Whether a body is an object whose members have these names alone.
-fn has_only_members(value: &Value, names: &[&str]) -> bool
-    ensures { result ≡ has_only_members (map_list (λ n. n.now) names.now)
-        (as_object (view value.now)) }
-{
-    match value.as_object() {
-        Some(map) => has_only(map, names),
-        None => false,
-    }
-}
 
 /// The class of a name.
 fn class_in(name: &str) -> Option<Class>

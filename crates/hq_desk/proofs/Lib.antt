@@ -1,12 +1,5 @@
-pub mod Imported
-pub mod Isolation
-pub mod Kept
 pub mod NoLines
 pub mod Pages
-pub mod Queued
 pub mod Reading
-pub mod Repeats
-pub mod Requeued
-pub mod SameAddresses
 pub mod ShelfLines
-pub mod Soundness
+pub mod Whole

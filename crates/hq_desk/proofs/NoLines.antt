@@ -11,8 +11,8 @@ use Rattle.hq_access.specs.declared.pattern.Class.TheVariants.{RecipientSide}
 use Rattle.hq_store.specs.Readings.{read_tables}
 use Rattle.hq_store.specs.Tables.{Tables}
 use Rattle.hq_store.proofs.Read.{no_line}
-use Rattle.hq_desk.specs.AccessLines.{found_for}
-use Rattle.hq_desk.specs.Submissions.{with_action}
+use Rattle.hq_calls.specs.AccessLines.{found_for}
+use Rattle.hq_calls.specs.Submissions.{with_action}
 
 none_first : (line : List ℕ → Option Action) → ((key : List ℕ) → line key ≡ None) → (keys : List (List ℕ)) → first_match line keys ≡ None
 none_first line none [] = refl

@@ -5,10 +5,12 @@ use Rattle.std.proofs.lemmas.Bool.Decides.{nat_tests}
 use Rattle.std.proofs.lemmas.List.{take-take, length-take}
 use Rattle.hq_access.specs.declared.pattern.Line.{Line}
 use Rattle.hq_queue.specs.declared.message.Message.{Message}
+use Rattle.hq_store.specs.declared.notice.Notice.{Notice}
 use Rattle.std.proofs.Common.{[]}
-use Rattle.hq_desk.specs.declared.answer.Answer.TheVariants as answer
-use Rattle.hq_desk.specs.AccessLines.{line_page}
-use Rattle.hq_desk.specs.Messages.{page}
+use Rattle.hq_calls.specs.declared.answer.Answer.TheVariants as answer
+use Rattle.hq_calls.specs.AccessLines.{line_page}
+use Rattle.hq_calls.specs.Messages.{page}
+use Rattle.hq_calls.specs.Notices.{notice_page}
 
 more_is : (l n : ℕ) → nat_lt l (min (l + 1) n) ≡ nat_lt l n
 more_is l n = grind (arith, nat_tests)
@@ -25,3 +27,6 @@ page_of_more ms found e = page_is (λ shown more. record { answer = answer.Liste
 
 pub line_page_of_more : (ls found : List Line) → found ≡ take 101 ls → line_page found ≡ line_page ls
 line_page_of_more ls found e = page_is (λ shown more. record { answer = answer.LinesListed shown more; changes = [] }) 100 ls found e
+
+pub notice_page_of_more : (ns found : List Notice) → found ≡ take 101 ns → notice_page found ≡ notice_page ns
+notice_page_of_more ns found e = page_is (λ shown more. record { answer = answer.NoticesListed shown more; changes = [] }) 100 ns found e

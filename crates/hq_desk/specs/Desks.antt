@@ -4,12 +4,12 @@ use Rattle.hq_base.specs.Refusals.{no_memory}
 use Rattle.hq_queue.specs.declared.account.Entry.{Entry}
 use Rattle.hq_store.specs.Shelves.{Sight}
 use Rattle.hq_store.specs.Tables.{Tables}
-use Rattle.hq_desk.specs.Machine.{shared}
-use Rattle.hq_desk.specs.declared.call.Call.{Call}
-use Rattle.hq_desk.specs.declared.answer.Answer.{Answer}
+use Rattle.hq_calls.specs.Machine.{shared}
+use Rattle.hq_calls.specs.declared.call.Call.{Call}
+use Rattle.hq_calls.specs.declared.answer.Answer.{Answer}
 use Rattle.hq_desk.specs.declared.desk.Desk.{Desk}
 use Rattle.hq_desk.specs.declared.desk.Rendered.{Rendered}
-use Rattle.hq_desk.specs.Answers.{answer_number}
+use Rattle.hq_calls.specs.Answers.{answer_number}
 
 -- the shelf that keeps its tables
 abbrev pub shelf_of : {S : Type 0} → Desk S → S

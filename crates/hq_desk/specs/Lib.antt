@@ -1,11 +1,2 @@
-pub mod AccessLines
-pub mod Answering
-pub mod Answers
-pub mod Decision
 pub mod Desks
-pub mod Imports
-pub mod Limits
-pub mod Machine
-pub mod Messages
 pub mod ShelfLines
-pub mod Submissions

@@ -2,9 +2,9 @@
 //! shelf is open before each of these calls, since memory may be wanted before it is asked.
 
 ghost use Rattle.std.specs.Prelude.{◌≡◌, map};
-ghost use Rattle.hq_desk.specs.AccessLines as rules;
+ghost use Rattle.hq_calls.specs.AccessLines as rules;
 ghost use Rattle.hq_desk.specs.ShelfLines.{FindsOpen, KeepsOpen, asks_shelf};
-ghost use Rattle.hq_desk.specs.Submissions.{with_action};
+ghost use Rattle.hq_calls.specs.Submissions.{with_action};
 
 use hq_access::{Action, Class, Lines, LookupKey, lookup};
 use hq_envelope::{Address, Fault, Items, Name, Sender, TryCopy};

@@ -2,24 +2,25 @@
 //! is wanted, since a closed one answers 93 alone.
 
 ghost use Rattle.std.specs.Prelude.{◌≡◌, IfOk, OnOk, option_map};
-ghost use Rattle.hq_store.specs.Readings.{after_pattern, after_serial};
+ghost use Rattle.hq_store.specs.Readings.{after_number, after_pattern, after_serial};
 ghost use Rattle.hq_store.specs.Shelves.{Finds, FindsSound, Keeps, KeepsOnErr, OnSound, OnOpenSound};
 ghost use Rattle.hq_store.specs.Sound.{Sound};
-ghost use Rattle.hq_desk.specs.AccessLines as lines;
-ghost use Rattle.hq_desk.specs.Decision as rules;
+ghost use Rattle.hq_calls.specs.AccessLines as lines;
+ghost use Rattle.hq_calls.specs.Decision as rules;
 ghost use Rattle.hq_desk.specs.Desks.{shelf_of, host_of, with_memory, on, stepped, IsRendered};
-ghost use Rattle.hq_desk.specs.Messages as messages;
+ghost use Rattle.hq_calls.specs.Messages as messages;
+ghost use Rattle.hq_calls.specs.Notices as notices;
 
-use crate::answer::Answer;
-use crate::call::Call;
 use crate::customer_lines::look_up;
-use crate::decision::{
-    Decision, PAGE, delete, hold_found, page, refuse, release_found, requeue_with, show, tell,
-};
 use crate::imports::decide_import;
-use crate::lines::{drop_line, line_page, put_new, put_over};
+use crate::relay::{decide_due, decide_outcome, decide_sweep};
 use crate::submit::decide_submit;
 use hq_access::{Class, Line, Pattern, keys_of};
+use hq_calls::decision::{Decision, PAGE, refuse, tell};
+use hq_calls::lines::{drop_line, line_page, put_new, put_over};
+use hq_calls::messages::{delete, hold_found, page, release_found, requeue_with, show};
+use hq_calls::notices::{notice_page, show_notice};
+use hq_calls::{Answer, Call};
 use hq_envelope::{Fault, Host, Items, Moment, Refusal, Sender, Serial};
 use hq_queue::Entry;
 use hq_store::Shelf;
@@ -28,7 +29,7 @@ use std::alloc::{AllocError, Global};
 /// How an answer is written.
 pub trait Render {
     ghost use Rattle.std.specs.Prelude.{List, ℕ};
-    ghost use Rattle.hq_desk.specs.declared.answer.Answer.{Answer};
+    ghost use Rattle.hq_calls.specs.declared.answer.Answer.{Answer};
 
     /// The one text of an answer.
     ghost text: { Self → Answer → List ℕ };
@@ -117,6 +118,21 @@ fn decide_lines<S: Shelf>(
     Ok(line_page(alloc, found))
 }
 
+/// What a list of notices is answered.
+fn decide_notices<S: Shelf>(
+    shelf: &mut S,
+    alloc: Global,
+    entry: &Entry,
+    after: Option<u64>,
+) -> Result<Decision, Fault>
+    ensures found { Finds S.sight shelf.old shelf.new result entry.now.name
+        (λ rows. notices.notice_page (after_number after rows.notices)) }
+    ensures kept { Keeps (with_memory S.sight) shelf.old shelf.new result }
+{
+    let found = shelf.notices(&entry.name, after, PAGE + 1)?;
+    Ok(notice_page(alloc, found))
+}
+
 /// What a put of a line is answered and changes.
 fn decide_put_line<S: Shelf>(
     shelf: &mut S,
@@ -179,7 +195,7 @@ fn decide_check<S: Shelf>(
 }
 
 /// What a call is answered and changes, by what the shelf has.
-#[tactic(auto, unfolding(crate::specs::Decision::decide))]
+#[tactic(auto, unfolding(hq_calls::specs::Decision::decide))]
 fn decide<S: Shelf>(
     shelf: &mut S,
     host: &Host,
@@ -214,6 +230,14 @@ fn decide<S: Shelf>(
         Call::DropLine(pattern) => decide_drop_line(shelf, alloc, entry, pattern),
         Call::Check(class, who) => decide_check(shelf, alloc, entry, class, &who),
         Call::Import(label, file) => decide_import(shelf, alloc, entry, label, &file),
+        Call::Outcome(report) => decide_outcome(shelf, host, alloc, at, entry, &report),
+        Call::Due(after) => decide_due(shelf, alloc, at, entry, after),
+        Call::Sweep => decide_sweep(shelf, host, alloc, at, entry),
+        Call::Notices(after) => decide_notices(shelf, alloc, entry, after),
+        Call::Notice(number) => {
+            let found = shelf.notice(&entry.name, number)?;
+            Ok(show_notice(alloc, found))
+        }
     }
 }
 

@@ -3,19 +3,14 @@
 //! outside.
 #![tactic(auto)]
 
-mod answer;
-mod call;
 mod customer_lines;
-mod decision;
 mod desk;
-mod distinct;
 mod imports;
-pub mod laws;
-mod lines;
-mod submissions;
+mod relay;
 mod submit;
 
-pub use answer::{Answer, ImportCounts, LinePut};
-pub use call::{Call, Submission};
-pub use decision::Decision;
 pub use desk::{Desk, Render, Rendered};
+pub use hq_calls::{
+    Answer, AttemptCounts, AttemptReport, Call, Decision, ImportCounts, LinePut, Submission,
+    SweepCounts,
+};

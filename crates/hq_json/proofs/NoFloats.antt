@@ -7,8 +7,11 @@ use Rattle.hq_base.specs.declared.failure.Refusal.{Refusal}
 use Rattle.hq_base.specs.declared.failure.Refusal.TheVariants.{AttemptAhead, BadCsv, DoubledPattern, BadDirectory, DoubledName, DoubledKey}
 use Rattle.hq_queue.specs.declared.message.Message.{Message}
 use Rattle.hq_queue.specs.declared.message.Pending.{Pending}
-use Rattle.hq_desk.specs.declared.answer.Answer.{Answer}
-use Rattle.hq_desk.specs.declared.answer.Answer.TheVariants as answer
+use Rattle.hq_store.specs.declared.notice.Notice.{Notice}
+use Rattle.hq_calls.specs.declared.answer.Answer.{Answer}
+use Rattle.hq_calls.specs.declared.answer.Answer.TheVariants as answer
+use Rattle.hq_json.specs.AttemptReplies.{due_entry, due_listed}
+use Rattle.hq_json.specs.NoticeReplies.{notice_entry, notices_listed, notice_shown}
 use Rattle.hq_json.specs.Replies.{entry, pending_entry, shown, listed, queued, refusal_data, answer_data}
 use Rattle.hq_json.specs.TableReplies.{refused_entry, line_entry, lines_listed, checked}
 
@@ -20,6 +23,14 @@ entry_no_float : (m : Message) → has_float (entry m) ≡ false
 unfolding entry
 entry_no_float m = refl
 
+due_no_float : (m : Message) → has_float (due_entry m) ≡ false
+unfolding due_entry
+due_no_float m = rw (list_no_float (λ (p : Pending). string p.address) (λ _. refl) m.pending) refl
+
+notice_no_float : (n : Notice) → has_float (notice_entry n) ≡ false
+unfolding notice_entry
+notice_no_float n = refl
+
 refusal_no_float : (r : Refusal) → has_float (refusal_data r) ≡ false
 refusal_no_float (AttemptAhead attempts) = refl
 refusal_no_float (BadCsv row) = refl
@@ -30,7 +41,7 @@ refusal_no_float (DoubledKey row) = refl
 refusal_no_float _ = refl
 
 pub answer_has_no_float : (a : Answer) → has_float (answer_data a) ≡ false
-unfolding listed shown queued lines_listed checked
+unfolding listed shown queued lines_listed checked due_listed notices_listed notice_shown
 answer_has_no_float (answer.Refused r) = refusal_no_float r
 answer_has_no_float (answer.Queued m refused) = rw (list_no_float (λ (p : Pending). string p.address) (λ _. refl) m.pending) (rw (list_no_float refused_entry (λ _. refl) refused) refl)
 answer_has_no_float (answer.Repeated serial) = refl
@@ -46,3 +57,9 @@ answer_has_no_float (answer.Checked keys None) = rw (list_no_float (λ (k : List
 answer_has_no_float (answer.Checked keys (Some found)) = rw (list_no_float (λ (k : List ℕ). string k) (λ _. refl) keys) refl
 answer_has_no_float (answer.Imported counts) = refl
 answer_has_no_float (answer.Requeued serial) = refl
+answer_has_no_float (answer.Attempted counts) = refl
+answer_has_no_float (answer.AttemptRepeated attempts) = refl
+answer_has_no_float (answer.DueListed ms more) = rw (list_no_float due_entry due_no_float ms) refl
+answer_has_no_float (answer.Swept counts) = refl
+answer_has_no_float (answer.NoticesListed ns more) = rw (list_no_float notice_entry notice_no_float ns) refl
+answer_has_no_float (answer.NoticeShown n) = refl

@@ -9,8 +9,8 @@ use Rattle.hq_envelope.specs.Addresses.{is_address}
 use Rattle.hq_envelope.specs.Senders.{sender_in}
 use Rattle.hq_envelope.specs.Words.{spool_in}
 use Rattle.hq_envelope.specs.declared.address.Sender.{Sender}
-use Rattle.hq_desk.specs.Limits.{is_recipient_count}
-use Rattle.hq_desk.specs.declared.call.Submission.{Submission}
+use Rattle.hq_calls.specs.Limits.{is_recipient_count}
+use Rattle.hq_calls.specs.declared.call.Submission.{Submission}
 use Rattle.hq_bodies.specs.Reading.{texts_at}
 use Rattle.hq_json.specs.Submissions.{Fields, addresses_in, recipients_of, submission_of}
 

@@ -1,3 +1,5 @@
+pub mod AttemptReplies
+pub mod NoticeReplies
 pub mod Objects
 pub mod TableReplies
 pub mod Replies

@@ -3,6 +3,7 @@ use Rattle.std.specs.Prelude.{ℕ, List, [], ◌∷◌, map}
 use Rattle.serde_json.specs.Data.{Data, number, string, array, object, unsigned, Members, no_members, member}
 use Rattle.serde_json.specs.View.{items_of}
 use Rattle.hq_base.specs.Serials.{serial_text}
+use Rattle.hq_queue.specs.declared.message.Pending.{Pending}
 
 abbrev pub members_in : List (List ℕ × Data) → Members
 members_in [] = no_members
@@ -20,3 +21,7 @@ id serial = string (serial_text serial)
 
 abbrev pub texts : List (List ℕ) → Data
 texts ts = array (items_of (map (λ t. string t) ts))
+
+-- to whom a message still goes
+abbrev pub addresses : List Pending → Data
+addresses ps = array (items_of (map (λ (p : Pending). string p.address) ps))

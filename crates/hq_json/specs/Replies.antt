@@ -13,9 +13,11 @@ use Rattle.hq_queue.specs.declared.message.Message.{Message}
 use Rattle.hq_queue.specs.declared.message.Pending.{Pending}
 use Rattle.hq_queue.specs.declared.message.QueueState.{QueueState}
 use Rattle.hq_queue.specs.declared.message.QueueState.TheVariants.{Incoming, Deferred, Hold}
-use Rattle.hq_desk.specs.declared.answer.Answer.{Answer}
-use Rattle.hq_desk.specs.declared.answer.Answer.TheVariants as answer
-use Rattle.hq_json.specs.Objects.{having, count, id}
+use Rattle.hq_calls.specs.declared.answer.Answer.{Answer}
+use Rattle.hq_calls.specs.declared.answer.Answer.TheVariants as answer
+use Rattle.hq_json.specs.AttemptReplies.{attempted, attempt_repeated, due_listed, swept}
+use Rattle.hq_json.specs.NoticeReplies.{notices_listed, notice_shown}
+use Rattle.hq_json.specs.Objects.{having, count, id, addresses}
 use Rattle.hq_json.specs.TableReplies.{refused_list, lines_listed, line_put, line_dropped, checked, imported}
 
 -- ---- refusals
@@ -108,9 +110,6 @@ listed ms more = having (
 
 -- ---- submissions
 
-abbrev pub addresses : List Pending → Data
-addresses ps = array (items_of (map (λ (p : Pending). string p.address) ps))
-
 unfoldable pub queued : Message → List Refused → Data
 queued m refused = having (
     (codes "id", id m.serial) ∷
@@ -153,6 +152,12 @@ answer_data (answer.LinePut done) = line_put done
 answer_data answer.LineDropped = line_dropped
 answer_data (answer.Checked keys found) = checked keys found
 answer_data (answer.Imported counts) = imported counts
+answer_data (answer.Attempted counts) = attempted counts
+answer_data (answer.AttemptRepeated attempts) = attempt_repeated attempts
+answer_data (answer.DueListed ms more) = due_listed ms more
+answer_data (answer.Swept counts) = swept counts
+answer_data (answer.NoticesListed ns more) = notices_listed ns more
+answer_data (answer.NoticeShown n) = notice_shown n
 
 -- the bytes of an answer
 unfoldable pub answer_text : Answer → List ℕ

@@ -8,8 +8,8 @@ use Rattle.hq_base.specs.declared.failure.Refusal.TheVariants.{BadJson, BadField
 use Rattle.hq_envelope.specs.Addresses.{address_in}
 use Rattle.hq_envelope.specs.Senders.{sender_in}
 use Rattle.hq_envelope.specs.Words.{spool_in}
-use Rattle.hq_desk.specs.Limits.{is_recipient_count}
-use Rattle.hq_desk.specs.declared.call.Submission.{Submission}
+use Rattle.hq_calls.specs.Limits.{is_recipient_count}
+use Rattle.hq_calls.specs.declared.call.Submission.{Submission}
 use Rattle.hq_bodies.specs.Reading.{json_of, has_only_members, text_at, number_at, texts_at}
 use Rattle.hq_json.specs.declared.members.RecipientTexts.{RecipientTexts}
 use Rattle.hq_json.specs.declared.members.SubmissionTexts.{SubmissionTexts}

@@ -8,9 +8,9 @@ use Rattle.hq_access.specs.Patterns.{class_name}
 use Rattle.hq_access.specs.declared.action.Action.{Action}
 use Rattle.hq_access.specs.declared.pattern.Line.{Line}
 use Rattle.hq_access.specs.declared.verdicts.Refused.{Refused}
-use Rattle.hq_desk.specs.declared.answer.ImportCounts.{ImportCounts}
-use Rattle.hq_desk.specs.declared.answer.LinePut.{LinePut}
-use Rattle.hq_desk.specs.declared.answer.LinePut.TheVariants.{Added, Changed, Same}
+use Rattle.hq_calls.specs.declared.answer.ImportCounts.{ImportCounts}
+use Rattle.hq_calls.specs.declared.answer.LinePut.{LinePut}
+use Rattle.hq_calls.specs.declared.answer.LinePut.TheVariants.{Added, Changed, Same}
 use Rattle.hq_json.specs.Objects.{having, count, texts}
 
 -- a sender or a recipient that is refused; the null sender is the empty text

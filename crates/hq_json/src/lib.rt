@@ -2,7 +2,10 @@
 //! replies. Which path and method a body belongs to is not said here.
 #![tactic(auto)]
 
+mod attempt_replies;
 mod members;
+mod notice_replies;
+mod objects;
 mod replies;
 mod submission;
 mod table_replies;

@@ -8,6 +8,9 @@ ghost use Rattle.hq_queue.specs.declared.message.Pending.{Pending};
 ghost use Rattle.hq_json.specs.Replies as replies;
 ghost use Rattle.hq_json.specs.Objects as objects;
 
+use crate::attempt_replies::{attempted_value, due_value, repeated_attempt_value, swept_value};
+use crate::notice_replies::{notice_value, notices_value};
+use crate::objects::{address_list, id_value};
 use crate::table_replies::{
     checked_value, imported_value, line_dropped_value, line_put_value, lines_value, refused_list,
 };
@@ -17,18 +20,6 @@ use hq_envelope::{Refusal, Serial};
 use hq_queue::{Message, Pending, QueueState, Status};
 use serde_json::{Value, json};
 use std::alloc::{AllocError, Global};
-use std::str;
-
-/// A queue ID.
-fn id_value(alloc: Global, serial: Serial) -> Result<Value, AllocError>
-    ensures { IfOk result (λ v. view v ≡ objects.id serial) }
-{
-    let text = serial.text();
-    match str::from_utf8(&text) {
-        Ok(id) => Value::try_from_str(alloc, id),
-        Err(_) => unreachable!(),
-    }
-}
 
 // ---- refusals
 
@@ -155,16 +146,6 @@ fn shown_value(alloc: Global, message: &Message) -> Result<Value, AllocError>
 
 // ---- submissions
 
-fn address_list(alloc: Global, list: &[Pending]) -> Result<Value, AllocError>
-    ensures { IfOk result (λ v. view v ≡ replies.addresses list.now) }
-{
-    let mut values = Vec::new(alloc);
-    for pending in list {
-        values.push(Value::try_from_str(alloc, pending.address.as_str())?)?;
-    }
-    Ok(Value::Array(values))
-}
-
 #[tactic(auto, unfolding(crate::specs::Replies::queued))]
 fn queued_value(alloc: Global, message: &Message, refused: &[Refused]) -> Result<Value, AllocError>
     ensures { IfOk result (λ v. view v ≡ replies.queued message.now refused.now) }
@@ -232,6 +213,12 @@ fn answer_value(alloc: Global, answer: &Answer) -> Result<Value, AllocError>
         Answer::LineDropped => line_dropped_value(alloc),
         Answer::Checked(keys, found) => checked_value(alloc, keys.as_slice(), found),
         Answer::Imported(counts) => imported_value(alloc, *counts),
+        Answer::Attempted(counts) => attempted_value(alloc, *counts),
+        Answer::AttemptRepeated(attempts) => repeated_attempt_value(alloc, *attempts),
+        Answer::DueListed(messages, more) => due_value(alloc, messages.as_slice(), *more),
+        Answer::Swept(counts) => swept_value(alloc, *counts),
+        Answer::NoticesListed(notices, more) => notices_value(alloc, notices.as_slice(), *more),
+        Answer::NoticeShown(notice) => notice_value(alloc, notice),
     }
 }
 

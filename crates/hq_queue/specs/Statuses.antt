@@ -1,5 +1,5 @@
 -- The form of status codes, by their bytes (RFC 3463, 2: a class, a subject and a detail, parted by dots).
-use Rattle.std.specs.Prelude.{ℕ, Bool, false, ◌&&◌, ◌-◌, nat_le, List, [], ◌∷◌, Result}
+use Rattle.std.specs.Prelude.{ℕ, Bool, false, ◌&&◌, ◌-◌, nat_le, List, [], ◌∷◌, Result, codes}
 use Rattle.std.specs.List.{slice_split}
 use Rattle.hq_envelope.specs.Addresses.{is_dot}
 use Rattle.hq_base.specs.Readers.{checked}
@@ -37,6 +37,14 @@ is_status bytes = are_status_parts (slice_split is_dot bytes)
 -- a status is read as it was written; what has not its form is refused
 abbrev pub status_in : List ℕ → Result (List ℕ) Refusal
 status_in bytes = checked bytes (is_status bytes) BadStatus
+
+-- a failure that may pass, of which no more is known (RFC 3463, 3.1 and 3.2)
+abbrev pub unknown_status : List ℕ
+unknown_status = codes "4.0.0"
+
+-- delivery time expired (RFC 3463, 3.5)
+abbrev pub expired_status : List ℕ
+expired_status = codes "4.4.7"
 
 -- the class as a number: what the first byte stands for (no status is empty)
 abbrev pub first_digit : List ℕ → ℕ

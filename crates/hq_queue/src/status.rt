@@ -4,6 +4,7 @@ ghost use Rattle.std.specs.Prelude.{◌≡◌, ◌≤◌, [], ◌∷◌, IfOk, M
 ghost use Rattle.std.specs.List.{slice_split};
 ghost use Rattle.hq_envelope.specs.Addresses.{is_dot};
 ghost use Rattle.hq_queue.specs.Statuses.{is_class, is_number, is_status, status_in, first_digit};
+ghost use Rattle.hq_queue.specs.Statuses.{unknown_status, expired_status};
 
 use hq_envelope::Refusal;
 use std::alloc::{AllocError, Global};
@@ -85,6 +86,27 @@ impl Status {
             bytes,
             len: text.len(),
         })
+    }
+
+    /// `4.0.0`: a failure that may pass, of which no more is known (RFC 3463, 3.1 and 3.2). Takes no
+    /// memory.
+    pub fn unknown() -> Status
+        ensures { result ≡ unknown_status }
+    {
+        Status {
+            bytes: *b"4.0.0\0\0\0\0",
+            len: 5,
+        }
+    }
+
+    /// `4.4.7`: the time for delivery has run out (RFC 3463, 3.5). Takes no memory.
+    pub fn expired() -> Status
+        ensures { result ≡ expired_status }
+    {
+        Status {
+            bytes: *b"4.4.7\0\0\0\0",
+            len: 5,
+        }
     }
 
     /// The text, without taking memory.

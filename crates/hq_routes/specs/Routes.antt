@@ -7,7 +7,7 @@ use Rattle.matchit.specs.Route.{Scan, parse_route}
 use Rattle.matchit.specs.declared.error.InsertError.{InsertError}
 use Rattle.matchit.specs.Seek.{has_slash}
 use Rattle.hq_routes.specs.declared.Path.{Path}
-use Rattle.hq_routes.specs.declared.Path.TheVariants.{Messages, MessagesAfter, Message, Hold, Release, Requeue, Import, Lines, LinesAfter, LinePut, LineDrop, Check, Submit}
+use Rattle.hq_routes.specs.declared.Path.TheVariants.{Messages, MessagesAfter, Message, Hold, Release, Requeue, Import, Lines, LinesAfter, LinePut, LineDrop, Check, Notices, NoticesAfter, Notice, Submit, Outcome, Due, Sweep}
 
 -- what stands for a parameter at the end of a pattern: it is no byte
 abbrev pub parameter : ℕ
@@ -31,7 +31,10 @@ with_parameter text = text ++ parameter ∷ []
 -- every path of the desk, in the order of the patterns
 unfoldable pub table : RowsOf Path
 table =
-    (with_parameter (codes "/relay/submit/"), Submit)
+    (with_parameter (codes "/relay/due/"), Due)
+    ∷ (with_parameter (codes "/relay/outcome/"), Outcome)
+    ∷ (with_parameter (codes "/relay/submit/"), Submit)
+    ∷ (with_parameter (codes "/relay/sweep/"), Sweep)
     ∷ (codes "/v1/check", Check)
     ∷ (with_parameter (codes "/v1/hold/"), Hold)
     ∷ (codes "/v1/import", Import)
@@ -42,6 +45,9 @@ table =
     ∷ (with_parameter (codes "/v1/message/"), Message)
     ∷ (with_parameter (codes "/v1/messages-after/"), MessagesAfter)
     ∷ (codes "/v1/messages", Messages)
+    ∷ (with_parameter (codes "/v1/notice/"), Notice)
+    ∷ (with_parameter (codes "/v1/notices-after/"), NoticesAfter)
+    ∷ (codes "/v1/notices", Notices)
     ∷ (with_parameter (codes "/v1/release/"), Release)
     ∷ (with_parameter (codes "/v1/requeue/"), Requeue)
     ∷ []

@@ -37,12 +37,24 @@ pub enum Path {
     LineDrop,
     /// `/v1/check`
     Check,
+    /// `/v1/notices`
+    Notices,
+    /// `/v1/notices-after/{n}`
+    NoticesAfter,
+    /// `/v1/notice/{n}`
+    Notice,
     /// `/relay/submit/{customer}`
     Submit,
+    /// `/relay/outcome/{customer}`
+    Outcome,
+    /// `/relay/due/{customer}`
+    Due,
+    /// `/relay/sweep/{customer}`
+    Sweep,
 }
 
 /// Every path of the desk, as the router spells it.
-const PATHS: [(&str, Path); 13] = [
+const PATHS: [(&str, Path); 19] = [
     ("/v1/messages", Path::Messages),
     ("/v1/messages-after/{id}", Path::MessagesAfter),
     ("/v1/message/{id}", Path::Message),
@@ -55,7 +67,13 @@ const PATHS: [(&str, Path); 13] = [
     ("/v1/line-put", Path::LinePut),
     ("/v1/line-drop", Path::LineDrop),
     ("/v1/check", Path::Check),
+    ("/v1/notices", Path::Notices),
+    ("/v1/notices-after/{n}", Path::NoticesAfter),
+    ("/v1/notice/{n}", Path::Notice),
     ("/relay/submit/{customer}", Path::Submit),
+    ("/relay/outcome/{customer}", Path::Outcome),
+    ("/relay/due/{customer}", Path::Due),
+    ("/relay/sweep/{customer}", Path::Sweep),
 ];
 
 /// Adds a path; where it reads well and has no conflict with those that are there, the only error

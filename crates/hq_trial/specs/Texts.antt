@@ -11,11 +11,16 @@ use Rattle.hq_queue.specs.declared.message.Message.{Message}
 use Rattle.hq_queue.specs.declared.message.Pending.{Pending}
 use Rattle.hq_queue.specs.declared.message.QueueState.{QueueState}
 use Rattle.hq_queue.specs.declared.message.QueueState.TheVariants.{Incoming, Deferred, Hold}
-use Rattle.hq_desk.specs.declared.answer.Answer.{Answer}
-use Rattle.hq_desk.specs.declared.answer.Answer.TheVariants as answers
-use Rattle.hq_desk.specs.declared.answer.ImportCounts.{ImportCounts}
-use Rattle.hq_desk.specs.declared.answer.LinePut.{LinePut}
-use Rattle.hq_desk.specs.declared.answer.LinePut.TheVariants as put
+use Rattle.hq_text.specs.declared.notices.Kind.{Kind}
+use Rattle.hq_text.specs.declared.notices.Kind.TheVariants.{Failure, Delay}
+use Rattle.hq_store.specs.declared.notice.Notice.{Notice}
+use Rattle.hq_calls.specs.declared.answer.Answer.{Answer}
+use Rattle.hq_calls.specs.declared.answer.AttemptCounts.{AttemptCounts}
+use Rattle.hq_calls.specs.declared.answer.SweepCounts.{SweepCounts}
+use Rattle.hq_calls.specs.declared.answer.Answer.TheVariants as answers
+use Rattle.hq_calls.specs.declared.answer.ImportCounts.{ImportCounts}
+use Rattle.hq_calls.specs.declared.answer.LinePut.{LinePut}
+use Rattle.hq_calls.specs.declared.answer.LinePut.TheVariants as put
 
 abbrev pub state_word : QueueState → List ℕ
 state_word Incoming = codes "incoming"
@@ -87,6 +92,34 @@ checked keys found = codes "keys" ++ flat_map word keys ++ match_shown found
 abbrev pub imported : ImportCounts → List ℕ
 imported counts = codes "imported" ++ number counts.added ++ number counts.changed ++ number counts.same
 
+-- ---- attempts, sweeps and notices
+
+-- how many were deferred, delivered, failed and left
+abbrev pub attempted : AttemptCounts → List ℕ
+attempted counts = codes "attempted" ++ number counts.deferred ++ number counts.delivered ++ number counts.failed ++ number counts.left
+
+abbrev pub due : List Message → Bool → List ℕ
+due ms more = codes "due" ++ flat_map serial ms ++ word (end_word more)
+
+-- how many messages expired, how many notices were made, and how many messages became warned
+abbrev pub swept : SweepCounts → List ℕ
+swept counts = codes "swept" ++ number counts.expired ++ number counts.notices ++ number counts.warned
+
+abbrev pub kind_word : Kind → List ℕ
+kind_word Failure = codes "failure"
+kind_word Delay = codes "delay"
+
+-- number, kind, serial, moment and receiver
+abbrev pub notice_line : Notice → List ℕ
+notice_line n = number n.number ++ word (kind_word n.kind) ++ number n.serial ++ number n.at ++ word n.to
+
+abbrev pub notices : List Notice → Bool → List ℕ
+notices ns more = codes "notices" ++ flat_map notice_line ns ++ word (end_word more)
+
+-- and the two texts
+abbrev pub notice : Notice → List ℕ
+notice n = codes "notice" ++ notice_line n ++ word n.human ++ word n.status
+
 -- ---- every answer
 
 abbrev pub answer : Answer → List ℕ
@@ -104,3 +137,9 @@ answer (answers.LinePut done) = codes "put " ++ put_word done
 answer answers.LineDropped = codes "dropped"
 answer (answers.Checked keys found) = checked keys found
 answer (answers.Imported counts) = imported counts
+answer (answers.Attempted counts) = attempted counts
+answer (answers.AttemptRepeated n) = codes "attempts " ++ decimal n
+answer (answers.DueListed ms more) = due ms more
+answer (answers.Swept counts) = swept counts
+answer (answers.NoticesListed ns more) = notices ns more
+answer (answers.NoticeShown n) = notice n

@@ -5,6 +5,7 @@
 mod failing_shelf;
 mod failure;
 mod plain_text;
+mod relay_text;
 
 pub use failing_shelf::FailingShelf;
 pub use failure::Failure;

@@ -4,6 +4,7 @@ ghost use Rattle.std.specs.Prelude.{◌≡◌, ◌++◌, IfOk, OnOk, codes, flat
 ghost use Rattle.hq_access.specs.Actions.{action_text};
 ghost use Rattle.hq_trial.specs.Texts as texts;
 
+use crate::relay_text::{attempted_text, due_text, notice_text, notices_text, swept_text};
 use hq_access::{Action, Line, LookupKey, Refused};
 use hq_desk::{Answer, ImportCounts, LinePut, Render};
 use hq_queue::{Message, Pending, QueueState};
@@ -29,14 +30,14 @@ fn warned_word(warned: bool) -> &'static str
     if warned { "warned" } else { "unwarned" }
 }
 
-fn end_word(more: bool) -> &'static str
+pub(crate) fn end_word(more: bool) -> &'static str
     ensures { result.now ≡ texts.end_word more }
 {
     if more { "more" } else { "end" }
 }
 
 /// Adds a space and a word.
-fn push_word(text: &mut String, word: &str) -> Result<(), AllocError>
+pub(crate) fn push_word(text: &mut String, word: &str) -> Result<(), AllocError>
     ensures { OnOk result (string_bytes text.new ≡ string_bytes text.old ++ texts.word word.now) }
 {
     text.push_str(" ")?;
@@ -44,7 +45,7 @@ fn push_word(text: &mut String, word: &str) -> Result<(), AllocError>
 }
 
 /// Adds a space and a number.
-fn push_number(alloc: Global, text: &mut String, number: u64) -> Result<(), AllocError>
+pub(crate) fn push_number(alloc: Global, text: &mut String, number: u64) -> Result<(), AllocError>
     ensures { OnOk result (string_bytes text.new ≡ string_bytes text.old ++ texts.number number) }
 {
     let word = format!(in alloc; "{number}")?;
@@ -63,7 +64,11 @@ fn push_addresses(text: &mut String, pending: &[Pending]) -> Result<(), AllocErr
 }
 
 /// Adds the serials of messages.
-fn push_serials(alloc: Global, text: &mut String, messages: &[Message]) -> Result<(), AllocError>
+pub(crate) fn push_serials(
+    alloc: Global,
+    text: &mut String,
+    messages: &[Message],
+) -> Result<(), AllocError>
     ensures { OnOk result (string_bytes text.new ≡ string_bytes text.old
         ++ flat_map texts.serial messages.now) }
 {
@@ -272,6 +277,12 @@ fn answer_text(alloc: Global, answer: &Answer) -> Result<String, AllocError>
         Answer::LineDropped => String::from_str(alloc, "dropped"),
         Answer::Checked(keys, found) => checked_text(alloc, keys.as_slice(), found),
         Answer::Imported(counts) => imported_text(alloc, counts),
+        Answer::Attempted(counts) => attempted_text(alloc, counts),
+        Answer::AttemptRepeated(attempts) => format!(in alloc; "attempts {attempts}"),
+        Answer::DueListed(messages, more) => due_text(alloc, messages.as_slice(), *more),
+        Answer::Swept(counts) => swept_text(alloc, counts),
+        Answer::NoticesListed(notices, more) => notices_text(alloc, notices.as_slice(), *more),
+        Answer::NoticeShown(notice) => notice_text(alloc, notice),
     }
 }
 

@@ -3,6 +3,7 @@
 
 mod answers;
 mod failures;
+mod relay;
 mod tables;
 
 use crate::PlainText;
@@ -51,7 +52,7 @@ fn entry(alloc: Global, customer: &str) -> Result<Entry, Fail> {
     Ok(Entry {
         name: Name::parse(alloc, customer)?,
         quota: quota(customer),
-        delay: 0,
+        delay: if customer == "birch" { 0 } else { 3_600 },
     })
 }
 
@@ -105,6 +106,12 @@ fn call(alloc: Global, line: &str) -> Result<Call, Fail> {
         "drop" => Ok(Call::DropLine(pattern(alloc, line)?)),
         "check" => Ok(Call::Check(class(line), sender(alloc, word(line, 4))?)),
         "import" => import(alloc, line),
+        "outcome" => relay::outcome(alloc, line),
+        "due" => Ok(Call::Due(None)),
+        "sweep" => Ok(Call::Sweep),
+        "notices" => Ok(Call::Notices(None)),
+        "notices-after" => Ok(Call::Notices(Some(word(line, 3).parse::<u64>()?))),
+        "notice" => Ok(Call::Notice(word(line, 3).parse::<u64>()?)),
         kind => call_at(kind, serial(word(line, 3))?),
     }
 }
@@ -146,6 +153,7 @@ fn import(alloc: Global, line: &str) -> Result<Call, Fail> {
 fn call_at(kind: &str, serial: Serial) -> Result<Call, Fail> {
     match kind {
         "list-after" => Ok(Call::List(Some(serial))),
+        "due-after" => Ok(Call::Due(Some(serial))),
         "show" => Ok(Call::Show(serial)),
         "hold" => Ok(Call::Hold(serial)),
         "release" => Ok(Call::Release(serial)),
@@ -230,7 +238,9 @@ fn kept<S: Shelf>(alloc: Global, shelf: &mut S, customer: &str) -> Result<String
     let messages = messages_text(alloc, messages.as_slice())?;
     let lines = shelf.lines(&name, None, 5_000)?;
     let lines = lines_text(alloc, lines.as_slice())?;
-    let mut text = format!(in alloc; "{head:?} {counts:?}{messages}{lines}")?;
+    let notices = shelf.notices(&name, None, 1_000)?;
+    let notices = relay::notices_text(alloc, notices.as_slice())?;
+    let mut text = format!(in alloc; "{head:?} {counts:?}{messages}{lines}{notices}")?;
     for label in LABELS {
         let mark = shelf.mark(&name, &Label::parse(alloc, label)?)?;
         text.push_str(mark_text(alloc, mark)?.as_str())?;

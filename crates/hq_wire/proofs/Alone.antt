@@ -14,11 +14,11 @@ use Rattle.hq_base.specs.declared.failure.Refusal.{Refusal}
 use Rattle.hq_queue.specs.declared.account.Entry.{Entry}
 use Rattle.hq_store.specs.Tables.{Tables, State, text_cmp, own}
 use Rattle.hq_tables.proofs.Parts.{tied_true}
-use Rattle.hq_desk.specs.Answers.{answer_number}
-use Rattle.hq_desk.specs.Machine.{step, shared, answers, state_after}
-use Rattle.hq_desk.specs.declared.answer.Answer.{Answer}
-use Rattle.hq_desk.specs.declared.call.Call.{Call}
-use Rattle.hq_desk.proofs.Isolation.{caller, others}
+use Rattle.hq_calls.specs.Answers.{answer_number}
+use Rattle.hq_calls.specs.Machine.{step, shared, answers, state_after}
+use Rattle.hq_calls.specs.declared.answer.Answer.{Answer}
+use Rattle.hq_calls.specs.declared.call.Call.{Call}
+use Rattle.hq_calls.proofs.Isolation.{caller, others}
 use Rattle.hq_wire.specs.Directories.{entry_of}
 use Rattle.hq_wire.specs.Exchanges.{Ask, MayReplyTo, MayReply, IsStruck}
 use Rattle.hq_wire.specs.Replies.{SeenReply, reply_of, status_of, reply_of_fault, fault_text, is_missing, is_conflict, tells_store}

@@ -6,7 +6,7 @@ use Rattle.hq_base.specs.declared.failure.Refusal.{Refusal}
 use Rattle.hq_store.specs.Shelves.{Sight}
 use Rattle.hq_store.specs.Tables.{Tables}
 use Rattle.hq_desk.specs.Desks.{Stays, on}
-use Rattle.hq_desk.specs.declared.call.Call.{Call}
+use Rattle.hq_calls.specs.declared.call.Call.{Call}
 use Rattle.hq_desk.specs.declared.desk.Desk.{Desk}
 use Rattle.hq_wire.specs.Exchanges.{Ask, MayReplyTo, IsRefused, RepliesAnyway, Exchanged}
 use Rattle.hq_wire.specs.Replies.{SeenReply, reply_of_fault, tells_store}

@@ -1,4 +1,5 @@
 pub mod Alone
+pub mod Digits
 pub mod Entries
 pub mod Exchanging
 pub mod Serving

@@ -4,14 +4,18 @@ use Rattle.hq_base.specs.Readers.{◌>>=◌, guard, or_refuse}
 use Rattle.hq_base.specs.Serials.{serial_in}
 use Rattle.hq_base.specs.declared.failure.Refusal.{Refusal}
 use Rattle.hq_base.specs.declared.failure.Refusal.TheVariants.{BodyTooLong, NoRoute, WrongMethod, BadField}
-use Rattle.hq_desk.specs.declared.call.Call.{Call}
-use Rattle.hq_desk.specs.declared.call.Call.TheVariants as call
+use Rattle.hq_calls.specs.declared.call.AttemptReport.{AttemptReport}
+use Rattle.hq_calls.specs.declared.call.Call.{Call}
+use Rattle.hq_calls.specs.declared.call.Call.TheVariants as call
+use Rattle.hq_bodies.specs.Due.{read_due}
+use Rattle.hq_bodies.specs.Outcomes.{read_outcome}
 use Rattle.hq_bodies.specs.Tables.{read_pattern, read_line, read_check, read_import}
 use Rattle.hq_json.specs.Submissions.{read_submission}
 use Rattle.hq_routes.specs.Routes.{path_of, last_segment}
 use Rattle.hq_routes.specs.declared.Path.{Path}
 use Rattle.hq_routes.specs.declared.Path.TheVariants as path
 use Rattle.hq_wire.specs.Directories.{customer_of}
+use Rattle.hq_wire.specs.Numbers.{number_in}
 use Rattle.hq_wire.specs.declared.directory.Directory.{Directory}
 use Rattle.hq_wire.specs.declared.asked.Exchange.{Exchange}
 use Rattle.hq_wire.specs.declared.request.MessageRoute.{MessageRoute}
@@ -37,10 +41,19 @@ route_of path.LinePut method = at_method method (codes "POST") route.PutLine Non
 route_of path.LineDrop method = at_method method (codes "POST") route.DropLine None
 route_of path.Check method = at_method method (codes "POST") route.Check None
 route_of path.Import method = at_method method (codes "POST") route.Import None
+route_of path.Notices method = at_method method (codes "GET") route.Notices None
+route_of path.NoticesAfter method = at_method method (codes "GET") route.NoticesAfter None
+route_of path.Notice method = at_method method (codes "GET") route.Notice None
 route_of path.Submit method = at_method method (codes "POST") route.Submit None
+route_of path.Outcome method = at_method method (codes "POST") route.Outcome None
+route_of path.Due method = at_method method (codes "POST") route.Due None
+route_of path.Sweep method = at_method method (codes "POST") route.Sweep None
 
 abbrev pub is_for_relay : Route → Bool
 is_for_relay route.Submit = true
+is_for_relay route.Outcome = true
+is_for_relay route.Due = true
+is_for_relay route.Sweep = true
 is_for_relay _ = false
 
 -- the call about a message
@@ -51,6 +64,12 @@ call_about about.Hold serial = call.Hold serial
 call_about about.Release serial = call.Release serial
 call_about about.Requeue serial = call.Requeue serial
 call_about about.Delete serial = call.Delete serial
+
+-- the report of an attempt
+unfoldable pub read_report : List ℕ → Result AttemptReport Refusal
+read_report body = do
+  read ← read_outcome body
+  Ok (record { serial = read.0; attempt = read.1; outcomes = read.2 })
 
 -- what a route asks, of its parameter or its body
 unfoldable pub asked_of : Route → List ℕ → List ℕ → Result Call Refusal
@@ -74,9 +93,23 @@ asked_of route.Check segment body = do
 asked_of route.Import segment body = do
   asked ← read_import body
   Ok (call.Import asked.0 asked.1)
+asked_of route.Notices segment body = Ok (call.Notices None)
+asked_of route.NoticesAfter segment body = do
+  number ← or_refuse BadField (number_in segment)
+  Ok (call.Notices (Some number))
+asked_of route.Notice segment body = do
+  number ← or_refuse BadField (number_in segment)
+  Ok (call.Notice number)
 asked_of route.Submit segment body = do
   submission ← read_submission body
   Ok (call.Submit submission)
+asked_of route.Outcome segment body = do
+  report ← read_report body
+  Ok (call.Outcome report)
+asked_of route.Due segment body = do
+  after ← read_due body
+  Ok (call.Due after)
+asked_of route.Sweep segment body = Ok call.Sweep
 
 -- the customer's name and the call, or the refusal: the body's length, the path, the method, the key and whom it
 -- serves, the parameter, the body

@@ -8,9 +8,9 @@ use Rattle.hq_store.specs.Shelves.{Sight, OnOpenSound}
 use Rattle.hq_store.specs.Sound.{Sound}
 use Rattle.hq_store.specs.Tables.{Tables}
 use Rattle.hq_desk.specs.Desks.{Stays, host_of, on}
-use Rattle.hq_desk.specs.Machine.{shared}
-use Rattle.hq_desk.specs.declared.answer.Answer.TheVariants.{Refused}
-use Rattle.hq_desk.specs.declared.call.Call.{Call}
+use Rattle.hq_calls.specs.Machine.{shared}
+use Rattle.hq_calls.specs.declared.answer.Answer.TheVariants.{Refused}
+use Rattle.hq_calls.specs.declared.call.Call.{Call}
 use Rattle.hq_desk.specs.declared.desk.Desk.{Desk}
 use Rattle.hq_wire.specs.Calls.{call_of}
 use Rattle.hq_wire.specs.Directories.{entry_of}

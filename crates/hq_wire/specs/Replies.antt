@@ -2,8 +2,8 @@
 use Rattle.std.specs.Prelude.{ℕ, ◌==◌, ◌&&◌, ◌||◌, Bool, true, false, not, nat_le, List, bytes_eq, codes, count_by, if◌then◌else◌}
 use Rattle.hq_base.specs.declared.failure.Fault.{Fault}
 use Rattle.hq_base.specs.declared.failure.Fault.TheVariants.{WantOfMemory, Disk, BadSchema, Closed}
-use Rattle.hq_desk.specs.Answers.{answer_number}
-use Rattle.hq_desk.specs.declared.answer.Answer.{Answer}
+use Rattle.hq_calls.specs.Answers.{answer_number}
+use Rattle.hq_calls.specs.declared.answer.Answer.{Answer}
 use Rattle.hq_json.specs.Replies.{answer_text}
 use Rattle.hq_wire.specs.declared.reply.Body.{Body}
 use Rattle.hq_wire.specs.declared.reply.Body.TheVariants as body

@@ -8,8 +8,8 @@ use Rattle.hq_store.specs.Shelves.{Sight, OnOpenSound}
 use Rattle.hq_store.specs.Sound.{Sound}
 use Rattle.hq_store.specs.Tables.{Tables, text_cmp, own}
 use Rattle.hq_desk.specs.Desks.{Stays, host_of, on}
-use Rattle.hq_desk.specs.Machine.{answers, state_after}
-use Rattle.hq_desk.specs.declared.call.Call.{Call}
+use Rattle.hq_calls.specs.Machine.{answers, state_after}
+use Rattle.hq_calls.specs.declared.call.Call.{Call}
 use Rattle.hq_desk.specs.declared.desk.Desk.{Desk}
 use Rattle.hq_wire.specs.Directories.{entry_of}
 use Rattle.hq_wire.specs.Exchanges.{Ask, MayReply, Exchanged}

@@ -7,6 +7,7 @@ mod asked;
 mod directory;
 mod headline;
 pub mod laws;
+mod number;
 mod reply;
 mod request;
 

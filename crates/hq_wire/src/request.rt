@@ -9,8 +9,9 @@ ghost use Rattle.hq_wire.specs.Calls as calls;
 
 use crate::asked::Exchange;
 use crate::directory::Directory;
-use hq_bodies::{read_check, read_import, read_line, read_pattern};
-use hq_desk::Call;
+use crate::number::number_in;
+use hq_bodies::{read_check, read_due, read_import, read_line, read_outcome, read_pattern};
+use hq_desk::{AttemptReport, Call};
 use hq_envelope::{Fail, Refusal, Serial};
 use hq_json::read_submission;
 use hq_queue::Entry;
@@ -56,8 +57,20 @@ pub(crate) enum Route {
     Check,
     /// The lines of the file of the body, taken into the access tables.
     Import,
+    /// The notices from the start.
+    Notices,
+    /// The notices after the number that is the parameter.
+    NoticesAfter,
+    /// The notice whose number is the parameter.
+    Notice,
     /// A message for the queue.
     Submit,
+    /// The report of an attempt.
+    Outcome,
+    /// The messages that may be tried now.
+    Due,
+    /// What is too old given up, and senders warned.
+    Sweep,
 }
 
 /// The route of a method at a path, if the path has it.
@@ -79,7 +92,13 @@ fn route_of(path: Path, method: &str) -> Option<Route>
         Path::LineDrop if method == "POST" => Some(Route::DropLine),
         Path::Check if method == "POST" => Some(Route::Check),
         Path::Import if method == "POST" => Some(Route::Import),
+        Path::Notices if method == "GET" => Some(Route::Notices),
+        Path::NoticesAfter if method == "GET" => Some(Route::NoticesAfter),
+        Path::Notice if method == "GET" => Some(Route::Notice),
         Path::Submit if method == "POST" => Some(Route::Submit),
+        Path::Outcome if method == "POST" => Some(Route::Outcome),
+        Path::Due if method == "POST" => Some(Route::Due),
+        Path::Sweep if method == "POST" => Some(Route::Sweep),
         _ => None,
     }
 }
@@ -89,7 +108,7 @@ fn is_for_relay(route: Route) -> bool
     ensures { result ≡ calls.is_for_relay route }
 {
     match route {
-        Route::Submit => true,
+        Route::Submit | Route::Outcome | Route::Due | Route::Sweep => true,
         _ => false,
     }
 }
@@ -106,6 +125,19 @@ fn call_about(about: MessageRoute, serial: Serial) -> Call
         MessageRoute::Requeue => Call::Requeue(serial),
         MessageRoute::Delete => Call::Delete(serial),
     }
+}
+
+/// The report of an attempt.
+#[tactic(auto, unfolding(crate::specs::Calls::read_report))]
+fn read_report(alloc: Global, body: &[u8]) -> Result<AttemptReport, Fail>
+    ensures { Reads result (calls.read_report body.now) }
+{
+    let (serial, attempt, outcomes) = read_outcome(alloc, body)?;
+    Ok(AttemptReport {
+        serial,
+        attempt,
+        outcomes,
+    })
 }
 
 /// What a route asks, of its parameter or its body.
@@ -131,7 +163,19 @@ fn asked_of(alloc: Global, route: Route, segment: &str, body: &[u8]) -> Result<C
             let (label, file) = read_import(alloc, body)?;
             Ok(Call::Import(label, file))
         }
+        Route::Notices => Ok(Call::Notices(None)),
+        Route::NoticesAfter => {
+            let number = number_in(segment).ok_or(Refusal::BadField)?;
+            Ok(Call::Notices(Some(number)))
+        }
+        Route::Notice => {
+            let number = number_in(segment).ok_or(Refusal::BadField)?;
+            Ok(Call::Notice(number))
+        }
         Route::Submit => Ok(Call::Submit(read_submission(alloc, body)?)),
+        Route::Outcome => Ok(Call::Outcome(read_report(alloc, body)?)),
+        Route::Due => Ok(Call::Due(read_due(alloc, body)?)),
+        Route::Sweep => Ok(Call::Sweep),
     }
 }
 

@@ -198,6 +198,22 @@ fn shelf_from(alloc: Global, next_serial: u64) -> Result<ListShelf, Fail> {
     Ok(shelf)
 }
 
+/// A shelf on which acme's next notice has this number.
+pub(super) fn shelf_with_notice(alloc: Global, next_notice: u64) -> Result<ListShelf, Fail> {
+    let mut shelf = ListShelf::new(alloc);
+    let acme = Name::parse(alloc, "acme")?;
+    let head = head_from(1);
+    put_head(
+        &mut shelf,
+        &acme,
+        Head {
+            next_notice,
+            ..head
+        },
+    )?;
+    Ok(shelf)
+}
+
 /// What the line is answered, or all that is kept, or how much, where it asks so; and the shelf
 /// again.
 fn answer(alloc: Global, mut shelf: ListShelf, line: &str) -> Result<(ListShelf, String), Fail> {

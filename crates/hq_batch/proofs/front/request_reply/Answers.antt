@@ -1,6 +1,6 @@
 use Rattle.std.proofs.Common.{ℕ, List, Result, Some, subst}
 use Rattle.hq_base.specs.declared.failure.Refusal.{Refusal}
-use Rattle.hq_desk.specs.declared.call.Call.{Call}
+use Rattle.hq_calls.specs.declared.call.Call.{Call}
 use Rattle.hq_lines.specs.Fields.{shown}
 use Rattle.hq_wire.specs.Calls.{call_from}
 use Rattle.hq_wire.specs.Exchanges.{Exchanged}

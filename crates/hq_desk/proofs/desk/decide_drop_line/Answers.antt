@@ -1,6 +1,6 @@
 use Rattle.std.proofs.Common.{◌≡◌, sym, ap, ◌∙◌}
 use Rattle.hq_store.specs.Readings.{read_tables}
-use Rattle.hq_desk.specs.AccessLines.{drop_line}
+use Rattle.hq_calls.specs.AccessLines.{drop_line}
 use Rattle.hq_store.proofs.Read.{no_line}
 use Rattle.hq_desk.proofs.desk.decide_drop_line.Goals as goal
 

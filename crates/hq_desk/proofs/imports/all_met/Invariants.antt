@@ -1,7 +1,7 @@
 use Rattle.std.proofs.Common.{◌≡◌, false, Ok, map}
 use Rattle.hq_store.specs.Shelves.{Finds, Keeps}
 use Rattle.hq_desk.specs.Desks.{with_memory}
-use Rattle.hq_desk.specs.Imports.{met}
+use Rattle.hq_calls.specs.Imports.{met}
 use Rattle.hq_desk.proofs.imports.all_met.Given as goal
 
 -- the shelf was kept so far, and what the rows do was found in its first tables

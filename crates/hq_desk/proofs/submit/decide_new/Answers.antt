@@ -7,7 +7,7 @@ use Rattle.hq_queue.specs.declared.account.Head.{Head}
 use Rattle.hq_store.specs.Readings.{read_tables}
 use Rattle.hq_store.proofs.Then.{finds_on}
 use Rattle.hq_desk.specs.Desks.{with_memory}
-use Rattle.hq_desk.specs.Submissions as rules
+use Rattle.hq_calls.specs.Submissions as rules
 use Rattle.hq_desk.proofs.NoLines.{nobody_found, no_actions}
 use Rattle.hq_desk.proofs.Reading.{keeps_on, keeps_more}
 use Rattle.hq_desk.proofs.submit.decide_new.Goals as goal

@@ -2,8 +2,8 @@ use Rattle.std.proofs.Common.{◌≡◌, None, sym, subst, ◌∙◌}
 use Rattle.std.specs.Prelude.{IfOk}
 use Rattle.hq_store.specs.Readings.{read_tables}
 use Rattle.hq_store.specs.Sound.{Sound}
-use Rattle.hq_desk.specs.declared.decision.Decision.{Decision}
-use Rattle.hq_desk.specs.Submissions as rules
+use Rattle.hq_calls.specs.declared.decision.Decision.{Decision}
+use Rattle.hq_calls.specs.Submissions as rules
 use Rattle.hq_desk.proofs.submit.decide_submit.Goals as goal
 
 pub returns-in-None-clause-found : goal.returns-in-None-clause-found

@@ -1,6 +1,6 @@
 use Rattle.std.proofs.Common.{map, string_bytes, ap, ◌∙◌, rules}
 use Rattle.std.proofs.lemmas.List.{length-map}
-use Rattle.hq_desk.specs.Limits.{is_recipient_count}
+use Rattle.hq_calls.specs.Limits.{is_recipient_count}
 use Rattle.hq_json.proofs.Submitted.{recipients_taken, recipients_refused}
 use Rattle.hq_json.proofs.submission.recipients_in.Goals as goal
 

@@ -1,5 +1,5 @@
 use Rattle.std.proofs.Common.{◌≡◌, Ok, List, ℕ, IsTrue, length, map, string_bytes, sym, ap, subst, ◌∙◌}
-use Rattle.hq_desk.specs.Limits.{is_recipient_count}
+use Rattle.hq_calls.specs.Limits.{is_recipient_count}
 use Rattle.hq_json.specs.Submissions.{addresses_in, shown}
 use Rattle.hq_json.proofs.Submitted.{texts_read, submission_taken}
 use Rattle.hq_json.proofs.submission.submission_from.Goals as goal

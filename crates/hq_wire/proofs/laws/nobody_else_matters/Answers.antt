@@ -1,7 +1,7 @@
 use Rattle.std.proofs.Common.{map, sym, ◌∙◌}
 use Rattle.hq_wire.specs.Directories.{entry_of}
 use Rattle.hq_wire.specs.Replies.{reply_of}
-use Rattle.hq_desk.specs.Machine.{answers, state_after}
+use Rattle.hq_calls.specs.Machine.{answers, state_after}
 use Rattle.hq_wire.proofs.Alone.{alone}
 use Rattle.hq_wire.proofs.laws.nobody_else_matters.Goals as goal
 

@@ -1,0 +1,264 @@
+//! The body of the report of an attempt: its members first, all of them, and then their values.
+
+ghost use Rattle.std.specs.Prelude.{◌≡◌};
+ghost use Rattle.serde_json.specs.View.{view, items_view};
+ghost use Rattle.hq_base.specs.Readers.{Reads, seen_by, or_refuse};
+ghost use Rattle.hq_base.specs.declared.failure.Refusal.TheVariants.{BadField};
+ghost use Rattle.hq_bodies.specs.Reading.{within, text_at};
+ghost use Rattle.hq_bodies.specs.Outcomes as bodies;
+
+use crate::reading::{has_only_members, json_value, text_member};
+use hq_envelope::{Address, Fail, Items, Refusal, Serial, Text};
+use hq_queue::{Attempt, Delivery, Outcome, Status};
+use serde_json::Value;
+use std::alloc::Global;
+use std::marker::Model;
+
+/// The most outcomes of a report.
+const MOST_OUTCOMES: usize = 100;
+
+/// The class of a failure that may pass (RFC 3463, 3.1).
+const MAY_PASS: u8 = 4;
+
+/// The class of a failure for good.
+const FOR_GOOD: u8 = 5;
+
+/// A text, as it stands in the body.
+#[derive(Drop)]
+pub(crate) struct BodyText<'v> {
+    text: &'v str,
+}
+
+impl<'v> Model for BodyText<'v> {
+    ghost use Rattle.std.specs.Prelude.{List, ℕ};
+
+    ghost Value = { List ℕ };
+
+    ghost view = { λ w. w.text.now };
+}
+
+/// Why a recipient was not delivered, as it stands in the body.
+#[derive(Drop)]
+pub(crate) struct ReasonTexts<'v> {
+    status: BodyText<'v>,
+    text: BodyText<'v>,
+}
+
+/// What became of a recipient, as it stands in the body.
+#[derive(Drop)]
+pub(crate) enum DeliveryTexts<'v> {
+    /// What else is said is not looked at.
+    Delivered,
+    Deferred(ReasonTexts<'v>),
+    Failed(ReasonTexts<'v>),
+}
+
+/// An outcome, as it stands in the body.
+#[derive(Drop)]
+pub(crate) struct OutcomeTexts<'v> {
+    recipient: BodyText<'v>,
+    result: DeliveryTexts<'v>,
+}
+
+/// A report of which the outcomes are not yet read.
+#[derive(Drop)]
+pub(crate) struct AttemptTexts<'v> {
+    serial: Serial,
+    attempt: Attempt,
+    outcomes: Items<OutcomeTexts<'v>>,
+}
+
+// ---- members
+
+/// A member that is a text, or 8 `BadField`.
+fn written<'v>(value: &'v Value, name: &str) -> Result<BodyText<'v>, Refusal>
+    ensures { result ≡ or_refuse BadField (text_at name.now (view value.now)) }
+{
+    let text = text_member(value, name).ok_or(Refusal::BadField)?;
+    Ok(BodyText { text })
+}
+
+/// The member `id`, where it is a queue ID.
+fn serial_member(value: &Value) -> Option<Serial>
+    ensures { result ≡ bodies.serial_at (view value.now) }
+{
+    text_member(value, "id").and_then(Serial::parse)
+}
+
+/// The attempt of a number.
+fn attempt_of(number: u64) -> Option<Attempt>
+    ensures { result ≡ within 1 1000000 number }
+{
+    match u32::try_from(number) {
+        Ok(number) => Attempt::new(number),
+        Err(_) => None,
+    }
+}
+
+/// The member `attempt`, where it is the number of one.
+fn attempt_member(value: &Value) -> Option<Attempt>
+    ensures { result ≡ bodies.attempt_at (view value.now) }
+{
+    match value.get("attempt").and_then(Value::as_u64) {
+        Some(number) => attempt_of(number),
+        None => None,
+    }
+}
+
+/// The members `status` and `text`.
+#[tactic(auto, unfolding(crate::specs::Outcomes::reason_at))]
+fn reason_member(value: &Value) -> Result<ReasonTexts<'_>, Refusal>
+    ensures { result ≡ bodies.reason_at (view value.now) }
+{
+    let status = written(value, "status")?;
+    let text = written(value, "text")?;
+    Ok(ReasonTexts { status, text })
+}
+
+/// What became of a recipient, by its word.
+#[tactic(auto, unfolding(crate::specs::Outcomes::delivery_at))]
+fn delivery_member<'v>(word: &str, value: &'v Value) -> Result<DeliveryTexts<'v>, Refusal>
+    ensures { result ≡ bodies.delivery_at word.now (view value.now) }
+{
+    match word {
+        "delivered" => Ok(DeliveryTexts::Delivered),
+        "deferred" => Ok(DeliveryTexts::Deferred(reason_member(value)?)),
+        "failed" => Ok(DeliveryTexts::Failed(reason_member(value)?)),
+        _ => Err(Refusal::BadField),
+    }
+}
+
+/// The members of an outcome.
+#[tactic(auto, unfolding(crate::specs::Outcomes::entry_of))]
+fn entry_of(value: &Value) -> Result<OutcomeTexts<'_>, Refusal>
+    ensures { result ≡ bodies.entry_of (view value.now) }
+{
+    if !has_only_members(value, &["recipient", "result", "status", "text"]) {
+        return Err(Refusal::BadField);
+    }
+    let recipient = written(value, "recipient")?;
+    let word = text_member(value, "result").ok_or(Refusal::BadField)?;
+    let result = delivery_member(word, value)?;
+    Ok(OutcomeTexts { recipient, result })
+}
+
+/// The members of each outcome.
+#[tactic(auto, unfolding(crate::specs::Outcomes::entries_of))]
+fn entries_of(alloc: Global, values: &[Value]) -> Result<Vec<OutcomeTexts<'_>>, Fail>
+    ensures { Reads (seen_by (λ v. v.items) result) (bodies.entries_of (items_view values.now)) }
+{
+    let mut entries = Vec::new(alloc);
+    for value in values {
+        let entry = entry_of(value)?;
+        entries.push(entry)?;
+    }
+    Ok(entries)
+}
+
+/// The member `outcomes`: at most 100.
+#[tactic(auto, unfolding(crate::specs::Outcomes::entries_at))]
+fn entries_member(alloc: Global, value: &Value) -> Result<Items<OutcomeTexts<'_>>, Fail>
+    ensures { Reads result (bodies.entries_at (view value.now)) }
+{
+    let values = value
+        .get("outcomes")
+        .and_then(Value::as_array)
+        .ok_or(Refusal::BadField)?;
+    let entries = entries_of(alloc, values)?;
+    if entries.len() > MOST_OUTCOMES {
+        return Err(Fail::Refused(Refusal::BadField));
+    }
+    Ok(Items::from_vec(entries))
+}
+
+/// The members of a report.
+#[tactic(auto, unfolding(crate::specs::Outcomes::report_of))]
+fn report_of(alloc: Global, value: &Value) -> Result<AttemptTexts<'_>, Fail>
+    ensures { Reads result (bodies.report_of (view value.now)) }
+{
+    if !has_only_members(value, &["id", "attempt", "outcomes"]) {
+        return Err(Fail::Refused(Refusal::BadField));
+    }
+    let serial = serial_member(value).ok_or(Refusal::BadField)?;
+    let attempt = attempt_member(value).ok_or(Refusal::BadField)?;
+    let outcomes = entries_member(alloc, value)?;
+    Ok(AttemptTexts {
+        serial,
+        attempt,
+        outcomes,
+    })
+}
+
+// ---- values
+
+/// A status of this class, or 26 `BadStatus`.
+#[tactic(auto, unfolding(crate::specs::Outcomes::status_of_class))]
+fn status_of_class(class: u8, text: &str) -> Result<Status, Refusal>
+    ensures { result ≡ bodies.status_of_class class text.now }
+{
+    let status = Status::parse(text)?;
+    if status.first_digit() != class {
+        return Err(Refusal::BadStatus);
+    }
+    Ok(status)
+}
+
+/// What became of a recipient; or 26 for the status, then 28 for the text.
+#[tactic(auto, unfolding(crate::specs::Outcomes::delivery_in))]
+fn read_delivery(alloc: Global, texts: &DeliveryTexts<'_>) -> Result<Delivery, Fail>
+    ensures { Reads result (bodies.delivery_in texts.now) }
+{
+    match texts {
+        DeliveryTexts::Delivered => Ok(Delivery::Delivered),
+        DeliveryTexts::Deferred(reason) => {
+            let status = status_of_class(MAY_PASS, reason.status.text)?;
+            let text = Text::parse(alloc, reason.text.text)?;
+            Ok(Delivery::Deferred(status, text))
+        }
+        DeliveryTexts::Failed(reason) => {
+            let status = status_of_class(FOR_GOOD, reason.status.text)?;
+            let text = Text::parse(alloc, reason.text.text)?;
+            Ok(Delivery::Failed(status, text))
+        }
+    }
+}
+
+/// The values of an outcome; 20 for the address comes first.
+#[tactic(auto, unfolding(crate::specs::Outcomes::outcome_in))]
+fn outcome_from(alloc: Global, texts: &OutcomeTexts<'_>) -> Result<Outcome, Fail>
+    ensures { Reads result (bodies.outcome_in texts.now) }
+{
+    let address = Address::parse(alloc, texts.recipient.text)?;
+    let result = read_delivery(alloc, &texts.result)?;
+    Ok(Outcome { address, result })
+}
+
+/// The values of each outcome.
+#[tactic(auto, unfolding(crate::specs::Outcomes::outcomes_in))]
+fn outcomes_from(alloc: Global, entries: &[OutcomeTexts<'_>]) -> Result<Vec<Outcome>, Fail>
+    ensures { Reads (seen_by (λ v. v.items) result) (bodies.outcomes_in entries.now) }
+{
+    let mut outcomes = Vec::new(alloc);
+    for entry in entries {
+        let outcome = outcome_from(alloc, entry)?;
+        outcomes.push(outcome)?;
+    }
+    Ok(outcomes)
+}
+
+/// Reads the report of an attempt: which message, which attempt, and what became of at most 100 of
+/// its recipients.
+///
+/// 7 `BadJson` where it is not JSON, 8 `BadField` where any member, of any outcome, is missing,
+/// unknown, of the wrong kind or out of range; then, outcome by outcome, 20 for the recipient, 26
+/// for the status, which is of the class 4 where the recipient is deferred and 5 where it failed,
+/// and 28 for the text. Of a recipient that was delivered neither status nor text is looked at.
+#[tactic(auto, unfolding(crate::specs::Outcomes::read_outcome))]
+pub fn read_outcome(alloc: Global, body: &[u8]) -> Result<(Serial, Attempt, Items<Outcome>), Fail>
+    ensures { Reads result (bodies.read_outcome body.now) }
+{
+    let value = json_value(alloc, body)?;
+    let report = report_of(alloc, &value)?;
+    let outcomes = outcomes_from(alloc, report.outcomes.as_slice())?;
+    Ok((report.serial, report.attempt, Items::from_vec(outcomes)))
+}

@@ -1,0 +1,15 @@
+pub mod Attempted
+pub mod Imported
+pub mod Isolation
+pub mod Kept
+pub mod Marks
+pub mod Noted
+pub mod Numbers
+pub mod Queued
+pub mod Recipients
+pub mod Repeats
+pub mod Requeued
+pub mod SameAddresses
+pub mod Settled
+pub mod Soundness
+pub mod SweptRows

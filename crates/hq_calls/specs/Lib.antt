@@ -1,0 +1,12 @@
+pub mod AccessLines
+pub mod Answering
+pub mod Answers
+pub mod Decision
+pub mod Imports
+pub mod Limits
+pub mod Machine
+pub mod Messages
+pub mod Notices
+pub mod Outcomes
+pub mod Submissions
+pub mod Sweeps

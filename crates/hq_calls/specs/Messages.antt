@@ -1,0 +1,56 @@
+-- What the desk answers and changes on one message, as it was found (postsuper(1)), and on a page of messages.
+use Rattle.std.specs.Prelude.{ℕ, ◌+◌, ◌==◌, if◌then◌else◌, nat_lt, List, [], ◌∷◌, length, take, Option, None, Some}
+use Rattle.hq_base.specs.declared.failure.Refusal.TheVariants.{NoMessage, SerialsSpent}
+use Rattle.hq_queue.specs.Admission.{spent}
+use Rattle.hq_queue.specs.Moves.{held, released, requeued}
+use Rattle.hq_queue.specs.declared.account.Head.{Head}
+use Rattle.hq_queue.specs.declared.message.Message.{Message}
+use Rattle.hq_store.specs.Readings.{saturated}
+use Rattle.hq_store.specs.declared.change.Change.TheVariants.{PutHead, PutMessage, DropMessage}
+use Rattle.hq_calls.specs.Answering.{tell, refuse}
+use Rattle.hq_calls.specs.declared.answer.Answer.TheVariants as answer
+use Rattle.hq_calls.specs.declared.decision.Decision.{Decision}
+
+-- the message after a move that applies; a move that does not apply changes no message, and no row
+abbrev pub moved : Option Message → Decision
+moved None = tell (answer.Changed 0)
+moved (Some m) = record { answer = answer.Changed 1; changes = PutMessage m ∷ [] }
+
+abbrev pub show : Option Message → Decision
+show None = refuse NoMessage
+show (Some m) = tell (answer.Shown m)
+
+abbrev pub hold : Option Message → Decision
+hold None = refuse NoMessage
+hold (Some m) = moved (held m)
+
+abbrev pub release : ℕ → Option Message → Decision
+release at None = refuse NoMessage
+release at (Some m) = moved (released at m)
+
+-- the head once its next serial was given out
+abbrev pub next_head : Head → Head
+next_head head = record head { next_serial = head.next_serial + 1 }
+
+-- under the next serial; the old message is dropped first, so that its spool name is free
+abbrev pub requeue_with : Head → ℕ → Message → Decision
+requeue_with head at m = if head.next_serial == spent then refuse SerialsSpent else record {
+  answer = answer.Requeued head.next_serial;
+  changes = DropMessage m.serial ∷ PutHead (next_head head) ∷ PutMessage (requeued at head.next_serial m) ∷ [];
+}
+
+abbrev pub requeue : Head → ℕ → Option Message → Decision
+requeue head at None = refuse NoMessage
+requeue head at (Some m) = requeue_with head at m
+
+-- the tally after so many recipients were deleted
+abbrev pub with_deleted : ℕ → Head → Head
+with_deleted count head = record head { tally = record head.tally { deleted = saturated (head.tally.deleted + count) } }
+
+abbrev pub delete : Head → Option Message → Decision
+delete head None = refuse NoMessage
+delete head (Some m) = record { answer = answer.Changed 1; changes = DropMessage m.serial ∷ PutHead (with_deleted (length m.pending) head) ∷ [] }
+
+-- the first hundred, and whether there are more
+abbrev pub page : List Message → Decision
+page ms = tell (answer.Listed (take 100 ms) (nat_lt 100 (length ms)))

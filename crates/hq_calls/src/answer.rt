@@ -1,0 +1,113 @@
+//! What the desk answers to a call.
+
+ghost use Rattle.std.specs.Prelude.{◌≡◌};
+ghost use Rattle.hq_calls.specs.Answers.{answer_number};
+
+use hq_access::{Action, Line, LookupKey, Refused};
+use hq_envelope::{Items, Refusal, Serial};
+use hq_queue::Message;
+use hq_store::Notice;
+
+/// What putting a line did.
+#[derive(Clone, Copy, Debug, PartialEq, Eq, Drop)]
+pub enum LinePut {
+    /// There was no line of its pattern.
+    Added,
+    /// The line of its pattern had another action.
+    Changed,
+    /// The line of its pattern had this action already, as actions are written.
+    Same,
+}
+
+/// What the rows of an import did.
+#[derive(Clone, Copy, Debug, PartialEq, Eq, Drop)]
+pub struct ImportCounts {
+    /// How many set a line where there was none.
+    pub added: u64,
+    /// How many set a line to another action.
+    pub changed: u64,
+    /// How many found their line with that very action, as actions are written.
+    pub same: u64,
+}
+
+/// What became of the recipients of a message in an attempt.
+#[derive(Clone, Copy, Debug, PartialEq, Eq, Drop)]
+pub struct AttemptCounts {
+    /// How many are to be tried again.
+    pub deferred: u64,
+    /// How many were delivered.
+    pub delivered: u64,
+    /// How many failed for good.
+    pub failed: u64,
+    /// How many are pending afterwards.
+    pub left: u64,
+}
+
+/// What a sweep did.
+#[derive(Clone, Copy, Debug, PartialEq, Eq, Drop)]
+pub struct SweepCounts {
+    /// How many messages were given up.
+    pub expired: u64,
+    /// How many notices were made.
+    pub notices: u64,
+    /// How many messages became warned.
+    pub warned: u64,
+}
+
+/// The answer to a call.
+#[derive(Drop)]
+pub enum Answer {
+    /// The call was refused, and nothing was changed.
+    Refused(Refusal),
+    /// The message is in the queue, without the recipients that are refused.
+    Queued(Message, Items<Refused>),
+    /// A message of that spool name is queued already, under this serial.
+    Repeated(Serial),
+    /// The access tables refuse the submission: its sender alone, or all its recipients.
+    Rejected(Items<Refused>),
+    /// The access tables discard the submission; these recipients are refused.
+    Discarded(Items<Refused>),
+    /// The first messages, in order of serial, and whether more follow.
+    Listed(Items<Message>, bool),
+    /// The message whole.
+    Shown(Message),
+    /// The message is queued anew, under this serial.
+    Requeued(Serial),
+    /// How many messages were changed.
+    Changed(u64),
+    /// The first lines, in order of class and pattern, and whether more follow.
+    LinesListed(Items<Line>, bool),
+    /// What putting the line did.
+    LinePut(LinePut),
+    /// The line is dropped.
+    LineDropped,
+    /// The keys of the address in the order in which they are tried, and the first of them that
+    /// has a line, with its action.
+    Checked(Items<LookupKey>, Option<(LookupKey, Action)>),
+    /// What the rows of the import did, now or when its label was first used.
+    Imported(ImportCounts),
+    /// What became of the recipients in the attempt.
+    Attempted(AttemptCounts),
+    /// The attempt was reported before; so many were reported.
+    AttemptRepeated(u32),
+    /// The first messages that may be tried, in order of serial, and whether more follow.
+    DueListed(Items<Message>, bool),
+    /// What the sweep did.
+    Swept(SweepCounts),
+    /// The first notices, in order of number, and whether more follow.
+    NoticesListed(Items<Notice>, bool),
+    /// The notice whole.
+    NoticeShown(Notice),
+}
+
+impl Answer {
+    /// 0, or the refusal's number.
+    pub fn number(&self) -> u16
+        ensures { result ≡ answer_number self.now }
+    {
+        match self {
+            Answer::Refused(refusal) => refusal.number(),
+            _ => 0,
+        }
+    }
+}

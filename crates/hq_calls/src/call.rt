@@ -1,0 +1,74 @@
+//! What can be asked of the desk, by a customer or by a relay worker that names one.
+
+ghost use Rattle.std.specs.Prelude.{IsTrue, length};
+ghost use Rattle.hq_calls.specs.Limits.{is_recipient_count};
+
+use hq_access::{Class, Line, Pattern};
+use hq_envelope::{Address, Items, Label, Sender, Serial, Spool};
+use hq_queue::{Attempt, Outcome};
+
+/// A message that a relay worker hands in.
+#[derive(Drop)]
+pub struct Submission {
+    /// The name under which the relay keeps it. While it is queued, another submission of this name
+    /// is a repeat.
+    pub spool: Spool,
+    /// Who is told of failures.
+    pub sender: Sender,
+    /// To whom it goes: 1 to 100 addresses, of which the first of those that are the same counts.
+    pub recipients: Items<Address>,
+    /// Its size in bytes, at most 2,147,483,647.
+    pub size: u32,
+    pub ghost number: { IsTrue (is_recipient_count (length recipients)) },
+}
+
+/// What a relay worker reports of one attempt to deliver a message.
+#[derive(Drop)]
+pub struct AttemptReport {
+    /// The message.
+    pub serial: Serial,
+    /// Which attempt it was.
+    pub attempt: Attempt,
+    /// What became of the recipients that the worker names.
+    pub outcomes: Items<Outcome>,
+}
+
+/// A call.
+#[derive(Drop)]
+pub enum Call {
+    /// Takes a message into the queue, as the customer's access tables judge it.
+    Submit(Submission),
+    /// Lists the first 100 messages after a serial, or from the start.
+    List(Option<Serial>),
+    /// Shows a message whole.
+    Show(Serial),
+    /// Puts a message on hold.
+    Hold(Serial),
+    /// Releases a message from hold.
+    Release(Serial),
+    /// Queues a message anew, under another serial.
+    Requeue(Serial),
+    /// Deletes a message.
+    Delete(Serial),
+    /// Lists the first 100 lines of the access tables after a pattern, or from the start.
+    Lines(Option<Pattern>),
+    /// Sets the line of its pattern.
+    PutLine(Line),
+    /// Drops the line of a pattern.
+    DropLine(Pattern),
+    /// Tells which keys an address is looked up by, and what is found for it.
+    Check(Class, Sender),
+    /// Takes the lines of a CSV file into the access tables, once for its label. The file is its
+    /// bytes.
+    Import(Label, Items<u8>),
+    /// Takes the report of a delivery attempt.
+    Outcome(AttemptReport),
+    /// Lists the first 100 messages after a serial, or from the start, that may be tried now.
+    Due(Option<Serial>),
+    /// Gives up what is too old, and warns the senders of what is late.
+    Sweep,
+    /// Lists the first 100 notices after a number, or from the start.
+    Notices(Option<u64>),
+    /// Shows a notice whole.
+    Notice(u64),
+}

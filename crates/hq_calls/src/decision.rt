@@ -1,0 +1,37 @@
+//! A decision: what is answered to a call, and the changes that are made with it.
+
+ghost use Rattle.std.specs.Prelude.{◌≡◌};
+ghost use Rattle.hq_calls.specs.Answering as answering;
+
+use crate::answer::Answer;
+use hq_envelope::{Items, Refusal};
+use hq_store::Change;
+use std::alloc::Global;
+
+/// How many messages or lines a page has at most.
+pub const PAGE: usize = 100;
+
+/// An answer, and the changes that are made with it.
+#[derive(Drop)]
+pub struct Decision {
+    /// What is answered.
+    pub answer: Answer,
+    /// The changes of the customer's rows, in order.
+    pub changes: Items<Change>,
+}
+
+/// An answer that changes nothing.
+pub fn tell(alloc: Global, answer: Answer) -> Decision
+    ensures { result ≡ answering.tell answer }
+{
+    Decision {
+        answer,
+        changes: Items::from_vec(Vec::new(alloc)),
+    }
+}
+
+pub fn refuse(alloc: Global, refusal: Refusal) -> Decision
+    ensures { result ≡ answering.refuse refusal }
+{
+    tell(alloc, Answer::Refused(refusal))
+}

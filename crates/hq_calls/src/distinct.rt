@@ -1,0 +1,46 @@
+//! Addresses without the later ones of those that are the same.
+
+ghost use Rattle.std.specs.Prelude.{◌≡◌, ◌++◌, ◌∷◌, [], IfOk, OnOk, if◌then◌else◌};
+ghost use Rattle.std.specs.List.{list_any};
+ghost use Rattle.hq_store.specs.Sound.{same_address};
+ghost use Rattle.hq_calls.specs.Submissions as rules;
+
+use hq_envelope::Address;
+use std::alloc::{AllocError, Global};
+
+/// Whether two addresses are the same.
+fn is_same(one: &Address, other: &Address) -> bool
+    ensures { result ≡ same_address one.now other.now }
+{
+    one.same(other)
+}
+
+/// Whether an address is the same as one of these.
+fn is_among(addresses: &[Address], address: &Address) -> bool
+    ensures { result ≡ list_any (λ known. same_address known address.now) addresses.now }
+{
+    addresses.iter().any(|known| is_same(known, address))
+}
+
+/// Adds an address that is new.
+fn add_new(addresses: &mut Vec<Address>, address: Address) -> Result<(), AllocError>
+    ensures { OnOk result (addresses.new.items ≡ addresses.old.items ++
+        (if list_any (λ known. same_address known address) addresses.old.items then [] else address
+        ∷ [])) }
+{
+    if !is_among(addresses.as_slice(), &address) {
+        addresses.push(address)?;
+    }
+    Ok(())
+}
+
+/// Each address, without the later ones that are the same.
+pub fn distinct(alloc: Global, addresses: Vec<Address>) -> Result<Vec<Address>, AllocError>
+    ensures { IfOk result (λ kept. kept.items ≡ rules.distinct addresses.items) }
+{
+    let mut kept = Vec::new(alloc);
+    for address in addresses {
+        add_new(&mut kept, address)?;
+    }
+    Ok(kept)
+}

@@ -1,0 +1,177 @@
+//! Notices that calls make: who gets one, under which number, and which of all are kept; and
+//! notices told. Nothing is read or written here.
+
+ghost use Rattle.std.specs.Prelude.{◌≡◌, ◌++◌, ◌+◌, ◌≤◌, ◌^◌, IfOk, OnOk, length};
+ghost use Rattle.hq_calls.specs.Notices as rules;
+
+use crate::answer::Answer;
+use crate::decision::{Decision, PAGE, refuse, tell};
+use hq_envelope::{Address, Host, Items, Moment, Refusal, Sender, TryCopy};
+use hq_queue::{Entry, Head, Message, Told};
+use hq_store::{Change, Notice, NoticeText};
+use hq_text::{Kind, human_text, status_text};
+use std::alloc::{AllocError, Global};
+
+/// The number that no notice has: it says that all numbers are spent.
+const SPENT: u64 = 1 << 40;
+
+/// A notice to be made.
+#[derive(Drop)]
+pub struct Draft {
+    /// The message that it tells of, as it is then.
+    pub message: Message,
+    /// To whom it goes: the sender of the message.
+    pub to: Address,
+    /// Whether attempts go on.
+    pub kind: Kind,
+    /// The recipients that it tells of, one at least.
+    pub told: Items<Told>,
+}
+
+/// What a call answers and changes, before its notices are numbered and written.
+#[derive(Drop)]
+pub struct Plan {
+    /// What is answered.
+    pub answer: Answer,
+    /// The changes of the customer's messages, in order.
+    pub changes: Items<Change>,
+    /// The head after them, but for the numbers of the notices.
+    pub head: Head,
+    /// The notices, in order.
+    pub drafts: Items<Draft>,
+}
+
+/// Drafts a notice to the sender of a message that tells of these recipients: none to the null
+/// sender, and none of nobody.
+pub fn draft_notice(
+    alloc: Global,
+    drafts: &mut Vec<Draft>,
+    message: &Message,
+    kind: Kind,
+    told: Items<Told>,
+) -> Result<(), AllocError>
+    ensures { OnOk result (drafts.new.items
+        ≡ drafts.old.items ++ rules.drafted message.now kind told) }
+{
+    if told.is_empty() {
+        return Ok(());
+    }
+    if let Sender::From(to) = &message.sender {
+        drafts.push(Draft {
+            message: message.copy(alloc)?,
+            to: to.copy(alloc)?,
+            kind,
+            told,
+        })?;
+    }
+    Ok(())
+}
+
+/// Writes a notice under a number.
+fn notice(
+    alloc: Global,
+    host: &Host,
+    at: Moment,
+    number: u64,
+    draft: Draft,
+) -> Result<Notice, AllocError>
+    ensures { IfOk result (λ notice. notice ≡ rules.noticed host.now at number draft) }
+{
+    let Draft {
+        message,
+        to,
+        kind,
+        told,
+    } = draft;
+    let human = human_text(alloc, host, &message, kind, told.as_slice())?;
+    let status = status_text(alloc, host, &message, kind, told.as_slice())?;
+    Ok(Notice {
+        number,
+        kind,
+        serial: message.serial,
+        at,
+        to,
+        human: NoticeText::new(human),
+        status: NoticeText::new(status),
+    })
+}
+
+/// Adds notices, under the numbers from `first` on.
+fn add_from(
+    alloc: Global,
+    changes: &mut Vec<Change>,
+    host: &Host,
+    at: Moment,
+    first: u64,
+    drafts: Vec<Draft>,
+) -> Result<(), AllocError>
+    requires { first + length drafts.items ≤ 2 ^ 40 }
+    ensures { OnOk result (changes.new.items
+        ≡ changes.old.items ++ rules.added_from host.now at first drafts.items) }
+{
+    let mut number = first;
+    for draft in drafts {
+        let notice = notice(alloc, host, at, number, draft)?;
+        changes.push(Change::AddNotice(notice))?;
+        number += 1;
+    }
+    Ok(())
+}
+
+/// Carries a plan out: its notices get the next numbers, and where there are any, the newest are
+/// kept, as many as the customer's quota says. Where too few numbers are left it is 44
+/// `NoticesSpent`, and nothing is changed.
+pub fn carry_out(
+    alloc: Global,
+    host: &Host,
+    entry: &Entry,
+    at: Moment,
+    plan: Plan,
+) -> Result<Decision, AllocError>
+    ensures { IfOk result (λ decision. decision
+        ≡ rules.carried_out host.now entry.now at plan) }
+{
+    let Plan {
+        answer,
+        changes,
+        mut head,
+        drafts,
+    } = plan;
+    let first = head.next_notice;
+    let count = drafts.len() as u64;
+    if first > SPENT || count > SPENT - first {
+        return Ok(refuse(alloc, Refusal::NoticesSpent));
+    }
+    head.next_notice = first + count;
+    let mut changes = changes.into_vec();
+    changes.push(Change::PutHead(head))?;
+    add_from(alloc, &mut changes, host, at, first, drafts.into_vec())?;
+    if count > 0 {
+        let oldest = head.next_notice.saturating_sub(entry.quota.notices);
+        changes.push(Change::DropNoticesBelow(oldest))?;
+    }
+    Ok(Decision {
+        answer,
+        changes: Items::from_vec(changes),
+    })
+}
+
+/// Shows the notice that was found.
+pub fn show_notice(alloc: Global, found: Option<Notice>) -> Decision
+    ensures { result ≡ rules.show_notice found }
+{
+    match found {
+        None => refuse(alloc, Refusal::NoNotice),
+        Some(notice) => tell(alloc, Answer::NoticeShown(notice)),
+    }
+}
+
+/// The first hundred of the notices, of which one more than that was asked for.
+pub fn notice_page(alloc: Global, notices: Items<Notice>) -> Decision
+    ensures { result ≡ rules.notice_page notices }
+{
+    let mut notices = notices.into_vec();
+    let more = notices.len() > PAGE;
+    notices.truncate(PAGE);
+    tell(alloc, Answer::NoticesListed(Items::from_vec(notices), more))
+}

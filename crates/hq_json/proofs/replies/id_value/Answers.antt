@@ -1,7 +1,0 @@
-use Rattle.std.proofs.Common.{sym, subst}
-use Rattle.std.specs.Str.{IsUtf8}
-use Rattle.hq_base.proofs.Ascii.{serial_utf8}
-use Rattle.hq_json.proofs.replies.id_value.Goals as goal
-
-pub unreachable-requires : goal.unreachable-requires
-unreachable-requires c = c.in-Err.ensures.cases.0 (subst IsUtf8 (sym c.text-text.ensures) (serial_utf8 c.args.serial))
