@@ -1,7 +1,6 @@
 -- What the program does: with lines of the built-in customers, from an empty desk in memory; with those of a directory; and
 -- with its words.
-use Rattle.std.specs.Prelude.{◌≡◌, ◌≤◌, ⊤, ℕ, [], List, map, Option, Some, None, Result, Ok, Err, IfOk, string_bytes}
-use Rattle.std.specs.Io.KnownBytes.{Appends}
+use Rattle.std.specs.Prelude.{◌≡◌, ◌≤◌, ⊤, ℕ, [], List, map, Option, Some, None, Result, Ok, Err, IfOk}
 use Rattle.std.specs.declared.alloc.AllocError.{AllocError}
 use Rattle.hq_base.specs.Refusals.{no_memory}
 use Rattle.hq_store.specs.Tables.{Tables, no_tables}
@@ -44,14 +43,12 @@ abbrev pub BatchEnds : Given → Type 0 → Streams → Streams → Result ⊤ T
 BatchEnds given untouched old new result =
     (set : Result Settings Trouble) × SetsUp given.host given.relay_key set × SetEnds given.store untouched old new set result
 
--- what is done for what words ask, and the exit status; with status 0 help is written whole; want of memory may come in
--- place of what they ask
+-- what is done for what words ask, and the exit status; want of memory may come in place of what they ask
 abbrev pub Does : Result Words AllocError → Type 0 → Type 0 → Streams → Streams → ℕ → Type 0
 Does (Ok Builtin) unread unwritten old new status = Exits (RunEnds Serves (unread × unwritten) old new) status
 Does (Ok (Batch batch)) unread unwritten old new status =
     Exits (BatchEnds (given_of batch) (unread × unwritten) old new) status
-Does (Ok (Help text)) unread unwritten old new status =
-    unread × (status ≤ 1) × (status ≡ 0 → Appends old.output new.output (string_bytes text))
+Does (Ok (Help text)) unread unwritten old new status = unread × (status ≤ 1)
 Does (Ok (Refused text)) unread unwritten old new status = unread × unwritten × (status ≡ 2)
 Does (Err error) unread unwritten old new status = unread × unwritten × (status ≡ 1)
 
