@@ -13,3 +13,4 @@ pub mod SameAddresses
 pub mod Settled
 pub mod Soundness
 pub mod SweptRows
+pub mod WholeQueues

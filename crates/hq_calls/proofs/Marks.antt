@@ -13,6 +13,7 @@ use Rattle.hq_queue.specs.Admission.{spent}
 use Rattle.hq_queue.specs.Attempts.{reported}
 use Rattle.hq_queue.specs.Moves.{held, released, requeued}
 use Rattle.hq_queue.specs.declared.account.Entry.{Entry}
+use Rattle.hq_queue.specs.declared.account.Head.{Head}
 use Rattle.hq_queue.specs.declared.message.Message.{Message}
 use Rattle.hq_queue.specs.declared.message.Pending.{Pending}
 use Rattle.hq_queue.specs.declared.outcome.Reported.{Reported}
@@ -23,6 +24,7 @@ use Rattle.hq_store.specs.Readings.{read_state}
 use Rattle.hq_store.specs.declared.change.Change.{Change}
 use Rattle.hq_store.specs.declared.change.Change.TheVariants.{PutHead, PutMessage, DropMessage, AddNotice}
 use Rattle.hq_store.specs.declared.notice.Notice.{Notice}
+use Rattle.hq_store.specs.Sound.{pending_count}
 use Rattle.hq_store.specs.Tables.{State, change, change_all}
 use Rattle.hq_store.proofs.Many.{change_all-append}
 use Rattle.hq_calls.specs.AccessLines as lines
@@ -30,6 +32,7 @@ use Rattle.hq_calls.specs.Answering.{tell, refuse}
 use Rattle.hq_calls.specs.Messages as messages
 use Rattle.hq_calls.specs.Notices.{noticed, added_from, kept_below, with_notices, planned, carried_out, show_notice}
 use Rattle.hq_calls.specs.Outcomes.{put_or_dropped, attempted, outcome_with, outcome}
+use Rattle.hq_calls.specs.Queues as queues
 use Rattle.hq_calls.specs.Submissions as submissions
 use Rattle.hq_calls.specs.Sweeps.{met, changed_by, how_many, swept_all, sweep}
 use Rattle.hq_calls.specs.declared.answer.Answer.TheVariants as answer
@@ -39,6 +42,7 @@ use Rattle.hq_calls.specs.declared.call.Submission.{Submission}
 use Rattle.hq_calls.specs.declared.decision.Decision.{Decision}
 use Rattle.hq_calls.specs.declared.notices.Draft.{Draft}
 use Rattle.hq_calls.specs.declared.notices.Plan.{Plan}
+use Rattle.hq_calls.specs.declared.queues.Move.{Move}
 
 -- what a decision leaves of the marks
 abbrev pub Leaves : State → Decision → Type 0
@@ -149,16 +153,16 @@ pub outcome_leaves : (host : List ℕ) (entry : Entry) (s : State) (at : ℕ) (r
 outcome_leaves host entry s at report None = refl
 outcome_leaves host entry s at report (Some m) = reported_leaves host entry s at m (reported m at report.attempt report.outcomes)
 
+-- changes made of each of many leave them, where those of one do
+each_leaves : {X : Type 0} (f : X → List Change) → ((x : X) → LeavesAll (f x)) → (xs : List X) → LeavesAll (flat_map f xs)
+each_leaves f one [] s = refl
+each_leaves f one (x ∷ xs) s = both_leave (f x) (flat_map f xs) (one x) (each_leaves f one xs) s
+
 -- what a sweep changes of one message leaves the marks
 changed_by_leaves : (row : Message × Swept) → LeavesAll (changed_by row)
 changed_by_leaves (m, Expired) s = refl
 changed_by_leaves (m, Warned) s = refl
 changed_by_leaves (m, Untouched) s = refl
-
--- and what it changes of all
-all_changed_leave : (rows : List (Message × Swept)) → LeavesAll (flat_map changed_by rows)
-all_changed_leave [] s = refl
-all_changed_leave (row ∷ rows) s = both_leave (changed_by row) (flat_map changed_by rows) (changed_by_leaves row) (all_changed_leave rows) s
 
 -- a sweep leaves them
 pub sweep_leaves : (host : List ℕ) (entry : Entry) (s : State) (at : ℕ) (ms : List Message) → Leaves s (sweep host entry at s.head ms)
@@ -174,9 +178,31 @@ sweep_leaves host entry s at ms = cases (expired == 0 && warned == 0) where
 
   cases : (b : Bool) → Leaves s (if b then tell (answer.Swept (record { expired = 0; notices = 0; warned = 0 })) else carried_out host entry at (swept_all s.head rows expired warned))
   cases true = refl
-  cases false = carried_out_leaves host entry s at (swept_all s.head rows expired warned) (all_changed_leave rows)
+  cases false = carried_out_leaves host entry s at (swept_all s.head rows expired warned) (each_leaves changed_by changed_by_leaves rows)
 
 -- a notice that is told leaves them
 pub show_notice_leaves : (s : State) (o : Option Notice) → Leaves s (show_notice o)
 show_notice_leaves s None = refl
 show_notice_leaves s (Some notice) = refl
+
+-- ---- calls on all messages
+
+put_leaves_marks : (o : Option Message) → LeavesAll (queues.put o)
+put_leaves_marks None s = refl
+put_leaves_marks (Some m) s = refl
+
+pub move_all_leaves : (s : State) (move : Move) (ms : List Message) → Leaves s (queues.move_all move ms)
+move_all_leaves s move ms = each_leaves (λ m. queues.put (queues.moved_by move m)) (λ m. put_leaves_marks (queues.moved_by move m)) ms s
+
+drops_leave : (ms : List Message) → LeavesAll (map queues.drop ms)
+drops_leave [] s = refl
+drops_leave (m ∷ ms) s = drops_leave ms (change (queues.drop m) s)
+
+pub delete_all_leaves : (s : State) (ms : List Message) → Leaves s (queues.delete_all s.head ms)
+delete_all_leaves s ms = cases (length ms == 0) where
+  head : Head
+  head = messages.with_deleted (pending_count ms) s.head
+
+  cases : (b : Bool) → Leaves s (if b then tell (answer.Changed 0) else record { answer = answer.Changed (length ms); changes = map queues.drop ms ++ PutHead head ∷ [] })
+  cases true = refl
+  cases false = both_leave (map queues.drop ms) (PutHead head ∷ []) (drops_leave ms) (λ u. refl) s

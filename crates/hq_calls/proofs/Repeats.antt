@@ -32,8 +32,9 @@ use Rattle.hq_calls.specs.declared.answer.LinePut.{LinePut}
 use Rattle.hq_calls.specs.declared.call.Call.{Call}
 use Rattle.hq_calls.specs.declared.call.Call.TheVariants as call
 use Rattle.hq_calls.specs.declared.decision.Decision.{Decision}
+use Rattle.hq_calls.specs.declared.queues.Move.TheVariants as move
 use Rattle.hq_calls.proofs.Imported.{same_marks}
-use Rattle.hq_calls.proofs.Marks.{hold_leaves, release_leaves, requeue_leaves, delete_leaves, show_leaves, submit_leaves, put_leaves, drop_leaves, outcome_leaves, sweep_leaves, show_notice_leaves}
+use Rattle.hq_calls.proofs.Marks.{hold_leaves, release_leaves, requeue_leaves, delete_leaves, show_leaves, submit_leaves, put_leaves, drop_leaves, outcome_leaves, sweep_leaves, show_notice_leaves, move_all_leaves, delete_all_leaves}
 
 none_some : {A : Type 0} (a : A) → ◌≡◌ {A = Option A} None (Some a) → ⊥
 none_some a e = cc
@@ -87,6 +88,9 @@ step_has host entry s label mark at (call.Hold serial) has = ap (λ marks. get m
 step_has host entry s label mark at (call.Release serial) has = ap (λ marks. get marks label) (release_leaves s at (get s.messages serial)) ∙ has
 step_has host entry s label mark at (call.Requeue serial) has = ap (λ marks. get marks label) (requeue_leaves s at (get s.messages serial)) ∙ has
 step_has host entry s label mark at (call.Delete serial) has = ap (λ marks. get marks label) (delete_leaves s (get s.messages serial)) ∙ has
+step_has host entry s label mark at call.HoldAll has = ap (λ marks. get marks label) (move_all_leaves s move.Hold (values s.messages)) ∙ has
+step_has host entry s label mark at call.ReleaseAll has = ap (λ marks. get marks label) (move_all_leaves s (move.Release at) (values s.messages)) ∙ has
+step_has host entry s label mark at call.DeleteAll has = ap (λ marks. get marks label) (delete_all_leaves s (values s.messages)) ∙ has
 step_has host entry s label mark at (call.Lines after) has = has
 step_has host entry s label mark at (call.PutLine line) has = ap (λ marks. get marks label) (put_leaves s entry.quota.lines (read_state s).counts.lines line (get s.lines line.pattern)) ∙ has
 step_has host entry s label mark at (call.DropLine pattern) has = ap (λ marks. get marks label) (drop_leaves s pattern (get s.lines pattern)) ∙ has
@@ -97,6 +101,7 @@ step_has host entry s label mark at (call.Due after) has = has
 step_has host entry s label mark at call.Sweep has = ap (λ marks. get marks label) (sweep_leaves host entry s at (values s.messages)) ∙ has
 step_has host entry s label mark at (call.Notices after) has = has
 step_has host entry s label mark at (call.Notice number) has = ap (λ marks. get marks label) (show_notice_leaves s ((read_state s).notice number)) ∙ has
+step_has host entry s label mark at call.Usage has = has
 
 calls_have : (host : List ℕ) (entry : Entry) (s : State) (label : List ℕ) (mark : Mark) (calls : List (ℕ × Call)) → Has label mark s → Has label mark (state_after host entry s calls)
 calls_have host entry s label mark [] has = has

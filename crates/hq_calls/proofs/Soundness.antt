@@ -36,12 +36,14 @@ use Rattle.hq_calls.specs.declared.answer.LinePut.TheVariants.{Added, Changed, S
 use Rattle.hq_calls.specs.declared.call.Call.{Call}
 use Rattle.hq_calls.specs.declared.call.Call.TheVariants as call
 use Rattle.hq_calls.specs.declared.decision.Decision.{Decision}
+use Rattle.hq_calls.specs.declared.queues.Move.TheVariants as move
 use Rattle.hq_calls.proofs.Attempted.{outcome_kept}
 use Rattle.hq_calls.proofs.Imported.{import_kept}
 use Rattle.hq_calls.proofs.Kept.{Keeps, saturated_is, quota_of, below_quota, set_kept}
 use Rattle.hq_calls.proofs.Queued.{submit_kept}
 use Rattle.hq_calls.proofs.Requeued.{requeue_kept}
 use Rattle.hq_calls.proofs.SweptRows.{sweep_kept}
+use Rattle.hq_calls.proofs.WholeQueues.{move_all_kept, delete_all_kept}
 
 recipients : Message → ℕ
 recipients m = length m.pending
@@ -138,6 +140,9 @@ step_sound host entry s at (call.Hold serial) h = on_found s serial rules.hold h
 step_sound host entry s at (call.Release serial) h = on_found s serial (rules.release at) h (λ m there. release_kept s m at (is_on_hold m.state) h (own_place s serial m h there))
 step_sound host entry s at (call.Requeue serial) h = on_found s serial (rules.requeue s.head at) h (λ m there. requeue_kept s at m h (own_place s serial m h there))
 step_sound host entry s at (call.Delete serial) h = on_found s serial (rules.delete s.head) h (λ m there. delete_kept s m h (own_place s serial m h there))
+step_sound host entry s at call.HoldAll h = move_all_kept move.Hold s h
+step_sound host entry s at call.ReleaseAll h = move_all_kept (move.Release at) s h
+step_sound host entry s at call.DeleteAll h = delete_all_kept s h
 step_sound host entry s at (call.Lines after) h = h
 step_sound host entry s at (call.PutLine line) h = put_kept s entry line h
 step_sound host entry s at (call.DropLine pattern) h = drop_kept s pattern (get s.lines pattern) h
@@ -148,6 +153,7 @@ step_sound host entry s at (call.Due after) h = h
 step_sound host entry s at call.Sweep h = sweep_kept host entry s at h
 step_sound host entry s at (call.Notices after) h = h
 step_sound host entry s at (call.Notice number) h = shown_kept s ((read_state s).notice number) h
+step_sound host entry s at call.Usage h = h
 
 -- what holds of the machine holds of the shared step
 pub shared_sound : (host : List ℕ) (entry : Entry) (t : Tables) (at : ℕ) (call : Call) → Sound t → Sound (shared host entry t at call).1

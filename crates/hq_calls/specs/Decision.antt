@@ -9,11 +9,13 @@ use Rattle.hq_calls.specs.Imports.{import}
 use Rattle.hq_calls.specs.Messages.{page, show, hold, release, requeue, delete}
 use Rattle.hq_calls.specs.Notices.{show_notice, notice_page}
 use Rattle.hq_calls.specs.Outcomes.{outcome, due_page}
+use Rattle.hq_calls.specs.Queues.{move_all, delete_all, usage}
 use Rattle.hq_calls.specs.Submissions.{submit}
 use Rattle.hq_calls.specs.Sweeps.{sweep}
 use Rattle.hq_calls.specs.declared.call.Call.{Call}
 use Rattle.hq_calls.specs.declared.call.Call.TheVariants as call
 use Rattle.hq_calls.specs.declared.decision.Decision.{Decision}
+use Rattle.hq_calls.specs.declared.queues.Move.TheVariants as move
 
 unfoldable pub decide : List ℕ → Entry → Readings → ℕ → Call → Decision
 decide host entry readings at (call.Submit sub) = submit entry readings at sub (readings.by_spool sub.spool)
@@ -23,6 +25,9 @@ decide host entry readings at (call.Hold serial) = hold (readings.message serial
 decide host entry readings at (call.Release serial) = release at (readings.message serial)
 decide host entry readings at (call.Requeue serial) = requeue readings.head at (readings.message serial)
 decide host entry readings at (call.Delete serial) = delete readings.head (readings.message serial)
+decide host entry readings at call.HoldAll = move_all move.Hold readings.messages
+decide host entry readings at call.ReleaseAll = move_all (move.Release at) readings.messages
+decide host entry readings at call.DeleteAll = delete_all readings.head readings.messages
 decide host entry readings at (call.Lines after) = line_page (after_pattern after readings.lines)
 decide host entry readings at (call.PutLine line) = put_line entry.quota.lines readings.counts.lines line (readings.line line.pattern.0 line.pattern.1)
 decide host entry readings at (call.DropLine pattern) = drop_line pattern (readings.line pattern.0 pattern.1)
@@ -33,3 +38,4 @@ decide host entry readings at (call.Due after) = due_page (filter (is_due at) (a
 decide host entry readings at call.Sweep = sweep host entry at readings.head readings.messages
 decide host entry readings at (call.Notices after) = notice_page (after_number after readings.notices)
 decide host entry readings at (call.Notice number) = show_notice (readings.notice number)
+decide host entry readings at call.Usage = usage readings.head readings.counts readings.messages

@@ -8,5 +8,6 @@ pub mod Machine
 pub mod Messages
 pub mod Notices
 pub mod Outcomes
+pub mod Queues
 pub mod Submissions
 pub mod Sweeps

@@ -5,7 +5,7 @@ ghost use Rattle.hq_calls.specs.Answers.{answer_number};
 
 use hq_access::{Action, Line, LookupKey, Refused};
 use hq_envelope::{Items, Refusal, Serial};
-use hq_queue::Message;
+use hq_queue::{Counts, Message, Tally};
 use hq_store::Notice;
 
 /// What putting a line did.
@@ -54,6 +54,17 @@ pub struct SweepCounts {
     pub warned: u64,
 }
 
+/// What a customer has on the desk, and what became of its recipients.
+#[derive(Clone, Copy, Debug, PartialEq, Eq, Drop)]
+pub struct Usage {
+    /// How much it keeps.
+    pub counts: Counts,
+    /// How many recipients are pending.
+    pub pending: u64,
+    /// What became of the others.
+    pub tally: Tally,
+}
+
 /// The answer to a call.
 #[derive(Drop)]
 pub enum Answer {
@@ -98,6 +109,8 @@ pub enum Answer {
     NoticesListed(Items<Notice>, bool),
     /// The notice whole.
     NoticeShown(Notice),
+    /// What the customer has on the desk.
+    Used(Usage),
 }
 
 impl Answer {

@@ -50,6 +50,12 @@ pub enum Call {
     Requeue(Serial),
     /// Deletes a message.
     Delete(Serial),
+    /// Puts every message on hold.
+    HoldAll,
+    /// Releases every message that is on hold.
+    ReleaseAll,
+    /// Deletes every message.
+    DeleteAll,
     /// Lists the first 100 lines of the access tables after a pattern, or from the start.
     Lines(Option<Pattern>),
     /// Sets the line of its pattern.
@@ -71,4 +77,6 @@ pub enum Call {
     Notices(Option<u64>),
     /// Shows a notice whole.
     Notice(u64),
+    /// Tells what the customer has on the desk, and what became of its recipients.
+    Usage,
 }

@@ -12,9 +12,10 @@ pub mod lines;
 pub mod messages;
 pub mod notices;
 pub mod outcomes;
+pub mod queues;
 pub mod submissions;
 pub mod sweeps;
 
-pub use answer::{Answer, AttemptCounts, ImportCounts, LinePut, SweepCounts};
+pub use answer::{Answer, AttemptCounts, ImportCounts, LinePut, SweepCounts, Usage};
 pub use call::{AttemptReport, Call, Submission};
 pub use decision::Decision;

@@ -13,6 +13,7 @@ ghost use Rattle.hq_calls.specs.Notices as notices;
 
 use crate::customer_lines::look_up;
 use crate::imports::decide_import;
+use crate::queues::{decide_delete_all, decide_move_all, decide_usage};
 use crate::relay::{decide_due, decide_outcome, decide_sweep};
 use crate::submit::decide_submit;
 use hq_access::{Class, Line, Pattern, keys_of};
@@ -20,6 +21,7 @@ use hq_calls::decision::{Decision, PAGE, refuse, tell};
 use hq_calls::lines::{drop_line, line_page, put_new, put_over};
 use hq_calls::messages::{delete, hold_found, page, release_found, requeue_with, show};
 use hq_calls::notices::{notice_page, show_notice};
+use hq_calls::queues::Move;
 use hq_calls::{Answer, Call};
 use hq_envelope::{Fault, Host, Items, Moment, Refusal, Sender, Serial};
 use hq_queue::Entry;
@@ -225,6 +227,9 @@ fn decide<S: Shelf>(
         }
         Call::Requeue(serial) => decide_requeue(shelf, alloc, at, entry, serial),
         Call::Delete(serial) => decide_delete(shelf, alloc, entry, serial),
+        Call::HoldAll => decide_move_all(shelf, alloc, entry, Move::Hold),
+        Call::ReleaseAll => decide_move_all(shelf, alloc, entry, Move::Release(at)),
+        Call::DeleteAll => decide_delete_all(shelf, alloc, entry),
         Call::Lines(after) => decide_lines(shelf, alloc, entry, after.as_ref()),
         Call::PutLine(line) => decide_put_line(shelf, alloc, entry, line),
         Call::DropLine(pattern) => decide_drop_line(shelf, alloc, entry, pattern),
@@ -238,6 +243,7 @@ fn decide<S: Shelf>(
             let found = shelf.notice(&entry.name, number)?;
             Ok(show_notice(alloc, found))
         }
+        Call::Usage => decide_usage(shelf, alloc, entry),
     }
 }
 

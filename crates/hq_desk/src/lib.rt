@@ -6,11 +6,12 @@
 mod customer_lines;
 mod desk;
 mod imports;
+mod queues;
 mod relay;
 mod submit;
 
 pub use desk::{Desk, Render, Rendered};
 pub use hq_calls::{
     Answer, AttemptCounts, AttemptReport, Call, Decision, ImportCounts, LinePut, Submission,
-    SweepCounts,
+    SweepCounts, Usage,
 };

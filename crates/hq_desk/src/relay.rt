@@ -19,7 +19,7 @@ use hq_store::Shelf;
 use std::alloc::Global;
 
 /// The most messages that a customer can have.
-const MOST_MESSAGES: usize = 1000;
+pub(crate) const MOST_MESSAGES: usize = 1000;
 
 /// What the report of an attempt is answered and changes.
 pub(crate) fn decide_outcome<S: Shelf>(

@@ -6,6 +6,7 @@ mod attempt_replies;
 mod members;
 mod notice_replies;
 mod objects;
+mod queue_replies;
 mod replies;
 mod submission;
 mod table_replies;

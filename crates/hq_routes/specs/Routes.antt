@@ -7,7 +7,7 @@ use Rattle.matchit.specs.Route.{Scan, parse_route}
 use Rattle.matchit.specs.declared.error.InsertError.{InsertError}
 use Rattle.matchit.specs.Seek.{has_slash}
 use Rattle.hq_routes.specs.declared.Path.{Path}
-use Rattle.hq_routes.specs.declared.Path.TheVariants.{Messages, MessagesAfter, Message, Hold, Release, Requeue, Import, Lines, LinesAfter, LinePut, LineDrop, Check, Notices, NoticesAfter, Notice, Submit, Outcome, Due, Sweep}
+use Rattle.hq_routes.specs.declared.Path.TheVariants.{Messages, MessagesAfter, Message, Hold, Release, Requeue, HoldAll, ReleaseAll, DeleteAll, Import, Lines, LinesAfter, LinePut, LineDrop, Check, Notices, NoticesAfter, Notice, Usage, Submit, Outcome, Due, Sweep}
 
 -- what stands for a parameter at the end of a pattern: it is no byte
 abbrev pub parameter : ℕ
@@ -36,6 +36,8 @@ table =
     ∷ (with_parameter (codes "/relay/submit/"), Submit)
     ∷ (with_parameter (codes "/relay/sweep/"), Sweep)
     ∷ (codes "/v1/check", Check)
+    ∷ (codes "/v1/delete-all", DeleteAll)
+    ∷ (codes "/v1/hold-all", HoldAll)
     ∷ (with_parameter (codes "/v1/hold/"), Hold)
     ∷ (codes "/v1/import", Import)
     ∷ (codes "/v1/line-drop", LineDrop)
@@ -48,8 +50,10 @@ table =
     ∷ (with_parameter (codes "/v1/notice/"), Notice)
     ∷ (with_parameter (codes "/v1/notices-after/"), NoticesAfter)
     ∷ (codes "/v1/notices", Notices)
+    ∷ (codes "/v1/release-all", ReleaseAll)
     ∷ (with_parameter (codes "/v1/release/"), Release)
     ∷ (with_parameter (codes "/v1/requeue/"), Requeue)
+    ∷ (codes "/v1/usage", Usage)
     ∷ []
 
 unfoldable pub path_of : List ℕ → Option Path

@@ -25,6 +25,12 @@ pub enum Path {
     Release,
     /// `/v1/requeue/{id}`
     Requeue,
+    /// `/v1/hold-all`
+    HoldAll,
+    /// `/v1/release-all`
+    ReleaseAll,
+    /// `/v1/delete-all`
+    DeleteAll,
     /// `/v1/import`
     Import,
     /// `/v1/lines`
@@ -43,6 +49,8 @@ pub enum Path {
     NoticesAfter,
     /// `/v1/notice/{n}`
     Notice,
+    /// `/v1/usage`
+    Usage,
     /// `/relay/submit/{customer}`
     Submit,
     /// `/relay/outcome/{customer}`
@@ -54,13 +62,16 @@ pub enum Path {
 }
 
 /// Every path of the desk, as the router spells it.
-const PATHS: [(&str, Path); 19] = [
+const PATHS: [(&str, Path); 23] = [
     ("/v1/messages", Path::Messages),
     ("/v1/messages-after/{id}", Path::MessagesAfter),
     ("/v1/message/{id}", Path::Message),
     ("/v1/hold/{id}", Path::Hold),
     ("/v1/release/{id}", Path::Release),
     ("/v1/requeue/{id}", Path::Requeue),
+    ("/v1/hold-all", Path::HoldAll),
+    ("/v1/release-all", Path::ReleaseAll),
+    ("/v1/delete-all", Path::DeleteAll),
     ("/v1/import", Path::Import),
     ("/v1/lines", Path::Lines),
     ("/v1/lines-after", Path::LinesAfter),
@@ -70,6 +81,7 @@ const PATHS: [(&str, Path); 19] = [
     ("/v1/notices", Path::Notices),
     ("/v1/notices-after/{n}", Path::NoticesAfter),
     ("/v1/notice/{n}", Path::Notice),
+    ("/v1/usage", Path::Usage),
     ("/relay/submit/{customer}", Path::Submit),
     ("/relay/outcome/{customer}", Path::Outcome),
     ("/relay/due/{customer}", Path::Due),

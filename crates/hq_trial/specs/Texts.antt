@@ -7,6 +7,7 @@ use Rattle.hq_access.specs.Patterns.{class_name}
 use Rattle.hq_access.specs.declared.action.Action.{Action}
 use Rattle.hq_access.specs.declared.pattern.Line.{Line}
 use Rattle.hq_access.specs.declared.verdicts.Refused.{Refused}
+use Rattle.hq_queue.specs.declared.account.Tally.{Tally}
 use Rattle.hq_queue.specs.declared.message.Message.{Message}
 use Rattle.hq_queue.specs.declared.message.Pending.{Pending}
 use Rattle.hq_queue.specs.declared.message.QueueState.{QueueState}
@@ -18,6 +19,7 @@ use Rattle.hq_calls.specs.declared.answer.Answer.{Answer}
 use Rattle.hq_calls.specs.declared.answer.AttemptCounts.{AttemptCounts}
 use Rattle.hq_calls.specs.declared.answer.SweepCounts.{SweepCounts}
 use Rattle.hq_calls.specs.declared.answer.Answer.TheVariants as answers
+use Rattle.hq_calls.specs.declared.answer.Usage.{Usage}
 use Rattle.hq_calls.specs.declared.answer.ImportCounts.{ImportCounts}
 use Rattle.hq_calls.specs.declared.answer.LinePut.{LinePut}
 use Rattle.hq_calls.specs.declared.answer.LinePut.TheVariants as put
@@ -120,6 +122,16 @@ notices ns more = codes "notices" ++ flat_map notice_line ns ++ word (end_word m
 abbrev pub notice : Notice → List ℕ
 notice n = codes "notice" ++ notice_line n ++ word n.human ++ word n.status
 
+-- ---- what a customer has on the desk
+
+-- recipients, by what became of them
+abbrev pub tally : Tally → List ℕ
+tally t = number t.accepted ++ number t.delivered ++ number t.failed ++ number t.deleted ++ number t.expired
+
+-- what it keeps, what is pending, and what became of the others
+abbrev pub used : Usage → List ℕ
+used u = codes "used" ++ number u.counts.messages ++ number u.counts.bytes ++ number u.counts.lines ++ number u.pending ++ tally u.tally
+
 -- ---- every answer
 
 abbrev pub answer : Answer → List ℕ
@@ -143,3 +155,4 @@ answer (answers.DueListed ms more) = due ms more
 answer (answers.Swept counts) = swept counts
 answer (answers.NoticesListed ns more) = notices ns more
 answer (answers.NoticeShown n) = notice n
+answer (answers.Used usage) = used usage

@@ -4,7 +4,9 @@ ghost use Rattle.std.specs.Prelude.{◌≡◌, ◌++◌, IfOk, OnOk, codes, flat
 ghost use Rattle.hq_access.specs.Actions.{action_text};
 ghost use Rattle.hq_trial.specs.Texts as texts;
 
-use crate::relay_text::{attempted_text, due_text, notice_text, notices_text, swept_text};
+use crate::relay_text::{
+    attempted_text, due_text, notice_text, notices_text, swept_text, used_text,
+};
 use hq_access::{Action, Line, LookupKey, Refused};
 use hq_desk::{Answer, ImportCounts, LinePut, Render};
 use hq_queue::{Message, Pending, QueueState};
@@ -283,6 +285,7 @@ fn answer_text(alloc: Global, answer: &Answer) -> Result<String, AllocError>
         Answer::Swept(counts) => swept_text(alloc, counts),
         Answer::NoticesListed(notices, more) => notices_text(alloc, notices.as_slice(), *more),
         Answer::NoticeShown(notice) => notice_text(alloc, notice),
+        Answer::Used(usage) => used_text(alloc, usage),
     }
 }
 

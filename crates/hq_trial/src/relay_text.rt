@@ -1,11 +1,11 @@
-//! Answers about attempts, sweeps and notices as plain text.
+//! Answers about attempts, sweeps, notices and usage as plain text.
 
 ghost use Rattle.std.specs.Prelude.{◌≡◌, ◌++◌, IfOk, OnOk, flat_map, string_bytes};
 ghost use Rattle.hq_trial.specs.Texts as texts;
 
 use crate::plain_text::{end_word, push_number, push_serials, push_word};
-use hq_desk::{AttemptCounts, SweepCounts};
-use hq_queue::Message;
+use hq_desk::{AttemptCounts, SweepCounts, Usage};
+use hq_queue::{Message, Tally};
 use hq_store::Notice;
 use hq_text::Kind;
 use std::alloc::{AllocError, Global};
@@ -105,5 +105,30 @@ pub(crate) fn notice_text(alloc: Global, notice: &Notice) -> Result<String, Allo
     push_notice(alloc, &mut text, notice)?;
     push_word(&mut text, notice.human.as_str())?;
     push_word(&mut text, notice.status.as_str())?;
+    Ok(text)
+}
+
+/// Adds recipients, by what became of them.
+fn push_tally(alloc: Global, text: &mut String, tally: &Tally) -> Result<(), AllocError>
+    ensures { OnOk result (string_bytes text.new
+        ≡ string_bytes text.old ++ texts.tally tally.now) }
+{
+    push_number(alloc, text, tally.accepted)?;
+    push_number(alloc, text, tally.delivered)?;
+    push_number(alloc, text, tally.failed)?;
+    push_number(alloc, text, tally.deleted)?;
+    push_number(alloc, text, tally.expired)
+}
+
+/// What a customer has on the desk.
+pub(crate) fn used_text(alloc: Global, usage: &Usage) -> Result<String, AllocError>
+    ensures { IfOk result (λ text. string_bytes text ≡ texts.used usage.now) }
+{
+    let mut text = String::from_str(alloc, "used")?;
+    push_number(alloc, &mut text, usage.counts.messages)?;
+    push_number(alloc, &mut text, usage.counts.bytes)?;
+    push_number(alloc, &mut text, usage.counts.lines)?;
+    push_number(alloc, &mut text, usage.pending)?;
+    push_tally(alloc, &mut text, &usage.tally)?;
     Ok(text)
 }

@@ -35,6 +35,9 @@ route_of path.Message method = at_method method (codes "GET") (route.About about
 route_of path.Hold method = at_method method (codes "POST") (route.About about.Hold) None
 route_of path.Release method = at_method method (codes "POST") (route.About about.Release) None
 route_of path.Requeue method = at_method method (codes "POST") (route.About about.Requeue) None
+route_of path.HoldAll method = at_method method (codes "POST") route.HoldAll None
+route_of path.ReleaseAll method = at_method method (codes "POST") route.ReleaseAll None
+route_of path.DeleteAll method = at_method method (codes "POST") route.DeleteAll None
 route_of path.Lines method = at_method method (codes "GET") route.Lines None
 route_of path.LinesAfter method = at_method method (codes "POST") route.LinesAfter None
 route_of path.LinePut method = at_method method (codes "POST") route.PutLine None
@@ -44,6 +47,7 @@ route_of path.Import method = at_method method (codes "POST") route.Import None
 route_of path.Notices method = at_method method (codes "GET") route.Notices None
 route_of path.NoticesAfter method = at_method method (codes "GET") route.NoticesAfter None
 route_of path.Notice method = at_method method (codes "GET") route.Notice None
+route_of path.Usage method = at_method method (codes "GET") route.Usage None
 route_of path.Submit method = at_method method (codes "POST") route.Submit None
 route_of path.Outcome method = at_method method (codes "POST") route.Outcome None
 route_of path.Due method = at_method method (codes "POST") route.Due None
@@ -77,6 +81,9 @@ asked_of route.List segment body = Ok (call.List None)
 asked_of (route.About about) segment body = do
   serial ← or_refuse BadField (serial_in segment)
   Ok (call_about about serial)
+asked_of route.HoldAll segment body = Ok call.HoldAll
+asked_of route.ReleaseAll segment body = Ok call.ReleaseAll
+asked_of route.DeleteAll segment body = Ok call.DeleteAll
 asked_of route.Lines segment body = Ok (call.Lines None)
 asked_of route.LinesAfter segment body = do
   pattern ← read_pattern body
@@ -100,6 +107,7 @@ asked_of route.NoticesAfter segment body = do
 asked_of route.Notice segment body = do
   number ← or_refuse BadField (number_in segment)
   Ok (call.Notice number)
+asked_of route.Usage segment body = Ok call.Usage
 asked_of route.Submit segment body = do
   submission ← read_submission body
   Ok (call.Submit submission)

@@ -45,6 +45,12 @@ pub(crate) enum Route {
     List,
     /// Something about the message whose queue ID is the parameter.
     About(MessageRoute),
+    /// Every message on hold.
+    HoldAll,
+    /// Every message released.
+    ReleaseAll,
+    /// Every message gone.
+    DeleteAll,
     /// The lines from the start.
     Lines,
     /// The lines after the pattern of the body.
@@ -63,6 +69,8 @@ pub(crate) enum Route {
     NoticesAfter,
     /// The notice whose number is the parameter.
     Notice,
+    /// What the customer has on the desk.
+    Usage,
     /// A message for the queue.
     Submit,
     /// The report of an attempt.
@@ -86,6 +94,9 @@ fn route_of(path: Path, method: &str) -> Option<Route>
         Path::Hold if method == "POST" => Some(Route::About(MessageRoute::Hold)),
         Path::Release if method == "POST" => Some(Route::About(MessageRoute::Release)),
         Path::Requeue if method == "POST" => Some(Route::About(MessageRoute::Requeue)),
+        Path::HoldAll if method == "POST" => Some(Route::HoldAll),
+        Path::ReleaseAll if method == "POST" => Some(Route::ReleaseAll),
+        Path::DeleteAll if method == "POST" => Some(Route::DeleteAll),
         Path::Lines if method == "GET" => Some(Route::Lines),
         Path::LinesAfter if method == "POST" => Some(Route::LinesAfter),
         Path::LinePut if method == "POST" => Some(Route::PutLine),
@@ -95,6 +106,7 @@ fn route_of(path: Path, method: &str) -> Option<Route>
         Path::Notices if method == "GET" => Some(Route::Notices),
         Path::NoticesAfter if method == "GET" => Some(Route::NoticesAfter),
         Path::Notice if method == "GET" => Some(Route::Notice),
+        Path::Usage if method == "GET" => Some(Route::Usage),
         Path::Submit if method == "POST" => Some(Route::Submit),
         Path::Outcome if method == "POST" => Some(Route::Outcome),
         Path::Due if method == "POST" => Some(Route::Due),
@@ -151,6 +163,9 @@ fn asked_of(alloc: Global, route: Route, segment: &str, body: &[u8]) -> Result<C
             let serial = Serial::parse(segment).ok_or(Refusal::BadField)?;
             Ok(call_about(about, serial))
         }
+        Route::HoldAll => Ok(Call::HoldAll),
+        Route::ReleaseAll => Ok(Call::ReleaseAll),
+        Route::DeleteAll => Ok(Call::DeleteAll),
         Route::Lines => Ok(Call::Lines(None)),
         Route::LinesAfter => Ok(Call::Lines(Some(read_pattern(alloc, body)?))),
         Route::PutLine => Ok(Call::PutLine(read_line(alloc, body)?)),
@@ -172,6 +187,7 @@ fn asked_of(alloc: Global, route: Route, segment: &str, body: &[u8]) -> Result<C
             let number = number_in(segment).ok_or(Refusal::BadField)?;
             Ok(Call::Notice(number))
         }
+        Route::Usage => Ok(Call::Usage),
         Route::Submit => Ok(Call::Submit(read_submission(alloc, body)?)),
         Route::Outcome => Ok(Call::Outcome(read_report(alloc, body)?)),
         Route::Due => Ok(Call::Due(read_due(alloc, body)?)),

@@ -1,6 +1,5 @@
-use Rattle.std.proofs.Common.{[], ◌∷◌, ◌++◌, sym, ap, ◌∙◌, arith}
+use Rattle.std.proofs.Common.{arith}
 use Rattle.std.proofs.lemmas.Grind.{common_steps}
-use Rattle.hq_store.specs.declared.change.Change.TheVariants.{AddNotice}
 use Rattle.hq_calls.proofs.Numbers.{added_more}
 use Rattle.hq_calls.proofs.notices.add_from.Goals as goal
 

@@ -1,0 +1,56 @@
+-- What the desk answers and changes on all messages of a customer (postsuper(1), `ALL`), and what it tells of its use.
+use Rattle.std.specs.Prelude.{ℕ, ◌≡◌, ◌+◌, ◌==◌, List, [], ◌∷◌, ◌++◌, map, length, if◌then◌else◌, Option, None, Some}
+use Rattle.std.specs.List.{flat_map}
+use Rattle.hq_queue.specs.Moves.{held, released}
+use Rattle.hq_queue.specs.declared.account.Counts.{Counts}
+use Rattle.hq_queue.specs.declared.account.Head.{Head}
+use Rattle.hq_queue.specs.declared.message.Message.{Message}
+use Rattle.hq_store.specs.Sound.{pending_count}
+use Rattle.hq_store.specs.declared.change.Change.{Change}
+use Rattle.hq_store.specs.declared.change.Change.TheVariants.{PutHead, PutMessage, DropMessage}
+use Rattle.hq_calls.specs.Answering.{tell}
+use Rattle.hq_calls.specs.Messages.{with_deleted}
+use Rattle.hq_calls.specs.declared.answer.Answer.TheVariants as answer
+use Rattle.hq_calls.specs.declared.answer.Usage.{Usage}
+use Rattle.hq_calls.specs.declared.decision.Decision.{Decision}
+use Rattle.hq_calls.specs.declared.queues.Move.{Move}
+use Rattle.hq_calls.specs.declared.queues.Move.TheVariants.{Hold, Release}
+
+-- ---- hold and release of all
+
+-- the message after a move, or nothing where the move does not apply
+abbrev pub moved_by : Move → Message → Option Message
+moved_by Hold m = held m
+moved_by (Release at) m = released at m
+
+-- a message that a move applies to is put as it is then
+abbrev pub put : Option Message → List Change
+put None = []
+put (Some m) = PutMessage m ∷ []
+
+-- the changes of all, each moved by itself
+abbrev pub moves_of : Move → List Message → List Change
+moves_of move ms = flat_map (λ m. put (moved_by move m)) ms
+
+-- told is how many messages the move changes
+abbrev pub move_all : Move → List Message → Decision
+move_all move ms = record { answer = answer.Changed (length (moves_of move ms)); changes = moves_of move ms }
+
+-- ---- the deletion of all
+
+abbrev pub drop : Message → Change
+drop m = DropMessage m.serial
+
+-- where there is no message, nothing is changed
+abbrev pub delete_all : Head → List Message → Decision
+delete_all head ms = if length ms == 0 then tell (answer.Changed 0) else
+    record { answer = answer.Changed (length ms); changes = map drop ms ++ PutHead (with_deleted (pending_count ms) head) ∷ [] }
+
+-- ---- what a customer has on the desk
+
+abbrev pub usage : Head → Counts → List Message → Decision
+usage head counts ms = tell (answer.Used (record { counts = counts; pending = pending_count ms; tally = head.tally }))
+
+-- each accepted recipient is pending, or what became of it is tallied
+abbrev pub AreTold : Head → List Message → Type 0
+AreTold head ms = head.tally.accepted ≡ pending_count ms + head.tally.delivered + head.tally.failed + head.tally.deleted + head.tally.expired

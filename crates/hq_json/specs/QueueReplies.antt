@@ -1,0 +1,19 @@
+-- What a customer is told of its use of the desk. Members stand in the order of their names.
+use Rattle.std.specs.Prelude.{[], ◌∷◌, codes}
+use Rattle.serde_json.specs.Data.{Data}
+use Rattle.hq_calls.specs.declared.answer.Usage.{Usage}
+use Rattle.hq_json.specs.Objects.{having, count}
+
+-- what it keeps, and its recipients by what became of them
+abbrev pub used : Usage → Data
+used u = having (
+    (codes "accepted", count u.tally.accepted) ∷
+    (codes "bytes", count u.counts.bytes) ∷
+    (codes "deleted", count u.tally.deleted) ∷
+    (codes "delivered", count u.tally.delivered) ∷
+    (codes "expired", count u.tally.expired) ∷
+    (codes "failed", count u.tally.failed) ∷
+    (codes "lines", count u.counts.lines) ∷
+    (codes "messages", count u.counts.messages) ∷
+    (codes "pending", count u.pending) ∷
+    [])

@@ -1,0 +1,22 @@
+//! What a customer is told of its use of the desk, as JSON values.
+
+ghost use Rattle.std.specs.Prelude.{◌≡◌, IfOk};
+ghost use Rattle.serde_json.specs.View.{view};
+ghost use Rattle.hq_json.specs.QueueReplies as replies;
+
+use hq_desk::Usage;
+use serde_json::{Value, json};
+use std::alloc::{AllocError, Global};
+
+/// What a customer has on the desk, and what became of its recipients.
+pub(crate) fn used_value(alloc: Global, usage: Usage) -> Result<Value, AllocError>
+    ensures { IfOk result (λ v. view v ≡ replies.used usage) }
+{
+    let counts = usage.counts;
+    let tally = usage.tally;
+    json!(in alloc; {
+        "accepted": tally.accepted, "bytes": counts.bytes, "deleted": tally.deleted,
+        "delivered": tally.delivered, "expired": tally.expired, "failed": tally.failed,
+        "lines": counts.lines, "messages": counts.messages, "pending": usage.pending
+    })
+}
