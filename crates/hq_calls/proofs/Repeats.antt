@@ -102,6 +102,7 @@ step_has host entry s label mark at call.Sweep has = ap (λ marks. get marks lab
 step_has host entry s label mark at (call.Notices after) has = has
 step_has host entry s label mark at (call.Notice number) has = ap (λ marks. get marks label) (show_notice_leaves s ((read_state s).notice number)) ∙ has
 step_has host entry s label mark at call.Usage has = has
+step_has host entry s label mark at call.Report has = has
 
 calls_have : (host : List ℕ) (entry : Entry) (s : State) (label : List ℕ) (mark : Mark) (calls : List (ℕ × Call)) → Has label mark s → Has label mark (state_after host entry s calls)
 calls_have host entry s label mark [] has = has

@@ -154,6 +154,7 @@ step_sound host entry s at call.Sweep h = sweep_kept host entry s at h
 step_sound host entry s at (call.Notices after) h = h
 step_sound host entry s at (call.Notice number) h = shown_kept s ((read_state s).notice number) h
 step_sound host entry s at call.Usage h = h
+step_sound host entry s at call.Report h = h
 
 -- what holds of the machine holds of the shared step
 pub shared_sound : (host : List ℕ) (entry : Entry) (t : Tables) (at : ℕ) (call : Call) → Sound t → Sound (shared host entry t at call).1

@@ -9,7 +9,7 @@ use Rattle.hq_calls.specs.Imports.{import}
 use Rattle.hq_calls.specs.Messages.{page, show, hold, release, requeue, delete}
 use Rattle.hq_calls.specs.Notices.{show_notice, notice_page}
 use Rattle.hq_calls.specs.Outcomes.{outcome, due_page}
-use Rattle.hq_calls.specs.Queues.{move_all, delete_all, usage}
+use Rattle.hq_calls.specs.Queues.{move_all, delete_all, usage, report}
 use Rattle.hq_calls.specs.Submissions.{submit}
 use Rattle.hq_calls.specs.Sweeps.{sweep}
 use Rattle.hq_calls.specs.declared.call.Call.{Call}
@@ -39,3 +39,4 @@ decide host entry readings at call.Sweep = sweep host entry at readings.head rea
 decide host entry readings at (call.Notices after) = notice_page (after_number after readings.notices)
 decide host entry readings at (call.Notice number) = show_notice (readings.notice number)
 decide host entry readings at call.Usage = usage readings.head readings.counts readings.messages
+decide host entry readings at call.Report = report readings.messages

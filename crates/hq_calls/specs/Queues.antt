@@ -1,10 +1,12 @@
--- What the desk answers and changes on all messages of a customer (postsuper(1), `ALL`), and what it tells of its use.
+-- What the desk answers and changes on all messages of a customer (postsuper(1), `ALL`), what it tells of its use, and the
+-- queue report (postqueue(1), -p).
 use Rattle.std.specs.Prelude.{ℕ, ◌≡◌, ◌+◌, ◌==◌, List, [], ◌∷◌, ◌++◌, map, length, if◌then◌else◌, Option, None, Some}
 use Rattle.std.specs.List.{flat_map}
 use Rattle.hq_queue.specs.Moves.{held, released}
 use Rattle.hq_queue.specs.declared.account.Counts.{Counts}
 use Rattle.hq_queue.specs.declared.account.Head.{Head}
 use Rattle.hq_queue.specs.declared.message.Message.{Message}
+use Rattle.hq_text.specs.Reports.{report_text}
 use Rattle.hq_store.specs.Sound.{pending_count}
 use Rattle.hq_store.specs.declared.change.Change.{Change}
 use Rattle.hq_store.specs.declared.change.Change.TheVariants.{PutHead, PutMessage, DropMessage}
@@ -54,3 +56,8 @@ usage head counts ms = tell (answer.Used (record { counts = counts; pending = pe
 -- each accepted recipient is pending, or what became of it is tallied
 abbrev pub AreTold : Head → List Message → Type 0
 AreTold head ms = head.tally.accepted ≡ pending_count ms + head.tally.delivered + head.tally.failed + head.tally.deleted + head.tally.expired
+
+-- ---- the queue report
+
+abbrev pub report : List Message → Decision
+report ms = tell (answer.Reported (report_text ms))

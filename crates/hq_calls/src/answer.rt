@@ -7,6 +7,7 @@ use hq_access::{Action, Line, LookupKey, Refused};
 use hq_envelope::{Items, Refusal, Serial};
 use hq_queue::{Counts, Message, Tally};
 use hq_store::Notice;
+use hq_text::WrittenText;
 
 /// What putting a line did.
 #[derive(Clone, Copy, Debug, PartialEq, Eq, Drop)]
@@ -111,6 +112,8 @@ pub enum Answer {
     NoticeShown(Notice),
     /// What the customer has on the desk.
     Used(Usage),
+    /// The queue report.
+    Reported(WrittenText),
 }
 
 impl Answer {

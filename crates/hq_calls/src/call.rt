@@ -79,4 +79,6 @@ pub enum Call {
     Notice(u64),
     /// Tells what the customer has on the desk, and what became of its recipients.
     Usage,
+    /// Writes the queue report.
+    Report,
 }

@@ -8,8 +8,8 @@ use crate::answer::Answer;
 use crate::decision::{Decision, PAGE, refuse, tell};
 use hq_envelope::{Address, Host, Items, Moment, Refusal, Sender, TryCopy};
 use hq_queue::{Entry, Head, Message, Told};
-use hq_store::{Change, Notice, NoticeText};
-use hq_text::{Kind, human_text, status_text};
+use hq_store::{Change, Notice};
+use hq_text::{Kind, WrittenText, human_text, status_text};
 use std::alloc::{AllocError, Global};
 
 /// The number that no notice has: it says that all numbers are spent.
@@ -91,8 +91,8 @@ fn notice(
         serial: message.serial,
         at,
         to,
-        human: NoticeText::new(human),
-        status: NoticeText::new(status),
+        human: WrittenText::new(human),
+        status: WrittenText::new(status),
     })
 }
 

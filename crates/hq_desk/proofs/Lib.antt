@@ -1,4 +1,5 @@
 pub mod NoLines
+pub mod Paged
 pub mod Pages
 pub mod Reading
 pub mod ShelfLines

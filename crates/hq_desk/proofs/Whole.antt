@@ -21,7 +21,7 @@ few_after : (after : Option ℕ) (ms : List Message) → length ms ≤ 1000 → 
 few_after None ms h = h
 few_after (Some serial) ms h = let less = fewer (λ (m : Message). nat_lt serial m.serial) ms in omega arith
 
-few_messages : (customer : List ℕ) (t : Tables) → Sound t → length (read_tables customer t).messages ≤ 1000
+pub few_messages : (customer : List ℕ) (t : Tables) → Sound t → length (read_tables customer t).messages ≤ 1000
 few_messages customer t sound =
     let s = own customer t in
     let most = (sound.states customer).shaped.few_messages in

@@ -15,6 +15,7 @@ use crate::customer_lines::look_up;
 use crate::imports::decide_import;
 use crate::queues::{decide_delete_all, decide_move_all, decide_usage};
 use crate::relay::{decide_due, decide_outcome, decide_sweep};
+use crate::report::decide_report;
 use crate::submit::decide_submit;
 use hq_access::{Class, Line, Pattern, keys_of};
 use hq_calls::decision::{Decision, PAGE, refuse, tell};
@@ -244,6 +245,7 @@ fn decide<S: Shelf>(
             Ok(show_notice(alloc, found))
         }
         Call::Usage => decide_usage(shelf, alloc, entry),
+        Call::Report => decide_report(shelf, alloc, entry),
     }
 }
 

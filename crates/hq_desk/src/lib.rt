@@ -8,6 +8,7 @@ mod desk;
 mod imports;
 mod queues;
 mod relay;
+mod report;
 mod submit;
 
 pub use desk::{Desk, Render, Rendered};

@@ -64,3 +64,4 @@ answer_has_no_float (answer.Swept counts) = refl
 answer_has_no_float (answer.NoticesListed ns more) = rw (list_no_float notice_entry notice_no_float ns) refl
 answer_has_no_float (answer.NoticeShown n) = refl
 answer_has_no_float (answer.Used usage) = refl
+answer_has_no_float (answer.Reported text) = refl

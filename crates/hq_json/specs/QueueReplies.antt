@@ -1,6 +1,6 @@
--- What a customer is told of its use of the desk. Members stand in the order of their names.
-use Rattle.std.specs.Prelude.{[], ◌∷◌, codes}
-use Rattle.serde_json.specs.Data.{Data}
+-- What a customer is told of its use of the desk and of its queue. Members stand in the order of their names.
+use Rattle.std.specs.Prelude.{ℕ, List, [], ◌∷◌, codes}
+use Rattle.serde_json.specs.Data.{Data, string}
 use Rattle.hq_calls.specs.declared.answer.Usage.{Usage}
 use Rattle.hq_json.specs.Objects.{having, count}
 
@@ -17,3 +17,7 @@ used u = having (
     (codes "messages", count u.counts.messages) ∷
     (codes "pending", count u.pending) ∷
     [])
+
+-- the queue report as one text
+abbrev pub reported : List ℕ → Data
+reported text = having ((codes "report", string text) ∷ [])

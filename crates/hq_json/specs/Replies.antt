@@ -18,7 +18,7 @@ use Rattle.hq_calls.specs.declared.answer.Answer.TheVariants as answer
 use Rattle.hq_json.specs.AttemptReplies.{attempted, attempt_repeated, due_listed, swept}
 use Rattle.hq_json.specs.NoticeReplies.{notices_listed, notice_shown}
 use Rattle.hq_json.specs.Objects.{having, count, id, addresses}
-use Rattle.hq_json.specs.QueueReplies.{used}
+use Rattle.hq_json.specs.QueueReplies.{used, reported}
 use Rattle.hq_json.specs.TableReplies.{refused_list, lines_listed, line_put, line_dropped, checked, imported}
 
 -- ---- refusals
@@ -160,6 +160,7 @@ answer_data (answer.Swept counts) = swept counts
 answer_data (answer.NoticesListed ns more) = notices_listed ns more
 answer_data (answer.NoticeShown n) = notice_shown n
 answer_data (answer.Used usage) = used usage
+answer_data (answer.Reported text) = reported text
 
 -- the bytes of an answer
 unfoldable pub answer_text : Answer → List ℕ

@@ -1,4 +1,4 @@
-//! What a customer is told of its use of the desk, as JSON values.
+//! What a customer is told of its use of the desk and of its queue, as JSON values.
 
 ghost use Rattle.std.specs.Prelude.{◌≡◌, IfOk};
 ghost use Rattle.serde_json.specs.View.{view};
@@ -19,4 +19,11 @@ pub(crate) fn used_value(alloc: Global, usage: Usage) -> Result<Value, AllocErro
         "delivered": tally.delivered, "expired": tally.expired, "failed": tally.failed,
         "lines": counts.lines, "messages": counts.messages, "pending": usage.pending
     })
+}
+
+/// The queue report.
+pub(crate) fn reported_value(alloc: Global, report: &str) -> Result<Value, AllocError>
+    ensures { IfOk result (λ v. view v ≡ replies.reported report.now) }
+{
+    json!(in alloc; {"report": report})
 }

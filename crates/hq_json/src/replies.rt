@@ -11,7 +11,7 @@ ghost use Rattle.hq_json.specs.Objects as objects;
 use crate::attempt_replies::{attempted_value, due_value, repeated_attempt_value, swept_value};
 use crate::notice_replies::{notice_value, notices_value};
 use crate::objects::{address_list, id_value};
-use crate::queue_replies::used_value;
+use crate::queue_replies::{reported_value, used_value};
 use crate::table_replies::{
     checked_value, imported_value, line_dropped_value, line_put_value, lines_value, refused_list,
 };
@@ -221,6 +221,7 @@ fn answer_value(alloc: Global, answer: &Answer) -> Result<Value, AllocError>
         Answer::NoticesListed(notices, more) => notices_value(alloc, notices.as_slice(), *more),
         Answer::NoticeShown(notice) => notice_value(alloc, notice),
         Answer::Used(usage) => used_value(alloc, *usage),
+        Answer::Reported(report) => reported_value(alloc, report.as_str()),
     }
 }
 

@@ -7,7 +7,7 @@ use Rattle.matchit.specs.Route.{Scan, parse_route}
 use Rattle.matchit.specs.declared.error.InsertError.{InsertError}
 use Rattle.matchit.specs.Seek.{has_slash}
 use Rattle.hq_routes.specs.declared.Path.{Path}
-use Rattle.hq_routes.specs.declared.Path.TheVariants.{Messages, MessagesAfter, Message, Hold, Release, Requeue, HoldAll, ReleaseAll, DeleteAll, Import, Lines, LinesAfter, LinePut, LineDrop, Check, Notices, NoticesAfter, Notice, Usage, Submit, Outcome, Due, Sweep}
+use Rattle.hq_routes.specs.declared.Path.TheVariants.{Messages, MessagesAfter, Message, Hold, Release, Requeue, HoldAll, ReleaseAll, DeleteAll, Import, Lines, LinesAfter, LinePut, LineDrop, Check, Notices, NoticesAfter, Notice, Usage, Report, Submit, Outcome, Due, Sweep}
 
 -- what stands for a parameter at the end of a pattern: it is no byte
 abbrev pub parameter : ℕ
@@ -52,6 +52,7 @@ table =
     ∷ (codes "/v1/notices", Notices)
     ∷ (codes "/v1/release-all", ReleaseAll)
     ∷ (with_parameter (codes "/v1/release/"), Release)
+    ∷ (codes "/v1/report", Report)
     ∷ (with_parameter (codes "/v1/requeue/"), Requeue)
     ∷ (codes "/v1/usage", Usage)
     ∷ []

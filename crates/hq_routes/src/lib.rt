@@ -51,6 +51,8 @@ pub enum Path {
     Notice,
     /// `/v1/usage`
     Usage,
+    /// `/v1/report`
+    Report,
     /// `/relay/submit/{customer}`
     Submit,
     /// `/relay/outcome/{customer}`
@@ -62,7 +64,7 @@ pub enum Path {
 }
 
 /// Every path of the desk, as the router spells it.
-const PATHS: [(&str, Path); 23] = [
+const PATHS: [(&str, Path); 24] = [
     ("/v1/messages", Path::Messages),
     ("/v1/messages-after/{id}", Path::MessagesAfter),
     ("/v1/message/{id}", Path::Message),
@@ -82,6 +84,7 @@ const PATHS: [(&str, Path); 23] = [
     ("/v1/notices-after/{n}", Path::NoticesAfter),
     ("/v1/notice/{n}", Path::Notice),
     ("/v1/usage", Path::Usage),
+    ("/v1/report", Path::Report),
     ("/relay/submit/{customer}", Path::Submit),
     ("/relay/outcome/{customer}", Path::Outcome),
     ("/relay/due/{customer}", Path::Due),

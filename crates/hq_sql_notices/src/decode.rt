@@ -6,8 +6,8 @@ ghost use Rattle.hq_sql.specs.Rows.{kind_of, number_in, text_in, notice_shown};
 
 use hq_envelope::{Address, Moment, Serial};
 use hq_sql::read;
-use hq_store::{Notice, NoticeText};
-use hq_text::Kind;
+use hq_store::Notice;
+use hq_text::{Kind, WrittenText};
 use sqlite::{Error, Row};
 use std::alloc::Global;
 
@@ -49,11 +49,11 @@ fn address(alloc: Global, row: &Row, at: usize) -> Result<Address, Error>
     }
 }
 
-fn text(row: &Row, at: usize) -> Result<NoticeText, Error>
+fn text(row: &Row, at: usize) -> Result<WrittenText, Error>
     ensures { IfOk result (λ text. text ≡ text_in (column row.now at)) }
 {
     let text = read::text(row, at)?;
-    Ok(NoticeText::new(text))
+    Ok(WrittenText::new(text))
 }
 
 /// The notice of a row.

@@ -3,8 +3,8 @@
 
 use hq_envelope::{Address, Moment, Name, Serial};
 use hq_sql_shelf::SqlShelf;
-use hq_store::{Change, ListShelf, Notice, NoticeText, Shelf};
-use hq_text::Kind;
+use hq_store::{Change, ListShelf, Notice, Shelf};
+use hq_text::{Kind, WrittenText};
 use std::alloc::Global;
 use std::process::Abort;
 use std::test::Fail;
@@ -70,8 +70,8 @@ fn notice(alloc: Global, number: u64, kind: &str) -> Result<Notice, Fail> {
         serial: Serial::new(number.saturating_add(100)).ok_or("no serial")?,
         at: Moment::new(START.saturating_add(number)).ok_or("no moment")?,
         to: Address::parse(alloc, "ann@a.example")?,
-        human: NoticeText::new(human),
-        status: NoticeText::new(status),
+        human: WrittenText::new(human),
+        status: WrittenText::new(status),
     })
 }
 

@@ -20,7 +20,7 @@ use Rattle.hq_store.specs.Sound.{ShapedState, SoundState, AreApart, IsNext, pend
 use Rattle.hq_store.proofs.States.{change_shaped, none_some}
 use Rattle.hq_store.proofs.Conserved.{pending, pending_put, pending_drop}
 
-below : (a b : ℕ) → T (is_lt (nat_cmp a b)) → a < b
+pub below : (a b : ℕ) → T (is_lt (nat_cmp a b)) → a < b
 below a b h = ranked a b Less (sym (less _ h))
 
 -- ---- messages that stand in the queue, each at its serial, no serial twice
@@ -40,7 +40,7 @@ pub stand_kept : (q new : Queue) (k : ℕ) (ms : List Message) → ((x : ℕ) �
 stand_kept q new k [] same apart h = tt
 stand_kept q new k (m ∷ ms) same apart h = (same m.serial apart.0 ∙ h.0, h.1, stand_kept q new k ms same apart.1 h.2)
 
-abbrev AllFind : List (ℕ × Message) → List (ℕ × Message) → Type 0
+abbrev pub AllFind : List (ℕ × Message) → List (ℕ × Message) → Type 0
 AllFind all [] = Unit {0}
 AllFind all (e ∷ es) = (find nat_cmp e.0 all ≡ Some e.1) × AllFind all es
 
@@ -50,7 +50,7 @@ behind e all (x ∷ es) h f =
     let lt : e.0 < x.0 = below e.0 x.0 (first _ _ h) in
     (ap (λ b. cond b (Some e.1) (find nat_cmp x.0 all)) (tied_false exact_unsigned x.0 e.0 (λ same. absurd (omega arith))) ∙ f.0, behind e all es (second _ _ h) f.1)
 
-finds : (es : List (ℕ × Message)) → T (is_sorted nat_cmp es) → AllFind es es
+pub finds : (es : List (ℕ × Message)) → T (is_sorted nat_cmp es) → AllFind es es
 finds [] h = tt
 finds (e ∷ es) h = (ap (λ b. cond b (Some e.1) (find nat_cmp e.0 es)) (tied_true nat_cmp_total e.0), behind e es es (first _ _ h) (finds es (second _ _ h)))
 

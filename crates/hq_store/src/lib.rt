@@ -22,5 +22,5 @@ pub use account::Account;
 pub use change::Change;
 pub use list_shelf::ListShelf;
 pub use mark::Mark;
-pub use notice::{Notice, NoticeText};
+pub use notice::Notice;
 pub use shelf::Shelf;

@@ -256,6 +256,18 @@ impl Report {
         Ok(())
     }
 
+    /// Adds messages, in the order of the list. The only error is want of memory, and then some of
+    /// them may be added.
+    pub fn add_all(&mut self, messages: &[Message]) -> Result<(), AllocError>
+        ensures { (before : List Message) → self.old ≡ reports.written before
+            → OnOk result (self.new ≡ reports.written (before ++ messages.now)) }
+    {
+        for message in messages {
+            self.add(message)?;
+        }
+        Ok(())
+    }
+
     /// The text of the report of the messages that were added. The only error is want of memory.
     pub fn finish(self) -> Result<String, AllocError>
         ensures { (messages : List Message) → self ≡ reports.written messages
@@ -279,8 +291,6 @@ pub fn report_text(alloc: Global, messages: &[Message]) -> Result<String, AllocE
     ensures { IfOk result (λ text. string_bytes text ≡ reports.report_text messages.now) }
 {
     let mut report = Report::new(alloc);
-    for message in messages {
-        report.add(message)?;
-    }
+    report.add_all(messages)?;
     report.finish()
 }

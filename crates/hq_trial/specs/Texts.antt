@@ -132,6 +132,9 @@ tally t = number t.accepted ++ number t.delivered ++ number t.failed ++ number t
 abbrev pub used : Usage → List ℕ
 used u = codes "used" ++ number u.counts.messages ++ number u.counts.bytes ++ number u.counts.lines ++ number u.pending ++ tally u.tally
 
+abbrev pub reported : List ℕ → List ℕ
+reported text = codes "reported" ++ word text
+
 -- ---- every answer
 
 abbrev pub answer : Answer → List ℕ
@@ -156,3 +159,4 @@ answer (answers.Swept counts) = swept counts
 answer (answers.NoticesListed ns more) = notices ns more
 answer (answers.NoticeShown n) = notice n
 answer (answers.Used usage) = used usage
+answer (answers.Reported text) = reported text

@@ -2,7 +2,7 @@
 
 ghost use Rattle.std.specs.Prelude.{◌≡◌, ◌⊎◌};
 ghost use Rattle.hq_trial.specs.Trials.{opening};
-ghost use Rattle.hq_trial.specs.Shelves.{inner_of, trial_of};
+ghost use Rattle.hq_trial.specs.Shelves.{inner_of, trial_of, greatest_limit_of};
 
 use crate::failure::{Failure, Trial};
 use hq_access::{Action, Class, Line, LookupKey, Pattern};
@@ -19,6 +19,7 @@ use hq_store::{Change, Mark, Notice, Shelf};
 pub struct FailingShelf<S> {
     inner: S,
     trial: Trial,
+    greatest_limit: usize,
 }
 
 impl<S> FailingShelf<S> {
@@ -26,10 +27,12 @@ impl<S> FailingShelf<S> {
     pub fn new(inner: S, failure: Failure) -> FailingShelf<S>
         ensures inner { inner_of result ≡ inner }
         ensures trial { trial_of result ≡ opening failure }
+        ensures limit { greatest_limit_of result ≡ 0 }
     {
         FailingShelf {
             inner,
             trial: Trial::new(failure),
+            greatest_limit: 0,
         }
     }
 
@@ -46,6 +49,13 @@ impl<S> FailingShelf<S> {
         ensures { result ≡ (trial_of self.now).calls }
     {
         self.trial.calls
+    }
+
+    /// The greatest number of messages that was asked for at once; 0 where none were asked for.
+    pub fn greatest_limit(&self) -> usize
+        ensures { result ≡ greatest_limit_of self.now }
+    {
+        self.greatest_limit
     }
 }
 
@@ -100,6 +110,7 @@ impl<S: Shelf> Shelf for FailingShelf<S> {
         after: Option<Serial>,
         limit: usize,
     ) -> Result<Items<Message>, Fault> {
+        self.greatest_limit = self.greatest_limit.max(limit);
         let answer = match self.trial.count() {
             Some(fault) => Err(fault),
             None => self.inner.messages(customer, after, limit),

@@ -5,7 +5,7 @@ ghost use Rattle.hq_access.specs.Actions.{action_text};
 ghost use Rattle.hq_trial.specs.Texts as texts;
 
 use crate::relay_text::{
-    attempted_text, due_text, notice_text, notices_text, swept_text, used_text,
+    attempted_text, due_text, notice_text, notices_text, reported_text, swept_text, used_text,
 };
 use hq_access::{Action, Line, LookupKey, Refused};
 use hq_desk::{Answer, ImportCounts, LinePut, Render};
@@ -286,6 +286,7 @@ fn answer_text(alloc: Global, answer: &Answer) -> Result<String, AllocError>
         Answer::NoticesListed(notices, more) => notices_text(alloc, notices.as_slice(), *more),
         Answer::NoticeShown(notice) => notice_text(alloc, notice),
         Answer::Used(usage) => used_text(alloc, usage),
+        Answer::Reported(report) => reported_text(alloc, report.as_str()),
     }
 }
 

@@ -132,3 +132,12 @@ pub(crate) fn used_text(alloc: Global, usage: &Usage) -> Result<String, AllocErr
     push_tally(alloc, &mut text, &usage.tally)?;
     Ok(text)
 }
+
+/// The queue report behind a word, its lines as they are.
+pub(crate) fn reported_text(alloc: Global, report: &str) -> Result<String, AllocError>
+    ensures { IfOk result (λ text. string_bytes text ≡ texts.reported report.now) }
+{
+    let mut text = String::from_str(alloc, "reported")?;
+    push_word(&mut text, report)?;
+    Ok(text)
+}

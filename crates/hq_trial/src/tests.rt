@@ -113,6 +113,7 @@ fn call(alloc: Global, line: &str) -> Result<Call, Fail> {
         "release-all" => Ok(Call::ReleaseAll),
         "delete-all" => Ok(Call::DeleteAll),
         "usage" => Ok(Call::Usage),
+        "report" => Ok(Call::Report),
         "notices" => Ok(Call::Notices(None)),
         "notices-after" => Ok(Call::Notices(Some(word(line, 3).parse::<u64>()?))),
         "notice" => Ok(Call::Notice(word(line, 3).parse::<u64>()?)),

@@ -48,6 +48,7 @@ route_of path.Notices method = at_method method (codes "GET") route.Notices None
 route_of path.NoticesAfter method = at_method method (codes "GET") route.NoticesAfter None
 route_of path.Notice method = at_method method (codes "GET") route.Notice None
 route_of path.Usage method = at_method method (codes "GET") route.Usage None
+route_of path.Report method = at_method method (codes "GET") route.Report None
 route_of path.Submit method = at_method method (codes "POST") route.Submit None
 route_of path.Outcome method = at_method method (codes "POST") route.Outcome None
 route_of path.Due method = at_method method (codes "POST") route.Due None
@@ -108,6 +109,7 @@ asked_of route.Notice segment body = do
   number ← or_refuse BadField (number_in segment)
   Ok (call.Notice number)
 asked_of route.Usage segment body = Ok call.Usage
+asked_of route.Report segment body = Ok call.Report
 asked_of route.Submit segment body = do
   submission ← read_submission body
   Ok (call.Submit submission)

@@ -71,6 +71,8 @@ pub(crate) enum Route {
     Notice,
     /// What the customer has on the desk.
     Usage,
+    /// The queue report.
+    Report,
     /// A message for the queue.
     Submit,
     /// The report of an attempt.
@@ -107,6 +109,7 @@ fn route_of(path: Path, method: &str) -> Option<Route>
         Path::NoticesAfter if method == "GET" => Some(Route::NoticesAfter),
         Path::Notice if method == "GET" => Some(Route::Notice),
         Path::Usage if method == "GET" => Some(Route::Usage),
+        Path::Report if method == "GET" => Some(Route::Report),
         Path::Submit if method == "POST" => Some(Route::Submit),
         Path::Outcome if method == "POST" => Some(Route::Outcome),
         Path::Due if method == "POST" => Some(Route::Due),
@@ -188,6 +191,7 @@ fn asked_of(alloc: Global, route: Route, segment: &str, body: &[u8]) -> Result<C
             Ok(Call::Notice(number))
         }
         Route::Usage => Ok(Call::Usage),
+        Route::Report => Ok(Call::Report),
         Route::Submit => Ok(Call::Submit(read_submission(alloc, body)?)),
         Route::Outcome => Ok(Call::Outcome(read_report(alloc, body)?)),
         Route::Due => Ok(Call::Due(read_due(alloc, body)?)),

@@ -1,6 +1,7 @@
 //! Each kind of call over the plain lists, in lines and answers.
 
 use super::{counted, kept, told, word};
+use crate::{FailingShelf, Failure};
 use hq_envelope::{Fault, Name};
 use hq_queue::{Head, Tally};
 use hq_store::{Change, ListShelf, Shelf};
@@ -257,14 +258,19 @@ fn answers(rt: HostRuntime) -> Result<(), Fail> {
     Ok(())
 }
 
-/// The answer to a line after cedar has submitted so many messages.
-fn after_submits(alloc: Global, count: u64, line: &str) -> Result<String, Fail> {
+/// A shelf after cedar has submitted so many messages.
+fn with_submits(alloc: Global, count: u64) -> Result<ListShelf, Fail> {
     let mut shelf = ListShelf::new(alloc);
     for number in 1..=count {
         let line = format!(in alloc; "0 cedar submit s{number} 1 <> a@x b@x")?;
         (shelf, _) = told(alloc, shelf, line.as_str())?;
     }
-    let (_, text) = told(alloc, shelf, line)?;
+    Ok(shelf)
+}
+
+/// The answer to a line after cedar has submitted so many messages.
+fn after_submits(alloc: Global, count: u64, line: &str) -> Result<String, Fail> {
+    let (_, text) = told(alloc, with_submits(alloc, count)?, line)?;
     Ok(text)
 }
 
@@ -287,5 +293,20 @@ fn a_page_is_a_hundred(rt: HostRuntime) -> Result<(), Fail> {
         let want = format!(in alloc; "0 listed{page} {end}")?;
         assert_eq!(rt; after_submits(alloc, count, line)?, want);
     }
+    Ok(())
+}
+
+/// A report of 250 messages asks for no more than a hundred at a time.
+#[test]
+fn a_report_asks_for_a_hundred(rt: HostRuntime) -> Result<(), Fail> {
+    let alloc = rt.alloc();
+    let shelf = FailingShelf::new(with_submits(alloc, 250)?, Failure::DiskOnce { at: 0 });
+    let (shelf, text) = told(alloc, shelf, "0 cedar report")?;
+    assert_eq!(rt; shelf.greatest_limit(), 100);
+    assert!(rt;
+        text.as_str()
+            .ends_with("-- 250 queued, 250 bytes, 0 on hold\n"),
+        "{text}"
+    );
     Ok(())
 }

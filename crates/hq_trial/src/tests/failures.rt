@@ -16,7 +16,7 @@ const BEFORE: [&str; 4] = [
 ];
 
 /// A call of each kind that is then made to fail, and one that is refused.
-const CALLS: [&str; 9] = [
+const CALLS: [&str; 14] = [
     "3 acme submit s2 11 ann@a.example fay@far.example FAY@far.example",
     "3 acme hold 1",
     "3 acme submit s1 11 ann@a.example fay@far.example",
@@ -26,6 +26,11 @@ const CALLS: [&str; 9] = [
     "3 birch requeue 1",
     "3 birch delete 2",
     "3 acme delete 2",
+    "3 birch hold-all",
+    "3 birch release-all",
+    "3 birch delete-all",
+    "3 birch usage",
+    "3 birch report",
 ];
 
 /// A shelf after these lines.
@@ -130,6 +135,6 @@ fn every_call_after_closing(rt: HostRuntime) -> Result<(), Fail> {
         shelf = next;
         assert_eq!(rt; text.as_str(), "fault 93 Closed", "{line}");
     }
-    assert_eq!(rt; shelf.faults(), 9);
+    assert_eq!(rt; shelf.faults(), 14);
     Ok(())
 }
