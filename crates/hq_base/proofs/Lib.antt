@@ -1,4 +1,5 @@
 pub mod Ascii
+pub mod Digits
 pub mod Hex
 pub mod QueueIds
 pub mod Truths

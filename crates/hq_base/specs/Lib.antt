@@ -1,3 +1,4 @@
+pub mod Decimals
 pub mod Moments
 pub mod Readers
 pub mod Refusals

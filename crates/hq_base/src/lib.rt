@@ -4,12 +4,14 @@
 #![tactic(auto)]
 
 mod copies;
+mod decimal;
 mod failure;
 pub mod laws;
 mod moment;
 mod serial;
 
 pub use copies::{Items, TryCopy, copy_all};
+pub use decimal::read_number;
 pub use failure::{Fail, Fault, Refusal};
 pub use moment::Moment;
 pub use serial::Serial;

@@ -2,7 +2,6 @@ mod Apart
 mod Enough
 mod Headers
 mod Limits
-mod Numbers
 mod Patterns
 mod Reading
 mod Seeing

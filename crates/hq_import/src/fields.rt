@@ -1,12 +1,13 @@
 //! The fields of a row.
 
-ghost use Rattle.std.specs.Prelude.{◌≡◌, ◌≤◌, ℕ, length, option_map, Result};
+ghost use Rattle.std.specs.Prelude.{◌≡◌, ℕ, option_map, Result};
 ghost use Rattle.csv.specs.Records.{fields_of};
 ghost use Rattle.hq_base.specs.Readers.{Reads};
 ghost use Rattle.hq_base.specs.declared.failure.Refusal.{Refusal as AnyRefusal};
-ghost use Rattle.hq_import.specs.Fields.{text_in, text_at, number_from, number_in, number_at, told_as};
+ghost use Rattle.hq_import.specs.Fields.{text_in, text_at, number_at, told_as};
 
 use csv::ByteRecord;
+use hq_base::read_number;
 use hq_envelope::{Fail, Refusal};
 
 /// The most digits of a number.
@@ -33,38 +34,12 @@ pub(crate) fn text_at(row: &ByteRecord, place: usize) -> Option<&str>
     }
 }
 
-/// The number that at most 13 decimal digits write.
-fn read_number(field: &[u8]) -> Option<u64>
-    requires { length field.now ≤ 13 }
-    ensures { result ≡ number_from 0 field.now }
-{
-    let mut number = 0;
-    for byte in field {
-        if !byte.is_ascii_digit() {
-            return None;
-        }
-        number = number * 10 + u64::from(*byte - b'0');
-    }
-    Some(number)
-}
-
-/// The number that 1 to 13 decimal digits write.
-#[tactic(auto, unfolding(crate::specs::Fields::number_in))]
-fn number_in(field: &[u8]) -> Option<u64>
-    ensures { result ≡ number_in field.now }
-{
-    if field.is_empty() || field.len() > MOST_DIGITS {
-        return None;
-    }
-    read_number(field)
-}
-
 /// The number at a place.
 pub(crate) fn number_at(row: &ByteRecord, place: usize) -> Option<u64>
     ensures { result ≡ number_at place (fields_of row.now) }
 {
     match row.get(place) {
-        Some(field) => number_in(field),
+        Some(field) => read_number(field, MOST_DIGITS),
         None => None,
     }
 }

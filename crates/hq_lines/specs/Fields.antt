@@ -1,6 +1,7 @@
 -- The fields of a batch line: AT METHOD PATH KEY BODY, parted by one space each.
-use Rattle.std.specs.Prelude.{ℕ, ◌+◌, ◌-◌, ◌*◌, ◌==◌, ◌&&◌, nat_lt, nat_le, if◌then◌else◌, List, [], ◌∷◌, length, take, drop, position, bytes_eq, codes, Option, Some, None, option_map}
+use Rattle.std.specs.Prelude.{ℕ, ◌+◌, ◌==◌, ◌&&◌, nat_lt, nat_le, if◌then◌else◌, List, [], ◌∷◌, length, take, drop, position, bytes_eq, codes, Option, Some, None, option_map}
 use Rattle.std.specs.Str.{is_utf8}
+use Rattle.hq_base.specs.Decimals.{number_in}
 use Rattle.hq_lines.specs.declared.fields.RequestLine.{RequestLine}
 
 infixl 10 ◌>>=◌
@@ -25,18 +26,13 @@ cut_at bytes (Some place) = (take place bytes, Some (drop (place + 1) bytes))
 unfoldable pub cut : List ℕ → List ℕ × Option (List ℕ)
 cut bytes = cut_at bytes (position (λ b. b == 32) bytes)
 
--- the number that decimal digits go on to write behind those of another number
-abbrev pub number_from : ℕ → List ℕ → Option ℕ
-number_from n [] = Some n
-number_from n (b ∷ bytes) = if nat_le 48 b && nat_le b 57 then number_from (n * 10 + (b - 48)) bytes else None
-
 -- a moment is at most the last second of the year 2099
 abbrev pub in_range : ℕ → Option ℕ
 in_range n = if nat_le n 4102444799 then Some n else None
 
 -- 1 to 10 decimal digits of a moment
 unfoldable pub moment_in : List ℕ → Option ℕ
-moment_in field = if nat_lt 0 (length field) && nat_le (length field) 10 then number_from 0 field >>= in_range else None
+moment_in field = number_in 10 field >>= in_range
 
 -- a field is UTF-8 and not empty
 abbrev pub text_in : List ℕ → Option (List ℕ)

@@ -1,10 +1,10 @@
 //! The fields of a batch line: `AT METHOD PATH KEY BODY`. Where a line begins and ends is not told
 //! here.
 
-ghost use Rattle.std.specs.Prelude.{◌≡◌, ◌<◌, ◌≤◌, ◌==◌, length, position, IfSome, option_map};
-ghost use Rattle.hq_lines.specs.Fields.{cut, number_from, moment_in, text_in, key_in, fields_in, request_in, shown};
+ghost use Rattle.std.specs.Prelude.{◌≡◌, ◌<◌, ◌==◌, length, position, IfSome, option_map};
+ghost use Rattle.hq_lines.specs.Fields.{cut, moment_in, text_in, key_in, fields_in, request_in, shown};
 
-use hq_base::Moment;
+use hq_base::{Moment, read_number};
 
 /// The most bytes of a line that is read, a carriage return before its line feed among them.
 pub(crate) const MOST_LINE_BYTES: usize = 300_000;
@@ -46,30 +46,12 @@ fn cut(bytes: &[u8]) -> (&[u8], Option<&[u8]>)
     }
 }
 
-/// The number that at most 10 decimal digits write.
-fn read_number(field: &[u8]) -> Option<u64>
-    requires { length field.now ≤ 10 }
-    ensures { result ≡ number_from 0 field.now }
-{
-    let mut number = 0;
-    for byte in field {
-        if !byte.is_ascii_digit() {
-            return None;
-        }
-        number = number * 10 + u64::from(*byte - b'0');
-    }
-    Some(number)
-}
-
 /// The moment that 1 to 10 decimal digits write.
 #[tactic(auto, unfolding(crate::specs::Fields::moment_in))]
 fn read_moment(field: &[u8]) -> Option<Moment>
     ensures { result ≡ moment_in field.now }
 {
-    if field.is_empty() || field.len() > MOST_MOMENT_DIGITS {
-        return None;
-    }
-    Moment::new(read_number(field)?)
+    Moment::new(read_number(field, MOST_MOMENT_DIGITS)?)
 }
 
 /// A field of text that is not empty.

@@ -88,8 +88,8 @@ impl Status {
         })
     }
 
-    /// `4.0.0`: a failure that may pass, of which no more is known (RFC 3463, 3.1 and 3.2). Takes no
-    /// memory.
+    /// `4.0.0`: a failure that may pass, of which no more is known (RFC 3463, 3.1 and 3.2). Takes
+    /// no memory.
     pub fn unknown() -> Status
         ensures { result ≡ unknown_status }
     {

@@ -1,5 +1,4 @@
 pub mod Alone
-pub mod Digits
 pub mod Entries
 pub mod Exchanging
 pub mod Serving

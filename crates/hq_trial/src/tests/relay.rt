@@ -171,8 +171,9 @@ const SPENT: &[(&str, &str)] = &[
     ("3600 acme sweep", "44 refused 44 NoticesSpent"),
     (
         "0 acme kept",
-        "Head { next_serial: 3, next_notice: 1099511627776, tally: Tally { accepted: 2, delivered: 0, \
-         failed: 0, deleted: 0, expired: 0 } } Counts { messages: 2, bytes: 909, lines: 0 } message \
+        "Head { next_serial: 3, next_notice: 1099511627776, tally: Tally { accepted: 2, \
+         delivered: 0, failed: 0, deleted: 0, expired: 0 } } Counts { messages: 2, bytes: 909, \
+         lines: 0 } message \
          1 incoming s1 900 1767225600 1767225600 0 unwarned ann@a.example bob@far.example message \
          2 incoming s2 9 1767225600 1767225600 0 unwarned  bob@far.example",
     ),

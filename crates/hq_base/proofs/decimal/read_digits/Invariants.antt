@@ -1,10 +1,10 @@
 use Rattle.std.proofs.Common.{◌≡◌, ◌<◌, ◌^◌, drop}
-use Rattle.hq_lines.specs.Fields.{number_from}
-use Rattle.hq_lines.proofs.fields.read_number.Given as goal
+use Rattle.hq_base.specs.Decimals.{number_from}
+use Rattle.hq_base.proofs.decimal.read_digits.Given as goal
 
 -- the digits that are left go on from the number
 abbrev pub invariant-loop-byte : goal.invariant-loop-byte
 invariant-loop-byte l = record {
-  left : number_from l.number (drop l.byte-index l.field) ≡ number_from 0 l.field;
+  left : number_from l.number (drop l.byte-index l.digits) ≡ number_from 0 l.digits;
   small : l.number < 10 ^ l.byte-index;
 }

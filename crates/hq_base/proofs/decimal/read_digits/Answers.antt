@@ -1,6 +1,6 @@
 use Rattle.std.proofs.Common.{◌<◌, arith}
-use Rattle.hq_wire.proofs.Digits.{below_all}
-use Rattle.hq_wire.proofs.number.read_number.Goals as goal
+use Rattle.hq_base.proofs.Digits.{below_all}
+use Rattle.hq_base.proofs.decimal.read_digits.Goals as goal
 
 pub overflow_mul-number : goal.overflow_mul-number
 overflow_mul-number c =
