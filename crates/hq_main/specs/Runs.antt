@@ -1,6 +1,7 @@
 -- What the program does: with lines of the built-in customers, from an empty desk in memory; with those of a directory; and
 -- with its words.
-use Rattle.std.specs.Prelude.{◌≡◌, ◌≤◌, ⊤, ℕ, [], List, map, Option, Some, None, Result, Ok, Err, IfOk}
+use Rattle.std.specs.Prelude.{◌≡◌, ◌≤◌, ⊤, ℕ, [], List, map, Option, Some, None, Result, Ok, Err, IfOk, string_bytes}
+use Rattle.std.specs.Io.KnownBytes.{Appends}
 use Rattle.std.specs.declared.alloc.AllocError.{AllocError}
 use Rattle.hq_base.specs.Refusals.{no_memory}
 use Rattle.hq_store.specs.Tables.{Tables, no_tables}
@@ -8,6 +9,7 @@ use Rattle.hq_wire.specs.Replies.{SeenReply, store_faults}
 use Rattle.hq_wire.specs.Runs.{AllReplied, Alone}
 use Rattle.hq_settings.specs.Seen.{settings_seen}
 use Rattle.hq_settings.specs.declared.settings.Settings.{Settings}
+use Rattle.hq_desk.specs.declared.desk.Rendered.{Rendered}
 use Rattle.hq_lines.specs.Fields.{Request}
 use Rattle.hq_lines.specs.Lines.{Streams}
 use Rattle.hq_batch.specs.Batches.{ask_in, reply_line}
@@ -16,9 +18,13 @@ use Rattle.hq_program.specs.Runs.{RunEnds, Exits}
 use Rattle.hq_program.specs.SettingUp.{SetsUp}
 use Rattle.hq_program.specs.declared.trouble.Trouble.{Trouble}
 use Rattle.hq_sql_program.specs.Runs.{MemoryEnds}
-use Rattle.hq_words.specs.Asked.{Given, Says, given_of}
+use Rattle.hq_program.specs.Printing.{IsPrinted}
+use Rattle.hq_sql_admin.specs.Words.{QueueEnds, ImportEnds, SweepEnds}
+use Rattle.hq_words.specs.Asked.{BatchGiven, Says, given_of}
+use Rattle.hq_words.specs.declared.words.Asked.{Asked}
+use Rattle.hq_words.specs.declared.words.Asked.TheVariants.{Batch, Queue, Import, Sweep}
 use Rattle.hq_words.specs.declared.words.Words.{Words}
-use Rattle.hq_words.specs.declared.words.Words.TheVariants.{Builtin, Batch, Help, Refused}
+use Rattle.hq_words.specs.declared.words.Words.TheVariants.{Builtin, Asked as OfWord, Help, Refused}
 
 -- What lines ask for is replied to as a batch of the built-in customers from empty tables, with no fault but want of
 -- memory; to each customer the desk is its own.
@@ -39,16 +45,29 @@ SetEnds store untouched old new (Err trouble) result = untouched × (result ≡ 
 SetEnds None untouched old new (Ok set) result = MemoryEnds set untouched old new result
 SetEnds (Some path) untouched old new (Ok set) result = ⊤
 
-abbrev pub BatchEnds : Given → Type 0 → Streams → Streams → Result ⊤ Trouble → Type 0
+abbrev pub BatchEnds : BatchGiven → Type 0 → Streams → Streams → Result ⊤ Trouble → Type 0
 BatchEnds given untouched old new result =
     (set : Result Settings Trouble) × SetsUp given.host given.relay_key set × SetEnds given.store untouched old new set result
+
+-- one call, and how it is printed; nothing is read
+abbrev pub Prints : (Result Rendered Trouble → Type 0) → Type 0 → Type 0 → Streams → Streams → ℕ → Type 0
+Prints ends unread unwritten old new status =
+    unread × ((done : Result Rendered Trouble) × ends done × IsPrinted done unwritten old.output new.output status)
+
+-- what is done for a word
+abbrev pub DoesWord : Asked → Type 0 → Type 0 → Streams → Streams → ℕ → Type 0
+DoesWord (Batch given) unread unwritten old new status =
+    Exits (BatchEnds (given_of given) (unread × unwritten) old new) status
+DoesWord (Queue given) unread unwritten old new status = Prints (QueueEnds given) unread unwritten old new status
+DoesWord (Import given) unread unwritten old new status = Prints (ImportEnds given) unread unwritten old new status
+DoesWord (Sweep given) unread unwritten old new status = Prints (SweepEnds given) unread unwritten old new status
 
 -- what is done for what words ask, and the exit status; want of memory may come in place of what they ask
 abbrev pub Does : Result Words AllocError → Type 0 → Type 0 → Streams → Streams → ℕ → Type 0
 Does (Ok Builtin) unread unwritten old new status = Exits (RunEnds Serves (unread × unwritten) old new) status
-Does (Ok (Batch batch)) unread unwritten old new status =
-    Exits (BatchEnds (given_of batch) (unread × unwritten) old new) status
-Does (Ok (Help text)) unread unwritten old new status = unread × (status ≤ 1)
+Does (Ok (OfWord asked)) unread unwritten old new status = DoesWord asked unread unwritten old new status
+Does (Ok (Help text)) unread unwritten old new status =
+    unread × (status ≤ 1) × (status ≡ 0 → Appends old.output new.output (string_bytes text))
 Does (Ok (Refused text)) unread unwritten old new status = unread × unwritten × (status ≡ 2)
 Does (Err error) unread unwritten old new status = unread × unwritten × (status ≡ 1)
 

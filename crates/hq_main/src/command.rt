@@ -3,13 +3,14 @@
 ghost use Rattle.std.specs.Prelude.{◌≡◌, [], map as map_list, string_bytes};
 ghost use Rattle.hq_program.specs.Runs.{RunEnds, Exits};
 ghost use Rattle.hq_words.specs.Asked.{given_of};
-ghost use Rattle.hq_main.specs.Runs.{Serves, BatchEnds, Commands};
+ghost use Rattle.hq_main.specs.Runs.{Serves, BatchEnds, DoesWord, Commands};
 
 use hq_envelope::Fault;
-use hq_program::{Trouble, builtin_settings, refuse, serve, set_up, show, tell};
+use hq_program::{Trouble, builtin_settings, print, refuse, serve, set_up, show, tell};
+use hq_sql_admin::{import, queue, sweep};
 use hq_sql_program::serve_stored;
 use hq_store::ListShelf;
-use hq_words::{Batch, Words, read_words};
+use hq_words::{Asked, Batch, Words, read_words};
 use std::io::{Read, Write};
 
 /// Serves the built-in customers from an empty desk in memory, over plain lists.
@@ -42,12 +43,33 @@ fn serve_batch<R: Read, W: Write>(
     serve_stored(rt, batch.store, settings, input, output)
 }
 
+/// Does what a word of the program asks for, and answers the exit status.
+fn do_word<R: Read, W: Write, E: Write>(
+    rt: &HostRuntime,
+    asked: &Asked,
+    input: &mut R,
+    output: &mut W,
+    errors: &mut E,
+) -> u8
+    ensures { DoesWord asked.now (input.new ≡ input.old) (output.new ≡ output.old)
+        (record { input = R.remaining input.old; output = W.contents output.old })
+        (record { input = R.remaining input.new; output = W.contents output.new }) result }
+{
+    match asked {
+        Asked::Batch(batch) => tell(serve_batch(rt, batch, input, output), errors),
+        Asked::Queue(given) => print(queue(rt, given), output, errors),
+        Asked::Import(given) => print(import(rt, given), output, errors),
+        Asked::Sweep(given) => print(sweep(rt, given), output, errors),
+    }
+}
+
 /// Runs the program with the words after its name, and answers its exit status: 0 when the input
-/// has ended or help was shown, 1 for a refusal or a fault, 2 for words that are not taken. Each of
-/// the last two is told on `errors`, where that can be written.
+/// has ended, a call was done and printed, or help was shown; 1 for a refusal or a fault; 2 for
+/// words that are not taken. Each of the last two is told on `errors`, where that can be written.
 ///
 /// After a failed input the whole lines before are replied to; after a failed output the exchanges
-/// of the first lines are done; where the desk could not begin, nothing is read or written.
+/// of the first lines, or the call, are done; where the desk could not begin, nothing is read or
+/// written.
 pub fn command<R: Read, W: Write, E: Write>(
     rt: &HostRuntime,
     words: &[String],
@@ -69,10 +91,7 @@ pub fn command<R: Read, W: Write, E: Write>(
             let ended = serve_lists(rt, input, output);
             tell(ended, errors)
         }
-        Ok(Words::Batch(batch)) => {
-            let ended = serve_batch(rt, &batch, input, output);
-            tell(ended, errors)
-        }
+        Ok(Words::Asked(asked)) => do_word(rt, &asked, input, output, errors),
         Ok(Words::Help(text)) => show(text.as_str(), output, errors),
         Ok(Words::Refused(text)) => refuse(text.as_str(), errors),
         Err(_) => tell(Err(Trouble::from(Fault::WantOfMemory)), errors),

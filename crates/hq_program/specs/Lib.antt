@@ -1,3 +1,4 @@
 pub mod Builtin
+pub mod Printing
 pub mod Runs
 pub mod SettingUp

@@ -23,8 +23,8 @@ fn first_bytes(rt: &HostRuntime, path: &str) -> io::Result<Vec<u8>> {
     Ok(bytes)
 }
 
-/// The first bytes of a file that words name; or want of memory, or that it cannot be read.
-fn file_of(rt: &HostRuntime, path: &str) -> Result<Vec<u8>, Trouble>
+/// The first 262,145 bytes of a file that words name; or want of memory, or that it cannot be read.
+pub fn file_of(rt: &HostRuntime, path: &str) -> Result<Vec<u8>, Trouble>
     ensures { IfErr result IsUnread }
 {
     match first_bytes(rt, path) {

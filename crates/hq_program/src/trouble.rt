@@ -1,6 +1,6 @@
 //! Why a program ended before its input, how that is told, and its exit status.
 
-ghost use Rattle.std.specs.Prelude.{◌≡◌, ◌≤◌, Some};
+ghost use Rattle.std.specs.Prelude.{◌≡◌, Some};
 ghost use Rattle.std.specs.IoError.{error_kind};
 ghost use Rattle.hq_base.specs.declared.failure.Fail.TheVariants.{Fault as AsFault};
 ghost use Rattle.hq_program.specs.Runs.{trouble_of, trouble_shown, status};
@@ -11,11 +11,11 @@ use hq_envelope::{Fail, Fault};
 use std::fmt;
 use std::io::{self, ErrorKind, Write};
 
-/// The exit status when the input has ended.
-const DONE: u8 = 0;
+/// The exit status when all is done.
+pub(crate) const DONE: u8 = 0;
 
 /// The exit status of a refusal or a fault.
-const FAILED: u8 = 1;
+pub(crate) const FAILED: u8 = 1;
 
 /// The exit status of words that are not taken.
 pub const BAD_WORDS: u8 = 2;
@@ -72,17 +72,6 @@ impl From<EngineFault> for Trouble {
             EngineFault::WantOfMemory => Trouble::Desk(Fail::Fault(Fault::WantOfMemory)),
         }
     }
-}
-
-/// Shows a text that was asked for, and answers the exit status: 0, or 1 where it cannot be
-/// written.
-pub fn show<W: Write, E: Write>(text: &str, output: &mut W, errors: &mut E) -> u8
-    ensures { result ≤ 1 }
-{
-    let shown = output
-        .write_all(text.as_bytes())
-        .and_then(|()| output.flush());
-    tell(shown.map_err(|_| Trouble::Output), errors)
 }
 
 /// Tells in a text why words are not taken, and answers the exit status, 2.

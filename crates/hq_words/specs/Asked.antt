@@ -1,5 +1,7 @@
 -- What words ask for.
-use Rattle.std.specs.Prelude.{◌≡◌, ◌≢◌, ◌⊎◌, List, [], codes, Option, Some, None, option_map, option_and_then}
+use Rattle.std.specs.Prelude.{◌≡◌, ◌≢◌, ◌≤◌, ◌⊎◌, ⊤, ℕ, List, [], codes, bytes_eq, if◌then◌else◌}
+use Rattle.std.specs.Prelude.{Option, Some, None, option_map, option_and_then}
+use Rattle.std.specs.Str.Parse.{IsNumeral, digits_value, without_leading_plus}
 use Rattle.clap.specs.Faults.{fault_of}
 use Rattle.clap.specs.Kinds.{IsAmong}
 use Rattle.clap.specs.Simple.{subcommand_of}
@@ -7,18 +9,115 @@ use Rattle.clap.specs.Walk.{Row, Text, first_of}
 use Rattle.clap.specs.declared.error.kind.ErrorKind.{ErrorKind}
 use Rattle.clap.specs.declared.error.kind.ErrorKind.TheVariants.{DisplayHelp}
 use Rattle.hq_words.specs.Program.{program}
-use Rattle.hq_words.specs.declared.words.Batch.{Batch}
+use Rattle.hq_words.specs.declared.options.Batch.{Batch}
+use Rattle.hq_words.specs.declared.options.Queue.{Queue}
+use Rattle.hq_words.specs.declared.options.Import.{Import}
+use Rattle.hq_words.specs.declared.options.Sweep.{Sweep}
+use Rattle.hq_words.specs.declared.words.Asked.{Asked}
+use Rattle.hq_words.specs.declared.words.Asked.TheVariants as asked
 use Rattle.hq_words.specs.declared.words.Words.{Words}
-use Rattle.hq_words.specs.declared.words.Words.TheVariants.{Builtin, Batch as OfBatch, Help, Refused}
+use Rattle.hq_words.specs.declared.words.Words.TheVariants.{Builtin, Asked as OfWord, Help, Refused}
 
--- the texts that the word `batch` is given
-pub record Given : Type 0 where
+-- ---- the texts that words are given
+
+pub record BatchGiven : Type 0 where
   pub directory : Text
   pub host : Text
   pub relay_key : Text
   pub store : Option Text
 
-abbrev pub given_of : Batch → Given
+pub record QueueGiven : Type 0 where
+  pub directory : Text
+  pub store : Text
+  pub customer : Text
+
+pub record ImportGiven : Type 0 where
+  pub directory : Text
+  pub store : Text
+  pub customer : Text
+  pub label : Text
+  pub file : Text
+
+pub record SweepGiven : Type 0 where
+  pub directory : Text
+  pub host : Text
+  pub store : Text
+  pub customer : Text
+  pub at : Text
+
+pub data Given : Type 0 where
+  OfBatch : BatchGiven → Given
+  OfQueue : QueueGiven → Given
+  OfImport : ImportGiven → Given
+  OfSweep : SweepGiven → Given
+
+infixl 10 ◌>>=◌
+-- a value, and what is made of it
+abbrev pub ◌>>=◌ : {A B : Type 0} → Option A → (A → Option B) → Option B
+found >>= next = option_and_then next found
+
+-- the values of the options of each word, the first of each, in the written order; all but the store of a batch are there
+abbrev pub batch_in : List Row → Option BatchGiven
+batch_in rows = do
+  directory ← first_of (codes "directory") rows
+  host ← first_of (codes "host") rows
+  relay_key ← first_of (codes "relay-key") rows
+  Some (record { directory = directory; host = host; relay_key = relay_key; store = first_of (codes "store") rows })
+
+abbrev pub queue_in : List Row → Option QueueGiven
+queue_in rows = do
+  directory ← first_of (codes "directory") rows
+  store ← first_of (codes "store") rows
+  customer ← first_of (codes "customer") rows
+  Some (record { directory = directory; store = store; customer = customer })
+
+abbrev pub import_in : List Row → Option ImportGiven
+import_in rows = do
+  directory ← first_of (codes "directory") rows
+  store ← first_of (codes "store") rows
+  customer ← first_of (codes "customer") rows
+  label ← first_of (codes "label") rows
+  file ← first_of (codes "file") rows
+  Some (record { directory = directory; store = store; customer = customer; label = label; file = file })
+
+abbrev pub sweep_in : List Row → Option SweepGiven
+sweep_in rows = do
+  directory ← first_of (codes "directory") rows
+  host ← first_of (codes "host") rows
+  store ← first_of (codes "store") rows
+  customer ← first_of (codes "customer") rows
+  at ← first_of (codes "at") rows
+  Some (record { directory = directory; host = host; store = store; customer = customer; at = at })
+
+-- what a word is given
+abbrev pub given_in : Text → List Row → Option Given
+given_in word rows =
+    if bytes_eq word (codes "batch") then option_map OfBatch (batch_in rows)
+    else if bytes_eq word (codes "queue") then option_map OfQueue (queue_in rows)
+    else if bytes_eq word (codes "import") then option_map OfImport (import_in rows)
+    else if bytes_eq word (codes "sweep") then option_map OfSweep (sweep_in rows)
+    else None
+
+-- what words give
+abbrev pub given_by : List Text → Option Given
+given_by words = option_and_then (λ found. given_in found.0 found.1) (subcommand_of program words)
+
+-- ---- what they ask for
+
+-- the number that a text writes in decimal digits, behind a plus sign or not
+abbrev pub number_of : Text → ℕ
+number_of text = digits_value 10 (without_leading_plus text)
+
+-- a text of a moment, in seconds since 1970, up to the last one of the year 2099
+abbrev pub NamesAMoment : Text → Type 0
+NamesAMoment text = IsNumeral 10 (without_leading_plus text) × (number_of text ≤ 4102444799)
+
+-- the moment that a text names, or none where it names none
+abbrev pub IsMoment : Text → Option ℕ → Type 0
+IsMoment text (Some seconds) = NamesAMoment text × (seconds ≡ number_of text)
+IsMoment text None = NamesAMoment text → ⊥
+
+abbrev pub given_of : Batch → BatchGiven
 given_of b = record {
   directory = b.directory.now;
   host = b.host.now;
@@ -26,16 +125,46 @@ given_of b = record {
   store = option_map (λ s. s.now) b.store;
 }
 
--- the values of its options; the first three are there
-abbrev pub given_in : List Row → Option Given
-given_in rows =
-    option_and_then (λ directory. option_and_then (λ host. option_map (λ relay_key.
-    record { directory = directory; host = host; relay_key = relay_key; store = first_of (codes "store") rows })
-    (first_of (codes "relay-key") rows)) (first_of (codes "host") rows)) (first_of (codes "directory") rows)
+abbrev pub queue_of : Queue → QueueGiven
+queue_of q = record { directory = q.directory.now; store = q.store.now; customer = q.customer.now }
 
--- what words of a batch give
-abbrev pub given_by : List Text → Option Given
-given_by words = option_and_then (λ found. given_in found.1) (subcommand_of program words)
+abbrev pub import_of : Import → ImportGiven
+import_of i = record {
+  directory = i.directory.now;
+  store = i.store.now;
+  customer = i.customer.now;
+  label = i.label.now;
+  file = i.file.now;
+}
+
+-- a sweep as it was written, but for its moment
+abbrev pub sweep_at : Text → Sweep → SweepGiven
+sweep_at at s = record {
+  directory = s.directory.now;
+  host = s.host.now;
+  store = s.store.now;
+  customer = s.customer.now;
+  at = at;
+}
+
+-- A sweep is what it is given, at the moment that is named; there is none where an option is missing or names no moment.
+abbrev pub SweepIs : Option SweepGiven → Option Sweep → Type 0
+SweepIs (Some given) (Some sweep) = (given ≡ sweep_at given.at sweep) × IsMoment given.at (Some sweep.at)
+SweepIs (Some given) None = IsMoment given.at None
+SweepIs None (Some sweep) = ⊥
+SweepIs None None = ⊤
+
+-- what is asked for by what is given
+abbrev pub Asks : Option Given → Option Asked → Type 0
+Asks (Some (OfBatch given)) (Some (asked.Batch b)) = given ≡ given_of b
+Asks (Some (OfQueue given)) (Some (asked.Queue q)) = given ≡ queue_of q
+Asks (Some (OfImport given)) (Some (asked.Import i)) = given ≡ import_of i
+Asks (Some (OfSweep given)) (Some (asked.Sweep s)) = SweepIs (Some given) (Some s)
+Asks (Some (OfSweep given)) None = SweepIs (Some given) None
+Asks None None = ⊤
+Asks _ _ = ⊥
+
+-- ---- what words say
 
 -- `clap` has a fault of such a kind with the words; to ask for help is one of them
 abbrev pub Faults : ErrorKind → List Text → Type 0
@@ -49,10 +178,10 @@ HasAFault words = (kind : ErrorKind) × (kind ≢ DisplayHelp) × Faults kind wo
 abbrev pub IsTaken : List Text → Type 0
 IsTaken words = fault_of program words ≡ []
 
--- Words ask for this: none for the built-in customers; others that `clap` takes for a batch, if they give it all that it
--- needs; and else there is a fault, which is told.
+-- Words ask for this: none for the built-in customers; others that `clap` takes for what they give; and else there is a
+-- fault, which is told.
 abbrev pub Says : List Text → Words → Type 0
 Says words Builtin = words ≡ []
-Says words (OfBatch b) = (words ≢ []) × IsTaken words × (given_by words ≡ Some (given_of b))
+Says words (OfWord it) = (words ≢ []) × IsTaken words × Asks (given_by words) (Some it)
 Says words (Help told) = (words ≢ []) × Faults DisplayHelp words
-Says words (Refused told) = (words ≢ []) × (HasAFault words ⊎ (IsTaken words × (given_by words ≡ None)))
+Says words (Refused told) = (words ≢ []) × (HasAFault words ⊎ (IsTaken words × Asks (given_by words) None))

@@ -1,22 +1,51 @@
--- The words that the program takes, as `clap` has commands: the word `batch`, with four options that take one value each.
--- What `clap` makes of words is said by its own definitions.
+-- The words that the program takes, as `clap` has commands: four words, with options that take one value each. What `clap`
+-- makes of words is said by its own definitions.
 use Rattle.std.specs.Prelude.{Bool, true, false, List, [], ◌∷◌, codes, Some}
 use Rattle.clap.specs.Simple.{App, Shape, new_app, new_rule, new_shape, with_subcommand}
 use Rattle.clap.specs.Walk.{Rule, Text}
+use Rattle.clap.specs.declared.builder.value_parser.ValueParser.TheVariants.{Unsigned}
 
 -- an option `--NAME` with one value
 abbrev pub option_rule : Text → Bool → Rule
 option_rule name is_required = record (new_rule name) { long = Some name; value_names = 1; required = is_required }
 
-abbrev pub batch_shape : Shape
-batch_shape = record (new_shape (codes "batch")) {
-  rules = option_rule (codes "directory") true ∷ option_rule (codes "host") true
-      ∷ option_rule (codes "relay-key") true ∷ option_rule (codes "store") false ∷ [];
-}
+-- an option that is asked for
+abbrev pub needed : Text → Rule
+needed name = option_rule name true
 
--- the words stand behind the program's name, and one of them is `batch` or asks for help
+-- the option `--at`, asked for: a number, up to the last second of the year 2099
+abbrev pub moment_rule : Rule
+moment_rule = record (needed (codes "at")) { parser = Some (Unsigned 0 4102444799) }
+
+-- a word with options
+abbrev pub word_shape : Text → List Rule → Shape
+word_shape name rules = record (new_shape name) { rules = rules }
+
+abbrev pub batch_shape : Shape
+batch_shape = word_shape (codes "batch")
+    (needed (codes "directory") ∷ needed (codes "host") ∷ needed (codes "relay-key") ∷ option_rule (codes "store") false ∷ [])
+
+abbrev pub queue_shape : Shape
+queue_shape = word_shape (codes "queue")
+    (needed (codes "directory") ∷ needed (codes "store") ∷ needed (codes "customer") ∷ [])
+
+abbrev pub import_shape : Shape
+import_shape = word_shape (codes "import")
+    (needed (codes "directory") ∷ needed (codes "store") ∷ needed (codes "customer") ∷ needed (codes "label")
+    ∷ needed (codes "file") ∷ [])
+
+abbrev pub sweep_shape : Shape
+sweep_shape = word_shape (codes "sweep")
+    (needed (codes "directory") ∷ needed (codes "host") ∷ needed (codes "store") ∷ needed (codes "customer") ∷ moment_rule ∷ [])
+
+-- the program and its words
+abbrev pub with_words : App
+with_words = with_subcommand (with_subcommand (with_subcommand (with_subcommand (new_app (codes "hq_main"))
+    batch_shape) queue_shape) import_shape) sweep_shape
+
+-- they stand behind the program's name, and one of them is there or help is asked for
 abbrev pub program : App
-program = record (with_subcommand (new_app (codes "hq_main")) batch_shape) {
+program = record with_words {
   top = record (new_shape (codes "hq_main")) {
     is_leaf = false;
     no_binary_name = true;

@@ -4,73 +4,14 @@ ghost use Rattle.std.specs.Prelude.{◌≡◌, IfOk, false};
 ghost use Rattle.clap.specs.Simple.{app_of, shape_of};
 ghost use Rattle.clap.specs.Walk.{rule_of};
 ghost use Rattle.clap.specs.declared.builder.command.Command.TheViews.{out-Command};
-ghost use Rattle.hq_words.specs.Program.{option_rule, batch_shape, program};
+ghost use Rattle.hq_words.specs.Program.{option_rule, moment_rule, batch_shape, queue_shape, import_shape, sweep_shape, program};
 
-use clap::{Arg, Command};
+use crate::texts::*;
+use clap::{Arg, Command, value_parser};
 use std::alloc::{AllocError, Global};
 
-/// The program's name.
-const NAME: &str = "hq_main";
-
-/// How it is called.
-const USAGE: &str = "hq_main [COMMAND]";
-
-/// What the program is.
-const ABOUT: &str = "\
-A customer desk of a mail relay: each customer sees and steers its own queued mail, and keeps its
-own access tables, as postqueue(1), postsuper(1) and access(5) have them.
-
-Without a command it replies to the lines of standard input for two built-in customers, acme and
-birch, from an empty desk in memory.";
-
-/// Examples of its calls, and how it ends.
-const AFTER_ABOUT: &str = "\
-Examples:
-  hq_main < lines
-  hq_main batch --help
-  hq_main batch --directory customers.csv --host relay.example --relay-key relaykey00000001 < lines
-
-The exit status is 0 when done; 1 for a refusal or a fault, which is told in one line on standard
-error, as `hq: 53 BadDirectory row 3`; 2 for words that are not taken.";
-
-/// What `batch` does.
-const BATCH: &str = "Reply to the lines of standard input, for the customers of a directory";
-
-/// What its lines and its directory are, and examples of its calls.
-const AFTER_BATCH: &str = "\
-A line is `AT METHOD PATH KEY BODY`: seconds since 1970, an HTTP method, a path, a key or `-`, and a
-body that may be missing. Each line gets one reply line on standard output, at once.
-
-Example of a directory, the file customers.csv:
-  name,key,messages,bytes,lines,notices,delay
-  acme,acmekey000000001,1000,500000000,1000,100,14400
-
-Example of a line:
-  1767225600 GET /v1/messages acmekey000000001
-
-Examples:
-  hq_main batch --directory customers.csv --host relay.example --relay-key relaykey00000001 < lines
-  hq_main batch --directory customers.csv --host relay.example --relay-key relaykey00000001 \\
-    --store desk.db < lines";
-
-const DIRECTORY: &str = "\
-The customers: a CSV file of 1 to 1,000 rows under the header
-name,key,messages,bytes,lines,notices,delay. No default.
-Example: --directory customers.csv";
-
-const HOST: &str = "\
-The name of the relay, a domain. No default.
-Example: --host relay.example";
-
-const RELAY_KEY: &str = "\
-The key of the relay's workers: 16 to 64 letters and digits,
-and no customer's key. No default.
-Example: --relay-key relaykey00000001";
-
-const STORE: &str = "\
-The file that keeps what is done, a database of SQLite, made
-where it is missing. By default the desk stands in memory,
-and is empty at first. Example: --store desk.db";
+/// The last second of the year 2099.
+const LAST_MOMENT: i64 = 4_102_444_799;
 
 /// An option that takes one value.
 fn option<'w>(
@@ -90,6 +31,14 @@ fn option<'w>(
         .help(help)
 }
 
+/// The option `--at`: a moment, in seconds since 1970.
+fn moment<'w>(alloc: Global) -> Arg<'w>
+    ensures rule { rule_of result ≡ moment_rule }
+    ensures local { result.global ≡ false }
+{
+    option(alloc, "at", "AT", AT, true).value_parser(value_parser!(u64).range(..=LAST_MOMENT))
+}
+
 /// The word `batch`, with its options.
 fn batch<'w>(alloc: Global) -> Result<Command<'w>, AllocError>
     ensures shape { IfOk result (λ c. shape_of c ≡ batch_shape) }
@@ -101,7 +50,50 @@ fn batch<'w>(alloc: Global) -> Result<Command<'w>, AllocError>
         .arg(option(alloc, "directory", "FILE", DIRECTORY, true))?
         .arg(option(alloc, "host", "HOST", HOST, true))?
         .arg(option(alloc, "relay-key", "KEY", RELAY_KEY, true))?
-        .arg(option(alloc, "store", "FILE", STORE, false))
+        .arg(option(alloc, "store", "FILE", STORE_OR_MEMORY, false))
+}
+
+/// The word `queue`, with its options.
+fn queue<'w>(alloc: Global) -> Result<Command<'w>, AllocError>
+    ensures shape { IfOk result (λ c. shape_of c ≡ queue_shape) }
+    ensures local { IfOk result (λ c. (out-Command c).has_globals ≡ false) }
+{
+    Command::new(alloc, "queue")
+        .about(QUEUE)
+        .after_help(AFTER_QUEUE)
+        .arg(option(alloc, "directory", "FILE", DIRECTORY, true))?
+        .arg(option(alloc, "store", "FILE", STORE, true))?
+        .arg(option(alloc, "customer", "NAME", CUSTOMER, true))
+}
+
+/// The word `import`, with its options.
+fn import<'w>(alloc: Global) -> Result<Command<'w>, AllocError>
+    ensures shape { IfOk result (λ c. shape_of c ≡ import_shape) }
+    ensures local { IfOk result (λ c. (out-Command c).has_globals ≡ false) }
+{
+    Command::new(alloc, "import")
+        .about(IMPORT)
+        .after_help(AFTER_IMPORT)
+        .arg(option(alloc, "directory", "FILE", DIRECTORY, true))?
+        .arg(option(alloc, "store", "FILE", STORE, true))?
+        .arg(option(alloc, "customer", "NAME", CUSTOMER, true))?
+        .arg(option(alloc, "label", "LABEL", LABEL, true))?
+        .arg(option(alloc, "file", "FILE", LINES, true))
+}
+
+/// The word `sweep`, with its options.
+fn sweep<'w>(alloc: Global) -> Result<Command<'w>, AllocError>
+    ensures shape { IfOk result (λ c. shape_of c ≡ sweep_shape) }
+    ensures local { IfOk result (λ c. (out-Command c).has_globals ≡ false) }
+{
+    Command::new(alloc, "sweep")
+        .about(SWEEP)
+        .after_help(AFTER_SWEEP)
+        .arg(option(alloc, "directory", "FILE", DIRECTORY, true))?
+        .arg(option(alloc, "host", "HOST", HOST, true))?
+        .arg(option(alloc, "store", "FILE", STORE, true))?
+        .arg(option(alloc, "customer", "NAME", CUSTOMER, true))?
+        .arg(moment(alloc))
 }
 
 /// The program, with its words.
@@ -109,6 +101,9 @@ pub(crate) fn program<'w>(alloc: Global) -> Result<Command<'w>, AllocError>
     ensures { IfOk result (λ c. app_of c ≡ program) }
 {
     let batch = batch(alloc)?;
+    let queue = queue(alloc)?;
+    let import = import(alloc)?;
+    let sweep = sweep(alloc)?;
     Command::new(alloc, NAME)
         .bin_name(NAME)?
         .override_usage(USAGE)
@@ -117,5 +112,8 @@ pub(crate) fn program<'w>(alloc: Global) -> Result<Command<'w>, AllocError>
         .subcommand_required(true)
         .about(ABOUT)
         .after_help(AFTER_ABOUT)
-        .subcommand(batch)
+        .subcommand(batch)?
+        .subcommand(queue)?
+        .subcommand(import)?
+        .subcommand(sweep)
 }

@@ -3,8 +3,11 @@
 #![tactic(auto)]
 
 mod command;
+mod options;
 #[cfg(test)]
 mod tests;
+mod texts;
 mod words;
 
-pub use words::{Batch, Words, read_words};
+pub use options::{Batch, Import, Queue, Sweep};
+pub use words::{Asked, Words, read_words};

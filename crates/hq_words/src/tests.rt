@@ -1,36 +1,70 @@
 //! What words ask for. What is told of them is compared by `tools/words`, over the program.
 
-use crate::{Batch, Words, read_words};
+use crate::{Asked, Words, read_words};
 use std::alloc::{AllocError, Global};
 use std::test::Fail;
 
-/// Lines of words, parted by one space, that ask for this batch.
-const BATCH: [&str; 5] = [
-    "batch --directory f --host h --relay-key k --store s",
-    "batch --store s --relay-key k --host h --directory f",
-    "batch --directory=f --host=h --relay-key=k --store=s",
-    "batch --directory f --host=h --relay-key k --store s",
-    "batch --relay-key=k --directory f --store=s --host h",
+/// Lines of words, parted by one space, and the values that they give, in the order of the help.
+const GIVEN: [(&str, &str); 12] = [
+    (
+        "batch --directory f --host h --relay-key k --store s",
+        "batch f h k s",
+    ),
+    (
+        "batch --store s --relay-key k --host h --directory f",
+        "batch f h k s",
+    ),
+    (
+        "batch --directory=f --host=h --relay-key=k --store=s",
+        "batch f h k s",
+    ),
+    (
+        "batch --relay-key=k --directory f --store=s --host h",
+        "batch f h k s",
+    ),
+    ("batch --directory f --host  --relay-key k", "batch f  k -"),
+    ("queue --directory f --store s --customer c", "queue f s c"),
+    ("queue --customer=c --store=s --directory=f", "queue f s c"),
+    (
+        "import --directory f --store s --customer c --label l --file t",
+        "import f s c l t",
+    ),
+    (
+        "import --file=t --label=l --customer=c --store=s --directory=f",
+        "import f s c l t",
+    ),
+    (
+        "sweep --directory f --host h --store s --customer c --at 0",
+        "sweep f h s c 0",
+    ),
+    (
+        "sweep --at=4102444799 --customer=c --store=s --host=h --directory=f",
+        "sweep f h s c 4102444799",
+    ),
+    (
+        "sweep --directory f --host h --store s --customer c --at +0000000000007",
+        "sweep f h s c 7",
+    ),
 ];
 
 /// Lines of words that ask for help.
-const HELP: [&str; 6] = [
+const HELP: [&str; 9] = [
     "--help",
     "-h",
     "batch --help",
     "batch -h",
+    "queue --help",
+    "import -h",
+    "sweep --at 1 --help",
     "batch --directory f --help",
     "--help serve",
 ];
 
 /// Lines of words that are not taken.
-const REFUSED: [&str; 18] = [
+const REFUSED: [&str; 28] = [
     "",
     "--",
     "serve",
-    "queue",
-    "import",
-    "sweep",
     "migrate",
     "help",
     "Batch",
@@ -43,6 +77,19 @@ const REFUSED: [&str; 18] = [
     "batch --directory f --host h --relay-key k --host h",
     "batch --directory f --host h --relay-key k s",
     "--host h batch --directory f --relay-key k",
+    "queue",
+    "queue --directory f --store s",
+    "queue --directory f --customer c",
+    "queue --store s --customer c",
+    "queue --directory f --store s --customer c --host h",
+    "import --directory f --store s --customer c --label l",
+    "import --directory f --store s --customer c --file t",
+    "sweep --directory f --host h --store s --customer c",
+    "sweep --directory f --store s --customer c --at 0",
+    "sweep --directory f --host h --store s --customer c --at 4102444800",
+    "sweep --directory f --host h --store s --customer c --at 1x",
+    "sweep --directory f --host h --store s --customer c --at=-1",
+    "sweep --directory f --host h --store s --customer c --at=",
 ];
 
 fn words_in(alloc: Global, line: &str) -> Result<Vec<String>, AllocError> {
@@ -53,58 +100,65 @@ fn words_in(alloc: Global, line: &str) -> Result<Vec<String>, AllocError> {
     Ok(words)
 }
 
-/// Which kind of answer the words get, from A: built-in, batch, help, refused.
-fn kind_of(asked: &Words) -> char {
+/// A word and the values of its options.
+fn values(alloc: Global, asked: &Asked) -> Result<String, AllocError> {
     match asked {
-        Words::Builtin => 'A',
-        Words::Batch(_) => 'B',
-        Words::Help(_) => 'H',
-        Words::Refused(_) => 'R',
-    }
-}
-
-#[test]
-fn options_in_any_order_and_form(rt: HostRuntime) -> Result<(), Fail> {
-    for line in BATCH {
-        let words = words_in(rt.alloc(), line)?;
-        let Words::Batch(batch) = read_words(rt.alloc(), words.as_slice())? else {
-            return Err(Fail::from(line));
-        };
-        let Batch {
-            directory,
-            host,
-            relay_key,
-            store,
-        } = batch;
-        assert_eq!(rt;
-            (directory, host, relay_key, store),
-            ("f", "h", "k", Some("s"))
-        );
-    }
-    Ok(())
-}
-
-#[test]
-fn a_batch_without_a_store(rt: HostRuntime) -> Result<(), Fail> {
-    let words = words_in(rt.alloc(), "batch --directory f --host  --relay-key k")?;
-    let Words::Batch(batch) = read_words(rt.alloc(), words.as_slice())? else {
-        return Err(Fail::from("it is a batch of an empty host"));
-    };
-    assert!(rt; batch.store.is_none());
-    assert_eq!(rt; batch.host, "");
-    Ok(())
-}
-
-#[test]
-fn what_is_no_batch(rt: HostRuntime) -> Result<(), Fail> {
-    let none = read_words(rt.alloc(), &[])?;
-    assert_eq!(rt; kind_of(&none), 'A');
-    for (lines, kind) in [(HELP.as_slice(), 'H'), (REFUSED.as_slice(), 'R')] {
-        for line in lines {
-            let words = words_in(rt.alloc(), line)?;
-            let asked = read_words(rt.alloc(), words.as_slice())?;
-            assert_eq!(rt; kind_of(&asked), kind, "{line}");
+        Asked::Batch(it) => {
+            let store = it.store.unwrap_or("-");
+            format!(in alloc;
+                "batch {} {} {} {store}",
+                it.directory, it.host, it.relay_key
+            )
+        }
+        Asked::Queue(it) => {
+            format!(in alloc; "queue {} {} {}", it.directory, it.store, it.customer)
+        }
+        Asked::Import(it) => {
+            let beside = format!(in alloc; "{} {}", it.label, it.file)?;
+            format!(in alloc;
+                "import {} {} {} {beside}",
+                it.directory, it.store, it.customer
+            )
+        }
+        Asked::Sweep(it) => {
+            let beside = format!(in alloc; "{} {}", it.customer, it.at.get())?;
+            format!(in alloc; "sweep {} {} {} {beside}", it.directory, it.host, it.store)
         }
     }
+}
+
+/// What a line of words asks for: its values, or the kind of another answer.
+fn told(alloc: Global, line: &str) -> Result<String, AllocError> {
+    let words = words_in(alloc, line)?;
+    match read_words(alloc, words.as_slice())? {
+        Words::Asked(asked) => values(alloc, &asked),
+        Words::Builtin => String::from_str(alloc, "built-in"),
+        Words::Help(_) => String::from_str(alloc, "help"),
+        Words::Refused(_) => String::from_str(alloc, "refused"),
+    }
+}
+
+#[test]
+fn values_in_any_order_and_form(rt: HostRuntime) -> Result<(), Fail> {
+    for (line, values) in GIVEN {
+        assert_eq!(rt; told(rt.alloc(), line)?.as_str(), values, "{line}");
+    }
+    Ok(())
+}
+
+#[test]
+fn help_and_words_that_are_not_taken(rt: HostRuntime) -> Result<(), Fail> {
+    for (lines, kind) in [(HELP.as_slice(), "help"), (REFUSED.as_slice(), "refused")] {
+        for line in lines {
+            assert_eq!(rt; told(rt.alloc(), line)?.as_str(), kind, "{line}");
+        }
+    }
+    Ok(())
+}
+
+#[test]
+fn no_words(rt: HostRuntime) -> Result<(), Fail> {
+    let none = read_words(rt.alloc(), &[])?;
+    assert!(rt; matches!(none, Words::Builtin));
     Ok(())
 }

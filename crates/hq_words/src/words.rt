@@ -1,33 +1,34 @@
 //! What the words ask for.
 
-ghost use Rattle.std.specs.Prelude.{◌≡◌, ◌≢◌, List, ℕ, [], IfOk, Ok, option_and_then, option_map, map as map_list, string_bytes};
+ghost use Rattle.std.specs.Prelude.{◌≡◌, ◌≢◌, List, ℕ, [], IfOk, Ok, option_and_then, map as map_list, string_bytes};
 ghost use Rattle.clap.specs.Kinds.{HasKind};
 ghost use Rattle.clap.specs.Faults.{fault_of};
 ghost use Rattle.clap.specs.Matches.{found_of};
 ghost use Rattle.clap.specs.Simple.{subcommand_rows_of};
 ghost use Rattle.clap.specs.Walk.{rows_of};
-ghost use Rattle.hq_words.specs.Asked.{Says, given_of, given_in};
+ghost use Rattle.hq_words.specs.Asked.{Asks, Says, given_in};
 ghost use Rattle.hq_words.specs.Program.{program};
 
 use crate::command::program;
+use crate::options::{Batch, Import, Queue, Sweep, batch_in, import_in, queue_in, sweep_in};
 use clap::error::ErrorKind;
 use clap::{ArgMatches, Error};
 use std::alloc::{AllocError, Global};
 
-/// What is told where an option that is asked for has no value.
+/// What is told where an option that is asked for has no value, or not one that is read.
 const NOT_GIVEN: &str = "error: an option has no value\n";
 
-/// What the word `batch` is given, as it was written: none of it was looked at yet.
+/// What a word asks for, and with what.
 #[derive(Clone, Copy, Debug, PartialEq, Eq, Drop)]
-pub struct Batch<'w> {
-    /// The path of the file of the customers.
-    pub directory: &'w str,
-    /// The name of the relay.
-    pub host: &'w str,
-    /// The key of the relay's workers.
-    pub relay_key: &'w str,
-    /// The path of the store, where there is one; else the desk stands in memory.
-    pub store: Option<&'w str>,
+pub enum Asked<'w> {
+    /// `batch`: lines of the customers of a directory.
+    Batch(Batch<'w>),
+    /// `queue`: the queue report of a customer.
+    Queue(Queue<'w>),
+    /// `import`: lines of a customer's access tables, from a file.
+    Import(Import<'w>),
+    /// `sweep`: a customer's messages that are too old given up, and late ones warned of.
+    Sweep(Sweep<'w>),
 }
 
 /// What the words ask for.
@@ -35,37 +36,37 @@ pub struct Batch<'w> {
 pub enum Words<'w> {
     /// No words: lines of the built-in customers.
     Builtin,
-    /// `batch`: lines of the customers of a directory.
-    Batch(Batch<'w>),
+    /// A word of the program, with its options.
+    Asked(Asked<'w>),
     /// `--help` or `-h`, of the program or of one of its words: the text for standard output.
     Help(String),
     /// Words that are not taken: the text for standard error that tells why.
     Refused(String),
 }
 
-/// What matches give the word `batch`.
-fn batch_in<'w>(given: &ArgMatches<'w>) -> Option<Batch<'w>>
-    ensures { option_map given_of result ≡ given_in (rows_of (found_of given.now)) }
+/// What matches of a word ask for.
+fn asked_in<'w>(word: &str, given: &ArgMatches<'w>) -> Option<Asked<'w>>
+    ensures { Asks (given_in word.now (rows_of (found_of given.now))) result }
 {
-    let directory = given.get_str("directory")?;
-    let host = given.get_str("host")?;
-    let relay_key = given.get_str("relay-key")?;
-    let store = given.get_str("store");
-    Some(Batch {
-        directory,
-        host,
-        relay_key,
-        store,
-    })
+    match word {
+        "batch" => Some(Asked::Batch(batch_in(given)?)),
+        "queue" => Some(Asked::Queue(queue_in(given)?)),
+        "import" => Some(Asked::Import(import_in(given)?)),
+        "sweep" => match sweep_in(given) {
+            Some(sweep) => Some(Asked::Sweep(sweep)),
+            None => None,
+        },
+        _ => None,
+    }
 }
 
-/// The batch that matches ask for.
-fn batch_of<'w>(matches: &ArgMatches<'w>) -> Option<Batch<'w>>
-    ensures { option_map given_of result
-        ≡ option_and_then (λ found. given_in found.1) (subcommand_rows_of matches.now) }
+/// What matches ask for.
+fn asked_of<'w>(matches: &ArgMatches<'w>) -> Option<Asked<'w>>
+    ensures { Asks (option_and_then (λ found. given_in found.0 found.1)
+        (subcommand_rows_of matches.now)) result }
 {
-    let (_, given) = matches.subcommand()?;
-    batch_in(given)
+    let (word, given) = matches.subcommand()?;
+    asked_in(word, given)
 }
 
 /// What `clap` tells in place of matches: help, or why the words are refused; or want of memory.
@@ -90,9 +91,9 @@ pub fn read_words<'w>(alloc: Global, words: &'w [String]) -> Result<Words<'w>, A
     }
     match program(alloc)?.try_get_matches_from(words) {
         Err(error) => told(alloc, &error),
-        Ok(matches) => match batch_of(&matches) {
-            Some(batch) => Ok(Words::Batch(batch)),
-            // (`clap` asks for the three options, so that they are there)
+        Ok(matches) => match asked_of(&matches) {
+            Some(asked) => Ok(Words::Asked(asked)),
+            // (`clap` asks for the options and looks at the moment, so that they are there)
             None => Ok(Words::Refused(String::from_str(alloc, NOT_GIVEN)?)),
         },
     }

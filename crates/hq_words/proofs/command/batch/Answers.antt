@@ -1,17 +1,17 @@
-use Rattle.std.proofs.Common.{◌≡◌, ◌∙◌, rules, ap, ap₂, codes, ◌||◌, Bool, true, false}
+use Rattle.std.proofs.Common.{◌≡◌, ◌∙◌, rules, ap, ap₂, codes, ◌||◌, Bool, false}
 use Rattle.std.proofs.lemmas.Result.{IfOk-weaker}
 use Rattle.clap.specs.Simple.{App, app_of, app_of_fields, new_app, with_rule}
 use Rattle.clap.specs.Walk.{rule_of}
 use Rattle.clap.specs.declared.builder.command.Command.TheViews.{out-Command}
-use Rattle.hq_words.specs.Program.{option_rule}
+use Rattle.hq_words.specs.Program.{needed, option_rule}
 use Rattle.hq_words.proofs.command.batch.Goals as goal
 
 pub returns-clause-shape : goal.returns-clause-shape
 returns-clause-shape c =
     let bare : app_of c.after_help.result ≡ new_app (codes "batch") = ap app_of_fields c.after_help.ensures ∙ ap app_of_fields c.about.ensures ∙ c.new.ensures.app in
-    let directory : rule_of c.option.result ≡ option_rule (codes "directory") true = search rules in
-    let host : rule_of c.option-2.result ≡ option_rule (codes "host") true = search rules in
-    let relay_key : rule_of c.option-3.result ≡ option_rule (codes "relay-key") true = search rules in
+    let directory : rule_of c.option.result ≡ needed (codes "directory") = search rules in
+    let host : rule_of c.option-2.result ≡ needed (codes "host") = search rules in
+    let relay_key : rule_of c.option-3.result ≡ needed (codes "relay-key") = search rules in
     let store : rule_of c.option-4.result ≡ option_rule (codes "store") false = search rules in
     let one = c.in_ok-arg.ensures.shape c.option.ensures.local ∙ ap₂ with_rule bare directory in
     let two = c.in_ok-arg-2.ensures.shape c.option-2.ensures.local ∙ ap₂ with_rule one host in

@@ -1,11 +1,9 @@
-use Rattle.std.proofs.Common.{◌≡◌, ◌≢◌, ◌∙◌, ap, ap₂, refl, true, rules, sym, inl, inr, Some, None, List, ℕ, [], ◌∷◌, subst, String, Global}
+use Rattle.std.proofs.Common.{◌≡◌, ◌≢◌, ◌∙◌, ap, refl, true, rules, sym, inr, Option, Some, None, List, ℕ, [], ◌∷◌, subst, String, Global}
 use Rattle.std.specs.Prelude.{map, string_bytes, option_and_then}
 use Rattle.clap.specs.Faults.{fault_of, is_simple_and_free}
 use Rattle.clap.specs.Kinds.{HasKind}
-use Rattle.clap.specs.Simple.{App, is_simple, subcommand_of, app_of}
-use Rattle.clap.specs.declared.error.Error.{Error}
-use Rattle.clap.proofs.OnLiterals.{clap_on_literals}
-use Rattle.hq_words.specs.Asked.{given_in}
+use Rattle.clap.specs.Simple.{App, is_simple, subcommand_of}
+use Rattle.hq_words.specs.Asked.{Asks, Given, given_in}
 use Rattle.hq_words.specs.Program.{program}
 use Rattle.hq_words.proofs.words.read_words.Goals as goal
 
@@ -36,7 +34,7 @@ returns-in-Some-clause-asked c =
     let is = c.in_ok-program.ensures in
     let taken = sym (ap (λ (a : App). fault_of a words) is) ∙ c.in-Ok.ensures.kinds (ap is_simple_and_free is ∙ is_free) in
     let rows = (c.in-Ok.ensures.matches (ap is_simple is ∙ plain)).1 ∙ ap (λ (a : App). subcommand_of a words) is in
-    (some, taken, ap (option_and_then (λ found. given_in found.1)) (sym rows) ∙ sym c.batch_of.ensures ∙ search rules)
+    (some, taken, subst (λ (given : Option Given). Asks given (Some c.in-Some.asked)) (ap (option_and_then (λ found. given_in found.0 found.1)) rows) (search rules))
 
 pub returns-clause-asked : goal.returns-clause-asked
 returns-clause-asked c =
@@ -45,4 +43,4 @@ returns-clause-asked c =
     let is = c.in_ok-program.ensures in
     let taken = sym (ap (λ (a : App). fault_of a words) is) ∙ c.in-Ok.ensures.kinds (ap is_simple_and_free is ∙ is_free) in
     let rows = (c.in-Ok.ensures.matches (ap is_simple is ∙ plain)).1 ∙ ap (λ (a : App). subcommand_of a words) is in
-    (some, inr (taken, ap (option_and_then (λ found. given_in found.1)) (sym rows) ∙ sym c.batch_of.ensures ∙ search rules))
+    (some, inr (taken, subst (λ (given : Option Given). Asks given None) (ap (option_and_then (λ found. given_in found.0 found.1)) rows) (search rules)))

@@ -1,0 +1,3 @@
+pub mod Customers
+pub mod Performs
+pub mod Printed

@@ -1,0 +1,20 @@
+-- One call over a shelf.
+use Rattle.std.specs.Prelude.{◌≡◌, Result, IfOk, OnOk}
+use Rattle.hq_base.specs.declared.failure.Fault.{Fault}
+use Rattle.hq_store.specs.Shelves.{Sight, KeepsOnErr, OnSound}
+use Rattle.hq_desk.specs.Desks.{IsRendered, host_of, on, shelf_of, stepped}
+use Rattle.hq_desk.specs.declared.desk.Desk.{Desk}
+use Rattle.hq_desk.specs.declared.desk.Rendered.{Rendered}
+use Rattle.hq_admin.specs.Printed.{printed}
+use Rattle.hq_admin.specs.declared.performing.Request.{Request}
+
+-- The call is done by a desk over this shelf: it answers what the shared step does, as it is printed, and leaves its tables;
+-- or it ends in a fault, and the tables are as before, unless the store is closed then.
+pub record Performs {S : Type 0} (sight : Sight S) (shelf : S) (asked : Request) (result : Result Rendered Fault) : Type 0 where
+  pub old : Desk S
+  pub host_is : host_of old ≡ asked.host
+  pub shelf_is : shelf_of old ≡ shelf
+  pub new : Desk S
+  pub answer : OnSound (on sight) old new (IfOk result (IsRendered printed (stepped (on sight) old asked.entry asked.at asked.call).0))
+  pub tables : OnSound (on sight) old new (OnOk result ((on sight).tables new ≡ (stepped (on sight) old asked.entry asked.at asked.call).1))
+  pub kept : KeepsOnErr (on sight) old new result

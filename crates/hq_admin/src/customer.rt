@@ -1,0 +1,41 @@
+//! The customer that an administrator names.
+
+ghost use Rattle.std.specs.Prelude.{◌≡◌};
+ghost use Rattle.std.specs.List.{find};
+ghost use Rattle.hq_base.specs.Readers.{Reads};
+ghost use Rattle.hq_queue.specs.Customers.{has_name};
+ghost use Rattle.hq_admin.specs.Customers.{entry_in};
+
+use hq_envelope::{Fail, Refusal};
+use hq_import::directory_of;
+use hq_queue::{Customer, Entry};
+use std::alloc::Global;
+
+/// Whether a customer has this name.
+fn has_name(customer: &Customer, name: &str) -> bool
+    ensures { result ≡ has_name name.now customer.now }
+{
+    name.cmp(customer.entry.name.as_str()).is_eq()
+}
+
+/// The first of these with this name.
+fn with_name(customers: Vec<Customer>, name: &str) -> Option<Customer>
+    ensures { result ≡ find (has_name name.now) customers.items }
+{
+    customers
+        .into_iter()
+        .find(|customer| has_name(customer, name))
+}
+
+/// The customer of this name, byte for byte, in a directory, a CSV file. Refused at the file's
+/// first fault, as 53 `BadDirectory`, 54 `DoubledName` or 55 `DoubledKey`; and where it is good, as
+/// 13 `NoCustomer` if no customer has the name. The only other error is want of memory.
+pub fn customer_in(alloc: Global, file: &[u8], name: &str) -> Result<Entry, Fail>
+    ensures { Reads result (entry_in file.now name.now) }
+{
+    let customers = directory_of(alloc, file)?;
+    match with_name(customers, name) {
+        Some(customer) => Ok(customer.entry),
+        None => Err(Fail::Refused(Refusal::NoCustomer)),
+    }
+}

@@ -1,0 +1,43 @@
+//! One call over a shelf.
+
+ghost use Rattle.hq_admin.specs.Performs.{Performs};
+
+use crate::printed::Printed;
+use hq_desk::{Call, Desk, Rendered};
+use hq_envelope::{Fault, Host, Moment};
+use hq_queue::Entry;
+use hq_store::Shelf;
+use std::alloc::Global;
+
+/// A call that an administrator asks for.
+#[derive(Drop)]
+pub struct Request {
+    /// The relay's name.
+    pub host: Host,
+    /// When it is done.
+    pub at: Moment,
+    /// The customer.
+    pub entry: Entry,
+    /// What is done.
+    pub call: Call,
+}
+
+/// Does the call that is asked for, over a shelf that is dropped when it is done. It answers 0 and
+/// what is printed, or a refusal's number and its text; after a fault nothing was changed, unless
+/// the store is closed then.
+pub fn perform<S: Shelf + Drop>(
+    alloc: Global,
+    shelf: S,
+    request: Request,
+) -> Result<Rendered, Fault>
+    ensures { Performs S.sight shelf request result }
+{
+    let Request {
+        host,
+        at,
+        entry,
+        call,
+    } = request;
+    let mut desk = Desk::new(shelf, host);
+    desk.act(alloc, at, &entry, call, &Printed)
+}

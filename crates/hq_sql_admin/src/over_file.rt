@@ -1,0 +1,33 @@
+//! One call over a store in a file.
+
+ghost use Rattle.sqlite.specs.Held.{state};
+ghost use Rattle.hq_sql_admin.specs.Calls.{PerformsOpened};
+
+use hq_admin::{Request, perform};
+use hq_desk::Rendered;
+use hq_envelope::Fault;
+use hq_program::Trouble;
+use hq_sql_file::open_file;
+use hq_sql_shelf::SqlShelf;
+use sqlite::Alter;
+
+/// Does what is asked for over a store as it was opened; or tells why it could not be opened.
+fn perform_opened<S: Alter + Drop>(
+    rt: &HostRuntime,
+    opened: Result<SqlShelf<S>, Fault>,
+    request: Request,
+) -> Result<Rendered, Trouble>
+    ensures { PerformsOpened (state S.Store) opened request result }
+{
+    Ok(perform(rt.alloc(), opened?, request)?)
+}
+
+/// Does what is asked for over the store of a path, which is made where it is missing. A store that
+/// cannot be opened is told as 90, 91, 92 or 93.
+pub(crate) fn perform_in_file(
+    rt: &HostRuntime,
+    store: &str,
+    request: Request,
+) -> Result<Rendered, Trouble> {
+    perform_opened(rt, open_file(rt, store), request)
+}

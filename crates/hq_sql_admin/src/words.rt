@@ -1,0 +1,36 @@
+//! What each word does: the checks of what it is given, the opening of its store, and then the
+//! call, with its own refusals.
+
+ghost use Rattle.hq_sql_admin.specs.Words.{QueueEnds, ImportEnds, SweepEnds};
+
+use crate::over_file::perform_in_file;
+use crate::requests::{import_request, queue_request, sweep_request};
+use hq_desk::Rendered;
+use hq_program::Trouble;
+use hq_words::{Import, Queue, Sweep};
+
+/// The queue report of a customer. Checked in the order directory, customer, store.
+pub fn queue(rt: &HostRuntime, given: &Queue) -> Result<Rendered, Trouble>
+    ensures { QueueEnds given.now result }
+{
+    let request = queue_request(rt, given)?;
+    perform_in_file(rt, given.store, request)
+}
+
+/// What an import of a file into a customer's access tables set. Checked in the order directory,
+/// customer, label, file, store, and then what the call refuses: 50, 51, 52 and 42.
+pub fn import(rt: &HostRuntime, given: &Import) -> Result<Rendered, Trouble>
+    ensures { ImportEnds given.now result }
+{
+    let request = import_request(rt, given)?;
+    perform_in_file(rt, given.store, request)
+}
+
+/// What a sweep of a customer's queue did. Checked in the order relay's name, directory, customer,
+/// store, and then what the call refuses: 44.
+pub fn sweep(rt: &HostRuntime, given: &Sweep) -> Result<Rendered, Trouble>
+    ensures { SweepEnds given.now result }
+{
+    let request = sweep_request(rt, given)?;
+    perform_in_file(rt, given.store, request)
+}

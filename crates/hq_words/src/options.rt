@@ -1,0 +1,147 @@
+//! What the words of the program are given, as `clap` has it.
+
+ghost use Rattle.std.specs.Prelude.{◌≡◌, option_map};
+ghost use Rattle.clap.specs.Matches.{found_of};
+ghost use Rattle.clap.specs.Walk.{first_of, rows_of};
+ghost use Rattle.hq_words.specs.Asked.{IsMoment, given_of, import_of, queue_of, batch_in, queue_in, import_in, sweep_in, SweepIs};
+
+use clap::ArgMatches;
+use hq_base::Moment;
+
+/// What the word `batch` is given, as it was written: none of it was looked at yet.
+#[derive(Clone, Copy, Debug, PartialEq, Eq, Drop)]
+pub struct Batch<'w> {
+    /// The path of the file of the customers.
+    pub directory: &'w str,
+    /// The name of the relay.
+    pub host: &'w str,
+    /// The key of the relay's workers.
+    pub relay_key: &'w str,
+    /// The path of the store, where there is one; else the desk stands in memory.
+    pub store: Option<&'w str>,
+}
+
+/// What the word `queue` is given, as it was written.
+#[derive(Clone, Copy, Debug, PartialEq, Eq, Drop)]
+pub struct Queue<'w> {
+    /// The path of the file of the customers.
+    pub directory: &'w str,
+    /// The path of the store.
+    pub store: &'w str,
+    /// The name of the customer.
+    pub customer: &'w str,
+}
+
+/// What the word `import` is given, as it was written.
+#[derive(Clone, Copy, Debug, PartialEq, Eq, Drop)]
+pub struct Import<'w> {
+    /// The path of the file of the customers.
+    pub directory: &'w str,
+    /// The path of the store.
+    pub store: &'w str,
+    /// The name of the customer.
+    pub customer: &'w str,
+    /// What the import goes by.
+    pub label: &'w str,
+    /// The path of the file of the lines.
+    pub file: &'w str,
+}
+
+/// What the word `sweep` is given: its moment, and the others as they were written.
+#[derive(Clone, Copy, Debug, PartialEq, Eq, Drop)]
+pub struct Sweep<'w> {
+    /// The path of the file of the customers.
+    pub directory: &'w str,
+    /// The name of the relay.
+    pub host: &'w str,
+    /// The path of the store.
+    pub store: &'w str,
+    /// The name of the customer.
+    pub customer: &'w str,
+    /// When it is swept.
+    pub at: Moment,
+}
+
+/// The first value of an option.
+fn value<'w>(given: &ArgMatches<'w>, option: &str) -> Option<&'w str>
+    ensures { option_map (λ s. s.now) result
+        ≡ first_of option.now (rows_of (found_of given.now)) }
+{
+    given.get_str(option)
+}
+
+/// The moment that a text of seconds since 1970 names.
+fn moment_in(text: &str) -> Option<Moment>
+    ensures { IsMoment text.now result }
+{
+    match text.parse::<u64>() {
+        Ok(seconds) => Moment::new(seconds),
+        Err(_) => None,
+    }
+}
+
+/// What matches give the word `batch`.
+pub(crate) fn batch_in<'w>(given: &ArgMatches<'w>) -> Option<Batch<'w>>
+    ensures { option_map given_of result ≡ batch_in (rows_of (found_of given.now)) }
+{
+    let directory = value(given, "directory")?;
+    let host = value(given, "host")?;
+    let relay_key = value(given, "relay-key")?;
+    let store = value(given, "store");
+    Some(Batch {
+        directory,
+        host,
+        relay_key,
+        store,
+    })
+}
+
+/// What matches give the word `queue`.
+pub(crate) fn queue_in<'w>(given: &ArgMatches<'w>) -> Option<Queue<'w>>
+    ensures { option_map queue_of result ≡ queue_in (rows_of (found_of given.now)) }
+{
+    let directory = value(given, "directory")?;
+    let store = value(given, "store")?;
+    let customer = value(given, "customer")?;
+    Some(Queue {
+        directory,
+        store,
+        customer,
+    })
+}
+
+/// What matches give the word `import`.
+pub(crate) fn import_in<'w>(given: &ArgMatches<'w>) -> Option<Import<'w>>
+    ensures { option_map import_of result ≡ import_in (rows_of (found_of given.now)) }
+{
+    let directory = value(given, "directory")?;
+    let store = value(given, "store")?;
+    let customer = value(given, "customer")?;
+    let label = value(given, "label")?;
+    let file = value(given, "file")?;
+    Some(Import {
+        directory,
+        store,
+        customer,
+        label,
+        file,
+    })
+}
+
+/// What matches give the word `sweep`.
+pub(crate) fn sweep_in<'w>(given: &ArgMatches<'w>) -> Option<Sweep<'w>>
+    ensures { SweepIs (sweep_in (rows_of (found_of given.now))) result }
+{
+    let directory = value(given, "directory")?;
+    let host = value(given, "host")?;
+    let store = value(given, "store")?;
+    let customer = value(given, "customer")?;
+    let at = moment_in(value(given, "at")?)?;
+    Some(Sweep {
+        directory,
+        host,
+        store,
+        customer,
+        at,
+    })
+}

@@ -1,0 +1,128 @@
+//! What the help of the program and of its words tells.
+
+/// The program's name.
+pub(crate) const NAME: &str = "hq_main";
+
+/// How it is called.
+pub(crate) const USAGE: &str = "hq_main [COMMAND]";
+
+/// What the program is.
+pub(crate) const ABOUT: &str = "\
+A customer desk of a mail relay: each customer sees and steers its own queued mail, and keeps its
+own access tables, as postqueue(1), postsuper(1) and access(5) have them.
+
+Without a command it replies to the lines of standard input for two built-in customers, acme and
+birch, from an empty desk in memory.";
+
+/// Examples of its calls, and how it ends.
+pub(crate) const AFTER_ABOUT: &str = "\
+Examples:
+  hq_main < lines
+  hq_main batch --help
+  hq_main batch --directory customers.csv --host relay.example --relay-key relaykey00000001 < lines
+  hq_main queue --directory customers.csv --store desk.db --customer acme
+
+The exit status is 0 when done; 1 for a refusal or a fault, which is told in one line on standard
+error, as `hq: 53 BadDirectory row 3`; 2 for words that are not taken.";
+
+/// What `batch` does.
+pub(crate) const BATCH: &str =
+    "Reply to the lines of standard input, for the customers of a directory";
+
+/// What its lines and its directory are, and examples of its calls.
+pub(crate) const AFTER_BATCH: &str = "\
+A line is `AT METHOD PATH KEY BODY`: seconds since 1970, an HTTP method, a path, a key or `-`, and a
+body that may be missing. Each line gets one reply line on standard output, at once.
+
+Example of a directory, the file customers.csv:
+  name,key,messages,bytes,lines,notices,delay
+  acme,acmekey000000001,1000,500000000,1000,100,14400
+
+Example of a line:
+  1767225600 GET /v1/messages acmekey000000001
+
+Examples:
+  hq_main batch --directory customers.csv --host relay.example --relay-key relaykey00000001 < lines
+  hq_main batch --directory customers.csv --host relay.example --relay-key relaykey00000001 \\
+    --store desk.db < lines";
+
+pub(crate) const DIRECTORY: &str = "\
+The customers: a CSV file of 1 to 1,000 rows under the header
+name,key,messages,bytes,lines,notices,delay. No default.
+Example: --directory customers.csv";
+
+pub(crate) const HOST: &str = "\
+The name of the relay, a domain. No default.
+Example: --host relay.example";
+
+pub(crate) const RELAY_KEY: &str = "\
+The key of the relay's workers: 16 to 64 letters and digits,
+and no customer's key. No default.
+Example: --relay-key relaykey00000001";
+
+pub(crate) const STORE_OR_MEMORY: &str = "\
+The file that keeps what is done, a database of SQLite, made
+where it is missing. By default the desk stands in memory,
+and is empty at first. Example: --store desk.db";
+
+/// What `queue` does.
+pub(crate) const QUEUE: &str = "Print the queue report of a customer";
+
+/// What it prints, and an example of its calls.
+pub(crate) const AFTER_QUEUE: &str = "\
+The report lists the customer's messages as postqueue(1) does, held ones with `!`, or tells that its
+queue is empty.
+
+Example:
+  hq_main queue --directory customers.csv --store desk.db --customer acme";
+
+/// What `import` does.
+pub(crate) const IMPORT: &str = "Set lines of a customer's access tables by the rows of a file";
+
+/// What it prints, and an example of its calls.
+pub(crate) const AFTER_IMPORT: &str = "\
+Either all rows are set, or none is and the first bad row is told. It prints how many lines were
+added, changed, and there already: `added 3, changed 0, same 0`. The same file under the same label
+is told the same again, and sets nothing.
+
+Example of a file, lines.csv:
+  class,pattern,action
+  sender,spam.example,REJECT
+  recipient,far.example,HOLD
+
+Example:
+  hq_main import --directory customers.csv --store desk.db --customer acme --label january \\
+    --file lines.csv";
+
+/// What `sweep` does.
+pub(crate) const SWEEP: &str =
+    "Give up a customer's messages that are too old, and warn of late ones";
+
+/// What it prints, and an example of its calls.
+pub(crate) const AFTER_SWEEP: &str = "\
+It prints how many messages were given up, how many became warned, and how many notices were made:
+`expired 1, warned 0, notices 1`.
+
+Example:
+  hq_main sweep --directory customers.csv --host relay.example --store desk.db --customer acme \\
+    --at 1767657600";
+
+pub(crate) const STORE: &str = "\
+The file that keeps what is done, a database of SQLite, made
+where it is missing. No default. Example: --store desk.db";
+
+pub(crate) const CUSTOMER: &str = "\
+The customer's name, as the directory has it. No default.
+Example: --customer acme";
+
+pub(crate) const LABEL: &str = "\
+What the import goes by: 1 to 64 letters, digits, dots,
+hyphens and underscores. No default. Example: --label january";
+
+pub(crate) const LINES: &str = "\
+The lines: a CSV file of at most 1,000 rows under the header
+class,pattern,action. No default. Example: --file lines.csv";
+
+pub(crate) const AT: &str = "\
+The moment of the sweep, in seconds since 1970,
+0 to 4102444799. No default. Example: --at 1767657600";

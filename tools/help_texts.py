@@ -1,0 +1,142 @@
+"""What `--help` shows, of the program and of each of its words: tools/words compares it whole."""
+
+HELP = b"""\
+A customer desk of a mail relay: each customer sees and steers its own queued mail, and keeps its
+own access tables, as postqueue(1), postsuper(1) and access(5) have them.
+
+Without a command it replies to the lines of standard input for two built-in customers, acme and
+birch, from an empty desk in memory.
+
+Usage: hq_main [COMMAND]
+
+Commands:
+  batch   Reply to the lines of standard input, for the customers of a directory
+  queue   Print the queue report of a customer
+  import  Set lines of a customer's access tables by the rows of a file
+  sweep   Give up a customer's messages that are too old, and warn of late ones
+
+Options:
+  -h, --help  Print help
+
+Examples:
+  hq_main < lines
+  hq_main batch --help
+  hq_main batch --directory customers.csv --host relay.example --relay-key relaykey00000001 < lines
+  hq_main queue --directory customers.csv --store desk.db --customer acme
+
+The exit status is 0 when done; 1 for a refusal or a fault, which is told in one line on standard
+error, as `hq: 53 BadDirectory row 3`; 2 for words that are not taken.
+"""
+BATCH_HELP = b"""\
+Reply to the lines of standard input, for the customers of a directory
+
+Usage: hq_main batch [OPTIONS] --directory <FILE> --host <HOST> --relay-key <KEY>
+
+Options:
+      --directory <FILE>  The customers: a CSV file of 1 to 1,000 rows under the header
+                          name,key,messages,bytes,lines,notices,delay. No default.
+                          Example: --directory customers.csv
+      --host <HOST>       The name of the relay, a domain. No default.
+                          Example: --host relay.example
+      --relay-key <KEY>   The key of the relay's workers: 16 to 64 letters and digits,
+                          and no customer's key. No default.
+                          Example: --relay-key relaykey00000001
+      --store <FILE>      The file that keeps what is done, a database of SQLite, made
+                          where it is missing. By default the desk stands in memory,
+                          and is empty at first. Example: --store desk.db
+  -h, --help              Print help
+
+A line is `AT METHOD PATH KEY BODY`: seconds since 1970, an HTTP method, a path, a key or `-`, and a
+body that may be missing. Each line gets one reply line on standard output, at once.
+
+Example of a directory, the file customers.csv:
+  name,key,messages,bytes,lines,notices,delay
+  acme,acmekey000000001,1000,500000000,1000,100,14400
+
+Example of a line:
+  1767225600 GET /v1/messages acmekey000000001
+
+Examples:
+  hq_main batch --directory customers.csv --host relay.example --relay-key relaykey00000001 < lines
+  hq_main batch --directory customers.csv --host relay.example --relay-key relaykey00000001 \\
+    --store desk.db < lines
+"""
+QUEUE_HELP = b"""\
+Print the queue report of a customer
+
+Usage: hq_main queue --directory <FILE> --store <FILE> --customer <NAME>
+
+Options:
+      --directory <FILE>  The customers: a CSV file of 1 to 1,000 rows under the header
+                          name,key,messages,bytes,lines,notices,delay. No default.
+                          Example: --directory customers.csv
+      --store <FILE>      The file that keeps what is done, a database of SQLite, made
+                          where it is missing. No default. Example: --store desk.db
+      --customer <NAME>   The customer's name, as the directory has it. No default.
+                          Example: --customer acme
+  -h, --help              Print help
+
+The report lists the customer's messages as postqueue(1) does, held ones with `!`, or tells that its
+queue is empty.
+
+Example:
+  hq_main queue --directory customers.csv --store desk.db --customer acme
+"""
+IMPORT_HELP = b"""\
+Set lines of a customer's access tables by the rows of a file
+
+Usage: hq_main import --directory <FILE> --store <FILE> --customer <NAME> --label <LABEL> --file <FILE>
+
+Options:
+      --directory <FILE>  The customers: a CSV file of 1 to 1,000 rows under the header
+                          name,key,messages,bytes,lines,notices,delay. No default.
+                          Example: --directory customers.csv
+      --store <FILE>      The file that keeps what is done, a database of SQLite, made
+                          where it is missing. No default. Example: --store desk.db
+      --customer <NAME>   The customer's name, as the directory has it. No default.
+                          Example: --customer acme
+      --label <LABEL>     What the import goes by: 1 to 64 letters, digits, dots,
+                          hyphens and underscores. No default. Example: --label january
+      --file <FILE>       The lines: a CSV file of at most 1,000 rows under the header
+                          class,pattern,action. No default. Example: --file lines.csv
+  -h, --help              Print help
+
+Either all rows are set, or none is and the first bad row is told. It prints how many lines were
+added, changed, and there already: `added 3, changed 0, same 0`. The same file under the same label
+is told the same again, and sets nothing.
+
+Example of a file, lines.csv:
+  class,pattern,action
+  sender,spam.example,REJECT
+  recipient,far.example,HOLD
+
+Example:
+  hq_main import --directory customers.csv --store desk.db --customer acme --label january \\
+    --file lines.csv
+"""
+SWEEP_HELP = b"""\
+Give up a customer's messages that are too old, and warn of late ones
+
+Usage: hq_main sweep --directory <FILE> --host <HOST> --store <FILE> --customer <NAME> --at <AT>
+
+Options:
+      --directory <FILE>  The customers: a CSV file of 1 to 1,000 rows under the header
+                          name,key,messages,bytes,lines,notices,delay. No default.
+                          Example: --directory customers.csv
+      --host <HOST>       The name of the relay, a domain. No default.
+                          Example: --host relay.example
+      --store <FILE>      The file that keeps what is done, a database of SQLite, made
+                          where it is missing. No default. Example: --store desk.db
+      --customer <NAME>   The customer's name, as the directory has it. No default.
+                          Example: --customer acme
+      --at <AT>           The moment of the sweep, in seconds since 1970,
+                          0 to 4102444799. No default. Example: --at 1767657600
+  -h, --help              Print help
+
+It prints how many messages were given up, how many became warned, and how many notices were made:
+`expired 1, warned 0, notices 1`.
+
+Example:
+  hq_main sweep --directory customers.csv --host relay.example --store desk.db --customer acme \\
+    --at 1767657600
+"""
