@@ -3,8 +3,8 @@
 #![tactic(auto)]
 
 #[cfg(test)]
-mod fields;
+mod echo;
 #[cfg(test)]
-mod pieces;
+mod fields;
 #[cfg(test)]
 mod serving;

@@ -1,8 +1,9 @@
 //! The loop over readers and writers that give little at a time, are interrupted, and fail.
 //! Expected values are the rules of a batch.
 
-use crate::pieces::{Echo, Narrow, Pieces};
+use crate::echo::Echo;
 use hq_lines::{EngineFault, serve_lines};
+use hq_pieces::{Narrow, Pieces};
 use std::alloc::{AllocError, Global};
 use std::process::Abort;
 use std::test::Fail;

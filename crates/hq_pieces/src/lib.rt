@@ -1,23 +1,29 @@
-//! A reader and a writer that fail as told, and what answers the lines of these tests.
+//! For tests alone: a reader that gives little at a time, is interrupted and fails, and a writer
+//! that takes little and fails, as they are told.
+#![tactic(auto)]
 
-ghost use Rattle.std.specs.Prelude.{⊤};
-
-use hq_lines::{Answers, read_line};
 use std::io::{self, ErrorKind, Read, Write};
 
 /// Gives bytes in pieces. It is interrupted so many times before the first of them and, where it
 /// flickers, once after each; and it fails after so many reads.
 #[derive(Drop)]
 pub struct Pieces<'b> {
+    /// The bytes that are left.
     pub rest: &'b [u8],
+    /// The most bytes of one read.
     pub most: usize,
+    /// How often the next reads are interrupted.
     pub interruptions: u64,
+    /// Whether it is interrupted once after each piece.
     pub flickers: bool,
+    /// How many reads there were.
     pub reads: u64,
+    /// How many reads there may be before it fails.
     pub fails_after: u64,
 }
 
 impl Pieces<'_> {
+    /// All these bytes, at most so many a read, with no failure.
     pub fn new(rest: &[u8], most: usize) -> Pieces<'_> {
         Pieces {
             rest,
@@ -54,6 +60,7 @@ impl Read for Pieces<'_> {
 /// Takes so many writes, and then fails.
 #[derive(Drop)]
 pub struct Narrow {
+    /// How many writes are left.
     pub writes: u32,
 }
 
@@ -68,23 +75,5 @@ impl Write for Narrow {
 
     fn flush(&mut self) -> io::Result<()> {
         Ok(())
-    }
-}
-
-/// Writes the key of a line, its method where it has no key, and `!` where it cannot be read.
-#[derive(Drop)]
-pub struct Echo {
-    pub steps_done: u64,
-}
-
-impl Answers for Echo {
-    ghost steps = { λ old request reply new. ⊤ };
-
-    fn answer<W: Write>(&mut self, line: &[u8], writer: &mut W) -> io::Result<()> {
-        self.steps_done = self.steps_done.wrapping_add(1);
-        match read_line(line) {
-            Some(line) => writer.write_all(line.key.unwrap_or(line.method).as_bytes()),
-            None => writer.write_all(b"!"),
-        }
     }
 }

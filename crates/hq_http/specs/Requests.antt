@@ -1,0 +1,66 @@
+-- What the bytes of a connection ask for.
+use Rattle.std.specs.Prelude.{◌≡◌, ◌≢◌, ◌≤◌, ◌<◌, ◌⊎◌, ◌++◌, ℕ, List, [], length, take, map, nat_lt, nat_le, if◌then◌else◌, Option, Some, IfSome}
+use Rattle.std.specs.Io.KnownBytes.{Consumes}
+use Rattle.httparse.specs.Grammar.{RequestHead, print_request, ReadsRequest, HasNoRequest}
+use Rattle.httparse.specs.Spans.{name_and_value}
+use Rattle.hq_base.specs.declared.failure.Refusal.{Refusal}
+use Rattle.hq_base.specs.declared.failure.Refusal.TheVariants.{BadRequest, BodyTooLong}
+use Rattle.hq_http.specs.Fields.{Framing, framing}
+
+-- a method and a path with a key or none, and the bytes of a body
+pub record Request : Type 0 where
+  pub method : List ℕ
+  pub path : List ℕ
+  pub key : Option (List ℕ)
+  pub body : List ℕ
+
+-- nothing, a refusal, or a request
+pub data Asked : Type 0 where
+  nothing : Asked
+  refused : Refusal → Asked
+  request : Request → Asked
+
+-- The bytes are a head within the limits, whose fields say this of the body and the key, and then the rest.
+pub record Reads (bytes : List ℕ) (h : RequestHead) (f : Framing) (rest : List ℕ) : Type 0 where
+  pub head : ReadsRequest bytes h rest
+  pub short : length (print_request h) ≤ 16384
+  pub few : length h.fields ≤ 64
+  pub framed : framing (map name_and_value h.fields) ≡ Some f
+
+-- What a head asks for with what follows it: a body of its length, and bytes after the body are not looked at.
+unfoldable pub asked_by : RequestHead → Framing → List ℕ → Asked
+asked_by h f rest =
+    if nat_lt 262144 f.length then refused BodyTooLong
+    else (if nat_le f.length (length rest)
+    then request (record { method = h.method; path = h.target; key = f.key; body = take f.length rest })
+    else refused BadRequest)
+
+-- the bytes begin with no such head
+abbrev pub HasNoHead : List ℕ → Type 0
+HasNoHead bytes = (h : RequestHead) (f : Framing) (rest : List ℕ) → Reads bytes h f rest → ⊥
+
+-- What bytes ask for: no bytes ask for nothing, a head asks for what it says, and all others are refused.
+abbrev pub RequestOf : List ℕ → Asked → Type 0
+RequestOf bytes asked =
+    ((bytes ≡ []) × (asked ≡ nothing))
+    ⊎ (((h : RequestHead) × (f : Framing) × (rest : List ℕ) × Reads bytes h f rest × (asked ≡ asked_by h f rest))
+    ⊎ ((bytes ≢ []) × HasNoHead bytes × (asked ≡ refused BadRequest)))
+
+-- However the bytes go on, they ask for this.
+abbrev pub Settles : List ℕ → Asked → Type 0
+Settles bytes asked = (more : List ℕ) → RequestOf (bytes ++ more) asked
+
+-- More has to be read: no head has ended, or the body of one is not whole.
+abbrev pub IsOpen : List ℕ → Type 0
+IsOpen bytes =
+    (HasNoRequest bytes × (length bytes < 16384))
+    ⊎ ((h : RequestHead) × (f : Framing) × (rest : List ℕ) × Reads bytes h f rest × (f.length ≤ 262144) × (length rest < f.length))
+
+-- Some bytes were read, and what they ask for is what the whole input asks for; nothing was read once that was settled.
+pub record Received (read_old read_new : Option (List ℕ)) (asked : Asked) : Type 0 where
+  pub front : List ℕ
+  pub last : List ℕ
+  pub read : Consumes read_old read_new (front ++ last)
+  pub went_on : IsOpen front
+  pub asks : RequestOf (front ++ last) asked
+  pub whole : IfSome read_old (λ input. RequestOf input asked)

@@ -1,0 +1,16 @@
+//! One request from any reader, however its bytes are cut, and one response.
+#![tactic(auto)]
+
+mod begun;
+mod ends;
+mod fields;
+mod head;
+mod laws;
+mod reading;
+mod stages;
+mod writing;
+
+pub use laws::one_request;
+pub use reading::{Input, read_request};
+pub use stages::Message;
+pub use writing::write_response;

@@ -1,0 +1,128 @@
+//! How far a request has come, from chunk to chunk.
+
+ghost use Rattle.std.specs.Prelude.{◌≡◌, ◌≢◌, ◌<◌, ◌++◌, [], length, List, ℕ, IfOk, option_map, string_bytes};
+ghost use Rattle.hq_http.specs.Ends.{HasEnd};
+ghost use Rattle.hq_http.specs.Stages.{BodyBegun, StageIs, StepIs, IsOf};
+
+use crate::begun::Begun;
+use crate::ends::Place;
+use crate::head::{HEAD_BYTES, Head, WholeHead, head_of};
+use hq_base::Refusal;
+use std::alloc::{AllocError, Global};
+
+/// A request as it came.
+#[derive(Drop)]
+pub struct Message {
+    /// The method, as `GET`.
+    pub method: String,
+    /// The path, as it stands.
+    pub path: String,
+    /// The key that was shown.
+    pub key: Option<String>,
+    /// The body.
+    pub body: Vec<u8>,
+}
+
+/// How far a request has come.
+#[derive(Drop)]
+pub(crate) enum Stage {
+    /// Bytes in which no head has ended.
+    Head(Begun),
+    /// A request with the first bytes of its body, and how many its body has in all.
+    Body(Message, u64),
+}
+
+/// What more bytes make of a request.
+#[derive(Drop)]
+pub(crate) enum Step {
+    /// Still more are needed.
+    Open(Stage),
+    /// However they go on, they are refused.
+    Refused(Refusal),
+    /// A whole request, whatever follows.
+    Whole(Message),
+}
+
+/// A request whose body has begun, or is whole already.
+fn with_body(message: Message, length: u64) -> Step
+    ensures { (bytes : List ℕ) → BodyBegun bytes message length → StepIs bytes result }
+{
+    if (message.body.len() as u64) < length {
+        return Step::Open(Stage::Body(message, length));
+    }
+    let mut message = message;
+    message.body.truncate(length as usize);
+    Step::Whole(message)
+}
+
+/// A key of its own.
+fn own_key(alloc: Global, key: Option<&str>) -> Result<Option<String>, AllocError>
+    ensures { IfOk result (λ own. option_map string_bytes own
+        ≡ option_map (λ k. k.now) key.entry) }
+{
+    match key {
+        None => Ok(None),
+        Some(key) => Ok(Some(String::from_str(alloc, key)?)),
+    }
+}
+
+/// The request of a head, with the first bytes of its body.
+fn message_of(alloc: Global, head: &WholeHead<'_>, rest: &[u8]) -> Result<Message, AllocError>
+    ensures { IfOk result (λ message. IsOf message head.now rest.now) }
+{
+    Ok(Message {
+        method: String::from_str(alloc, head.method)?,
+        path: String::from_str(alloc, head.path)?,
+        key: own_key(alloc, head.key)?,
+        body: Vec::from_slice(alloc, rest)?,
+    })
+}
+
+/// What bytes with the end of a head make.
+fn behind_end(alloc: Global, held: &[u8]) -> Result<Step, AllocError>
+    requires { HasEnd held.now }
+    ensures { IfOk result (StepIs held.now) }
+{
+    match head_of(held) {
+        Head::Refused(refusal) => Ok(Step::Refused(refusal)),
+        Head::Whole(head) => {
+            let message = message_of(alloc, &head, &held[head.start..])?;
+            Ok(with_body(message, head.length))
+        }
+    }
+}
+
+/// What bytes make, where there was no end of a head.
+fn behind_begun(alloc: Global, begun: Begun) -> Result<Step, AllocError>
+    ensures { begun.bytes.items ≢ [] → IfOk result (StepIs begun.bytes.items) }
+{
+    if begun.place == Place::Ended {
+        return behind_end(alloc, begun.bytes.as_slice());
+    }
+    if begun.bytes.len() >= HEAD_BYTES {
+        return Ok(Step::Refused(Refusal::BadRequest));
+    }
+    Ok(Step::Open(Stage::Head(begun)))
+}
+
+/// More bytes of a body.
+fn more_of_body(message: Message, length: u64, chunk: &[u8]) -> Result<Step, AllocError>
+    ensures { (bytes : List ℕ) → StageIs bytes (Stage.Body message length)
+        → IfOk result (StepIs (bytes ++ chunk.now)) }
+{
+    let mut message = message;
+    message.body.extend_from_slice(chunk)?;
+    Ok(with_body(message, length))
+}
+
+/// What more bytes make of a request. At want of memory what was read is lost.
+pub(crate) fn advance(alloc: Global, stage: Stage, chunk: &[u8]) -> Result<Step, AllocError>
+    requires { 0 < length chunk.now }
+    ensures { (bytes : List ℕ) → StageIs bytes stage
+        → IfOk result (StepIs (bytes ++ chunk.now)) }
+{
+    match stage {
+        Stage::Head(begun) => behind_begun(alloc, begun.more(chunk)?),
+        Stage::Body(message, length) => more_of_body(message, length, chunk),
+    }
+}
