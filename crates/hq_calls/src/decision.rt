@@ -8,7 +8,7 @@ use hq_envelope::{Items, Refusal};
 use hq_store::Change;
 use std::alloc::Global;
 
-/// How many messages or lines a page has at most.
+/// How many messages, lines or notices a page has at most.
 pub const PAGE: usize = 100;
 
 /// An answer, and the changes that are made with it.
@@ -30,6 +30,7 @@ pub fn tell(alloc: Global, answer: Answer) -> Decision
     }
 }
 
+/// A refusal, which changes nothing.
 pub fn refuse(alloc: Global, refusal: Refusal) -> Decision
     ensures { result ≡ answering.refuse refusal }
 {

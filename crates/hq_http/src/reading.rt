@@ -112,9 +112,10 @@ pub(crate) fn read_within<R: Read>(
 /// tried again and counts as a read, and at most 300,000 are made.
 ///
 /// A head has at most 16,384 bytes, empty lines before it counted, and 64 fields; a body 262,144
-/// bytes. All that is no request is refused as 1 `BadRequest`; a longer body, told by a head with no
-/// other fault, as 6 `BodyTooLong`. An error is a read that failed or one too many, and leaves a
-/// request that was neither whole nor refused.
+/// bytes. The key is the field `X-Desk-Key`. All that is no request is refused as 1 `BadRequest`, a
+/// second `Content-Length` or `X-Desk-Key` and any `Transfer-Encoding` among it; a longer body, told
+/// by a head with no other fault, as 6 `BodyTooLong`. An error is a read that failed or one too
+/// many, and leaves a request that was neither whole nor refused.
 pub fn read_request<R: Read>(alloc: Global, reader: &mut R) -> Result<Input, EngineFault>
     ensures told { IfOk result (InputIs (R.remaining reader.old) (R.remaining reader.new)) }
     ensures fault { IfErr result (LeavesOpen (R.remaining reader.old) (R.remaining reader.new)) }

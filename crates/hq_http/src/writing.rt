@@ -1,6 +1,7 @@
 //! The head and the body of a response, written from fixed texts and digits.
 
-ghost use Rattle.std.specs.Prelude.{◌≡◌, ◌++◌, List, ℕ, length, codes, decimal, OnOk};
+ghost use Rattle.std.specs.Prelude.{◌≡◌, ◌++◌, List, [], ℕ, length, codes, decimal, unwrap_or, OnOk};
+ghost use Rattle.http.specs.StatusCode.{reason_phrase};
 ghost use Rattle.std.specs.Io.KnownBytes.{Appends};
 ghost use Rattle.hq_http.specs.Responses.{phrase_of, status_line, fields, response_text};
 
@@ -16,33 +17,34 @@ fn put_number<W: Write>(writer: &mut W, number: usize) -> io::Result<()>
     writer.write_all(buffer.format(number).as_bytes())
 }
 
-/// Writes the three digits of a status.
-fn put_code<W: Write>(writer: &mut W, status: StatusCode) -> io::Result<()>
-    ensures { OnOk result (Appends (W.contents writer.old) (W.contents writer.new)
-        (decimal status)) }
+/// The phrase of a status, which is empty where it has none.
+fn reason(code: StatusCode) -> &'static str
+    ensures { result.now ≡ unwrap_or (reason_phrase code) [] }
 {
-    put_number(writer, status.as_u16() as usize)
+    code.canonical_reason().unwrap_or("")
 }
 
-/// Writes the phrase of a status.
-fn put_phrase<W: Write>(writer: &mut W, status: StatusCode) -> io::Result<()>
-    ensures { OnOk result (Appends (W.contents writer.old) (W.contents writer.new)
-        (phrase_of status)) }
+/// The phrase of a status; a number that is no status, or has no phrase, has an empty one.
+#[tactic(auto, unfolding(crate::specs::Responses::phrase_of))]
+fn phrase_of(status: u16) -> &'static str
+    ensures { result.now ≡ phrase_of status }
 {
-    let phrase = status.canonical_reason().unwrap_or("");
-    writer.write_all(phrase.as_bytes())
+    match StatusCode::from_u16(status) {
+        Ok(code) => reason(code),
+        Err(_) => "",
+    }
 }
 
 /// Writes the first line, without its end.
 #[tactic(auto, unfolding(crate::specs::Responses::status_line))]
-fn write_status<W: Write>(writer: &mut W, status: StatusCode) -> io::Result<()>
+fn write_status<W: Write>(writer: &mut W, status: u16) -> io::Result<()>
     ensures { OnOk result (Appends (W.contents writer.old) (W.contents writer.new)
         (status_line status)) }
 {
     writer.write_all(b"HTTP/1.1 ")?;
-    put_code(writer, status)?;
+    put_number(writer, status as usize)?;
     writer.write_all(b" ")?;
-    put_phrase(writer, status)
+    writer.write_all(phrase_of(status).as_bytes())
 }
 
 /// Writes the fields for a body of this size, and the empty line.
@@ -60,7 +62,7 @@ fn write_fields<W: Write>(writer: &mut W, size: usize) -> io::Result<()>
 /// body, that the connection is closed, and the body; and flushes. It takes no memory. An error
 /// says that it was not written whole.
 #[tactic(auto, unfolding(crate::specs::Responses::response_text))]
-pub fn write_response<W: Write>(writer: &mut W, status: StatusCode, body: &[u8]) -> io::Result<()>
+pub fn write_response<W: Write>(writer: &mut W, status: u16, body: &[u8]) -> io::Result<()>
     ensures { OnOk result (Appends (W.contents writer.old) (W.contents writer.new)
         (response_text status body.now)) }
 {

@@ -2,8 +2,6 @@
 
 use hq_http::write_response;
 use hq_pieces::Narrow;
-use http::StatusCode;
-use std::test::Fail;
 
 /// Statuses and bodies, and what is written of them.
 const RESPONSES: [(u16, &str, &str); 4] = [
@@ -30,16 +28,12 @@ const RESPONSES: [(u16, &str, &str); 4] = [
 ];
 
 #[test]
-fn responses_are_written_whole(rt: HostRuntime) -> Result<(), Fail> {
+fn responses_are_written_whole(rt: HostRuntime) {
     for (status, body, text) in RESPONSES {
-        let Ok(status) = StatusCode::from_u16(status) else {
-            return Err(Fail::from("a status"));
-        };
         let mut output = Vec::new(rt.alloc());
         assert!(rt; write_response(&mut output, status, body.as_bytes()).is_ok());
         assert_eq!(rt; output.as_slice(), text.as_bytes());
     }
-    Ok(())
 }
 
 #[test]
@@ -47,7 +41,7 @@ fn writers_that_fail(rt: HostRuntime) {
     let mut failures = 0u32;
     for writes in 0..20u32 {
         let mut writer = Narrow { writes };
-        if write_response(&mut writer, StatusCode::OK, b"{}").is_err() {
+        if write_response(&mut writer, 200, b"{}").is_err() {
             failures = failures.wrapping_add(1);
         }
     }

@@ -1,4 +1,4 @@
-//! Batches: the lines of an input, the fields of a line, and the loop that has each line answered.
+//! The lines of an input, the fields of a line, and the loop that has each line answered.
 //! What a request means and what its reply says is for the crates above.
 #![tactic(auto)]
 

@@ -1,4 +1,4 @@
-//! Why a program ended before its input, how that is told, and its exit status.
+//! Why a program did not do what its words asked for, how that is told, and its exit status.
 
 ghost use Rattle.std.specs.Prelude.{◌≡◌, Some};
 ghost use Rattle.std.specs.IoError.{error_kind};
@@ -20,16 +20,16 @@ pub(crate) const FAILED: u8 = 1;
 /// The exit status of words that are not taken.
 pub const BAD_WORDS: u8 = 2;
 
-/// Why the program ended before its input.
+/// Why the program did not do what its words asked for.
 #[derive(Clone, Copy, Debug, PartialEq, Eq, Drop)]
 pub enum Trouble {
     /// A file that words name could not be read.
     File,
     /// The input could not be read, or had not ended after the most reads.
     Input,
-    /// A reply could not be written.
+    /// What was to be written could not be.
     Output,
-    /// The desk refused what it was to begin with, or could not do it.
+    /// The desk refused it, or could not do it.
     Desk(Fail),
 }
 

@@ -7,7 +7,7 @@ use std::alloc::{AllocError, Global};
 /// A notice to the sender of a message (bounce(5)). The desk keeps it; sending it is the relay's.
 #[derive(Drop)]
 pub struct Notice {
-    /// Its number among the customer's, from 1 on.
+    /// Its number among the customer's: 1 to 2^40 - 1.
     pub number: u64,
     /// Whether attempts go on.
     pub kind: Kind,

@@ -13,6 +13,6 @@ pub struct Exchange {
     pub path: String,
     /// The key that was shown.
     pub key: Option<String>,
-    /// The body.
+    /// The body. More than 262,144 bytes are refused as 6 `BodyTooLong`.
     pub body: Vec<u8>,
 }

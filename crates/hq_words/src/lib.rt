@@ -4,8 +4,6 @@
 
 mod command;
 mod options;
-#[cfg(test)]
-mod tests;
 mod texts;
 mod words;
 

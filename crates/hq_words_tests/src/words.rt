@@ -1,6 +1,6 @@
 //! What words ask for. What is told of them is compared by `tools/words`, over the program.
 
-use crate::{Asked, Words, read_words};
+use hq_words::{Asked, Words, read_words};
 use std::alloc::{AllocError, Global};
 use std::test::Fail;
 

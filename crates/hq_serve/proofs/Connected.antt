@@ -1,0 +1,38 @@
+-- What was read of a connection, and what the desk made of it.
+use Rattle.std.proofs.Common.{◌≡◌, ℕ, List, [], Option, None, Some, Result, inl, refl, false, subst}
+use Rattle.hq_base.specs.declared.failure.Refusal.{Refusal}
+use Rattle.hq_calls.specs.declared.call.Call.{Call}
+use Rattle.hq_store.specs.Shelves.{Sight}
+use Rattle.hq_desk.specs.declared.desk.Desk.{Desk}
+use Rattle.hq_wire.specs.Calls.{call_from}
+use Rattle.hq_wire.specs.Exchanges.{Exchanged, IsRefused, ask_of}
+use Rattle.hq_wire.specs.Replies.{SeenReply, tells_store}
+use Rattle.hq_wire.specs.declared.asked.Exchange.{Exchange}
+use Rattle.hq_wire.specs.declared.directory.Directory.{Directory}
+use Rattle.hq_wire.proofs.Exchanging as exchanging
+use Rattle.hq_wire.proofs.Serving.{served, served_once}
+use Rattle.hq_http.specs.Requests as requests
+use Rattle.hq_http.specs.Requests.{nothing, refused, request, Received}
+use Rattle.hq_serve.specs.Connections.{Answered}
+use Rattle.hq_serve.specs.Steps.{IsAsked}
+
+module _ {S : Type 0} (sight : Sight S) (d : Directory) (at : ℕ) (a b : Option (List ℕ)) (old : Desk S) where
+  -- no byte came, and nothing was done
+  pub of_nothing : Received a b nothing → Answered sight d at a b old None old
+  of_nothing h = inl (nothing, h, served sight d old old [] [] refl)
+
+  -- it was refused
+  pub of_refusal : (why : Refusal) (r : SeenReply) → Received a b (refused why) → IsRefused why r → tells_store r ≡ false → Answered sight d at a b old (Some r) old
+  of_refusal why r h told store = inl (refused why, h, served_once sight d old old _ r (exchanging.refused sight d old at why r told store))
+
+  -- it was replied to as its exchange
+  pub of_request : (q : requests.Request) (x : Exchange) (r : SeenReply) (new : Desk S) → Received a b (request q) → IsAsked x at q → Exchanged sight d old (ask_of d x) r new → Answered sight d at a b old (Some r) new
+  of_request q x r new h is done = inl (
+    request q,
+    h,
+    served_once sight d old new _ r (
+        subst (λ (a : ℕ × Result (List ℕ × Call) Refusal). Exchanged sight d old (record { at = a.0; called = a.1 }) r new)
+        (λ i. (is.0 i, call_from d (is.1 i) (is.2 i) (is.3 i) (is.4 i)))
+        done
+        ),
+  )

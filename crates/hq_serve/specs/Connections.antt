@@ -1,0 +1,51 @@
+-- One connection: what it asks for is replied to once.
+use Rattle.std.specs.Prelude.{◌≡◌, ◌≢◌, ◌⊎◌, ⊤, ℕ, List, [], ◌∷◌, Option, None, Some, option_to_list, Result, Ok, Err}
+use Rattle.std.specs.Io.KnownBytes.{Consumes, Appends, Keeps}
+use Rattle.hq_base.specs.Refusals.{no_memory}
+use Rattle.hq_store.specs.Shelves.{Sight}
+use Rattle.hq_desk.specs.declared.desk.Desk.{Desk}
+use Rattle.hq_wire.specs.Calls.{call_from}
+use Rattle.hq_wire.specs.Exchanges.{Ask}
+use Rattle.hq_wire.specs.Replies.{SeenReply, reply_of_fault}
+use Rattle.hq_wire.specs.Runs.{Served}
+use Rattle.hq_wire.specs.declared.directory.Directory.{Directory}
+use Rattle.hq_lines.specs.Lines.{Streams}
+use Rattle.hq_lines.specs.declared.batch.EngineFault.{EngineFault}
+use Rattle.hq_lines.specs.declared.batch.EngineFault.TheVariants.{Read, Write, TooManyReads, WantOfMemory}
+use Rattle.hq_http.specs.Requests.{Asked, nothing, refused, request, Received}
+use Rattle.hq_http.specs.Responses.{response_text}
+use Rattle.hq_http.specs.Stages.{StaysOpen}
+
+-- What the desk is asked at a moment: nothing, or one exchange. A refusal of the request is that of its exchange.
+abbrev pub asks : Directory → ℕ → Asked → List Ask
+asks d at nothing = []
+asks d at (refused why) = record { at = at; called = Err why } ∷ []
+asks d at (request q) = record { at = at; called = call_from d q.method q.path q.key q.body } ∷ []
+
+-- a reply as a response
+abbrev pub response_of : SeenReply → List ℕ
+response_of r = response_text r.status r.body
+
+-- the response is written, and where there is no reply nothing is
+abbrev pub IsWritten : Option (List ℕ) → Option (List ℕ) → Option SeenReply → Type 0
+IsWritten old new None = Keeps old new
+IsWritten old new (Some r) = Appends old new (response_of r)
+
+-- Some bytes were read, and there was no room for the request.
+abbrev pub HasNoRoom : Option (List ℕ) → Option (List ℕ) → Type 0
+HasNoRoom read_old read_new = (bytes : List ℕ) × Consumes read_old read_new bytes × (bytes ≢ [])
+
+-- What was read was served as its exchange is, or as none; or there was no room for it, which is told, and nothing was done.
+abbrev pub Answered : {S : Type 0} → Sight S → Directory → ℕ → Option (List ℕ) → Option (List ℕ) → Desk S → Option SeenReply → Desk S → Type 0
+Answered sight d at read_old read_new old reply new =
+    ((asked : Asked) × Received read_old read_new asked × Served sight d old (asks d at asked) (option_to_list reply) new)
+    ⊎ (HasNoRoom read_old read_new × (reply ≡ Some (reply_of_fault no_memory)) × (new ≡ old))
+
+-- How the serving of a connection ends: what was read is answered, and the response is written; or nothing was done, as
+-- the request was not whole; or what was read is answered, and its response is not told to be whole.
+abbrev pub Ends : {S : Type 0} → Sight S → Directory → ℕ → Streams → Streams → Type 0 → Desk S → Desk S → Result ⊤ EngineFault → Type 0
+Ends sight d at start end quiet old new (Ok _) = (reply : Option SeenReply) × Answered sight d at start.input end.input old reply new × IsWritten start.output end.output reply
+Ends sight d at start end quiet old new (Err Read) = StaysOpen start.input end.input × quiet × (new ≡ old)
+Ends sight d at start end quiet old new (Err TooManyReads) = StaysOpen start.input end.input × quiet × (new ≡ old)
+Ends sight d at start end quiet old new (Err Write) = (reply : SeenReply) × Answered sight d at start.input end.input old (Some reply) new
+Ends sight d at start end quiet old new (Err WantOfMemory) = ⊥

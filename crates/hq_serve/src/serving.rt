@@ -1,0 +1,101 @@
+//! One connection with the desk.
+
+ghost use Rattle.std.specs.Prelude.{◌≡◌, List, ℕ, Option, string_bytes, option_map, OnOk};
+ghost use Rattle.std.specs.Io.KnownBytes.{Appends};
+ghost use Rattle.hq_http.specs.Stages.{shown, InputIs};
+ghost use Rattle.hq_wire.specs.Replies.{seen};
+ghost use Rattle.hq_serve.specs.Connections.{response_of, Answered, Ends};
+ghost use Rattle.hq_serve.specs.Steps.{IsAsked};
+
+use hq_desk::Desk;
+use hq_envelope::{Fault, Moment};
+use hq_http::{Input, Message, read_request, write_response};
+use hq_lines::EngineFault;
+use hq_store::Shelf;
+use hq_wire::{Directory, Exchange, Reply, exchange, fault_reply, refusal_reply};
+use std::alloc::Global;
+use std::io::{self, Read, Write};
+
+/// The exchange that a request asks for at a moment.
+fn exchange_of(message: Message, at: Moment) -> Exchange
+    ensures { IsAsked result at (shown message) }
+{
+    Exchange {
+        at,
+        method: message.method,
+        path: message.path,
+        key: message.key,
+        body: message.body,
+    }
+}
+
+/// Replies to what a connection asks for; to nothing there is no reply.
+fn reply_to<S: Shelf + Drop>(
+    alloc: Global,
+    desk: &mut Desk<S>,
+    directory: &Directory,
+    at: Moment,
+    input: Input,
+) -> Option<Reply>
+    ensures { (read_old read_new : Option (List ℕ)) → InputIs read_old read_new input
+        → Answered S.sight directory.now at read_old read_new desk.old (option_map seen result)
+        desk.new }
+{
+    match input {
+        Input::Nothing => None,
+        Input::Refused(refusal) => Some(refusal_reply(alloc, refusal)),
+        Input::NoRoom => Some(fault_reply(Fault::WantOfMemory)),
+        Input::Request(message) => {
+            let asked = exchange_of(message, at);
+            Some(exchange(alloc, desk, directory, &asked))
+        }
+    }
+}
+
+/// Writes a reply as a response, and flushes.
+fn write_reply<W: Write>(writer: &mut W, reply: &Reply) -> io::Result<()>
+    ensures { OnOk result (Appends (W.contents writer.old) (W.contents writer.new)
+        (response_of (seen reply.now))) }
+{
+    write_response(writer, reply.status, reply.body.as_bytes())
+}
+
+/// Serves one connection: one request is read, replied to at this moment, and its response is
+/// written and flushed. Where no byte comes, nothing is written.
+///
+/// What is read asks for what the whole input asks for, however its bytes are cut (`hq_http`). A
+/// refusal is told and changes nothing; a request is replied to as its exchange is. Where there is
+/// no room for the request, 503 with 90 `WantOfMemory` is told, and nothing was done.
+///
+/// To every customer the reply to its call, and what is kept of it afterwards, are those of the
+/// machine of one customer, started from its own state and given its share of the calls alone; a
+/// call that is replied to with 503 is struck out.
+///
+/// An error is `Read` or `TooManyReads`, the request was neither whole nor refused, and nothing was
+/// done and nothing written; or `Write`: what was asked was done, and how much of its response went
+/// out is not told. At most 300,000 reads are made, an interrupted one counted.
+pub fn serve_one<R: Read, W: Write, S: Shelf + Drop>(
+    alloc: Global,
+    reader: &mut R,
+    writer: &mut W,
+    desk: &mut Desk<S>,
+    directory: &Directory,
+    at: Moment,
+) -> Result<(), EngineFault>
+    ensures { Ends S.sight directory.now at
+        (record { input = R.remaining reader.old; output = W.contents writer.old })
+        (record { input = R.remaining reader.new; output = W.contents writer.new })
+        (writer.new ≡ writer.old) desk.old desk.new result }
+{
+    let input = match read_request(alloc, reader) {
+        Ok(input) => input,
+        Err(fault) => return Err(fault),
+    };
+    match reply_to(alloc, desk, directory, at, input) {
+        None => Ok(()),
+        Some(reply) => match write_reply(writer, &reply) {
+            Ok(()) => Ok(()),
+            Err(_) => Err(EngineFault::Write),
+        },
+    }
+}

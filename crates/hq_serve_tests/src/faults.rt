@@ -1,0 +1,52 @@
+//! Readers and writers that fail, and what is kept then.
+
+use crate::desk::{Office, open, response, serve};
+use crate::responses::USAGE;
+use hq_pieces::{Narrow, Pieces};
+use hq_serve::EngineFault;
+use std::process::Abort;
+use std::test::Fail;
+
+/// A message of one recipient.
+const SUBMIT: &[u8] = b"POST /relay/submit/acme HTTP/1.1\r\nX-Desk-Key: relaykey00000001\r\n\
+    Content-Length: 79\r\n\r\n{\"spool\":\"s1\",\"sender\":\"a@a.example\",\
+    \"recipients\":[\"b@far.example\"],\"size\":900}";
+
+/// Whether the customer keeps so many messages.
+fn keeps(rt: &(impl Abort + AllocGlobal), office: &mut Office, messages: &str) -> bool {
+    match response(rt, office, USAGE, usize::MAX) {
+        Some(output) => {
+            let text = str::from_utf8(output.as_slice()).unwrap_or("");
+            text.contains(messages)
+        }
+        None => false,
+    }
+}
+
+#[test]
+fn readers_that_fail(rt: HostRuntime) -> Result<(), Fail> {
+    let mut office = open(rt.alloc())?;
+    for fails_after in 0..SUBMIT.len() {
+        let mut reader = Pieces::new(SUBMIT, 1);
+        reader.fails_after = fails_after as u64;
+        let mut output = Vec::new(rt.alloc());
+        let served = serve(&rt, &mut office, &mut reader, &mut output);
+        assert!(rt; matches!(served, Err(EngineFault::Read)));
+        assert!(rt; output.is_empty());
+    }
+    assert!(rt; keeps(&rt, &mut office, "\"messages\":0"));
+    Ok(())
+}
+
+#[test]
+fn writers_that_fail(rt: HostRuntime) -> Result<(), Fail> {
+    // A response is eight writes.
+    for writes in 0..8u32 {
+        let mut office = open(rt.alloc())?;
+        let mut reader = Pieces::new(SUBMIT, usize::MAX);
+        let served = serve(&rt, &mut office, &mut reader, &mut Narrow { writes });
+        assert!(rt; matches!(served, Err(EngineFault::Write)));
+        assert!(rt; keeps(&rt, &mut office, "\"messages\":1"));
+    }
+    Ok(())
+}
