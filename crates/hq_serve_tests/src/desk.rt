@@ -44,7 +44,14 @@ pub fn serve<W: Write>(
 ) -> Result<(), EngineFault> {
     let alloc = rt.alloc();
     let at = Moment::no_later(START);
-    serve_one(alloc, reader, writer, &mut office.desk, &office.directory, at)
+    serve_one(
+        alloc,
+        reader,
+        writer,
+        &mut office.desk,
+        &office.directory,
+        at,
+    )
 }
 
 /// What is written to a connection that sends these bytes, so many at a time; `None` for a fault.
