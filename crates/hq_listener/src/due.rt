@@ -1,27 +1,102 @@
-//! A stream whose request has to be read by an instant.
+//! A stream whose reads and writes have to end by an instant.
 
-use std::io::{self, ErrorKind, Read};
-use std::net::TcpStream;
+ghost use Rattle.std.specs.Prelude.{◌≡◌, ◌-◌, ◌<◌, ◌≤◌, min, IfSome, IfNone, IfOk};
+ghost use Rattle.std.specs.Duration.{as_nanos};
+ghost use Rattle.std.specs.Time.{instant_nanos};
+
+use std::io::{self, ErrorKind, Read, Write};
+use std::net::{Shutdown, TcpStream};
 use std::rt::Clock;
-use std::time::Instant;
+use std::time::{Duration, Instant};
 
-/// Reads a stream, and fails once an instant has come.
+/// How often what a client still sends is read at most, when its response is written.
+const MOST_READS: u32 = 4_096;
+
+/// Reads and writes a stream, and fails with `TimedOut` once an instant has come. A read or a write
+/// that waits longer than it may fails with `WouldBlock`.
 #[derive(Drop)]
 pub(crate) struct Due<'s, C> {
-    /// The stream.
+    /// The stream; its own limits of time are set before each read and each write.
     pub stream: &'s TcpStream,
     /// What tells the time.
     pub clock: &'s C,
-    /// When the request has to have been read.
+    /// How long one read or one write may take; of zero, each fails with `TimedOut`.
+    pub idle: Duration,
+    /// When the last of them has to have ended.
     pub until: Instant,
+}
+
+/// How long a read or a write that begins now may take: as long as one may, and not past the end;
+/// `None` where that is no time at all.
+fn time_left(now: Instant, until: Instant, idle: Duration) -> Option<Duration>
+    ensures some { IfSome result (λ left. as_nanos left
+        ≡ min (as_nanos idle) (instant_nanos until - instant_nanos now)) }
+    ensures passes { IfSome result (λ left. 0 < as_nanos left) }
+    ensures none { IfNone result (min (as_nanos idle) (instant_nanos until - instant_nanos now) ≡ 0) }
+{
+    let left = idle.min(until.duration_since(now));
+    if left.is_zero() {
+        return None;
+    }
+    Some(left)
+}
+
+impl<C: Clock> Due<'_, C> {
+    /// How long a read or a write that begins now may take; fails with `TimedOut` where that is no
+    /// time at all.
+    fn left(&self) -> io::Result<Duration>
+        ensures { IfOk result (λ left. (0 < as_nanos left) × (as_nanos left ≤ as_nanos self.now.idle)) }
+    {
+        match time_left(Instant::now(self.clock)?, self.until, self.idle) {
+            Some(left) => Ok(left),
+            None => Err(io::Error::from(ErrorKind::TimedOut)),
+        }
+    }
 }
 
 impl<C: Clock> Read for Due<'_, C> {
     fn read(&mut self, buf: &mut [u8]) -> io::Result<usize> {
-        if Instant::now(self.clock)? >= self.until {
-            return Err(io::Error::from(ErrorKind::TimedOut));
-        }
         let mut stream = self.stream;
+        stream.set_read_timeout(Some(self.left()?))?;
         stream.read(buf)
     }
+}
+
+impl<C: Clock> Write for Due<'_, C> {
+    fn write(&mut self, buf: &[u8]) -> io::Result<usize> {
+        let mut stream = self.stream;
+        stream.set_write_timeout(Some(self.left()?))?;
+        stream.write(buf)
+    }
+
+    fn flush(&mut self) -> io::Result<()> {
+        let mut stream = self.stream;
+        stream.flush()
+    }
+}
+
+/// Tells a client that its response has ended, and throws away what it still sends, until it ends
+/// its side too: for a second, and in 4,096 reads, at most.
+///
+/// A stream that is closed before all bytes of its client are read is reset, and the response may
+/// be lost on its way. An error tells that the stream or the clock failed, or that the client sent
+/// nothing for what was left of the second.
+pub(crate) fn linger<C: Clock>(clock: &C, stream: &TcpStream) -> io::Result<()> {
+    stream.shutdown(Shutdown::Write)?;
+    let second = Duration::from_secs(1);
+    let now = Instant::now(clock)?;
+    let until = now.checked_add(second).unwrap_or(now);
+    let mut rest = Due {
+        stream,
+        clock,
+        idle: second,
+        until,
+    };
+    let mut thrown = [0; 4_096];
+    for _ in 0..MOST_READS {
+        if rest.read(&mut thrown)? == 0 {
+            return Ok(());
+        }
+    }
+    Ok(())
 }

@@ -1,26 +1,30 @@
 //! The connections of a listening socket.
 
-ghost use Rattle.std.specs.Prelude.{◌≡◌, IfOk};
+ghost use Rattle.std.specs.Prelude.{◌≡◌, ◌+◌, ◌*◌, IfOk, IfSome};
+ghost use Rattle.std.specs.Duration.{as_nanos};
+ghost use Rattle.std.specs.Time.{instant_nanos};
 ghost use Rattle.hq_listener.specs.Listening.{DoesSome};
 
-use crate::due::Due;
+use crate::due::{Due, linger};
 use hq_desk::Desk;
 use hq_envelope::Moment;
 use hq_serve::{EngineFault, serve_one};
 use hq_store::Shelf;
 use hq_wire::Directory;
 use std::alloc::Global;
-use std::io::{Read, Write};
+use std::io::{BufWriter, Read, Write};
 use std::net::{TcpListener, TcpStream};
 use std::rt::Clock;
 use std::time::{Duration, Instant, SystemTime};
 
-/// How long a client may take.
+/// How long a client may take. A limit of zero leaves no time, so that no connection is replied to.
 #[derive(Clone, Copy, Debug, PartialEq, Eq)]
 pub struct Limits {
     /// For one read or one write.
-    pub silence: Duration,
-    /// For its whole request.
+    pub idle: Duration,
+    /// For its whole request to arrive, from the acceptance of the connection on, however its bytes
+    /// are cut. The response has to have been taken by the client in twice this time, from the same
+    /// instant on.
     pub request: Duration,
 }
 
@@ -31,8 +35,18 @@ pub enum End {
     Done,
     /// A connection could not be accepted.
     Network,
-    /// The clock tells no time, or one that is no moment of the desk.
+    /// The clock tells no time, or one that is no moment of the desk. The connection that was
+    /// accepted is closed with no reply.
     Clock,
+}
+
+/// When the parts of a connection have to have ended.
+#[derive(Clone, Copy)]
+struct Deadlines {
+    /// The reading of its request.
+    request: Instant,
+    /// The writing of its response.
+    response: Instant,
 }
 
 /// The moment that the clock tells, if it is one.
@@ -42,12 +56,25 @@ fn moment_now<C: Clock>(clock: &C) -> Option<Moment> {
     Moment::new(since.as_secs())
 }
 
-/// When the request of a client that begins now has to have been read; `None` where the socket
-/// takes no limits.
-fn due<C: Clock>(clock: &C, stream: &TcpStream, limits: Limits) -> Option<Instant> {
-    stream.set_read_timeout(Some(limits.silence)).ok()?;
-    stream.set_write_timeout(Some(limits.silence)).ok()?;
-    Instant::now(clock).ok()?.checked_add(limits.request)
+/// The deadlines of a connection that begins at an instant, whose request may take so long; `None`
+/// where no clock counts as far.
+fn deadlines_from(start: Instant, request: Duration) -> Option<Deadlines>
+    ensures request { IfSome result (λ ends. instant_nanos ends.request
+        ≡ instant_nanos start + as_nanos request) }
+    ensures response { IfSome result (λ ends. instant_nanos ends.response
+        ≡ instant_nanos start + 2 * as_nanos request) }
+{
+    let read = start.checked_add(request)?;
+    Some(Deadlines {
+        request: read,
+        response: read.checked_add(request)?,
+    })
+}
+
+/// The deadlines of a connection that begins now; `None` where there are none, or the clock tells
+/// no time.
+fn deadlines_now<C: Clock>(clock: &C, request: Duration) -> Option<Deadlines> {
+    deadlines_from(Instant::now(clock).ok()?, request)
 }
 
 /// Serves one connection, by whatever reads and writes it.
@@ -64,7 +91,25 @@ fn serve_between<R: Read, W: Write, S: Shelf + Drop>(
     serve_one(alloc, reader, writer, desk, directory, at)
 }
 
-/// Serves one connection within its limits.
+/// Serves one connection, and gathers its response, so that it leaves in few segments; where there
+/// is no memory to gather it, it leaves as it is written.
+fn serve_gathered<R: Read, W: Write + Drop, S: Shelf + Drop>(
+    alloc: Global,
+    reader: &mut R,
+    writer: &mut W,
+    desk: &mut Desk<S>,
+    directory: &Directory,
+    at: Moment,
+) -> Result<(), EngineFault>
+    ensures { DoesSome S.sight directory.now desk.old desk.new }
+{
+    if let Ok(mut gathered) = BufWriter::new(alloc, &mut *writer) {
+        return serve_between(alloc, reader, &mut gathered, desk, directory, at);
+    }
+    serve_between(alloc, reader, writer, desk, directory, at)
+}
+
+/// Serves one connection within its limits, and where that ends well, lets the client end its side.
 fn serve_stream<C: Clock + AllocGlobal, S: Shelf + Drop>(
     rt: &C,
     stream: &TcpStream,
@@ -75,16 +120,24 @@ fn serve_stream<C: Clock + AllocGlobal, S: Shelf + Drop>(
 ) -> Result<(), EngineFault>
     ensures { DoesSome S.sight directory.now desk.old desk.new }
 {
-    let Some(until) = due(rt, stream, limits) else {
+    let Some(ends) = deadlines_now(rt, limits.request) else {
         return Err(EngineFault::Read);
     };
     let mut reader = Due {
         stream,
         clock: rt,
-        until,
+        idle: limits.idle,
+        until: ends.request,
     };
-    let mut writer = stream;
-    serve_between(rt.alloc(), &mut reader, &mut writer, desk, directory, at)
+    let mut writer = Due {
+        stream,
+        clock: rt,
+        idle: limits.idle,
+        until: ends.response,
+    };
+    serve_gathered(rt.alloc(), &mut reader, &mut writer, desk, directory, at)?;
+    let _lingered = linger(rt, stream);
+    Ok(())
 }
 
 /// Tells what a connection ended in; what cannot be written is not told.
@@ -103,7 +156,13 @@ fn tell<E: Write>(errors: &mut E, served: Result<(), EngineFault>) {
 /// What a connection asks for is done as its exchange is, so that all of them together are a run of
 /// exchanges: to every customer its replies, and what is kept of it, are those that it would have
 /// alone. A connection that ends in a fault, or takes longer than the limits allow, is told in a
-/// line, `hq: input` or `hq: output`, and the next is served.
+/// line, `hq: input` while its request is read and `hq: output` while its response is written, and
+/// the next is served.
+///
+/// When a response is written, what its client still sends is read and thrown away, until the
+/// client ends its side, for a second at most: a connection closed before that would be reset, and
+/// its response lost. So one connection takes at most twice `limits.request`, and a second, beside
+/// what its exchange takes.
 pub fn serve_on<C: Clock + AllocGlobal, S: Shelf + Drop, E: Write>(
     rt: &C,
     listener: &TcpListener,

@@ -21,10 +21,14 @@ const EMPTY: &str = "HTTP/1.1 200 OK\r\nContent-Type: application/json\r\nConten
     Connection: close\r\n\r\n{\"accepted\":0,\"bytes\":0,\"deleted\":0,\"delivered\":0,\
     \"expired\":0,\"failed\":0,\"lines\":0,\"messages\":0,\"pending\":0}";
 
+/// What a client is told that says that its body is longer than any may be.
+const TOO_LONG: &str = "HTTP/1.1 413 Payload Too Large\r\nContent-Type: application/json\r\n\
+    Content-Length: 32\r\nConnection: close\r\n\r\n{\"error\":6,\"name\":\"BodyTooLong\"}";
+
 /// A fifth of a second for one read, and one for a whole request.
 fn limits() -> Limits {
     Limits {
-        silence: Duration::from_millis(200),
+        idle: Duration::from_millis(200),
         request: Duration::from_secs(1),
     }
 }
@@ -49,35 +53,60 @@ fn client(
     Ok(client)
 }
 
-/// Whether a client is sent the usage of an empty desk, and nothing else.
-fn has_response(rt: &HostRuntime, client: &mut TcpStream) -> io::Result<bool> {
+/// Whether a client is sent this response, and nothing else.
+fn has_response(rt: &HostRuntime, client: &mut TcpStream, wanted: &str) -> io::Result<bool> {
     let mut response = Vec::new(rt.alloc());
     client.read_to_end(&mut response)?;
-    Ok(response.as_slice() == EMPTY.as_bytes())
+    Ok(response.as_slice() == wanted.as_bytes())
+}
+
+/// Serves so many connections, and gives what was told of them.
+fn served(rt: &HostRuntime, listener: &TcpListener, count: u32) -> Result<Vec<u8>, Fail> {
+    let settings = settings(rt.alloc())?;
+    let mut desk = Desk::new(ListShelf::new(rt.alloc()), settings.host);
+    let mut errors = Vec::new(rt.alloc());
+    let directory = &settings.directory;
+    let end = serve_on(
+        rt,
+        listener,
+        count,
+        limits(),
+        &mut desk,
+        directory,
+        &mut errors,
+    );
+    if end != End::Done {
+        return Err(Fail::from("as many connections as there were to be"));
+    }
+    Ok(errors)
 }
 
 #[test]
 fn connections_one_after_another(rt: HostRuntime) -> Result<(), Fail> {
-    let settings = settings(rt.alloc())?;
-    let mut desk = Desk::new(ListShelf::new(rt.alloc()), settings.host);
     let listener = TcpListener::bind(&rt, "127.0.0.1:0")?;
     // The second sends half a request and stays; the third is served all the same.
     let mut first = client(&rt, &listener, USAGE, true)?;
     let _second = client(&rt, &listener, &USAGE[..10], false)?;
     let mut third = client(&rt, &listener, USAGE, true)?;
-    let mut errors = Vec::new(rt.alloc());
-    let end = serve_on(
-        &rt,
-        &listener,
-        3,
-        limits(),
-        &mut desk,
-        &settings.directory,
-        &mut errors,
-    );
-    assert!(rt; end == End::Done);
+    let errors = served(&rt, &listener, 3)?;
     assert_eq!(rt; errors.as_slice(), b"hq: input\n".as_slice());
-    assert!(rt; has_response(&rt, &mut first)?);
-    assert!(rt; has_response(&rt, &mut third)?);
+    assert!(rt; has_response(&rt, &mut first, EMPTY)?);
+    assert!(rt; has_response(&rt, &mut third, EMPTY)?);
+    Ok(())
+}
+
+/// The desk replies to a length alone, while most of the body is not read yet.
+#[test]
+fn a_body_longer_than_any(rt: HostRuntime) -> Result<(), Fail> {
+    let listener = TcpListener::bind(&rt, "127.0.0.1:0")?;
+    let head = b"POST /v1/check HTTP/1.1\r\nX-Desk-Key: acmekey000000001\r\n\
+        Content-Length: 1000000\r\n\r\n";
+    let mut client = client(&rt, &listener, head, false)?;
+    for _ in 0..16 {
+        client.write_all(&[b'x'; 4_096])?;
+    }
+    let errors = served(&rt, &listener, 1)?;
+    assert!(rt; errors.is_empty());
+    assert!(rt; has_response(&rt, &mut client, TOO_LONG)?);
     Ok(())
 }
