@@ -10,6 +10,7 @@ birch, from an empty desk in memory.
 Usage: hq_main [COMMAND]
 
 Commands:
+  serve   Serve the customers of a directory over HTTP/1.1
   batch   Reply to the lines of standard input, for the customers of a directory
   queue   Print the queue report of a customer
   import  Set lines of a customer's access tables by the rows of a file
@@ -20,12 +21,58 @@ Options:
 
 Examples:
   hq_main < lines
-  hq_main batch --help
+  hq_main serve --help
+  hq_main serve --directory customers.csv --host relay.example --relay-key relaykey00000001
   hq_main batch --directory customers.csv --host relay.example --relay-key relaykey00000001 < lines
   hq_main queue --directory customers.csv --store desk.db --customer acme
 
 The exit status is 0 when done; 1 for a refusal or a fault, which is told in one line on standard
 error, as `hq: 53 BadDirectory row 3`; 2 for words that are not taken.
+"""
+SERVE_HELP = b"""\
+Serve the customers of a directory over HTTP/1.1
+
+Usage: hq_main serve [OPTIONS] --directory <FILE> --host <HOST> --relay-key <KEY>
+
+Options:
+      --directory <FILE>           The customers: a CSV file of 1 to 1,000 rows under the header
+                                   name,key,messages,bytes,lines,notices,delay. No default.
+                                   Example: --directory customers.csv
+      --host <HOST>                The name of the relay, a domain. No default.
+                                   Example: --host relay.example
+      --relay-key <KEY>            The key of the relay's workers: 16 to 64 letters and digits,
+                                   and no customer's key. No default.
+                                   Example: --relay-key relaykey00000001
+      --store <FILE>               The file that keeps what is done, a database of SQLite, made
+                                   where it is missing. By default the desk stands in memory,
+                                   and is empty at first. Example: --store desk.db
+      --listen <ADDRESS>           The address to listen on: an IP address and a port. With port 0
+                                   a free one is taken. Example: --listen 127.0.0.1:8025 [default: 127.0.0.1:8025]
+      --count <N>                  How many connections are served before it ends, 1 to 1000000.
+                                   Example: --count 100 [default: 1000000]
+      --idle-timeout <SECONDS>     How long a client may take for one read or one write,
+                                   in seconds, 1 to 3600. Example: --idle-timeout 10 [default: 30]
+      --request-timeout <SECONDS>  How long a client may take to send its whole request,
+                                   in seconds, 1 to 3600; for the response it is as long again.
+                                   Example: --request-timeout 60 [default: 30]
+  -h, --help                       Print help
+
+When it listens it prints the address that was bound, `listening on 127.0.0.1:8025`. It serves one
+connection after another, each with one request, which is answered and closed. One that is reset or
+too slow before its whole request has come is told as `hq: input` on standard error, and one that is
+so before its whole response is written as `hq: output`; the next one is served.
+
+Example of a directory, the file customers.csv:
+  name,key,messages,bytes,lines,notices,delay
+  acme,acmekey000000001,1000,500000000,1000,100,14400
+
+Example of a request:
+  curl -H 'X-Desk-Key: acmekey000000001' http://127.0.0.1:8025/v1/messages
+
+Examples:
+  hq_main serve --directory customers.csv --host relay.example --relay-key relaykey00000001
+  hq_main serve --directory customers.csv --host relay.example --relay-key relaykey00000001 \\
+    --store desk.db --listen 127.0.0.1:0 --count 100
 """
 BATCH_HELP = b"""\
 Reply to the lines of standard input, for the customers of a directory

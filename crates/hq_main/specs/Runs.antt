@@ -1,5 +1,5 @@
--- What the program does: with lines of the built-in customers, from an empty desk in memory; with those of a directory; and
--- with its words.
+-- What the program does: with lines of the built-in customers, from an empty desk in memory; with lines, or connections, of
+-- those of a directory; and with its words.
 use Rattle.std.specs.Prelude.{◌≡◌, ◌≤◌, ⊤, ℕ, [], List, map, Option, Some, None, Result, Ok, Err, IfOk, string_bytes}
 use Rattle.std.specs.Io.KnownBytes.{Appends}
 use Rattle.std.specs.declared.alloc.AllocError.{AllocError}
@@ -19,10 +19,11 @@ use Rattle.hq_program.specs.SettingUp.{SetsUp}
 use Rattle.hq_program.specs.declared.trouble.Trouble.{Trouble}
 use Rattle.hq_sql_program.specs.Runs.{MemoryEnds}
 use Rattle.hq_program.specs.Printing.{IsPrinted}
+use Rattle.hq_sql_server.specs.Runs.{ServeEnds}
 use Rattle.hq_sql_admin.specs.Words.{QueueEnds, ImportEnds, SweepEnds}
 use Rattle.hq_words.specs.Asked.{BatchGiven, Says, given_of}
 use Rattle.hq_words.specs.declared.words.Asked.{Asked}
-use Rattle.hq_words.specs.declared.words.Asked.TheVariants.{Batch, Queue, Import, Sweep}
+use Rattle.hq_words.specs.declared.words.Asked.TheVariants.{Serve, Batch, Queue, Import, Sweep}
 use Rattle.hq_words.specs.declared.words.Words.{Words}
 use Rattle.hq_words.specs.declared.words.Words.TheVariants.{Builtin, Asked as OfWord, Help, Refused}
 
@@ -56,6 +57,8 @@ Prints ends unread unwritten old new status =
 
 -- what is done for a word
 abbrev pub DoesWord : Asked → Type 0 → Type 0 → Streams → Streams → ℕ → Type 0
+DoesWord (Serve given) unread unwritten old new status =
+    unread × Exits (ServeEnds given unwritten old.output new.output) status
 DoesWord (Batch given) unread unwritten old new status =
     Exits (BatchEnds (given_of given) (unread × unwritten) old new) status
 DoesWord (Queue given) unread unwritten old new status = Prints (QueueEnds given) unread unwritten old new status

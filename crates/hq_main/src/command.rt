@@ -9,6 +9,7 @@ use hq_envelope::Fault;
 use hq_program::{Trouble, builtin_settings, print, refuse, serve, set_up, show, tell};
 use hq_sql_admin::{import, queue, sweep};
 use hq_sql_program::serve_stored;
+use hq_sql_server::serve_http;
 use hq_store::ListShelf;
 use hq_words::{Asked, Batch, Words, read_words};
 use std::io::{Read, Write};
@@ -56,6 +57,10 @@ fn do_word<R: Read, W: Write, E: Write>(
         (record { input = R.remaining input.new; output = W.contents output.new }) result }
 {
     match asked {
+        Asked::Serve(given) => {
+            let served = serve_http(rt, given, output, errors);
+            tell(served, errors)
+        }
         Asked::Batch(batch) => tell(serve_batch(rt, batch, input, output), errors),
         Asked::Queue(given) => print(queue(rt, given), output, errors),
         Asked::Import(given) => print(import(rt, given), output, errors),
@@ -64,8 +69,9 @@ fn do_word<R: Read, W: Write, E: Write>(
 }
 
 /// Runs the program with the words after its name, and answers its exit status: 0 when the input
-/// has ended, a call was done and printed, or help was shown; 1 for a refusal or a fault; 2 for
-/// words that are not taken. Each of the last two is told on `errors`, where that can be written.
+/// has ended, all connections were served, a call was done and printed, or help was shown; 1 for a
+/// refusal or a fault; 2 for words that are not taken. Each of the last two is told on `errors`,
+/// where that can be written.
 ///
 /// After a failed input the whole lines before are replied to; after a failed output the exchanges
 /// of the first lines, or the call, are done; where the desk could not begin, nothing is read or

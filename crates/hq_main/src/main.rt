@@ -1,8 +1,9 @@
 //! The program `hq_main`: the desk of a mail relay's customers.
 //!
-//! Without words it serves two built-in customers from an empty desk in memory; the word `batch`
-//! serves those of a directory, in memory or over a file. Both reply to the lines of standard input
-//! on standard output until the input ends. The words `queue`, `import` and `sweep` read no input:
+//! The word `serve` serves the customers of a directory over HTTP, in memory or over a file. Without
+//! words it serves two built-in customers from an empty desk in memory, and the word `batch` those
+//! of a directory, in memory or over a file: both reply to the lines of standard input on standard
+//! output until the input ends. The words `queue`, `import` and `sweep` read no input:
 //! each does one call of one customer over a store in a file, and prints its answer.
 #![tactic(auto)]
 

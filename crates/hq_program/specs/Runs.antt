@@ -12,7 +12,7 @@ use Rattle.hq_lines.specs.declared.batch.EngineFault.{EngineFault}
 use Rattle.hq_lines.specs.declared.batch.EngineFault.TheVariants.{Read, Write, TooManyReads, WantOfMemory}
 use Rattle.hq_batch.specs.Batches.{Replied}
 use Rattle.hq_program.specs.declared.trouble.Trouble.{Trouble}
-use Rattle.hq_program.specs.declared.trouble.Trouble.TheVariants.{File, Input, Output, Desk as OfDesk}
+use Rattle.hq_program.specs.declared.trouble.Trouble.TheVariants.{File, Input, Output, Network, Clock, Desk as OfDesk}
 
 -- What lines ask for is replied to as a batch of the customers of these settings, with a desk over this shelf.
 pub record ServesOver {S : Type 0} (sight : Sight S) (settings : Settings) (shelf : S) (asked : List (Option Request)) (lines : List (List ℕ)) : Type 0 where
@@ -34,6 +34,8 @@ abbrev pub trouble_shown : Trouble → List ℕ
 trouble_shown File = codes "file"
 trouble_shown Input = codes "input"
 trouble_shown Output = codes "output"
+trouble_shown Network = codes "network"
+trouble_shown Clock = codes "clock"
 trouble_shown (OfDesk fail) = fail_shown fail
 
 -- how a run ends: as a batch does, with a fault of it told

@@ -6,7 +6,7 @@ use Rattle.hq_settings.specs.Seen.{settings_seen}
 use Rattle.hq_settings.specs.Settings.{relay_in, settings_in}
 use Rattle.hq_settings.specs.declared.settings.Settings.{Settings}
 use Rattle.hq_program.specs.declared.trouble.Trouble.{Trouble}
-use Rattle.hq_program.specs.declared.trouble.Trouble.TheVariants.{File, Input, Output, Desk}
+use Rattle.hq_program.specs.declared.trouble.Trouble.TheVariants.{File, Input, Output, Network, Clock, Desk}
 
 -- no file was read: it could not be, or memory ran out
 abbrev pub IsUnread : Trouble → Type 0
@@ -25,3 +25,5 @@ SetsUp host key (Err File) = IsOk (relay_in host key)
 SetsUp host key (Err (Desk (AsFault fault))) = fault ≡ no_memory
 SetsUp host key (Err Input) = ⊥
 SetsUp host key (Err Output) = ⊥
+SetsUp host key (Err Network) = ⊥
+SetsUp host key (Err Clock) = ⊥

@@ -12,7 +12,7 @@ mod trouble;
 
 pub use arguments::words;
 pub use builtin::settings as builtin_settings;
-pub use printing::{print, show};
+pub use printing::{print, put, show};
 pub use serving::serve;
 pub use setting_up::{file_of, set_up};
 pub use trouble::{BAD_WORDS, Trouble, not_begun, refuse, tell};

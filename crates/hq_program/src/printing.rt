@@ -2,9 +2,9 @@
 
 ghost use Rattle.std.specs.Prelude.{◌≡◌, ◌≤◌, OnOk};
 ghost use Rattle.std.specs.Io.KnownBytes.{Appends};
-ghost use Rattle.hq_program.specs.Printing.{IsPrinted};
+ghost use Rattle.hq_program.specs.Printing.{IsPrinted, IsPut};
 
-use crate::trouble::{DONE, FAILED, Trouble, tell};
+use crate::trouble::{FAILED, Trouble, tell};
 use hq_desk::Rendered;
 use std::io::{self, Write};
 
@@ -16,17 +16,26 @@ fn write_out<W: Write>(text: &[u8], output: &mut W) -> io::Result<()>
     output.flush()
 }
 
+/// Writes a text to the output, and flushes; `Output` where either fails, and then how much of it
+/// was written is not told.
+pub fn put<W: Write>(text: &[u8], output: &mut W) -> Result<(), Trouble>
+    ensures { IsPut text.now (W.contents output.old) (W.contents output.new) result }
+{
+    match write_out(text, output) {
+        Ok(()) => Ok(()),
+        Err(_) => Err(Trouble::Output),
+    }
+}
+
 /// Writes a text to the output, and answers the exit status: 0, or 1 where it cannot be written,
 /// which is told.
-fn put<W: Write, E: Write>(text: &[u8], output: &mut W, errors: &mut E) -> u8
+fn put_or_tell<W: Write, E: Write>(text: &[u8], output: &mut W, errors: &mut E) -> u8
     ensures status { result ≤ 1 }
     ensures shown { result ≡ 0
         → Appends (W.contents output.old) (W.contents output.new) text.now }
 {
-    match write_out(text, output) {
-        Ok(()) => DONE,
-        Err(_) => tell(Err(Trouble::Output), errors),
-    }
+    let done = put(text, output);
+    tell(done, errors)
 }
 
 /// Tells a refusal in one line, as `hq: 52 LabelUsed`.
@@ -43,7 +52,7 @@ pub fn show<W: Write, E: Write>(text: &str, output: &mut W, errors: &mut E) -> u
     ensures shown { result ≡ 0
         → Appends (W.contents output.old) (W.contents output.new) text.now }
 {
-    put(text.as_bytes(), output, errors)
+    put_or_tell(text.as_bytes(), output, errors)
 }
 
 /// Prints what a call was answered, and answers the exit status: 0 when it is on the output; and 1
@@ -65,5 +74,5 @@ pub fn print<W: Write, E: Write>(
         let _told = tell_refused(rendered.bytes.as_slice(), errors);
         return FAILED;
     }
-    put(rendered.bytes.as_slice(), output, errors)
+    put_or_tell(rendered.bytes.as_slice(), output, errors)
 }

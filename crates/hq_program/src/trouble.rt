@@ -29,6 +29,10 @@ pub enum Trouble {
     Input,
     /// What was to be written could not be.
     Output,
+    /// An address could not be listened on, or a connection not be accepted.
+    Network,
+    /// The clock tells no moment of the desk.
+    Clock,
     /// The desk refused it, or could not do it.
     Desk(Fail),
 }
@@ -41,6 +45,8 @@ impl fmt::Display for Trouble {
             Trouble::File => f.write_str("file"),
             Trouble::Input => f.write_str("input"),
             Trouble::Output => f.write_str("output"),
+            Trouble::Network => f.write_str("network"),
+            Trouble::Clock => f.write_str("clock"),
             Trouble::Desk(fail) => write!(f, "{fail}"),
         }
     }

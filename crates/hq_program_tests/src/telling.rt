@@ -74,6 +74,8 @@ fn what_is_told_of_an_end(rt: HostRuntime) {
     for (end, want, line) in [
         (Ok(()), 0, ""),
         (Err(Trouble::File), 1, "hq: file\n"),
+        (Err(Trouble::Network), 1, "hq: network\n"),
+        (Err(Trouble::Clock), 1, "hq: clock\n"),
         (Err(Trouble::from(Fault::Disk)), 1, "hq: 91 Disk\n"),
         (
             Err(Trouble::from(Fault::BadSchema)),

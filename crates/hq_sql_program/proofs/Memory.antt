@@ -13,8 +13,11 @@ use Rattle.hq_sql.specs.Tables.{tables_in}
 use Rattle.hq_sql_shelf.specs.Shelf.{IsOurs}
 use Rattle.hq_sql_shelf.specs.declared.shelf.SqlShelf.{SqlShelf}
 use Rattle.hq_desk.specs.Desks.{on, host_of, shelf_of}
+use Rattle.hq_desk.specs.declared.desk.Desk.{Desk}
 use Rattle.hq_settings.specs.declared.settings.Settings.{Settings}
-use Rattle.hq_wire.specs.Runs.{AllReplied, Alone}
+use Rattle.hq_wire.specs.Exchanges.{Ask}
+use Rattle.hq_wire.specs.Replies.{SeenReply}
+use Rattle.hq_wire.specs.Runs.{AllReplied, Alone, Served}
 use Rattle.hq_wire.proofs.Serving.{all_replied}
 use Rattle.hq_lines.specs.Fields.{Request}
 use Rattle.hq_lines.specs.Lines.{Streams}
@@ -22,32 +25,35 @@ use Rattle.hq_batch.specs.Batches.{ask_in}
 use Rattle.hq_program.specs.Runs.{ServesOver}
 use Rattle.hq_program.specs.declared.trouble.Trouble.{Trouble}
 use Rattle.hq_program.proofs.Ends.{run_ends_as}
-use Rattle.hq_sql_program.specs.Runs.{memory, Serves, OpenedEnds, MemoryEnds}
+use Rattle.hq_sql_program.specs.Runs.{memory, FromEmpty, Serves, OpenedEnds, MemoryEnds}
+
+-- what a desk over a shelf in memory that is empty replied to
+pub from_empty : (settings : Settings) (shelf : SqlShelf MemStore) → IsOurs (state over_memory shelf.conn) → tables_in (state over_memory shelf.conn).committed ≡ no_tables
+    → (old new : Desk (SqlShelf MemStore)) → host_of old ≡ settings.host → shelf_of old ≡ shelf
+    → (asks : List Ask) (replies : List SeenReply) → Served memory settings.directory old asks replies new → FromEmpty settings asks replies new
+from_empty settings shelf ours none old new named is asks replies p =
+    let d = settings.directory in
+    let empty = ap memory.tables is ∙ none in
+    let after = (on memory).tables new in
+    let sound = subst Sound (sym empty) empty_sound in
+    let clean = memory_is_clean (shelf_of new).conn in
+    let owned = subst memory.is_ours (sym is) ours in
+    record {
+      replied = λ stays.
+          let all = all_replied memory d old new asks replies p.each clean owned stays sound in
+          subst (λ n. AllReplied memory.may_answer n d no_tables asks replies after) named (subst (λ t. AllReplied memory.may_answer (host_of old) d t asks replies after) empty all);
+      alone = λ stays.
+          let alone = p.alone clean owned stays sound in
+          subst (λ n. Alone n d asks replies no_tables after) named (subst (λ t. Alone (host_of old) d asks replies t after) empty alone);
+    }
 
 serves : (settings : Settings) (shelf : SqlShelf MemStore) → IsOurs (state over_memory shelf.conn) → tables_in (state over_memory shelf.conn).committed ≡ no_tables
     → (asked : List (Option Request)) (lines : List (List ℕ)) → ServesOver memory settings shelf asked lines → Serves settings asked lines
-serves settings shelf ours none asked lines it =
-    let d = settings.directory in
-    let old = it.old in
-    let new = it.new in
-    let p = it.replied in
-    let empty = ap memory.tables it.shelf_is ∙ none in
-    let named = it.host_is in
-    let after = (on memory).tables new in
-    let asks = map (ask_in d) asked in
-    let sound = subst Sound (sym empty) empty_sound in
-    let clean = memory_is_clean (shelf_of new).conn in
-    let owned = subst memory.is_ours (sym it.shelf_is) ours in
-    record {
-      shelf = shelf;
-      over = it;
-      replied = λ stays.
-          let all = all_replied memory d old new asks p.0 p.2.each clean owned stays sound in
-          subst (λ n. AllReplied memory.may_answer n d no_tables asks p.0 after) named (subst (λ t. AllReplied memory.may_answer (host_of old) d t asks p.0 after) empty all);
-      alone = λ stays.
-          let alone = p.2.alone clean owned stays sound in
-          subst (λ n. Alone n d asks p.0 no_tables after) named (subst (λ t. Alone (host_of old) d asks p.0 t after) empty alone);
-    }
+serves settings shelf ours none asked lines it = record {
+  shelf = shelf;
+  over = it;
+  from_empty = from_empty settings shelf ours none it.old it.new it.host_is it.shelf_is (map (ask_in settings.directory) asked) it.replied.0 it.replied.2;
+}
 
 pub memory_ends : (settings : Settings) (opened : Result (SqlShelf MemStore) Fault) (untouched : Type 0) (old new : Streams) (result : Result ⊤ Trouble)
     → IfOk opened (λ s. IsOurs (state over_memory s.conn)) → IfOk opened (λ s. tables_in (state over_memory s.conn).committed ≡ no_tables)

@@ -11,18 +11,21 @@ use Rattle.hq_store.specs.Tables.{no_tables}
 use Rattle.hq_sql_shelf.specs.Shelf.{sight_over}
 use Rattle.hq_sql_shelf.specs.declared.shelf.SqlShelf.{SqlShelf}
 use Rattle.hq_desk.specs.Desks.{on}
+use Rattle.hq_desk.specs.declared.desk.Desk.{Desk}
 use Rattle.hq_settings.specs.declared.settings.Settings.{Settings}
+use Rattle.hq_wire.specs.Exchanges.{Ask}
+use Rattle.hq_wire.specs.Replies.{SeenReply}
 use Rattle.hq_wire.specs.Runs.{AllReplied, Alone}
 use Rattle.hq_lines.specs.Fields.{Request}
 use Rattle.hq_lines.specs.Lines.{Streams}
 use Rattle.hq_batch.specs.Batches.{ask_in}
 use Rattle.hq_program.specs.Runs.{ServesOver, RunEnds}
 use Rattle.hq_program.specs.declared.trouble.Trouble.{Trouble}
-use Rattle.hq_program.specs.declared.trouble.Trouble.TheVariants.{Desk}
+use Rattle.hq_program.specs.declared.trouble.Trouble.TheVariants.{Desk as OfDesk}
 
 -- the store could not be opened: nothing is read or written, and its fault is told
 abbrev pub IsUnopened : Type 0 → Fault → Result ⊤ Trouble → Type 0
-IsUnopened untouched fault result = untouched × (result ≡ Err (Desk (AsFault fault)))
+IsUnopened untouched fault result = untouched × (result ≡ Err (OfDesk (AsFault fault)))
 
 -- How a run ends over a store as it was opened: the lines are those of a batch over this shelf, or there is none.
 abbrev pub OpenedEnds : {S : Type 0} → (Held S → State) → Settings → Result (SqlShelf S) Fault → Type 0 → Streams → Streams
@@ -36,15 +39,19 @@ OpenedEnds seen settings (Err fault) untouched old new result = IsUnopened untou
 abbrev pub memory : Sight (SqlShelf MemStore)
 memory = sight_over (state over_memory)
 
--- Lines are replied to as a batch of these customers over a shelf in memory. Where its store was not closed by a
--- transaction that could not be undone, it began with empty tables, and to each customer the desk is its own.
+-- What was asked of a desk from empty tables, and replied to: where its store was not closed by a transaction that could
+-- not be undone, each was replied to as its exchange is, and to each customer the desk is its own.
+pub record FromEmpty (settings : Settings) (asks : List Ask) (replies : List SeenReply) (new : Desk (SqlShelf MemStore)) : Type 0 where
+  pub replied : (on memory).is_closed new ≡ false
+      → AllReplied memory.may_answer settings.host settings.directory no_tables asks replies ((on memory).tables new)
+  pub alone : (on memory).is_closed new ≡ false
+      → Alone settings.host settings.directory asks replies no_tables ((on memory).tables new)
+
+-- Lines are replied to as a batch of these customers over a shelf in memory, which began with empty tables.
 pub record Serves (settings : Settings) (asked : List (Option Request)) (lines : List (List ℕ)) : Type 0 where
   pub shelf : SqlShelf MemStore
   pub over : ServesOver memory settings shelf asked lines
-  pub replied : (on memory).is_closed over.new ≡ false → AllReplied memory.may_answer settings.host settings.directory no_tables
-      (map (ask_in settings.directory) asked) over.replied.0 ((on memory).tables over.new)
-  pub alone : (on memory).is_closed over.new ≡ false
-      → Alone settings.host settings.directory (map (ask_in settings.directory) asked) over.replied.0 no_tables ((on memory).tables over.new)
+  pub from_empty : FromEmpty settings (map (ask_in settings.directory) asked) over.replied.0 over.new
 
 abbrev pub MemoryEnds : Settings → Type 0 → Streams → Streams → Result ⊤ Trouble → Type 0
 MemoryEnds settings untouched old new result =

@@ -9,6 +9,7 @@ use Rattle.clap.specs.Walk.{Row, Text, first_of}
 use Rattle.clap.specs.declared.error.kind.ErrorKind.{ErrorKind}
 use Rattle.clap.specs.declared.error.kind.ErrorKind.TheVariants.{DisplayHelp}
 use Rattle.hq_words.specs.Program.{program}
+use Rattle.hq_words.specs.declared.options.Serve.{Serve}
 use Rattle.hq_words.specs.declared.options.Batch.{Batch}
 use Rattle.hq_words.specs.declared.options.Queue.{Queue}
 use Rattle.hq_words.specs.declared.options.Import.{Import}
@@ -19,6 +20,16 @@ use Rattle.hq_words.specs.declared.words.Words.{Words}
 use Rattle.hq_words.specs.declared.words.Words.TheVariants.{Builtin, Asked as OfWord, Help, Refused}
 
 -- ---- the texts that words are given
+
+pub record ServeGiven : Type 0 where
+  pub directory : Text
+  pub host : Text
+  pub relay_key : Text
+  pub store : Option Text
+  pub listen : Text
+  pub count : Text
+  pub idle_timeout : Text
+  pub request_timeout : Text
 
 pub record BatchGiven : Type 0 where
   pub directory : Text
@@ -46,6 +57,7 @@ pub record SweepGiven : Type 0 where
   pub at : Text
 
 pub data Given : Type 0 where
+  OfServe : ServeGiven → Given
   OfBatch : BatchGiven → Given
   OfQueue : QueueGiven → Given
   OfImport : ImportGiven → Given
@@ -56,7 +68,28 @@ infixl 10 ◌>>=◌
 abbrev pub ◌>>=◌ : {A B : Type 0} → Option A → (A → Option B) → Option B
 found >>= next = option_and_then next found
 
--- the values of the options of each word, the first of each, in the written order; all but the store of a batch are there
+-- the values of the options of each word, the first of each, in the written order; all but the store of a server or of a
+-- batch are there
+abbrev pub serve_in : List Row → Option ServeGiven
+serve_in rows = do
+  directory ← first_of (codes "directory") rows
+  host ← first_of (codes "host") rows
+  relay_key ← first_of (codes "relay-key") rows
+  listen ← first_of (codes "listen") rows
+  count ← first_of (codes "count") rows
+  idle_timeout ← first_of (codes "idle-timeout") rows
+  request_timeout ← first_of (codes "request-timeout") rows
+  Some (record {
+    directory = directory;
+    host = host;
+    relay_key = relay_key;
+    store = first_of (codes "store") rows;
+    listen = listen;
+    count = count;
+    idle_timeout = idle_timeout;
+    request_timeout = request_timeout;
+  })
+
 abbrev pub batch_in : List Row → Option BatchGiven
 batch_in rows = do
   directory ← first_of (codes "directory") rows
@@ -92,7 +125,8 @@ sweep_in rows = do
 -- what a word is given
 abbrev pub given_in : Text → List Row → Option Given
 given_in word rows =
-    if bytes_eq word (codes "batch") then option_map OfBatch (batch_in rows)
+    if bytes_eq word (codes "serve") then option_map OfServe (serve_in rows)
+    else if bytes_eq word (codes "batch") then option_map OfBatch (batch_in rows)
     else if bytes_eq word (codes "queue") then option_map OfQueue (queue_in rows)
     else if bytes_eq word (codes "import") then option_map OfImport (import_in rows)
     else if bytes_eq word (codes "sweep") then option_map OfSweep (sweep_in rows)
@@ -116,6 +150,15 @@ NamesAMoment text = IsNumeral 10 (without_leading_plus text) × (number_of text 
 abbrev pub IsMoment : Text → Option ℕ → Type 0
 IsMoment text (Some seconds) = NamesAMoment text × (seconds ≡ number_of text)
 IsMoment text None = NamesAMoment text → ⊥
+
+-- a text of a number below 2^32
+abbrev pub NamesANumber : Text → Type 0
+NamesANumber text = IsNumeral 10 (without_leading_plus text) × (number_of text ≤ 4294967295)
+
+-- the number that a text names, or none where it names none
+abbrev pub IsNumber : Text → Option ℕ → Type 0
+IsNumber text (Some number) = NamesANumber text × (number ≡ number_of text)
+IsNumber text None = NamesANumber text → ⊥
 
 abbrev pub given_of : Batch → BatchGiven
 given_of b = record {
@@ -154,8 +197,41 @@ SweepIs (Some given) None = IsMoment given.at None
 SweepIs None (Some sweep) = ⊥
 SweepIs None None = ⊤
 
+-- a server as it was written, with its numbers
+abbrev pub serve_with : Text → Text → Text → Serve → ServeGiven
+serve_with count idle_timeout request_timeout s = record {
+  directory = s.directory.now;
+  host = s.host.now;
+  relay_key = s.relay_key.now;
+  store = option_map (λ s. s.now) s.store;
+  listen = s.listen.now;
+  count = count;
+  idle_timeout = idle_timeout;
+  request_timeout = request_timeout;
+}
+
+-- the numbers of a server are those that are named
+abbrev pub HasNumbers : ServeGiven → Serve → Type 0
+HasNumbers given s =
+    IsNumber given.count (Some s.count) × IsNumber given.idle_timeout (Some s.idle_timeout)
+    × IsNumber given.request_timeout (Some s.request_timeout)
+
+-- three numbers are named
+abbrev pub NamesNumbers : ServeGiven → Type 0
+NamesNumbers given = NamesANumber given.count × NamesANumber given.idle_timeout × NamesANumber given.request_timeout
+
+-- A server is what it is given, with the numbers that are named; there is none where an option is missing or names none.
+abbrev pub ServeIs : Option ServeGiven → Option Serve → Type 0
+ServeIs (Some given) (Some serve) =
+    (given ≡ serve_with given.count given.idle_timeout given.request_timeout serve) × HasNumbers given serve
+ServeIs (Some given) None = NamesNumbers given → ⊥
+ServeIs None (Some serve) = ⊥
+ServeIs None None = ⊤
+
 -- what is asked for by what is given
 abbrev pub Asks : Option Given → Option Asked → Type 0
+Asks (Some (OfServe given)) (Some (asked.Serve s)) = ServeIs (Some given) (Some s)
+Asks (Some (OfServe given)) None = ServeIs (Some given) None
 Asks (Some (OfBatch given)) (Some (asked.Batch b)) = given ≡ given_of b
 Asks (Some (OfQueue given)) (Some (asked.Queue q)) = given ≡ queue_of q
 Asks (Some (OfImport given)) (Some (asked.Import i)) = given ≡ import_of i

@@ -1,6 +1,6 @@
--- The words that the program takes, as `clap` has commands: four words, with options that take one value each. What `clap`
+-- The words that the program takes, as `clap` has commands: five words, with options that take one value each. What `clap`
 -- makes of words is said by its own definitions.
-use Rattle.std.specs.Prelude.{Bool, true, false, List, [], ◌∷◌, codes, Some}
+use Rattle.std.specs.Prelude.{Bool, true, false, ℕ, List, [], ◌∷◌, codes, Some}
 use Rattle.clap.specs.Simple.{App, Shape, new_app, new_rule, new_shape, with_subcommand}
 use Rattle.clap.specs.Walk.{Rule, Text}
 use Rattle.clap.specs.declared.builder.value_parser.ValueParser.TheVariants.{Unsigned}
@@ -13,6 +13,14 @@ option_rule name is_required = record (new_rule name) { long = Some name; value_
 abbrev pub needed : Text → Rule
 needed name = option_rule name true
 
+-- an option, and the value that it has where it is left out
+abbrev pub default_rule : Text → Text → Rule
+default_rule name value = record (option_rule name false) { defaults = value ∷ [] }
+
+-- an option of a number from 1 up to a most, and the number that it has where it is left out
+abbrev pub number_rule : Text → Text → ℕ → Rule
+number_rule name value most = record (default_rule name value) { parser = Some (Unsigned 1 most) }
+
 -- the option `--at`, asked for: a number, up to the last second of the year 2099
 abbrev pub moment_rule : Rule
 moment_rule = record (needed (codes "at")) { parser = Some (Unsigned 0 4102444799) }
@@ -20,6 +28,12 @@ moment_rule = record (needed (codes "at")) { parser = Some (Unsigned 0 410244479
 -- a word with options
 abbrev pub word_shape : Text → List Rule → Shape
 word_shape name rules = record (new_shape name) { rules = rules }
+
+abbrev pub serve_shape : Shape
+serve_shape = word_shape (codes "serve")
+    (needed (codes "directory") ∷ needed (codes "host") ∷ needed (codes "relay-key") ∷ option_rule (codes "store") false
+    ∷ default_rule (codes "listen") (codes "127.0.0.1:8025") ∷ number_rule (codes "count") (codes "1000000") 1000000
+    ∷ number_rule (codes "idle-timeout") (codes "30") 3600 ∷ number_rule (codes "request-timeout") (codes "30") 3600 ∷ [])
 
 abbrev pub batch_shape : Shape
 batch_shape = word_shape (codes "batch")
@@ -40,8 +54,8 @@ sweep_shape = word_shape (codes "sweep")
 
 -- the program and its words
 abbrev pub with_words : App
-with_words = with_subcommand (with_subcommand (with_subcommand (with_subcommand (new_app (codes "hq_main"))
-    batch_shape) queue_shape) import_shape) sweep_shape
+with_words = with_subcommand (with_subcommand (with_subcommand (with_subcommand (with_subcommand (new_app (codes "hq_main"))
+    serve_shape) batch_shape) queue_shape) import_shape) sweep_shape
 
 -- they stand behind the program's name, and one of them is there or help is asked for
 abbrev pub program : App

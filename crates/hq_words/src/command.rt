@@ -1,10 +1,11 @@
 //! The words that there are, with the help that teaches them.
 
-ghost use Rattle.std.specs.Prelude.{◌≡◌, IfOk, false};
+ghost use Rattle.std.specs.Prelude.{◌≡◌, IfOk, codes, false};
 ghost use Rattle.clap.specs.Simple.{app_of, shape_of};
 ghost use Rattle.clap.specs.Walk.{rule_of};
 ghost use Rattle.clap.specs.declared.builder.command.Command.TheViews.{out-Command};
-ghost use Rattle.hq_words.specs.Program.{option_rule, moment_rule, batch_shape, queue_shape, import_shape, sweep_shape, program};
+ghost use Rattle.hq_words.specs.Program.{option_rule, default_rule, number_rule, moment_rule};
+ghost use Rattle.hq_words.specs.Program.{serve_shape, batch_shape, queue_shape, import_shape, sweep_shape, program};
 
 use crate::texts::*;
 use clap::{Arg, Command, value_parser};
@@ -12,6 +13,12 @@ use std::alloc::{AllocError, Global};
 
 /// The last second of the year 2099.
 const LAST_MOMENT: i64 = 4_102_444_799;
+
+/// The most connections that are asked for.
+const MOST_CONNECTIONS: i64 = 1_000_000;
+
+/// The longest time that a client is given: an hour.
+const MOST_SECONDS: i64 = 3_600;
 
 /// An option that takes one value.
 fn option<'w>(
@@ -31,12 +38,64 @@ fn option<'w>(
         .help(help)
 }
 
+/// An option that takes one value, and what it is where it is left out.
+fn defaulted<'w>(
+    alloc: Global,
+    name: &'w str,
+    value: &'w str,
+    help: &'w str,
+    default: &'w str,
+) -> Arg<'w>
+    ensures rule { rule_of result ≡ default_rule name.entry.now default.entry.now }
+    ensures local { result.global ≡ false }
+{
+    option(alloc, name, value, help, false).default_value(default)
+}
+
+/// The option `--count`: how many connections there are to be.
+fn count<'w>(alloc: Global) -> Arg<'w>
+    ensures rule { rule_of result ≡ number_rule (codes "count") (codes "1000000") 1000000 }
+    ensures local { result.global ≡ false }
+{
+    defaulted(alloc, "count", "N", COUNT, "1000000").value_parser(value_parser!(u64).range(
+        1..=MOST_CONNECTIONS,
+    ))
+}
+
+/// An option of a time, in seconds.
+fn seconds<'w>(alloc: Global, name: &'w str, help: &'w str) -> Arg<'w>
+    ensures rule { rule_of result ≡ number_rule name.entry.now (codes "30") 3600 }
+    ensures local { result.global ≡ false }
+{
+    defaulted(alloc, name, "SECONDS", help, "30").value_parser(value_parser!(u64).range(
+        1..=MOST_SECONDS,
+    ))
+}
+
 /// The option `--at`: a moment, in seconds since 1970.
 fn moment<'w>(alloc: Global) -> Arg<'w>
     ensures rule { rule_of result ≡ moment_rule }
     ensures local { result.global ≡ false }
 {
     option(alloc, "at", "AT", AT, true).value_parser(value_parser!(u64).range(..=LAST_MOMENT))
+}
+
+/// The word `serve`, with its options.
+fn serve<'w>(alloc: Global) -> Result<Command<'w>, AllocError>
+    ensures shape { IfOk result (λ c. shape_of c ≡ serve_shape) }
+    ensures local { IfOk result (λ c. (out-Command c).has_globals ≡ false) }
+{
+    Command::new(alloc, "serve")
+        .about(SERVE)
+        .after_help(AFTER_SERVE)
+        .arg(option(alloc, "directory", "FILE", DIRECTORY, true))?
+        .arg(option(alloc, "host", "HOST", HOST, true))?
+        .arg(option(alloc, "relay-key", "KEY", RELAY_KEY, true))?
+        .arg(option(alloc, "store", "FILE", STORE_OR_MEMORY, false))?
+        .arg(defaulted(alloc, "listen", "ADDRESS", LISTEN, "127.0.0.1:8025"))?
+        .arg(count(alloc))?
+        .arg(seconds(alloc, "idle-timeout", IDLE_TIMEOUT))?
+        .arg(seconds(alloc, "request-timeout", REQUEST_TIMEOUT))
 }
 
 /// The word `batch`, with its options.
@@ -100,6 +159,7 @@ fn sweep<'w>(alloc: Global) -> Result<Command<'w>, AllocError>
 pub(crate) fn program<'w>(alloc: Global) -> Result<Command<'w>, AllocError>
     ensures { IfOk result (λ c. app_of c ≡ program) }
 {
+    let serve = serve(alloc)?;
     let batch = batch(alloc)?;
     let queue = queue(alloc)?;
     let import = import(alloc)?;
@@ -112,6 +172,7 @@ pub(crate) fn program<'w>(alloc: Global) -> Result<Command<'w>, AllocError>
         .subcommand_required(true)
         .about(ABOUT)
         .after_help(AFTER_ABOUT)
+        .subcommand(serve)?
         .subcommand(batch)?
         .subcommand(queue)?
         .subcommand(import)?

@@ -3,10 +3,33 @@
 ghost use Rattle.std.specs.Prelude.{◌≡◌, option_map};
 ghost use Rattle.clap.specs.Matches.{found_of};
 ghost use Rattle.clap.specs.Walk.{first_of, rows_of};
-ghost use Rattle.hq_words.specs.Asked.{IsMoment, given_of, import_of, queue_of, batch_in, queue_in, import_in, sweep_in, SweepIs};
+ghost use Rattle.hq_words.specs.Asked.{IsMoment, IsNumber, given_of, import_of, queue_of};
+ghost use Rattle.hq_words.specs.Asked.{serve_in, batch_in, queue_in, import_in, sweep_in, ServeIs, SweepIs};
 
 use clap::ArgMatches;
 use hq_base::Moment;
+
+/// What the word `serve` is given: its numbers, and the others as they were written: none of them
+/// was looked at yet.
+#[derive(Clone, Copy, Debug, PartialEq, Eq, Drop)]
+pub struct Serve<'w> {
+    /// The path of the file of the customers.
+    pub directory: &'w str,
+    /// The name of the relay.
+    pub host: &'w str,
+    /// The key of the relay's workers.
+    pub relay_key: &'w str,
+    /// The path of the store, where there is one; else the desk stands in memory.
+    pub store: Option<&'w str>,
+    /// The address to listen on.
+    pub listen: &'w str,
+    /// How many connections are served.
+    pub count: u32,
+    /// How long a client may take for one read or one write, in seconds.
+    pub idle_timeout: u32,
+    /// How long a client may take to send its whole request, in seconds.
+    pub request_timeout: u32,
+}
 
 /// What the word `batch` is given, as it was written: none of it was looked at yet.
 #[derive(Clone, Copy, Debug, PartialEq, Eq, Drop)]
@@ -78,6 +101,37 @@ fn moment_in(text: &str) -> Option<Moment>
         Ok(seconds) => Moment::new(seconds),
         Err(_) => None,
     }
+}
+
+/// The number that a text of decimal digits names.
+fn number_in(text: &str) -> Option<u32>
+    ensures { IsNumber text.now result }
+{
+    text.parse::<u32>().ok()
+}
+
+/// What matches give the word `serve`.
+pub(crate) fn serve_in<'w>(given: &ArgMatches<'w>) -> Option<Serve<'w>>
+    ensures { ServeIs (serve_in (rows_of (found_of given.now))) result }
+{
+    let directory = value(given, "directory")?;
+    let host = value(given, "host")?;
+    let relay_key = value(given, "relay-key")?;
+    let store = value(given, "store");
+    let listen = value(given, "listen")?;
+    let count = value(given, "count")?;
+    let idle_timeout = value(given, "idle-timeout")?;
+    let request_timeout = value(given, "request-timeout")?;
+    Some(Serve {
+        directory,
+        host,
+        relay_key,
+        store,
+        listen,
+        count: number_in(count)?,
+        idle_timeout: number_in(idle_timeout)?,
+        request_timeout: number_in(request_timeout)?,
+    })
 }
 
 /// What matches give the word `batch`.

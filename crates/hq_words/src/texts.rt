@@ -18,12 +18,35 @@ birch, from an empty desk in memory.";
 pub(crate) const AFTER_ABOUT: &str = "\
 Examples:
   hq_main < lines
-  hq_main batch --help
+  hq_main serve --help
+  hq_main serve --directory customers.csv --host relay.example --relay-key relaykey00000001
   hq_main batch --directory customers.csv --host relay.example --relay-key relaykey00000001 < lines
   hq_main queue --directory customers.csv --store desk.db --customer acme
 
 The exit status is 0 when done; 1 for a refusal or a fault, which is told in one line on standard
 error, as `hq: 53 BadDirectory row 3`; 2 for words that are not taken.";
+
+/// What `serve` does.
+pub(crate) const SERVE: &str = "Serve the customers of a directory over HTTP/1.1";
+
+/// What a request and its directory are, how it is served, and examples of its calls.
+pub(crate) const AFTER_SERVE: &str = "\
+When it listens it prints the address that was bound, `listening on 127.0.0.1:8025`. It serves one
+connection after another, each with one request, which is answered and closed. One that is reset or
+too slow before its whole request has come is told as `hq: input` on standard error, and one that is
+so before its whole response is written as `hq: output`; the next one is served.
+
+Example of a directory, the file customers.csv:
+  name,key,messages,bytes,lines,notices,delay
+  acme,acmekey000000001,1000,500000000,1000,100,14400
+
+Example of a request:
+  curl -H 'X-Desk-Key: acmekey000000001' http://127.0.0.1:8025/v1/messages
+
+Examples:
+  hq_main serve --directory customers.csv --host relay.example --relay-key relaykey00000001
+  hq_main serve --directory customers.csv --host relay.example --relay-key relaykey00000001 \\
+    --store desk.db --listen 127.0.0.1:0 --count 100";
 
 /// What `batch` does.
 pub(crate) const BATCH: &str =
@@ -64,6 +87,23 @@ pub(crate) const STORE_OR_MEMORY: &str = "\
 The file that keeps what is done, a database of SQLite, made
 where it is missing. By default the desk stands in memory,
 and is empty at first. Example: --store desk.db";
+
+pub(crate) const LISTEN: &str = "\
+The address to listen on: an IP address and a port. With port 0
+a free one is taken. Example: --listen 127.0.0.1:8025";
+
+pub(crate) const COUNT: &str = "\
+How many connections are served before it ends, 1 to 1000000.
+Example: --count 100";
+
+pub(crate) const IDLE_TIMEOUT: &str = "\
+How long a client may take for one read or one write,
+in seconds, 1 to 3600. Example: --idle-timeout 10";
+
+pub(crate) const REQUEST_TIMEOUT: &str = "\
+How long a client may take to send its whole request,
+in seconds, 1 to 3600; for the response it is as long again.
+Example: --request-timeout 60";
 
 /// What `queue` does.
 pub(crate) const QUEUE: &str = "Print the queue report of a customer";

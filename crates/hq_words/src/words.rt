@@ -10,7 +10,9 @@ ghost use Rattle.hq_words.specs.Asked.{Asks, Says, given_in};
 ghost use Rattle.hq_words.specs.Program.{program};
 
 use crate::command::program;
-use crate::options::{Batch, Import, Queue, Sweep, batch_in, import_in, queue_in, sweep_in};
+use crate::options::{
+    Batch, Import, Queue, Serve, Sweep, batch_in, import_in, queue_in, serve_in, sweep_in,
+};
 use clap::error::ErrorKind;
 use clap::{ArgMatches, Error};
 use std::alloc::{AllocError, Global};
@@ -21,6 +23,8 @@ const NOT_GIVEN: &str = "error: an option has no value\n";
 /// What a word asks for, and with what.
 #[derive(Clone, Copy, Debug, PartialEq, Eq, Drop)]
 pub enum Asked<'w> {
+    /// `serve`: HTTP connections of the customers of a directory.
+    Serve(Serve<'w>),
     /// `batch`: lines of the customers of a directory.
     Batch(Batch<'w>),
     /// `queue`: the queue report of a customer.
@@ -49,6 +53,10 @@ fn asked_in<'w>(word: &str, given: &ArgMatches<'w>) -> Option<Asked<'w>>
     ensures { Asks (given_in word.now (rows_of (found_of given.now))) result }
 {
     match word {
+        "serve" => match serve_in(given) {
+            Some(serve) => Some(Asked::Serve(serve)),
+            None => None,
+        },
         "batch" => Some(Asked::Batch(batch_in(given)?)),
         "queue" => Some(Asked::Queue(queue_in(given)?)),
         "import" => Some(Asked::Import(import_in(given)?)),
@@ -93,7 +101,7 @@ pub fn read_words<'w>(alloc: Global, words: &'w [String]) -> Result<Words<'w>, A
         Err(error) => told(alloc, &error),
         Ok(matches) => match asked_of(&matches) {
             Some(asked) => Ok(Words::Asked(asked)),
-            // (`clap` asks for the options and looks at the moment, so that they are there)
+            // (`clap` asks for the options and looks at the numbers, so that they are there)
             None => Ok(Words::Refused(String::from_str(alloc, NOT_GIVEN)?)),
         },
     }

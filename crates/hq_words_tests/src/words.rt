@@ -5,7 +5,25 @@ use std::alloc::{AllocError, Global};
 use std::test::Fail;
 
 /// Lines of words, parted by one space, and the values that they give, in the order of the help.
-const GIVEN: [(&str, &str); 12] = [
+const GIVEN: [(&str, &str); 16] = [
+    (
+        "serve --directory f --host h --relay-key k",
+        "serve f h k - 127.0.0.1:8025 1000000 30 30",
+    ),
+    (
+        "serve --directory f --host h --relay-key k --store s --listen a --count 1 --idle-timeout 2 \
+         --request-timeout 3",
+        "serve f h k s a 1 2 3",
+    ),
+    (
+        "serve --request-timeout=3600 --idle-timeout=1 --count=1000000 --listen= --relay-key=k --host=h \
+         --directory=f",
+        "serve f h k -  1000000 1 3600",
+    ),
+    (
+        "serve --directory f --host h --relay-key k --count +0000000000007",
+        "serve f h k - 127.0.0.1:8025 7 30 30",
+    ),
     (
         "batch --directory f --host h --relay-key k --store s",
         "batch f h k s",
@@ -48,7 +66,7 @@ const GIVEN: [(&str, &str); 12] = [
 ];
 
 /// Lines of words that ask for help.
-const HELP: [&str; 9] = [
+const HELP: [&str; 11] = [
     "--help",
     "-h",
     "batch --help",
@@ -58,13 +76,24 @@ const HELP: [&str; 9] = [
     "sweep --at 1 --help",
     "batch --directory f --help",
     "--help serve",
+    "serve --help",
+    "serve --count 1 -h",
 ];
 
 /// Lines of words that are not taken.
-const REFUSED: [&str; 28] = [
+const REFUSED: [&str; 37] = [
     "",
     "--",
     "serve",
+    "serve --directory f --host h",
+    "serve --directory f --relay-key k",
+    "serve --host h --relay-key k",
+    "serve --directory f --host h --relay-key k --customer c",
+    "serve --directory f --host h --relay-key k --count 0",
+    "serve --directory f --host h --relay-key k --count 1000001",
+    "serve --directory f --host h --relay-key k --count 1x",
+    "serve --directory f --host h --relay-key k --idle-timeout 0",
+    "serve --directory f --host h --relay-key k --request-timeout 3601",
     "migrate",
     "help",
     "Batch",
@@ -103,6 +132,17 @@ fn words_in(alloc: Global, line: &str) -> Result<Vec<String>, AllocError> {
 /// A word and the values of its options.
 fn values(alloc: Global, asked: &Asked) -> Result<String, AllocError> {
     match asked {
+        Asked::Serve(it) => {
+            let store = it.store.unwrap_or("-");
+            let beside = format!(in alloc;
+                "{} {} {} {}",
+                it.listen, it.count, it.idle_timeout, it.request_timeout
+            )?;
+            format!(in alloc;
+                "serve {} {} {} {store} {beside}",
+                it.directory, it.host, it.relay_key
+            )
+        }
         Asked::Batch(it) => {
             let store = it.store.unwrap_or("-");
             format!(in alloc;

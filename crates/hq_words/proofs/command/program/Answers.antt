@@ -11,7 +11,8 @@ returns c =
     let alone = ap app_of_fields c.disable_help_subcommand.ensures ∙ ap (λ (a : App). record a { top = record a.top { disable_help_subcommand = true } }) words in
     let needed = ap app_of_fields c.subcommand_required.ensures ∙ ap (λ (a : App). record a { top = record a.top { subcommand_required = true } }) alone in
     let told = ap app_of_fields c.after_help.ensures ∙ ap app_of_fields c.about.ensures ∙ needed in
-    let one = c.in_ok-subcommand.ensures.shape c.in_ok-batch.ensures.local ∙ ap₂ with_subcommand told c.in_ok-batch.ensures.shape in
-    let two = c.in_ok-subcommand-2.ensures.shape c.in_ok-queue.ensures.local ∙ ap₂ with_subcommand one c.in_ok-queue.ensures.shape in
-    let three = c.in_ok-subcommand-3.ensures.shape c.in_ok-import.ensures.local ∙ ap₂ with_subcommand two c.in_ok-import.ensures.shape in
-    IfOk-weaker c.subcommand-4.result _ _ (λ made added. added.shape c.in_ok-sweep.ensures.local ∙ ap₂ with_subcommand three c.in_ok-sweep.ensures.shape) c.subcommand-4.ensures
+    let one = c.in_ok-subcommand.ensures.shape c.in_ok-serve.ensures.local ∙ ap₂ with_subcommand told c.in_ok-serve.ensures.shape in
+    let two = c.in_ok-subcommand-2.ensures.shape c.in_ok-batch.ensures.local ∙ ap₂ with_subcommand one c.in_ok-batch.ensures.shape in
+    let three = c.in_ok-subcommand-3.ensures.shape c.in_ok-queue.ensures.local ∙ ap₂ with_subcommand two c.in_ok-queue.ensures.shape in
+    let four = c.in_ok-subcommand-4.ensures.shape c.in_ok-import.ensures.local ∙ ap₂ with_subcommand three c.in_ok-import.ensures.shape in
+    IfOk-weaker c.subcommand-5.result _ _ (λ made added. added.shape c.in_ok-sweep.ensures.local ∙ ap₂ with_subcommand four c.in_ok-sweep.ensures.shape) c.subcommand-5.ensures

@@ -1,0 +1,85 @@
+-- What a server of the program does over a store of `sqlite`, however it ends.
+use Rattle.std.specs.Prelude.{◌≡◌, ◌⊎◌, ⊤, ℕ, List, Option, None, Result, Ok, Err}
+use Rattle.sqlite.specs.Held.{Held, state}
+use Rattle.sqlite.specs.State.{State}
+use Rattle.sqlite_trees.specs.declared.memory.MemStore.{MemStore}
+use Rattle.hq_base.specs.declared.failure.Fault.{Fault}
+use Rattle.hq_store.specs.Shelves.{Sight}
+use Rattle.hq_sql_shelf.specs.Shelf.{sight_over}
+use Rattle.hq_sql_shelf.specs.declared.shelf.SqlShelf.{SqlShelf}
+use Rattle.hq_desk.specs.Desks.{host_of, shelf_of}
+use Rattle.hq_desk.specs.declared.desk.Desk.{Desk}
+use Rattle.hq_settings.specs.declared.settings.Settings.{Settings}
+use Rattle.hq_listener.specs.Listening.{DoesSome}
+use Rattle.hq_words.specs.declared.options.Serve.{Serve}
+use Rattle.hq_program.specs.SettingUp.{SetsUp}
+use Rattle.hq_program.specs.declared.trouble.Trouble.{Trouble}
+use Rattle.hq_program.specs.declared.trouble.Trouble.TheVariants.{Network, Clock}
+use Rattle.hq_sql_program.specs.Runs.{memory, FromEmpty, IsUnopened}
+use Rattle.hq_sql_server.specs.Listening.{HasTold, IsUnbound}
+
+-- Connections are served by a desk over this shelf, as a run of exchanges.
+pub record ServesOver {S : Type 0} (sight : Sight S) (settings : Settings) (shelf : S) : Type 0 where
+  pub old : Desk S
+  pub host_is : host_of old ≡ settings.host
+  pub shelf_is : shelf_of old ≡ shelf
+  pub new : Desk S
+  pub served : DoesSome sight settings.directory old new
+
+-- why no more are served: as many were as there were to be, or one could not be accepted, or the clock tells no moment
+abbrev pub IsEnd : Result ⊤ Trouble → Type 0
+IsEnd (Ok _) = ⊤
+IsEnd (Err Network) = ⊤
+IsEnd (Err Clock) = ⊤
+IsEnd (Err _) = ⊥
+
+-- nothing is listened on, for this reason
+abbrev pub IsUnheard : Type 0 → Result ⊤ Trouble → Type 0
+IsUnheard unwritten (Ok _) = ⊥
+IsUnheard unwritten (Err trouble) = IsUnbound unwritten trouble
+
+-- How a server ends: nothing is listened on; or the address is told, and then connections are served so.
+abbrev pub ServedEnds : Type 0 → Type 0 → Option (List ℕ) → Option (List ℕ) → Result ⊤ Trouble → Type 0
+ServedEnds served unwritten old new result =
+    IsUnheard unwritten result ⊎ (HasTold old new × IsEnd result × served)
+
+abbrev pub ShelfEnds : {S : Type 0} → Sight S → Settings → S → Type 0 → Option (List ℕ) → Option (List ℕ) → Result ⊤ Trouble → Type 0
+ShelfEnds sight settings shelf = ServedEnds (ServesOver sight settings shelf)
+
+-- over a store as it was opened: by a desk over this shelf, or there is none
+abbrev pub OpenedEnds : {S : Type 0} → (Held S → State) → Settings → Result (SqlShelf S) Fault → Type 0 → Option (List ℕ) → Option (List ℕ)
+    → Result ⊤ Trouble → Type 0
+OpenedEnds seen settings (Ok shelf) unwritten old new result = ShelfEnds (sight_over seen) settings shelf unwritten old new result
+OpenedEnds seen settings (Err fault) unwritten old new result = IsUnopened unwritten fault result
+
+-- ---- in memory
+
+-- Connections are served by a desk over a shelf in memory, which began with empty tables: to each customer the desk is its
+-- own.
+pub record ServesEmpty (settings : Settings) : Type 0 where
+  pub shelf : SqlShelf MemStore
+  pub over : ServesOver memory settings shelf
+  pub from_empty : FromEmpty settings over.served.0 over.served.1 over.new
+
+-- a server with a store that is opened, or that cannot be
+abbrev pub StoredEnds : Type 0 → Type 0 → Option (List ℕ) → Option (List ℕ) → Result ⊤ Trouble → Type 0
+StoredEnds served unwritten old new result =
+    ServedEnds served unwritten old new result ⊎ ((fault : Fault) × IsUnopened unwritten fault result)
+
+abbrev pub MemoryEnds : Settings → Type 0 → Option (List ℕ) → Option (List ℕ) → Result ⊤ Trouble → Type 0
+MemoryEnds settings = StoredEnds (ServesEmpty settings)
+
+-- What is printed, over any store. What a file holds is said by no contract, so nothing more is said of a store in one.
+abbrev pub PrintEnds : Type 0 → Option (List ℕ) → Option (List ℕ) → Result ⊤ Trouble → Type 0
+PrintEnds = StoredEnds ⊤
+
+-- How a server ends with the settings that its words name: with the trouble of these, and then nothing is printed; or as its
+-- store has it.
+abbrev pub SetEnds : Serve → Type 0 → Option (List ℕ) → Option (List ℕ) → Result Settings Trouble → Result ⊤ Trouble → Type 0
+SetEnds given unwritten old new (Err trouble) result = unwritten × (result ≡ Err trouble)
+SetEnds given unwritten old new (Ok set) result =
+    PrintEnds unwritten old new result × (given.store ≡ None → MemoryEnds set unwritten old new result)
+
+abbrev pub ServeEnds : Serve → Type 0 → Option (List ℕ) → Option (List ℕ) → Result ⊤ Trouble → Type 0
+ServeEnds given unwritten old new result =
+    (set : Result Settings Trouble) × SetsUp given.host.now given.relay_key.now set × SetEnds given unwritten old new set result

@@ -1,0 +1,150 @@
+//! The connections of a server, over a store as it was opened.
+
+ghost use Rattle.std.specs.Prelude.{◌≡◌, None};
+ghost use Rattle.sqlite.specs.Held.{state};
+ghost use Rattle.hq_sql_server.specs.Runs.{IsEnd, ShelfEnds, OpenedEnds, MemoryEnds, PrintEnds, ServeEnds};
+
+use crate::listening::{limits, listen};
+use hq_desk::Desk;
+use hq_envelope::Fault;
+use hq_listener::{End, serve_on};
+use hq_program::{Trouble, set_up};
+use hq_settings::Settings;
+use hq_sql_file::open_file;
+use hq_sql_shelf::SqlShelf;
+use hq_store::Shelf;
+use hq_words::Serve;
+use sqlite::Alter;
+use std::io::Write;
+
+/// Why no more connections are served, as the program tells it.
+fn ended(end: End) -> Result<(), Trouble>
+    ensures { IsEnd result }
+{
+    match end {
+        End::Done => Ok(()),
+        End::Network => Err(Trouble::Network),
+        End::Clock => Err(Trouble::Clock),
+    }
+}
+
+/// Serves the connections of an address over a shelf.
+fn serve_over<S: Shelf + Drop, W: Write, E: Write>(
+    rt: &HostRuntime,
+    shelf: S,
+    settings: Settings,
+    given: &Serve,
+    output: &mut W,
+    errors: &mut E,
+) -> Result<(), Trouble>
+    ensures { ShelfEnds S.sight settings shelf (output.new ≡ output.old)
+        (W.contents output.old) (W.contents output.new) result }
+{
+    let listener = listen(rt, given.listen, output)?;
+    let Settings { host, directory } = settings;
+    let mut desk = Desk::new(shelf, host);
+    let limits = limits(given);
+    ended(serve_on(
+        rt,
+        &listener,
+        given.count,
+        limits,
+        &mut desk,
+        &directory,
+        errors,
+    ))
+}
+
+/// Serves the connections of an address over a store as it was opened; or tells why it could not be
+/// opened, and then nothing is listened on.
+fn serve_opened<S: Alter + Drop, W: Write, E: Write>(
+    rt: &HostRuntime,
+    opened: Result<SqlShelf<S>, Fault>,
+    settings: Settings,
+    given: &Serve,
+    output: &mut W,
+    errors: &mut E,
+) -> Result<(), Trouble>
+    ensures { OpenedEnds (state S.Store) settings opened (output.new ≡ output.old)
+        (W.contents output.old) (W.contents output.new) result }
+{
+    serve_over(rt, opened?, settings, given, output, errors)
+}
+
+/// Serves the connections of an address from an empty desk, whose store stands in memory.
+fn serve_memory<W: Write, E: Write>(
+    rt: &HostRuntime,
+    settings: Settings,
+    given: &Serve,
+    output: &mut W,
+    errors: &mut E,
+) -> Result<(), Trouble>
+    ensures memory { MemoryEnds settings (output.new ≡ output.old)
+        (W.contents output.old) (W.contents output.new) result }
+    ensures printed { PrintEnds (output.new ≡ output.old) (W.contents output.old)
+        (W.contents output.new) result }
+{
+    let opened = SqlShelf::open_memory(rt.alloc());
+    serve_opened(rt, opened, settings, given, output, errors)
+}
+
+/// Serves the connections of an address over the store of a path, which is made where it is
+/// missing.
+fn serve_file<W: Write, E: Write>(
+    rt: &HostRuntime,
+    path: &str,
+    settings: Settings,
+    given: &Serve,
+    output: &mut W,
+    errors: &mut E,
+) -> Result<(), Trouble>
+    ensures { PrintEnds (output.new ≡ output.old) (W.contents output.old)
+        (W.contents output.new) result }
+{
+    serve_opened(rt, open_file(rt, path), settings, given, output, errors)
+}
+
+/// Serves connections over the store that is given, or without one over an empty one in memory.
+fn serve_stored<W: Write, E: Write>(
+    rt: &HostRuntime,
+    settings: Settings,
+    given: &Serve,
+    output: &mut W,
+    errors: &mut E,
+) -> Result<(), Trouble>
+    ensures memory { given.now.store ≡ None → MemoryEnds settings (output.new ≡ output.old)
+        (W.contents output.old) (W.contents output.new) result }
+    ensures printed { PrintEnds (output.new ≡ output.old) (W.contents output.old)
+        (W.contents output.new) result }
+{
+    match given.store {
+        None => serve_memory(rt, settings, given, output, errors),
+        Some(path) => serve_file(rt, path, settings, given, output, errors),
+    }
+}
+
+/// Serves HTTP connections for the customers of a directory: listens on the address that is given,
+/// prints the one that was bound as `listening on 127.0.0.1:8025`, and serves so many connections
+/// as there are to be, one after another, at the moments of the clock. A fault of one connection is
+/// told on `errors` in a line, `hq: input` or `hq: output`, and the next is served.
+///
+/// Checked in the order relay's name, form of its key, directory, relay's key against it, store,
+/// address. Up to then nothing is printed. An error is the first refusal of these; `File` for a
+/// directory that cannot be read; 90, 91, 92 or 93 for a store that cannot be opened; `Network`
+/// where the address is none or cannot be bound, or a connection cannot be accepted; `Output`
+/// where the address cannot be printed; and `Clock` where the clock tells no moment of the desk.
+///
+/// Without a store the desk stands in memory and is empty at first: to every customer its replies,
+/// and what is kept of it, are those that it would have alone on the desk.
+pub fn serve_http<W: Write, E: Write>(
+    rt: &HostRuntime,
+    given: &Serve,
+    output: &mut W,
+    errors: &mut E,
+) -> Result<(), Trouble>
+    ensures { ServeEnds given.now (output.new ≡ output.old) (W.contents output.old)
+        (W.contents output.new) result }
+{
+    let settings = set_up(rt, given.host, given.relay_key, given.directory)?;
+    serve_stored(rt, settings, given, output, errors)
+}

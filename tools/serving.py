@@ -1,0 +1,153 @@
+"""A server of the compiled program, and what its clients send and receive: for the tools that try and measure it."""
+import json
+import os
+import select
+import socket
+import subprocess
+import time
+
+ACME, BIRCH, RELAY = "acmekey000000001", "birchkey00000001", "relaykey00000001"
+# No single wait takes longer, in seconds.
+LONGEST = 60
+PHRASES = {200: "OK", 400: "Bad Request", 401: "Unauthorized", 403: "Forbidden", 404: "Not Found", 405: "Method Not Allowed",
+           413: "Payload Too Large"}
+
+
+class Wrong(Exception):
+    """The program did not do what it must."""
+
+
+def expect(holds, *told):
+    if not holds:
+        raise Wrong(*told)
+
+
+def words(program, word, store=None, *more):
+    """The words by which the customers of customers.csv are served."""
+    asked = [program, word, "--directory", "customers.csv", "--host", "relay.example", "--relay-key", RELAY]
+    return [*asked, *(["--store", store] if store else []), *more]
+
+
+# ---- requests and responses as bytes
+
+def request(method, path, key=None, body=b"", *fields):
+    body = body if isinstance(body, bytes) else json.dumps(body).encode()
+    head = [f"{method} {path} HTTP/1.1", "Host: desk.example", *fields]
+    head += [f"X-Desk-Key: {key}"] if key else []
+    head += [f"Content-Length: {len(body)}"] if body else []
+    return "".join(f"{it}\r\n" for it in [*head, ""]).encode() + body
+
+
+def submission(spool):
+    return {"spool": spool, "sender": "ann@a.example", "recipients": ["bob@far.example"], "size": 900}
+
+
+def response(status, body):
+    fields = f"Content-Type: application/json\r\nContent-Length: {len(body)}\r\nConnection: close\r\n\r\n"
+    return f"HTTP/1.1 {status} {PHRASES[status]}\r\n{fields}{body}".encode()
+
+
+# ---- a server
+
+class Server:
+    """A server in a folder, by these words: it is to serve so many connections."""
+
+    def __init__(self, asked, folder, count, listen="127.0.0.1:0"):
+        self.count, self.made, self.answered, self.errors = count, 0, 0, []
+        self.process = subprocess.Popen(
+            [*asked, "--listen", listen, "--count", str(count)], stdin=subprocess.DEVNULL,
+            stdout=subprocess.PIPE, stderr=subprocess.PIPE, cwd=folder)
+        try:
+            self.address = self.listening(listen)
+        except BaseException:
+            self.stop()
+            raise
+
+    def __enter__(self):
+        return self
+
+    def __exit__(self, kind, *_):
+        try:
+            if kind is None:
+                self.end()
+        finally:
+            self.stop()
+
+    def stop(self):
+        """Ends the process, if it has not ended."""
+        self.process.kill()
+        self.process.wait(LONGEST)
+        self.process.stdout.close()
+        self.process.stderr.close()
+
+    def listening(self, listen):
+        """The address that the first line tells."""
+        line, until = b"", time.monotonic() + LONGEST
+        while not line.endswith(b"\n"):
+            ready, _, _ = select.select([self.process.stdout], [], [], max(0, until - time.monotonic()))
+            more = os.read(self.process.stdout.fileno(), 4096) if ready else b""
+            expect(more, "no address is told, but", line)
+            line += more
+        host, _, wanted = listen.rpartition(":")
+        told, _, port = line.decode().rstrip("\n").rpartition(":")
+        expect(told == f"listening on {host}" and port.isdecimal() and 0 < int(port) < 65536 and wanted in ("0", port),
+               "the address is told as", line)
+        return host.strip("[]"), int(port)
+
+    def connect(self):
+        self.made += 1
+        client = socket.create_connection(self.address, timeout=LONGEST)
+        client.setsockopt(socket.IPPROTO_TCP, socket.TCP_NODELAY, 1)
+        return client
+
+    def received(self, client):
+        """What a client receives until the server has closed its side; the client then closes its own."""
+        told, until = b"", time.monotonic() + LONGEST
+        with client:
+            while True:
+                more = client.recv(65536)
+                expect(time.monotonic() < until, "a response has no end", told[:300])
+                if not more:
+                    return told
+                told += more
+
+    def receive(self, client, status, body, asked):
+        """What a client receives is this response, and nothing else."""
+        told, wanted = self.received(client), response(status, body)
+        expect(told == wanted, asked[:200], "got", told[:600], "and not", wanted[:600])
+        self.answered += 1
+
+    def ask(self, sent, status, body):
+        """A request is sent at once, and has this response."""
+        client = self.connect()
+        client.sendall(sent)
+        self.receive(client, status, body, sent)
+
+    def body_of(self, sent):
+        """The body that a request is answered with by 200."""
+        client = self.connect()
+        client.sendall(sent)
+        head, _, body = self.received(client).partition(b"\r\n\r\n")
+        expect(head.startswith(b"HTTP/1.1 200 OK\r\n") and f"Content-Length: {len(body)}".encode() in head, sent, "got", head, body)
+        self.answered += 1
+        return body.decode()
+
+    def told(self, line):
+        """A line that is told on standard error."""
+        self.errors.append(line)
+
+    def end(self):
+        """All connections are made: the server has ended, and told what it had to."""
+        expect(self.made == self.count, self.made, "connections were made, and", self.count, "asked for")
+        try:
+            rest, errors = self.process.communicate(timeout=LONGEST)
+        except subprocess.TimeoutExpired:
+            raise Wrong("the server has not ended after its", self.count, "connections") from None
+        wanted = "".join(f"{it}\n" for it in self.errors).encode()
+        expect((self.process.returncode, rest, errors) == (0, b"", wanted), "the server ended with", self.process.returncode,
+               "and told", rest, errors, "and not", wanted)
+        try:
+            socket.create_connection(self.address, timeout=LONGEST).close()
+        except ConnectionRefusedError:
+            return
+        raise Wrong("somebody listens on", self.address, "when the server has ended")
