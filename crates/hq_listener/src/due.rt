@@ -32,7 +32,8 @@ fn time_left(now: Instant, until: Instant, idle: Duration) -> Option<Duration>
     ensures some { IfSome result (λ left. as_nanos left
         ≡ min (as_nanos idle) (instant_nanos until - instant_nanos now)) }
     ensures passes { IfSome result (λ left. 0 < as_nanos left) }
-    ensures none { IfNone result (min (as_nanos idle) (instant_nanos until - instant_nanos now) ≡ 0) }
+    ensures none { IfNone result
+        (min (as_nanos idle) (instant_nanos until - instant_nanos now) ≡ 0) }
 {
     let left = idle.min(until.duration_since(now));
     if left.is_zero() {
@@ -45,7 +46,8 @@ impl<C: Clock> Due<'_, C> {
     /// How long a read or a write that begins now may take; fails with `TimedOut` where that is no
     /// time at all.
     fn left(&self) -> io::Result<Duration>
-        ensures { IfOk result (λ left. (0 < as_nanos left) × (as_nanos left ≤ as_nanos self.now.idle)) }
+        ensures { IfOk result (λ left. (0 < as_nanos left)
+            × (as_nanos left ≤ as_nanos self.now.idle)) }
     {
         match time_left(Instant::now(self.clock)?, self.until, self.idle) {
             Some(left) => Ok(left),

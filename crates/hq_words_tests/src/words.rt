@@ -11,13 +11,13 @@ const GIVEN: [(&str, &str); 16] = [
         "serve f h k - 127.0.0.1:8025 1000000 30 30",
     ),
     (
-        "serve --directory f --host h --relay-key k --store s --listen a --count 1 --idle-timeout 2 \
-         --request-timeout 3",
+        "serve --directory f --host h --relay-key k --store s --listen a --count 1 \
+         --idle-timeout 2 --request-timeout 3",
         "serve f h k s a 1 2 3",
     ),
     (
-        "serve --request-timeout=3600 --idle-timeout=1 --count=1000000 --listen= --relay-key=k --host=h \
-         --directory=f",
+        "serve --request-timeout=3600 --idle-timeout=1 --count=1000000 --listen= --relay-key=k \
+         --host=h --directory=f",
         "serve f h k -  1000000 1 3600",
     ),
     (
