@@ -1,5 +1,6 @@
 -- What a connection does to a desk, and what several do.
-use Rattle.std.proofs.Common.{◌≡◌, ℕ, List, [], ◌++◌, Option, Some, Result, Ok, Err, inl, inr}
+use Rattle.std.proofs.Common.{◌≡◌, ◌+◌, ◌≤◌, ℕ, List, [], ◌++◌, length, Option, Some, Result, Ok, Err, inl, inr, arith, length-append}
+use Rattle.std.specs.Prelude.{option_to_list}
 use Rattle.std.specs.Bool.{⊤}
 use Rattle.hq_store.specs.Shelves.{Sight}
 use Rattle.hq_desk.specs.declared.desk.Desk.{Desk}
@@ -11,27 +12,47 @@ use Rattle.hq_wire.proofs.Serving.{served}
 use Rattle.hq_lines.specs.Lines.{Streams}
 use Rattle.hq_lines.specs.declared.batch.EngineFault.{EngineFault}
 use Rattle.hq_lines.specs.declared.batch.EngineFault.TheVariants.{Read, Write, TooManyReads, WantOfMemory}
-use Rattle.hq_serve.specs.Connections.{Answered, Ends}
+use Rattle.hq_http.specs.Requests.{Asked, nothing, refused, request}
+use Rattle.hq_serve.specs.Connections.{asks as asked_of, Answered, Ends}
 use Rattle.hq_listener.specs.Listening.{DoesSome}
 
 module _ {S : Type 0} (sight : Sight S) (d : Directory) where
-  -- nothing is done
-  pub nothing_done : (old new : Desk S) → new ≡ old → DoesSome sight d old new
-  nothing_done old new same = ([], [], served sight d old new [] [] same)
+  -- nothing is done, of however many connections
+  pub nothing_done : (n : ℕ) (old new : Desk S) → new ≡ old → DoesSome sight d n old new
+  nothing_done n old new same = record { asks = []; replies = []; one_each = omega arith; served = served sight d old new [] [] same }
 
-  -- what is done, and then more
-  pub and_then : (old mid new : Desk S) → DoesSome sight d old mid → DoesSome sight d mid new → DoesSome sight d old new
-  and_then old mid new p q =
-      (p.0 ++ q.0, p.1 ++ q.1, served sight d old new (p.0 ++ q.0) (p.1 ++ q.1) (turns_on (Exchanged sight d) old mid new p.0 q.0 p.1 q.1 p.2.each q.2.each))
+  -- what is done of some connections is done of more
+  pub of_more : (m n : ℕ) (old new : Desk S) → m ≤ n → DoesSome sight d m old new → DoesSome sight d n old new
+  of_more m n old new more p =
+      let few = p.one_each in
+      record { asks = p.asks; replies = p.replies; one_each = omega (arith, few, more); served = p.served }
 
-  by_answer : (at : ℕ) (a b : Option (List ℕ)) (old new : Desk S) (reply : Option SeenReply) → Answered sight d at a b old reply new → DoesSome sight d old new
-  by_answer at a b old new reply (inl p) = (_, _, p.2)
-  by_answer at a b old new reply (inr p) = nothing_done old new p.2
+  -- what is done of some connections, and then of others
+  pub and_then : (m n : ℕ) (old mid new : Desk S) → DoesSome sight d m old mid → DoesSome sight d n mid new → DoesSome sight d (m + n) old new
+  and_then m n old mid new p q =
+      let both = length-append p.asks q.asks in
+      let few = p.one_each in
+      let more = q.one_each in
+      record {
+        asks = p.asks ++ q.asks;
+        replies = p.replies ++ q.replies;
+        one_each = omega (arith, both, few, more);
+        served = served sight d old new (p.asks ++ q.asks) (p.replies ++ q.replies) (turns_on (Exchanged sight d) old mid new p.asks q.asks p.replies q.replies p.served.each q.served.each);
+      }
+
+  at_most_one : (at : ℕ) (asked : Asked) → length (asked_of d at asked) ≤ 1
+  at_most_one at nothing = omega arith
+  at_most_one at (refused why) = omega arith
+  at_most_one at (request q) = omega arith
+
+  by_answer : (at : ℕ) (a b : Option (List ℕ)) (old new : Desk S) (reply : Option SeenReply) → Answered sight d at a b old reply new → DoesSome sight d 1 old new
+  by_answer at a b old new reply (inl p) = record { asks = asked_of d at p.0; replies = option_to_list reply; one_each = at_most_one at p.0; served = p.2 }
+  by_answer at a b old new reply (inr p) = nothing_done 1 old new p.2
 
   -- however a connection ends
-  pub by_end : (at : ℕ) (start end : Streams) (quiet : Type 0) (old new : Desk S) (result : Result ⊤ EngineFault) → Ends sight d at start end quiet old new result → DoesSome sight d old new
+  pub by_end : (at : ℕ) (start end : Streams) (quiet : Type 0) (old new : Desk S) (result : Result ⊤ EngineFault) → Ends sight d at start end quiet old new result → DoesSome sight d 1 old new
   by_end at start end quiet old new (Ok x) p = by_answer at start.input end.input old new p.0 p.1
-  by_end at start end quiet old new (Err Read) p = nothing_done old new p.2
-  by_end at start end quiet old new (Err TooManyReads) p = nothing_done old new p.2
+  by_end at start end quiet old new (Err Read) p = nothing_done 1 old new p.2
+  by_end at start end quiet old new (Err TooManyReads) p = nothing_done 1 old new p.2
   by_end at start end quiet old new (Err Write) p = by_answer at start.input end.input old new (Some p.0) p.1
   by_end at start end quiet old new (Err WantOfMemory) p = absurd p

@@ -86,7 +86,7 @@ fn serve_between<R: Read, W: Write, S: Shelf + Drop>(
     directory: &Directory,
     at: Moment,
 ) -> Result<(), EngineFault>
-    ensures { DoesSome S.sight directory.now desk.old desk.new }
+    ensures { DoesSome S.sight directory.now 1 desk.old desk.new }
 {
     serve_one(alloc, reader, writer, desk, directory, at)
 }
@@ -101,7 +101,7 @@ fn serve_gathered<R: Read, W: Write + Drop, S: Shelf + Drop>(
     directory: &Directory,
     at: Moment,
 ) -> Result<(), EngineFault>
-    ensures { DoesSome S.sight directory.now desk.old desk.new }
+    ensures { DoesSome S.sight directory.now 1 desk.old desk.new }
 {
     if let Ok(mut gathered) = BufWriter::new(alloc, &mut *writer) {
         return serve_between(alloc, reader, &mut gathered, desk, directory, at);
@@ -118,7 +118,7 @@ fn serve_stream<C: Clock + AllocGlobal, S: Shelf + Drop>(
     directory: &Directory,
     at: Moment,
 ) -> Result<(), EngineFault>
-    ensures { DoesSome S.sight directory.now desk.old desk.new }
+    ensures { DoesSome S.sight directory.now 1 desk.old desk.new }
 {
     let Some(ends) = deadlines_now(rt, limits.request) else {
         return Err(EngineFault::Read);
@@ -172,9 +172,9 @@ pub fn serve_on<C: Clock + AllocGlobal, S: Shelf + Drop, E: Write>(
     directory: &Directory,
     errors: &mut E,
 ) -> End
-    ensures { DoesSome S.sight directory.now desk.old desk.new }
+    ensures { DoesSome S.sight directory.now count desk.old desk.new }
 {
-    for _ in 0..count {
+    for _connection in 0..count {
         let Ok((stream, _)) = listener.accept() else {
             return End::Network;
         };

@@ -1,5 +1,5 @@
 -- What a server does over a shelf in memory that is empty, and what is printed over any.
-use Rattle.std.proofs.Common.{◌≡◌, ◌⊎◌, inl, inr, ℕ, List, Option, Result, Ok, Err, IfOk}
+use Rattle.std.proofs.Common.{◌≡◌, inl, inr, ℕ, List, Option, Result, Ok, Err, IfOk}
 use Rattle.std.specs.Bool.{⊤}
 use Rattle.sqlite.specs.Held.{Held, state}
 use Rattle.sqlite.specs.State.{State}
@@ -14,7 +14,7 @@ use Rattle.hq_settings.specs.declared.settings.Settings.{Settings}
 use Rattle.hq_program.specs.declared.trouble.Trouble.{Trouble}
 use Rattle.hq_sql_program.specs.Runs.{memory}
 use Rattle.hq_sql_program.proofs.Memory.{from_empty}
-use Rattle.hq_sql_server.specs.Runs.{ServesOver, ServesEmpty, ServedEnds, OpenedEnds, MemoryEnds, PrintEnds}
+use Rattle.hq_sql_server.specs.Runs.{ServesConnections, ServesEmpty, ServedEnds, OpenedEnds, MemoryEnds, PrintEnds}
 
 module _ (served other : Type 0) (so : served → other) (unwritten : Type 0) (old new : Option (List ℕ)) (result : Result ⊤ Trouble) where
   -- what is said of the connections may be said in other words
@@ -22,23 +22,23 @@ module _ (served other : Type 0) (so : served → other) (unwritten : Type 0) (o
   served_ends_as (inl unheard) = inl unheard
   served_ends_as (inr ended) = inr (ended.0, ended.1, so ended.2)
 
-serves_empty : (settings : Settings) (shelf : SqlShelf MemStore) → IsOurs (state over_memory shelf.conn) → tables_in (state over_memory shelf.conn).committed ≡ no_tables
-    → ServesOver memory settings shelf → ServesEmpty settings
-serves_empty settings shelf ours none it = record {
+serves_empty : (settings : Settings) (count : ℕ) (shelf : SqlShelf MemStore) → IsOurs (state over_memory shelf.conn) → tables_in (state over_memory shelf.conn).committed ≡ no_tables
+    → ServesConnections memory settings count shelf → ServesEmpty settings count
+serves_empty settings count shelf ours none it = record {
   shelf = shelf;
   over = it;
-  from_empty = from_empty settings shelf ours none it.old it.new it.host_is it.shelf_is it.served.0 it.served.1 it.served.2;
+  from_empty = from_empty settings shelf ours none it.old it.new it.host_is it.shelf_is it.served.asks it.served.replies it.served.served;
 }
 
-pub memory_ends : (settings : Settings) (opened : Result (SqlShelf MemStore) Fault) (unwritten : Type 0) (old new : Option (List ℕ)) (result : Result ⊤ Trouble)
+pub memory_ends : (settings : Settings) (count : ℕ) (opened : Result (SqlShelf MemStore) Fault) (unwritten : Type 0) (old new : Option (List ℕ)) (result : Result ⊤ Trouble)
     → IfOk opened (λ s. IsOurs (state over_memory s.conn)) → IfOk opened (λ s. tables_in (state over_memory s.conn).committed ≡ no_tables)
-    → OpenedEnds (state over_memory) settings opened unwritten old new result → MemoryEnds settings unwritten old new result
-memory_ends settings (Ok shelf) unwritten old new result ours none p =
-    inl (served_ends_as (ServesOver memory settings shelf) (ServesEmpty settings) (serves_empty settings shelf ours none) unwritten old new result p)
-memory_ends settings (Err fault) unwritten old new result ours none p = inr (fault, p)
+    → OpenedEnds (state over_memory) settings count opened unwritten old new result → MemoryEnds settings count unwritten old new result
+memory_ends settings count (Ok shelf) unwritten old new result ours none p =
+    inl (served_ends_as (ServesConnections memory settings count shelf) (ServesEmpty settings count) (serves_empty settings count shelf ours none) unwritten old new result p)
+memory_ends settings count (Err fault) unwritten old new result ours none p = inr (fault, p)
 
-pub print_ends : {S : Type 0} (seen : Held S → State) (settings : Settings) (opened : Result (SqlShelf S) Fault) (unwritten : Type 0) (old new : Option (List ℕ)) (result : Result ⊤ Trouble)
-    → OpenedEnds seen settings opened unwritten old new result → PrintEnds unwritten old new result
-print_ends seen settings (Ok shelf) unwritten old new result p =
-    inl (served_ends_as (ServesOver _ settings shelf) ⊤ (λ _. tt) unwritten old new result p)
-print_ends seen settings (Err fault) unwritten old new result p = inr (fault, p)
+pub print_ends : {S : Type 0} (seen : Held S → State) (settings : Settings) (count : ℕ) (opened : Result (SqlShelf S) Fault) (unwritten : Type 0) (old new : Option (List ℕ)) (result : Result ⊤ Trouble)
+    → OpenedEnds seen settings count opened unwritten old new result → PrintEnds unwritten old new result
+print_ends seen settings count (Ok shelf) unwritten old new result p =
+    inl (served_ends_as (ServesConnections _ settings count shelf) ⊤ (λ _. tt) unwritten old new result p)
+print_ends seen settings count (Err fault) unwritten old new result p = inr (fault, p)

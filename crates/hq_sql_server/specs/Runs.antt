@@ -1,6 +1,6 @@
 -- What a server of the program does over a store of `sqlite`, however it ends.
 use Rattle.std.specs.Prelude.{◌≡◌, ◌⊎◌, ⊤, ℕ, List, Option, None, Result, Ok, Err}
-use Rattle.sqlite.specs.Held.{Held, state}
+use Rattle.sqlite.specs.Held.{Held}
 use Rattle.sqlite.specs.State.{State}
 use Rattle.sqlite_trees.specs.declared.memory.MemStore.{MemStore}
 use Rattle.hq_base.specs.declared.failure.Fault.{Fault}
@@ -18,13 +18,13 @@ use Rattle.hq_program.specs.declared.trouble.Trouble.TheVariants.{Network, Clock
 use Rattle.hq_sql_program.specs.Runs.{memory, FromEmpty, IsUnopened}
 use Rattle.hq_sql_server.specs.Listening.{HasTold, IsUnbound}
 
--- Connections are served by a desk over this shelf, as a run of exchanges.
-pub record ServesOver {S : Type 0} (sight : Sight S) (settings : Settings) (shelf : S) : Type 0 where
+-- So many connections at most are served by a desk over this shelf, as a run of exchanges.
+pub record ServesConnections {S : Type 0} (sight : Sight S) (settings : Settings) (count : ℕ) (shelf : S) : Type 0 where
   pub old : Desk S
   pub host_is : host_of old ≡ settings.host
   pub shelf_is : shelf_of old ≡ shelf
   pub new : Desk S
-  pub served : DoesSome sight settings.directory old new
+  pub served : DoesSome sight settings.directory count old new
 
 -- why no more are served: as many were as there were to be, or one could not be accepted, or the clock tells no moment
 abbrev pub IsEnd : Result ⊤ Trouble → Type 0
@@ -43,31 +43,31 @@ abbrev pub ServedEnds : Type 0 → Type 0 → Option (List ℕ) → Option (List
 ServedEnds served unwritten old new result =
     IsUnheard unwritten result ⊎ (HasTold old new × IsEnd result × served)
 
-abbrev pub ShelfEnds : {S : Type 0} → Sight S → Settings → S → Type 0 → Option (List ℕ) → Option (List ℕ) → Result ⊤ Trouble → Type 0
-ShelfEnds sight settings shelf = ServedEnds (ServesOver sight settings shelf)
+abbrev pub ShelfEnds : {S : Type 0} → Sight S → Settings → ℕ → S → Type 0 → Option (List ℕ) → Option (List ℕ) → Result ⊤ Trouble → Type 0
+ShelfEnds sight settings count shelf = ServedEnds (ServesConnections sight settings count shelf)
 
 -- over a store as it was opened: by a desk over this shelf, or there is none
-abbrev pub OpenedEnds : {S : Type 0} → (Held S → State) → Settings → Result (SqlShelf S) Fault → Type 0 → Option (List ℕ) → Option (List ℕ)
+abbrev pub OpenedEnds : {S : Type 0} → (Held S → State) → Settings → ℕ → Result (SqlShelf S) Fault → Type 0 → Option (List ℕ) → Option (List ℕ)
     → Result ⊤ Trouble → Type 0
-OpenedEnds seen settings (Ok shelf) unwritten old new result = ShelfEnds (sight_over seen) settings shelf unwritten old new result
-OpenedEnds seen settings (Err fault) unwritten old new result = IsUnopened unwritten fault result
+OpenedEnds seen settings count (Ok shelf) unwritten old new result = ShelfEnds (sight_over seen) settings count shelf unwritten old new result
+OpenedEnds seen settings count (Err fault) unwritten old new result = IsUnopened unwritten fault result
 
 -- ---- in memory
 
 -- Connections are served by a desk over a shelf in memory, which began with empty tables: to each customer the desk is its
 -- own.
-pub record ServesEmpty (settings : Settings) : Type 0 where
+pub record ServesEmpty (settings : Settings) (count : ℕ) : Type 0 where
   pub shelf : SqlShelf MemStore
-  pub over : ServesOver memory settings shelf
-  pub from_empty : FromEmpty settings over.served.0 over.served.1 over.new
+  pub over : ServesConnections memory settings count shelf
+  pub from_empty : FromEmpty settings over.served.asks over.served.replies over.new
 
 -- a server with a store that is opened, or that cannot be
 abbrev pub StoredEnds : Type 0 → Type 0 → Option (List ℕ) → Option (List ℕ) → Result ⊤ Trouble → Type 0
 StoredEnds served unwritten old new result =
     ServedEnds served unwritten old new result ⊎ ((fault : Fault) × IsUnopened unwritten fault result)
 
-abbrev pub MemoryEnds : Settings → Type 0 → Option (List ℕ) → Option (List ℕ) → Result ⊤ Trouble → Type 0
-MemoryEnds settings = StoredEnds (ServesEmpty settings)
+abbrev pub MemoryEnds : Settings → ℕ → Type 0 → Option (List ℕ) → Option (List ℕ) → Result ⊤ Trouble → Type 0
+MemoryEnds settings count = StoredEnds (ServesEmpty settings count)
 
 -- What is printed, over any store. What a file holds is said by no contract, so nothing more is said of a store in one.
 abbrev pub PrintEnds : Type 0 → Option (List ℕ) → Option (List ℕ) → Result ⊤ Trouble → Type 0
@@ -78,7 +78,7 @@ PrintEnds = StoredEnds ⊤
 abbrev pub SetEnds : Serve → Type 0 → Option (List ℕ) → Option (List ℕ) → Result Settings Trouble → Result ⊤ Trouble → Type 0
 SetEnds given unwritten old new (Err trouble) result = unwritten × (result ≡ Err trouble)
 SetEnds given unwritten old new (Ok set) result =
-    PrintEnds unwritten old new result × (given.store ≡ None → MemoryEnds set unwritten old new result)
+    PrintEnds unwritten old new result × (given.store ≡ None → MemoryEnds set given.count unwritten old new result)
 
 abbrev pub ServeEnds : Serve → Type 0 → Option (List ℕ) → Option (List ℕ) → Result ⊤ Trouble → Type 0
 ServeEnds given unwritten old new result =

@@ -37,7 +37,7 @@ fn serve_over<S: Shelf + Drop, W: Write, E: Write>(
     output: &mut W,
     errors: &mut E,
 ) -> Result<(), Trouble>
-    ensures { ShelfEnds S.sight settings shelf (output.new ≡ output.old)
+    ensures { ShelfEnds S.sight settings given.now.count shelf (output.new ≡ output.old)
         (W.contents output.old) (W.contents output.new) result }
 {
     let listener = listen(rt, given.listen, output)?;
@@ -65,8 +65,8 @@ fn serve_opened<S: Alter + Drop, W: Write, E: Write>(
     output: &mut W,
     errors: &mut E,
 ) -> Result<(), Trouble>
-    ensures { OpenedEnds (state S.Store) settings opened (output.new ≡ output.old)
-        (W.contents output.old) (W.contents output.new) result }
+    ensures { OpenedEnds (state S.Store) settings given.now.count opened
+        (output.new ≡ output.old) (W.contents output.old) (W.contents output.new) result }
 {
     serve_over(rt, opened?, settings, given, output, errors)
 }
@@ -79,7 +79,7 @@ fn serve_memory<W: Write, E: Write>(
     output: &mut W,
     errors: &mut E,
 ) -> Result<(), Trouble>
-    ensures memory { MemoryEnds settings (output.new ≡ output.old)
+    ensures memory { MemoryEnds settings given.now.count (output.new ≡ output.old)
         (W.contents output.old) (W.contents output.new) result }
     ensures printed { PrintEnds (output.new ≡ output.old) (W.contents output.old)
         (W.contents output.new) result }
@@ -112,8 +112,8 @@ fn serve_stored<W: Write, E: Write>(
     output: &mut W,
     errors: &mut E,
 ) -> Result<(), Trouble>
-    ensures memory { given.now.store ≡ None → MemoryEnds settings (output.new ≡ output.old)
-        (W.contents output.old) (W.contents output.new) result }
+    ensures memory { given.now.store ≡ None → MemoryEnds settings given.now.count
+        (output.new ≡ output.old) (W.contents output.old) (W.contents output.new) result }
     ensures printed { PrintEnds (output.new ≡ output.old) (W.contents output.old)
         (W.contents output.new) result }
 {

@@ -1,5 +1,5 @@
 //! For tests alone: a shelf that stands before another and fails as told, so that every call of a
-//! test can be made to fail in turn; and the tests of the desk.
+//! test can be made to fail in turn; and answers of the desk as plain text.
 #![tactic(auto)]
 
 mod failing_shelf;
@@ -9,7 +9,5 @@ mod relay_text;
 
 pub use failing_shelf::FailingShelf;
 pub use failure::Failure;
-pub use plain_text::PlainText;
-
-#[cfg(test)]
-mod tests;
+pub use plain_text::{PlainText, message_text};
+pub use relay_text::push_notice;

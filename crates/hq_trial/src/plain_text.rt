@@ -91,12 +91,8 @@ fn push_times(alloc: Global, text: &mut String, message: &Message) -> Result<(),
     push_word(text, warned_word(message.warned))
 }
 
-/// A message whole, behind a word.
-pub(crate) fn message_text(
-    alloc: Global,
-    front: &str,
-    message: &Message,
-) -> Result<String, AllocError>
+/// A message whole, behind a word. Its only error is want of memory.
+pub fn message_text(alloc: Global, front: &str, message: &Message) -> Result<String, AllocError>
     ensures { IfOk result (λ text. string_bytes text ≡ texts.message front.now message.now) }
 {
     let mut text = String::from_str(alloc, front)?;

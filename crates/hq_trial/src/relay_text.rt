@@ -56,12 +56,8 @@ fn kind_word(kind: Kind) -> &'static str
     }
 }
 
-/// Adds a notice without its texts.
-pub(crate) fn push_notice(
-    alloc: Global,
-    text: &mut String,
-    notice: &Notice,
-) -> Result<(), AllocError>
+/// Adds a notice without its texts. Its only error is want of memory.
+pub fn push_notice(alloc: Global, text: &mut String, notice: &Notice) -> Result<(), AllocError>
     ensures { OnOk result (string_bytes text.new
         ≡ string_bytes text.old ++ texts.notice_line notice.now) }
 {

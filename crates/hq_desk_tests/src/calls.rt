@@ -1,4 +1,4 @@
-//! Calls as lines, over a desk on any shelf, for the tests of this crate. A line is the seconds
+//! Calls as lines, over a desk on any shelf. A line is the seconds
 //! after the start, the customer, the kind, and what the kind needs.
 
 mod answers;
@@ -6,13 +6,12 @@ mod failures;
 mod relay;
 mod tables;
 
-use crate::PlainText;
-use crate::plain_text::message_text;
 use hq_access::{Action, Class, Line, Pattern};
 use hq_desk::{Call, Desk, Rendered, Submission};
 use hq_envelope::{Address, Fault, Host, Items, Label, Moment, Name, Sender, Serial, Spool};
 use hq_queue::{Counts, Entry, Head, Message, Quota};
 use hq_store::{Mark, Shelf};
+use hq_trial::{PlainText, message_text};
 use std::alloc::{AllocError, Global};
 use std::test::Fail;
 

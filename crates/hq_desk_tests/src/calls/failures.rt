@@ -1,8 +1,8 @@
 //! Each kind of call over a shelf that fails at each of its calls in turn.
 
 use super::{kept, told};
-use crate::{FailingShelf, Failure};
 use hq_store::{ListShelf, Shelf};
+use hq_trial::{FailingShelf, Failure};
 use std::alloc::Global;
 use std::process::Abort;
 use std::test::Fail;

@@ -1,10 +1,10 @@
 //! Each kind of call over the plain lists, in lines and answers.
 
 use super::{counted, kept, told, word};
-use crate::{FailingShelf, Failure};
 use hq_envelope::{Fault, Name};
 use hq_queue::{Head, Tally};
 use hq_store::{Change, ListShelf, Shelf};
+use hq_trial::{FailingShelf, Failure};
 use std::alloc::Global;
 use std::process::Abort;
 use std::test::Fail;

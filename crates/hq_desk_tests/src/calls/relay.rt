@@ -3,11 +3,11 @@
 use super::answers::{expect_answers, shelf_with_notice};
 use super::failures::expect_failures;
 use super::{serial, word};
-use crate::relay_text::push_notice;
 use hq_desk::{AttemptReport, Call};
 use hq_envelope::{Address, Items, Text};
 use hq_queue::{Attempt, Delivery, Outcome, Status};
 use hq_store::{ListShelf, Notice};
+use hq_trial::push_notice;
 use std::alloc::{AllocError, Global};
 use std::test::Fail;
 
