@@ -2,18 +2,23 @@
 //
 // STOP_AT=N ends the process, with status 77, at its N-th call that writes, syncs or cuts a file; with STOP_HALF=1 a
 // write at that call writes its first half before. REFUSE_AT=N answers "no memory" at its N-th request for memory.
+// ACCEPT_FAILS_AT=N answers "too many open files" at its N-th acceptance of a connection, and CLOCK_AT=S has the clock tell
+// S seconds since 1970, at all times; how long something takes is not told by that clock.
 // CALLS=PATH has three counts written to that file when the process ends by itself: of those calls, of the syncs among
 // them, and of the requests.
 #define _GNU_SOURCE
 #include <dlfcn.h>
+#include <errno.h>
 #include <fcntl.h>
 #include <stdio.h>
 #include <stdlib.h>
 #include <string.h>
+#include <sys/socket.h>
 #include <sys/types.h>
+#include <time.h>
 #include <unistd.h>
 
-static long calls, syncs, requests, stop_at, refuse_at;
+static long calls, syncs, requests, accepted, stop_at, refuse_at, accept_fails_at;
 static int half;
 
 static long number(const char *name) {
@@ -24,8 +29,9 @@ static long number(const char *name) {
 __attribute__((constructor)) static void begin(void) {
   stop_at = number("STOP_AT");
   refuse_at = number("REFUSE_AT");
+  accept_fails_at = number("ACCEPT_FAILS_AT");
   half = getenv("STOP_HALF") != NULL;
-  calls = syncs = requests = 0;
+  calls = syncs = requests = accepted = 0;
 }
 
 __attribute__((destructor)) static void end(void) {
@@ -90,4 +96,22 @@ void *realloc(void *block, size_t size) {
   static void *(*real)(void *, size_t);
   if (!real) real = (void *(*)(void *, size_t))dlsym(RTLD_NEXT, "realloc");
   return is_refused() ? NULL : real(block, size);
+}
+
+int accept4(int socket, struct sockaddr *address, socklen_t *length, int flags) {
+  static int (*real)(int, struct sockaddr *, socklen_t *, int);
+  if (!real) real = (int (*)(int, struct sockaddr *, socklen_t *, int))dlsym(RTLD_NEXT, "accept4");
+  if (++accepted != accept_fails_at) return real(socket, address, length, flags);
+  errno = EMFILE;
+  return -1;
+}
+
+int accept(int socket, struct sockaddr *address, socklen_t *length) { return accept4(socket, address, length, 0); }
+
+int clock_gettime(clockid_t clock, struct timespec *now) {
+  static int (*real)(clockid_t, struct timespec *);
+  if (!real) real = (int (*)(clockid_t, struct timespec *))dlsym(RTLD_NEXT, "clock_gettime");
+  int told = real(clock, now);
+  if (!told && clock == CLOCK_REALTIME && getenv("CLOCK_AT")) now->tv_sec = number("CLOCK_AT");
+  return told;
 }

@@ -50,13 +50,13 @@ def response(status, body):
 # ---- a server
 
 class Server:
-    """A server in a folder, by these words: it is to serve so many connections."""
+    """A server in a folder, by these words: it is to serve so many connections. `more` is added to its environment."""
 
-    def __init__(self, asked, folder, count, listen="127.0.0.1:0"):
-        self.count, self.made, self.answered, self.errors = count, 0, 0, []
+    def __init__(self, asked, folder, count, listen="127.0.0.1:0", **more):
+        self.count, self.made, self.answered, self.errors, self.status = count, 0, 0, [], 0
         self.process = subprocess.Popen(
             [*asked, "--listen", listen, "--count", str(count)], stdin=subprocess.DEVNULL,
-            stdout=subprocess.PIPE, stderr=subprocess.PIPE, cwd=folder)
+            stdout=subprocess.PIPE, stderr=subprocess.PIPE, cwd=folder, env={**os.environ, **more})
         try:
             self.address = self.listening(listen)
         except BaseException:
@@ -136,6 +136,11 @@ class Server:
         """A line that is told on standard error."""
         self.errors.append(line)
 
+    def stops(self, line):
+        """It is to end by itself before as many connections are made as were asked for, and to tell why."""
+        self.count, self.status = self.made, 1
+        self.told(line)
+
     def end(self):
         """All connections are made: the server has ended, and told what it had to."""
         expect(self.made == self.count, self.made, "connections were made, and", self.count, "asked for")
@@ -144,10 +149,71 @@ class Server:
         except subprocess.TimeoutExpired:
             raise Wrong("the server has not ended after its", self.count, "connections") from None
         wanted = "".join(f"{it}\n" for it in self.errors).encode()
-        expect((self.process.returncode, rest, errors) == (0, b"", wanted), "the server ended with", self.process.returncode,
+        expect((self.process.returncode, rest, errors) == (self.status, b"", wanted), "the server ended with", self.process.returncode,
                "and told", rest, errors, "and not", wanted)
         try:
             socket.create_connection(self.address, timeout=LONGEST).close()
         except ConnectionRefusedError:
             return
         raise Wrong("somebody listens on", self.address, "when the server has ended")
+
+
+# ---- nginx, where it is installed
+
+NGINX = """\
+worker_processes 1;
+pid {folder}/nginx.pid;
+error_log {folder}/error.log;
+events {{ worker_connections 64; }}
+http {{
+  access_log off;
+  keepalive_timeout {seconds};
+  default_type application/json;
+  client_body_temp_path {folder}/t1;
+  proxy_temp_path {folder}/t2;
+  fastcgi_temp_path {folder}/t3;
+  uwsgi_temp_path {folder}/t4;
+  scgi_temp_path {folder}/t5;
+  server {{ listen 127.0.0.1:{port}; {serves} }}
+}}
+"""
+
+
+class Nginx:
+    """nginx with one worker on a free port, its files in a folder; `serves` is what its configuration has of its server."""
+
+    def __init__(self, folder, serves, keeps_alive):
+        with socket.create_server(("127.0.0.1", 0)) as free:
+            self.address = free.getsockname()
+        seconds = 60 if keeps_alive else 0
+        text = NGINX.format(folder=folder, port=self.address[1], seconds=seconds, serves=serves)
+        (folder / "nginx.conf").write_text(text)
+        # its worker is nobody where it is begun by root
+        folder.chmod(0o755)
+        asked = ["nginx", "-p", folder, "-c", folder / "nginx.conf", "-g", "daemon off;"]
+        self.process = subprocess.Popen(asked, stdin=subprocess.DEVNULL, stdout=subprocess.DEVNULL, stderr=subprocess.DEVNULL)
+        try:
+            self.listening()
+        except BaseException:
+            self.stop()
+            raise
+
+    def __enter__(self):
+        return self
+
+    def __exit__(self, *_):
+        self.stop()
+
+    def listening(self):
+        until = time.monotonic() + LONGEST
+        while True:
+            try:
+                socket.create_connection(self.address, timeout=LONGEST).close()
+                return
+            except ConnectionRefusedError:
+                expect(time.monotonic() < until, "nginx does not listen at", self.address)
+                time.sleep(0.05)
+
+    def stop(self):
+        self.process.terminate()
+        self.process.wait(LONGEST)
