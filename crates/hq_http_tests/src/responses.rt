@@ -36,15 +36,17 @@ fn responses_are_written_whole(rt: HostRuntime) {
     }
 }
 
+/// After each of their bytes, and behind the last.
 #[test]
 fn writers_that_fail(rt: HostRuntime) {
-    let mut failures = 0u32;
-    for writes in 0..20u32 {
-        let mut writer = Narrow { writes };
-        if write_response(&mut writer, 200, b"{}").is_err() {
-            failures = failures.wrapping_add(1);
+    for (status, body, text) in RESPONSES {
+        for room in 0..=text.len() {
+            let written = write_response(&mut Narrow { room }, status, body.as_bytes());
+            assert_eq!(rt;
+                written.is_ok(),
+                room == text.len(),
+                "{room} bytes of {status}"
+            );
         }
     }
-    // A response is eight writes.
-    assert_eq!(rt; failures, 8);
 }

@@ -107,10 +107,11 @@ fn failed_read(rt: HostRuntime) {
 /// The line whose answer cannot be written is the last that is answered.
 #[test]
 fn failed_write(rt: HostRuntime) {
-    for (writes, steps) in [(0, 1), (1, 2), (2, 3)] {
+    // Each answer is one byte.
+    for (room, steps) in [(0, 1), (1, 2), (2, 3)] {
         let mut reader = Pieces::new(THREE_LINES, usize::MAX);
         let mut echo = Echo { steps_done: 0 };
-        let ended = serve_lines(rt.alloc(), &mut reader, &mut Narrow { writes }, &mut echo);
+        let ended = serve_lines(rt.alloc(), &mut reader, &mut Narrow { room }, &mut echo);
         assert_eq!(rt; (ended, echo.steps_done), (Err(EngineFault::Write), steps));
     }
 }

@@ -57,20 +57,21 @@ impl Read for Pieces<'_> {
     }
 }
 
-/// Takes so many writes, and then fails.
+/// Takes so many bytes, and then fails; of a longer write it takes what there is room for.
 #[derive(Drop)]
 pub struct Narrow {
-    /// How many writes are left.
-    pub writes: u32,
+    /// How many bytes are left.
+    pub room: usize,
 }
 
 impl Write for Narrow {
     fn write(&mut self, buf: &[u8]) -> io::Result<usize> {
-        if self.writes == 0 {
+        if self.room == 0 {
             return Err(io::Error::from(ErrorKind::BrokenPipe));
         }
-        self.writes -= 1;
-        Ok(buf.len())
+        let count = buf.len().min(self.room);
+        self.room -= count;
+        Ok(count)
     }
 
     fn flush(&mut self) -> io::Result<()> {

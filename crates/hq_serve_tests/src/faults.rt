@@ -12,6 +12,10 @@ const SUBMIT: &[u8] = b"POST /relay/submit/acme HTTP/1.1\r\nX-Desk-Key: relaykey
     Content-Length: 79\r\n\r\n{\"spool\":\"s1\",\"sender\":\"a@a.example\",\
     \"recipients\":[\"b@far.example\"],\"size\":900}";
 
+const QUEUED: &str = "HTTP/1.1 200 OK\r\nContent-Type: application/json\r\nContent-Length: 101\r\n\
+    Connection: close\r\n\r\n{\"id\":\"0000000001\",\"recipients\":[\"b@far.example\"],\
+    \"refused\":[],\"state\":\"incoming\",\"verdict\":\"queued\"}";
+
 /// Whether the customer keeps so many messages.
 fn keeps(rt: &(impl Abort + AllocGlobal), office: &mut Office, messages: &str) -> bool {
     match response(rt, office, USAGE, usize::MAX) {
@@ -38,14 +42,19 @@ fn readers_that_fail(rt: HostRuntime) -> Result<(), Fail> {
     Ok(())
 }
 
+/// After each byte of a response, and behind the last: what was asked is done.
 #[test]
 fn writers_that_fail(rt: HostRuntime) -> Result<(), Fail> {
-    // A response is eight writes.
-    for writes in 0..8u32 {
+    for room in 0..=QUEUED.len() {
         let mut office = open(rt.alloc())?;
         let mut reader = Pieces::new(SUBMIT, usize::MAX);
-        let served = serve(&rt, &mut office, &mut reader, &mut Narrow { writes });
-        assert!(rt; matches!(served, Err(EngineFault::Write)));
+        let served = serve(&rt, &mut office, &mut reader, &mut Narrow { room });
+        let wanted = if room < QUEUED.len() {
+            Err(EngineFault::Write)
+        } else {
+            Ok(())
+        };
+        assert_eq!(rt; served, wanted, "a writer of {room} bytes");
         assert!(rt; keeps(&rt, &mut office, "\"messages\":1"));
     }
     Ok(())
