@@ -7,6 +7,11 @@ import subprocess
 import time
 
 ACME, BIRCH, RELAY = "acmekey000000001", "birchkey00000001", "relaykey00000001"
+DIRECTORY = """\
+name,key,messages,bytes,lines,notices,delay
+acme,acmekey000000001,1000,500000000,1000,100,14400
+birch,birchkey00000001,100,1000000,100,10,0
+"""
 # No single wait takes longer, in seconds.
 LONGEST = 60
 PHRASES = {200: "OK", 400: "Bad Request", 401: "Unauthorized", 403: "Forbidden", 404: "Not Found", 405: "Method Not Allowed",
