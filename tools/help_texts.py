@@ -10,11 +10,12 @@ birch, from an empty desk in memory.
 Usage: hq_main [COMMAND]
 
 Commands:
-  serve   Serve the customers of a directory over HTTP/1.1
-  batch   Reply to the lines of standard input, for the customers of a directory
-  queue   Print the queue report of a customer
-  import  Set lines of a customer's access tables by the rows of a file
-  sweep   Give up a customer's messages that are too old, and warn of late ones
+  serve    Serve the customers of a directory over HTTP/1.1
+  batch    Reply to the lines of standard input, for the customers of a directory
+  queue    Print the queue report of a customer
+  import   Set lines of a customer's access tables by the rows of a file
+  sweep    Give up a customer's messages that are too old, and warn of late ones
+  migrate  Make a store of the release before one of this release
 
 Options:
   -h, --help  Print help
@@ -186,4 +187,25 @@ It prints how many messages were given up, how many became warned, and how many 
 Example:
   hq_main sweep --directory customers.csv --host relay.example --store desk.db --customer acme \\
     --at 1767657600
+"""
+MIGRATE_HELP = b"""\
+Make a store of the release before one of this release
+
+Usage: hq_main migrate --store <FILE>
+
+Options:
+      --store <FILE>  The file that keeps what is done, a database of SQLite.
+                      No default. Example: --store desk.db
+  -h, --help          Print help
+
+A store of the release before keeps no reasons of messages on hold, and is refused as
+`hq: 92 BadSchema` by the other commands. This one gives each message on hold the reason
+`held before version 2`, and prints how many there are: `migrated 1 on hold`. A store of this
+release stays as it is, and `migrated 0 on hold` is printed; any other file is refused as
+`hq: 92 BadSchema` and stays as it is.
+
+It is done whole or not at all. Stop the desk and copy the file before: the copy is the way back.
+
+Example:
+  hq_main migrate --store desk.db
 """

@@ -6,7 +6,7 @@ use Rattle.std.specs.List.{cons_option, filter_map, last_or, list_any}
 use Rattle.std.proofs.lemmas.List.{take_more, map-append}
 use Rattle.std.proofs.lemmas.List.Elements.{filter-append, filter_map-append}
 use Rattle.hq_access.specs.declared.action.Action.{Action}
-use Rattle.hq_access.specs.declared.action.Action.TheVariants.{Okay, Reject, Dunno, Discard, Hold, Redirect}
+use Rattle.hq_access.specs.declared.action.Action.TheVariants.{Okay, Reject, Defer, Dunno, Discard, Hold, Redirect}
 use Rattle.hq_access.specs.declared.verdicts.Refused.{Refused}
 use Rattle.hq_access.specs.Verdicts.{refuses, discards, redirection, holding, refused_one, refused_in, kept_in, found_in, first_of, redirect_of, held_by}
 
@@ -50,6 +50,7 @@ one_redirection : (address : List ℕ) (found : Option Action) → filter_map re
 one_redirection address None = refl
 one_redirection address (Some (Okay t)) = refl
 one_redirection address (Some (Reject t)) = refl
+one_redirection address (Some (Defer t)) = refl
 one_redirection address (Some (Dunno t)) = refl
 one_redirection address (Some (Discard t)) = refl
 one_redirection address (Some (Hold t)) = refl
@@ -91,6 +92,7 @@ one_holding : (address : List ℕ) (found : Option Action) → filter_map holdin
 one_holding address None = refl
 one_holding address (Some (Okay t)) = refl
 one_holding address (Some (Reject t)) = refl
+one_holding address (Some (Defer t)) = refl
 one_holding address (Some (Dunno t)) = refl
 one_holding address (Some (Discard t)) = refl
 one_holding address (Some (Hold t)) = refl
@@ -127,6 +129,7 @@ discards_kept (r ∷ rs) = by r.1 (discards_kept rs) where
   by None further = further
   by (Some (Okay t)) further = further
   by (Some (Reject t)) further = further
+  by (Some (Defer t)) further = further
   by (Some (Dunno t)) further = further
   by (Some (Discard t)) further = refl
   by (Some (Hold t)) further = further

@@ -8,7 +8,7 @@ use Rattle.hq_base.specs.declared.failure.Refusal.TheVariants.{BadAction}
 use Rattle.hq_envelope.specs.Addresses.{is_address}
 use Rattle.hq_envelope.specs.Words.{is_text}
 use Rattle.hq_access.specs.declared.action.Action.{Action}
-use Rattle.hq_access.specs.declared.action.Action.TheVariants.{Okay, Reject, Dunno, Discard, Hold, Redirect}
+use Rattle.hq_access.specs.declared.action.Action.TheVariants.{Okay, Reject, Defer, Dunno, Discard, Hold, Redirect}
 
 abbrev pub is_space : ℕ → Bool
 is_space b = b == 32
@@ -50,6 +50,7 @@ abbrev pub action_with : List ℕ → List ℕ → Result Action Refusal
 action_with verb argument =
     if is_verb verb (codes "OK") then seen_by (λ text. Okay text) (text_in argument)
     else if is_verb verb (codes "REJECT") then seen_by (λ text. Reject text) (text_in argument)
+    else if is_verb verb (codes "DEFER") then seen_by (λ text. Defer text) (text_in argument)
     else if is_verb verb (codes "DUNNO") then seen_by (λ text. Dunno text) (text_in argument)
     else if is_verb verb (codes "DISCARD") then seen_by (λ text. Discard text) (text_in argument)
     else if is_verb verb (codes "HOLD") then seen_by (λ text. Hold text) (text_in argument)
@@ -70,6 +71,7 @@ written verb (b ∷ argument) = verb ++ 32 ∷ b ∷ argument
 abbrev pub verb_text : Action → List ℕ
 verb_text (Okay text) = codes "OK"
 verb_text (Reject text) = codes "REJECT"
+verb_text (Defer text) = codes "DEFER"
 verb_text (Dunno text) = codes "DUNNO"
 verb_text (Discard text) = codes "DISCARD"
 verb_text (Hold text) = codes "HOLD"
@@ -78,6 +80,7 @@ verb_text (Redirect address) = codes "REDIRECT"
 abbrev pub argument_text : Action → List ℕ
 argument_text (Okay text) = text
 argument_text (Reject text) = text
+argument_text (Defer text) = text
 argument_text (Dunno text) = text
 argument_text (Discard text) = text
 argument_text (Hold text) = text

@@ -1,10 +1,11 @@
 -- The verdict on a submission (access(5), ACCEPT ACTIONS, REJECT ACTIONS, OTHER ACTIONS; which of several actions counts is this product's own).
 use Rattle.std.specs.Prelude.{ℕ, Bool, true, false, not, List, [], ◌∷◌, codes, map, filter, if◌then◌else◌, Option, Some, None, option_map, is_some}
 use Rattle.std.specs.List.{filter_map, last_or, list_any}
+use Rattle.hq_envelope.specs.Words.{table_hold, try_later}
 use Rattle.hq_envelope.specs.declared.address.Sender.{Sender}
 use Rattle.hq_envelope.specs.declared.address.Sender.TheVariants.{From}
 use Rattle.hq_access.specs.declared.action.Action.{Action}
-use Rattle.hq_access.specs.declared.action.Action.TheVariants.{Reject, Discard, Hold, Redirect}
+use Rattle.hq_access.specs.declared.action.Action.TheVariants.{Reject, Defer, Discard, Hold, Redirect}
 use Rattle.hq_access.specs.declared.verdicts.Refused.{Refused}
 use Rattle.hq_access.specs.declared.verdicts.Verdict.{Verdict}
 use Rattle.hq_access.specs.declared.verdicts.Verdict.TheVariants.{Rejected, Discarded, Queue}
@@ -16,9 +17,20 @@ abbrev pub or_denied : List ℕ → List ℕ
 or_denied [] = codes "Access denied"
 or_denied (b ∷ text) = b ∷ text
 
+-- the text of a deferral, where its line has none
+abbrev pub or_later : List ℕ → List ℕ
+or_later [] = try_later
+or_later (b ∷ text) = b ∷ text
+
+-- the reason of a hold, where its line has no text
+abbrev pub or_table : List ℕ → List ℕ
+or_table [] = table_hold
+or_table (b ∷ text) = b ∷ text
+
 -- the code and the text with which an action refuses
 abbrev pub refusal : Option Action → Option (ℕ × List ℕ)
 refusal (Some (Reject text)) = Some (554, or_denied text)
+refusal (Some (Defer text)) = Some (450, or_later text)
 refusal found = None
 
 abbrev pub refuses : Option Action → Bool
@@ -74,7 +86,7 @@ held_by found = first_of (filter_map holding found)
 -- With no recipient kept the submission is rejected; else any DISCARD discards it; else it is queued.
 abbrev pub judged : List (List ℕ) → List Refused → List (Option Action) → Verdict
 judged [] refused found = Rejected refused
-judged (k ∷ kept) refused found = if list_any discards found then Discarded refused else Queue (k ∷ kept) refused (redirect_of found) (held_by found)
+judged (k ∷ kept) refused found = if list_any discards found then Discarded refused else Queue (k ∷ kept) refused (redirect_of found) (option_map or_table (held_by found))
 
 -- A rejected sender is refused alone, whatever its recipients are.
 abbrev pub after_sender : Option Refused → Option Action → List (List ℕ × Option Action) → Verdict

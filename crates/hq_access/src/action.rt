@@ -14,6 +14,8 @@ pub enum Action {
     Okay(Text),
     /// `REJECT`: the address is refused, with the text or `Access denied`.
     Reject(Text),
+    /// `DEFER`: the address is put off, with the text or `Try again later`.
+    Defer(Text),
     /// `DUNNO`: as if there were no line, save that no further key is tried. Its text has no
     /// effect.
     Dunno(Text),
@@ -88,6 +90,8 @@ fn action_with(alloc: Global, verb: &str, argument: &str) -> Result<Action, Fail
         Ok(Action::Okay(text_argument(alloc, argument)?))
     } else if is_verb(verb, "REJECT") {
         Ok(Action::Reject(text_argument(alloc, argument)?))
+    } else if is_verb(verb, "DEFER") {
+        Ok(Action::Defer(text_argument(alloc, argument)?))
     } else if is_verb(verb, "DUNNO") {
         Ok(Action::Dunno(text_argument(alloc, argument)?))
     } else if is_verb(verb, "DISCARD") {
@@ -129,6 +133,7 @@ impl Action {
         match self {
             Action::Okay(text) => written(alloc, "OK", text.as_str()),
             Action::Reject(text) => written(alloc, "REJECT", text.as_str()),
+            Action::Defer(text) => written(alloc, "DEFER", text.as_str()),
             Action::Dunno(text) => written(alloc, "DUNNO", text.as_str()),
             Action::Discard(text) => written(alloc, "DISCARD", text.as_str()),
             Action::Hold(text) => written(alloc, "HOLD", text.as_str()),
@@ -142,6 +147,7 @@ impl TryCopy for Action {
         match self {
             Action::Okay(text) => Ok(Action::Okay(text.copy(alloc)?)),
             Action::Reject(text) => Ok(Action::Reject(text.copy(alloc)?)),
+            Action::Defer(text) => Ok(Action::Defer(text.copy(alloc)?)),
             Action::Dunno(text) => Ok(Action::Dunno(text.copy(alloc)?)),
             Action::Discard(text) => Ok(Action::Discard(text.copy(alloc)?)),
             Action::Hold(text) => Ok(Action::Hold(text.copy(alloc)?)),

@@ -11,6 +11,9 @@ use std::alloc::{AllocError, Global};
 /// The code with which `REJECT` refuses.
 const REJECT_CODE: u16 = 554;
 
+/// The code with which `DEFER` refuses.
+const DEFER_CODE: u16 = 450;
+
 /// What a rejection says whose line has no text.
 const DENIED: &str = "Access denied";
 
@@ -58,7 +61,7 @@ pub enum Verdict {
         refused: Items<Refused>,
         /// Who gets it in place of all that are kept.
         redirect: Option<Address>,
-        /// The text of the first hold, where it is put on hold.
+        /// The reason of the first hold, where it is put on hold: not empty.
         held: Option<Text>,
     },
 }
@@ -75,12 +78,35 @@ fn or_denied(alloc: Global, text: &Text) -> Result<Text, AllocError>
     }
 }
 
+/// The text of a deferral, or `Try again later` where its line has none.
+fn or_later(alloc: Global, text: &Text) -> Result<Text, AllocError>
+    ensures { IfOk result (λ told. told ≡ rules.or_later text.now) }
+{
+    if text.as_str().is_empty() {
+        Text::try_later(alloc)
+    } else {
+        text.copy(alloc)
+    }
+}
+
+/// The reason of a hold: the text of its line, or `held by access table` where it has none.
+fn or_table(alloc: Global, text: &Text) -> Result<Text, AllocError>
+    ensures { IfOk result (λ reason. reason ≡ rules.or_table text.now) }
+{
+    if text.as_str().is_empty() {
+        Text::table_hold(alloc)
+    } else {
+        text.copy(alloc)
+    }
+}
+
 /// The code and the text with which an action refuses.
 fn refusal(alloc: Global, found: Option<&Action>) -> Result<Option<(u16, Text)>, AllocError>
     ensures { IfOk result (λ why. why ≡ rules.refusal (option_map (λ a. a.now) found.entry)) }
 {
     match found {
         Some(Action::Reject(text)) => Ok(Some((REJECT_CODE, or_denied(alloc, text)?))),
+        Some(Action::Defer(text)) => Ok(Some((DEFER_CODE, or_later(alloc, text)?))),
         _ => Ok(None),
     }
 }
@@ -88,7 +114,7 @@ fn refusal(alloc: Global, found: Option<&Action>) -> Result<Option<(u16, Text)>,
 fn refuses(found: Option<&Action>) -> bool
     ensures { result ≡ rules.refuses (option_map (λ a. a.now) found.entry) }
 {
-    matches!(found, Some(Action::Reject(_)))
+    matches!(found, Some(Action::Reject(_) | Action::Defer(_)))
 }
 
 fn discards(found: Option<&Action>) -> bool
@@ -225,6 +251,17 @@ fn copied<T: TryCopy>(alloc: Global, value: Option<&T>) -> Result<Option<T>, All
     }
 }
 
+/// The reason of the first hold.
+fn reason_of(alloc: Global, held: Option<&Text>) -> Result<Option<Text>, AllocError>
+    ensures { IfOk result (λ reason. reason
+        ≡ option_map rules.or_table (option_map (λ t. t.now) held.entry)) }
+{
+    match held {
+        Some(text) => Ok(Some(or_table(alloc, text)?)),
+        None => Ok(None),
+    }
+}
+
 /// The verdict, by the action found for the sender and those found for the recipients, which are
 /// all different:
 /// - A rejected sender: rejected, and the sender alone is refused.
@@ -259,6 +296,6 @@ pub fn decide(
         kept: Items::from_vec(kept),
         refused,
         redirect: copied(alloc, redirect_of(found, recipients))?,
-        held: copied(alloc, held_by(found, recipients))?,
+        held: reason_of(alloc, held_by(found, recipients))?,
     })
 }

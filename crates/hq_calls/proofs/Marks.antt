@@ -9,6 +9,7 @@ use Rattle.hq_access.specs.declared.pattern.Class.{Class}
 use Rattle.hq_access.specs.declared.pattern.Line.{Line}
 use Rattle.hq_access.specs.declared.verdicts.Verdict.{Verdict}
 use Rattle.hq_access.specs.declared.verdicts.Verdict.TheVariants as verdict
+use Rattle.hq_envelope.specs.Words.{customer_hold}
 use Rattle.hq_queue.specs.Admission.{spent}
 use Rattle.hq_queue.specs.Attempts.{reported}
 use Rattle.hq_queue.specs.Moves.{held, released, requeued}
@@ -56,7 +57,7 @@ moved_leaves s (Some m) = refl
 
 pub hold_leaves : (s : State) (o : Option Message) → Leaves s (messages.hold o)
 hold_leaves s None = refl
-hold_leaves s (Some m) = moved_leaves s (held m)
+hold_leaves s (Some m) = moved_leaves s (held customer_hold m)
 
 pub release_leaves : (s : State) (at : ℕ) (o : Option Message) → Leaves s (messages.release at o)
 release_leaves s at None = refl

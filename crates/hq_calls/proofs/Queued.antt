@@ -1,6 +1,6 @@
 -- A submission keeps the state of one customer sound.
 use Rattle.std.proofs.Common.{◌≡◌, ◌≢◌, ℕ, suc, ◌+◌, ◌^◌, ◌<◌, ◌≤◌, Bool, true, false, cond, not, List, [], ◌∷◌, map, filter, length, sym, refl, ap, ◌∙◌, subst, Some, None, Option, Result, Ok, Err, arith}
-use Rattle.std.specs.Prelude.{IsTrue, ⊤, if◌then◌else◌, nat_le, nat_lt, nat_eq, option_map}
+use Rattle.std.specs.Prelude.{IsTrue, IfSome, ⊤, if◌then◌else◌, nat_le, nat_lt, nat_eq, option_map}
 use Rattle.std.specs.List as list
 use Rattle.std.specs.List.{IsDistinct, AllByRecursion, list_any}
 use Rattle.std.specs.Ordering.{nat_cmp, eq_by_cmp}
@@ -23,10 +23,10 @@ use Rattle.hq_access.specs.declared.verdicts.Verdict.{Verdict}
 use Rattle.hq_access.specs.declared.verdicts.Verdict.TheVariants as verdict
 use Rattle.hq_queue.specs.Admission.{admitted}
 use Rattle.hq_queue.specs.Limits.{is_within}
+use Rattle.hq_queue.specs.Moves.{is_on_hold}
 use Rattle.hq_queue.specs.declared.account.Entry.{Entry}
 use Rattle.hq_queue.specs.declared.message.Message.{Message}
 use Rattle.hq_queue.specs.declared.message.Pending.{Pending}
-use Rattle.hq_queue.specs.declared.message.QueueState.{QueueState}
 use Rattle.hq_store.specs.declared.change.Change.TheVariants.{PutHead, PutMessage}
 use Rattle.hq_store.specs.Fits.{HeadFits, MessageFits}
 use Rattle.hq_store.specs.Readings.{Readings, read_state, saturated, with_spool}
@@ -102,18 +102,28 @@ kept_are {A} f p (x ∷ xs) = cases (p (x, f x)) (kept_are f p xs) where
   cases true rest = ap (λ ys. x ∷ ys) rest
   cases false rest = rest
 
--- those whom a verdict keeps may receive
+-- a text is not empty
+abbrev pub HasText : List ℕ → Type 0
+HasText text = nat_lt 0 (length text) ≡ true
+
+-- so is the reason of a hold
+reason_has_text : (held : Option (List ℕ)) → IfSome (option_map access.or_table held) HasText
+reason_has_text None = tt
+reason_has_text (Some []) = refl
+reason_has_text (Some (b ∷ text)) = grind (arith, nat_tests)
+
+-- those whom a verdict keeps may receive, and it holds for a reason
 abbrev pub KeepsReceivers : Verdict → Type 0
 KeepsReceivers (verdict.Rejected refused) = ⊤
 KeepsReceivers (verdict.Discarded refused) = ⊤
-KeepsReceivers (verdict.Queue kept refused redirect held) = MayReceive kept
+KeepsReceivers (verdict.Queue kept refused redirect held) = MayReceive kept × IfSome held HasText
 
 judged_keeps : (kept : List (List ℕ)) (refused : List Refused) (found : List (Option Action)) → IsDistinct same_address kept → length kept ≤ 100 → KeepsReceivers (access.judged kept refused found)
 judged_keeps [] refused found apart few = tt
 judged_keeps (k ∷ kept) refused found apart few = cases (list_any access.discards found) where
-  cases : (b : Bool) → KeepsReceivers (if b then verdict.Discarded refused else verdict.Queue (k ∷ kept) refused (access.redirect_of found) (access.held_by found))
+  cases : (b : Bool) → KeepsReceivers (if b then verdict.Discarded refused else verdict.Queue (k ∷ kept) refused (access.redirect_of found) (option_map access.or_table (access.held_by found)))
   cases true = tt
-  cases false = record { apart = apart; some = omega arith; few = few }
+  cases false = (record { apart = apart; some = omega arith; few = few }, reason_has_text (access.held_by found))
 
 verdict_keeps : (readings : Readings) (sender : Sender) (xs : List (List ℕ)) → IsDistinct same_address xs → length xs ≤ 100 → KeepsReceivers (rules.judged readings sender xs)
 verdict_keeps readings sender xs apart few = cases (option_map (access.told sender) (access.refusal (action_for readings SenderSide sender))) where
@@ -178,11 +188,16 @@ within_is low high n h = (grind (arith, nat_tests), grind (arith, nat_tests))
 recipients_of : (sub : Submission) → (1 ≤ length sub.recipients) × (length sub.recipients ≤ 100)
 recipients_of sub = within_is 1 100 (length sub.recipients) sub.number
 
+-- a new message has a reason where it is on hold
+first_right : (held : Option (List ℕ)) → IfSome held HasText → nat_lt 0 (length (rules.first_reason held)) ≡ is_on_hold (rules.first_state held)
+first_right None text = refl
+first_right (Some reason) text = text
+
 -- a new message keeps the state sound
-queue_kept : (s : State) (at : ℕ) (sub : Submission) (addresses : List (List ℕ)) (state : QueueState) (refused : List Refused) → SoundState s → MayReceive addresses → ((k : ℕ) (m : Message) → get s.messages k ≡ Some m → m.spool ≡ sub.spool → ⊥) → len s.messages < 1000 → s.head.next_serial < 2 ^ 40
-    → Keeps s (rules.enqueued s.head (rules.new_message s.head.next_serial at sub addresses state) refused)
-queue_kept s at sub addresses state refused h may spool room serials =
-    let n = rules.new_message s.head.next_serial at sub addresses state in
+queue_kept : (s : State) (at : ℕ) (sub : Submission) (addresses : List (List ℕ)) (held : Option (List ℕ)) (refused : List Refused) → SoundState s → MayReceive addresses → IfSome held HasText → ((k : ℕ) (m : Message) → get s.messages k ≡ Some m → m.spool ≡ sub.spool → ⊥) → len s.messages < 1000 → s.head.next_serial < 2 ^ 40
+    → Keeps s (rules.enqueued s.head (rules.new_message s.head.next_serial at sub addresses held) refused)
+queue_kept s at sub addresses held refused h may text spool room serials =
+    let n = rules.new_message s.head.next_serial at sub addresses held in
     let head = rules.with_message (length n.pending) s.head in
     let raised = change (PutHead head) s in
     let next = h.shaped.next_serial in
@@ -192,7 +207,7 @@ queue_kept s at sub addresses state refused h may spool room serials =
     let most : length addresses ≤ 100 = may.few in
     let free = free_serial s h.shaped in
     let fits : MessageFits raised n = record {
-      queued = record { own_serial = refl; positive = next.0; below = omega arith; some_pending = omega arith; apart = subst (IsDistinct same_address) (sym (addresses_are addresses)) may.apart };
+      queued = record { own_serial = refl; positive = next.0; below = omega arith; some_pending = omega arith; apart = subst (IsDistinct same_address) (sym (addresses_are addresses)) may.apart; right = first_right held text };
       spool = λ k m f e. absurd (spool k m f e);
       room = λ none. room;
     } in
@@ -204,26 +219,26 @@ queue_kept s at sub addresses state refused h may spool room serials =
     record { shaped = change_shaped raised (PutMessage n) (change_shaped s (PutHead head) h.shaped rises) fits; conserved = omega arith; bounded = omega arith }
 
 -- room and a serial are left where a submission is admitted
-admit_kept : (s : State) (entry : Entry) (at : ℕ) (sub : Submission) (addresses : List (List ℕ)) (state : QueueState) (refused : List Refused) → SoundState s → MayReceive addresses → ((k : ℕ) (m : Message) → get s.messages k ≡ Some m → m.spool ≡ sub.spool → ⊥)
+admit_kept : (s : State) (entry : Entry) (at : ℕ) (sub : Submission) (addresses : List (List ℕ)) (held : Option (List ℕ)) (refused : List Refused) → SoundState s → MayReceive addresses → IfSome held HasText → ((k : ℕ) (m : Message) → get s.messages k ≡ Some m → m.spool ≡ sub.spool → ⊥)
     → (full bytes spent : Bool) → (full ≡ false → len s.messages < entry.quota.messages) → (spent ≡ false → s.head.next_serial ≢ 2 ^ 40)
-    → Keeps s (rules.admit s.head at sub addresses state refused (if full then Err refusal.QuotaMessages else (if bytes then Err refusal.QuotaBytes else (if spent then Err refusal.SerialsSpent else Ok s.head.next_serial))))
-admit_kept s entry at sub addresses state refused h may spool true bytes spent left serials = h
-admit_kept s entry at sub addresses state refused h may spool false true spent left serials = h
-admit_kept s entry at sub addresses state refused h may spool false false true left serials = h
-admit_kept s entry at sub addresses state refused h may spool false false false left serials =
+    → Keeps s (rules.admit s.head at sub addresses held refused (if full then Err refusal.QuotaMessages else (if bytes then Err refusal.QuotaBytes else (if spent then Err refusal.SerialsSpent else Ok s.head.next_serial))))
+admit_kept s entry at sub addresses held refused h may text spool true bytes spent left serials = h
+admit_kept s entry at sub addresses held refused h may text spool false true spent left serials = h
+admit_kept s entry at sub addresses held refused h may text spool false false true left serials = h
+admit_kept s entry at sub addresses held refused h may text spool false false false left serials =
     let room = left refl in
     let other = serials refl in
     let next = h.shaped.next_serial in
     let most = (quota_of entry).0 in
-    queue_kept s at sub addresses state refused h may spool (omega arith) (omega arith)
+    queue_kept s at sub addresses held refused h may text spool (omega arith) (omega arith)
 
 -- whatever the verdict, if whom it keeps may receive
-settled_kept : (s : State) (at : ℕ) (sub : Submission) (serial : Result ℕ Refusal) (v : Verdict) → SoundState s → KeepsReceivers v → ((addresses : List (List ℕ)) (state : QueueState) (refused : List Refused) → MayReceive addresses → Keeps s (rules.admit s.head at sub addresses state refused serial))
+settled_kept : (s : State) (at : ℕ) (sub : Submission) (serial : Result ℕ Refusal) (v : Verdict) → SoundState s → KeepsReceivers v → ((addresses : List (List ℕ)) (held : Option (List ℕ)) (refused : List Refused) → MayReceive addresses → IfSome held HasText → Keeps s (rules.admit s.head at sub addresses held refused serial))
     → Keeps s (rules.settled s.head at sub serial v)
 settled_kept s at sub serial (verdict.Rejected refused) h may each = h
 settled_kept s at sub serial (verdict.Discarded refused) h may each = h
-settled_kept s at sub serial (verdict.Queue kept refused None held) h may each = each kept (rules.first_state held) refused may
-settled_kept s at sub serial (verdict.Queue kept refused (Some address) held) h may each = each (address ∷ []) (rules.first_state held) refused (one_may address)
+settled_kept s at sub serial (verdict.Queue kept refused None held) h may each = each kept held refused may.0 may.1
+settled_kept s at sub serial (verdict.Queue kept refused (Some address) held) h may each = each (address ∷ []) held refused (one_may address) may.1
 
 not_spent : (n : ℕ) → nat_eq n (2 ^ 40) ≡ false → n ≢ 2 ^ 40
 not_spent n h = eqb-false n (2 ^ 40) h
@@ -245,6 +260,6 @@ submit_kept s entry at sub h = cases (with_spool sub.spool (values s.messages)) 
   cases None e =
       let counts = (read_state s).counts in
       settled_kept s at sub (admitted s.head entry.quota counts sub.size) (rules.judged (read_state s) sub.sender (rules.distinct sub.recipients)) h keeps
-      (λ addresses state refused may. admit_kept s entry at sub addresses state refused h may (new_spool s sub.spool e)
+      (λ addresses held refused may text. admit_kept s entry at sub addresses held refused h may text (new_spool s sub.spool e)
       (nat_le entry.quota.messages counts.messages) (nat_lt entry.quota.bytes (counts.bytes + sub.size)) (nat_eq s.head.next_serial (2 ^ 40))
       (λ full. let few_messages = below_quota entry.quota.messages counts.messages full in omega (arith, counted)) (not_spent s.head.next_serial))

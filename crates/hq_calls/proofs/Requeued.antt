@@ -63,7 +63,7 @@ requeued_sound s at m h there room =
     let some = was.some_pending in
     let rises : HeadFits dropped (rules.next_head s.head) = record { next_serial = (omega arith, omega arith); next_notice = h.shaped.next_notice; above = λ k o f. let low = (h.shaped.messages k o (left s.messages m.serial k o f)).below in omega arith; above_notices = λ k o f. (h.shaped.notices k o f).1 } in
     let fits : MessageFits raised n = record {
-      queued = record { own_serial = refl; positive = next.0; below = omega arith; some_pending = omega arith; apart = cleared_apart m.pending was.apart };
+      queued = record { own_serial = refl; positive = next.0; below = omega arith; some_pending = omega arith; apart = cleared_apart m.pending was.apart; right = refl };
       spool = λ k o f e.
           let same : k ≡ m.serial = h.shaped.spools k m.serial o m (left s.messages m.serial k o f) there e in
           absurd (not_dropped s m.serial o (ap (get (remove s.messages m.serial)) (sym same) ∙ f));

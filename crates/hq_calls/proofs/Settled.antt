@@ -9,7 +9,7 @@ use Rattle.hq_queue.specs.declared.account.Entry.{Entry}
 use Rattle.hq_queue.specs.declared.account.Head.{Head}
 use Rattle.hq_queue.specs.declared.message.Message.{Message}
 use Rattle.hq_store.specs.declared.change.Change.TheVariants.{PutHead, PutMessage}
-use Rattle.hq_store.specs.Sound.{ShapedState, SoundState, AreApart, IsNext}
+use Rattle.hq_store.specs.Sound.{ShapedState, SoundState, IsReasoned, AreApart, IsNext}
 use Rattle.hq_store.specs.Tables.{State, change, change_all}
 use Rattle.hq_store.proofs.Conserved.{pending, pending_put}
 use Rattle.hq_store.proofs.Many.{Done}
@@ -72,15 +72,15 @@ carried_out_kept host entry s at plan w h did serial notice accepted told = case
       (settled_sound s after w (with_notices (length plan.drafts) plan.head) h did serial (omega arith, omega arith) (omega arith) accepted told)
 
 -- a message that is put with fewer recipients
-pub put_fewer : (s : State) (m n : Message) (w : ℕ) → ShapedState s → get s.messages m.serial ≡ Some m → n.serial ≡ m.serial → n.spool ≡ m.spool → 0 < length n.pending → AreApart n.pending → length n.pending + w ≡ length m.pending → Done s (change (PutMessage n) s) w
-put_fewer s m n w h there serial spool some apart fewer =
+pub put_fewer : (s : State) (m n : Message) (w : ℕ) → ShapedState s → get s.messages m.serial ≡ Some m → n.serial ≡ m.serial → n.spool ≡ m.spool → 0 < length n.pending → AreApart n.pending → (IsReasoned m → IsReasoned n) → length n.pending + w ≡ length m.pending → Done s (change (PutMessage n) s) w
+put_fewer s m n w h there serial spool some apart right fewer =
     let at : get s.messages n.serial ≡ Some m = ap (get s.messages) serial ∙ there in
     let was = h.messages n.serial m at in
     let put = pending_put s.messages n in
     let old : given 0 pending (get s.messages n.serial) ≡ length m.pending = ap (given 0 pending) at in
     record {
       shaped = change_shaped s (PutMessage n) h (record {
-        queued = record { own_serial = refl; positive = was.positive; below = was.below; some_pending = some; apart = apart };
+        queued = record { own_serial = refl; positive = was.positive; below = was.below; some_pending = some; apart = apart; right = right was.right };
         spool = λ k o f e. h.spools k n.serial o m f at (e ∙ spool);
         room = λ none. absurd (none_some m (sym none ∙ at));
       });

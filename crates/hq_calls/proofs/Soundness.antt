@@ -1,5 +1,5 @@
 -- The machine of one customer keeps its state sound, kind by kind.
-use Rattle.std.proofs.Common.{◌≡◌, ℕ, ◌+◌, ◌<◌, Bool, true, false, List, length, sym, refl, ap, ◌∙◌, subst, Some, None, Option, arith}
+use Rattle.std.proofs.Common.{◌≡◌, ℕ, ◌+◌, ◌<◌, Bool, true, false, List, [], length, sym, refl, ap, ◌∙◌, subst, Some, None, Option, arith}
 use Rattle.std.specs.Prelude.{if◌then◌else◌, nat_le}
 use Rattle.std.specs.Cmp.{nat_cmp_total}
 use Rattle.std.specs.FinMap.{get, entries, len-entries}
@@ -10,6 +10,7 @@ use Rattle.hq_access.specs.declared.pattern.Class.{Class}
 use Rattle.hq_access.specs.declared.pattern.Line.{Line}
 use Rattle.hq_queue.specs.Moves.{is_on_hold}
 use Rattle.hq_queue.specs.declared.account.Entry.{Entry}
+use Rattle.hq_envelope.specs.Words.{customer_hold}
 use Rattle.hq_queue.specs.declared.message.Message.{Message}
 use Rattle.hq_queue.specs.declared.message.Pending.{Pending}
 use Rattle.hq_queue.specs.declared.message.QueueState.TheVariants.{Hold, Deferred}
@@ -17,7 +18,7 @@ use Rattle.hq_store.specs.declared.change.Change.TheVariants.{PutHead, PutMessag
 use Rattle.hq_store.specs.declared.notice.Notice.{Notice}
 use Rattle.hq_store.specs.Fits.{HeadFits, MessageFits}
 use Rattle.hq_store.specs.Readings.{Readings, read_state, read_tables, saturated}
-use Rattle.hq_store.specs.Sound.{Sound, SoundState, AreApart}
+use Rattle.hq_store.specs.Sound.{Sound, SoundState, IsReasoned, AreApart}
 use Rattle.hq_store.specs.Tables.{State, Tables, own, change, change_all}
 use Rattle.hq_store.proofs.Read.{same_readings}
 use Rattle.hq_store.proofs.Shapes.{stays_sound}
@@ -61,12 +62,12 @@ own_place s serial m h there = ap (get s.messages) (h.shaped.messages serial m t
 -- ---- moves
 
 -- a message that was moved has the same serial, spool name and recipients
-moved_kept : (s : State) (o n : Message) → SoundState s → get s.messages o.serial ≡ Some o → n.serial ≡ o.serial → n.spool ≡ o.spool → n.pending ≡ o.pending → SoundState (change (PutMessage n) s)
-moved_kept s o n h there serial spool pending =
+moved_kept : (s : State) (o n : Message) → SoundState s → get s.messages o.serial ≡ Some o → n.serial ≡ o.serial → n.spool ≡ o.spool → n.pending ≡ o.pending → IsReasoned n → SoundState (change (PutMessage n) s)
+moved_kept s o n h there serial spool pending right =
     let at : get s.messages n.serial ≡ Some o = ap (get s.messages) serial ∙ there in
     let was = h.shaped.messages n.serial o at in
     let fits : MessageFits s n = record {
-      queued = record { own_serial = refl; positive = was.positive; below = was.below; some_pending = subst (λ (ps : List Pending). 0 < length ps) (sym pending) was.some_pending; apart = subst AreApart (sym pending) was.apart };
+      queued = record { own_serial = refl; positive = was.positive; below = was.below; some_pending = subst (λ (ps : List Pending). 0 < length ps) (sym pending) was.some_pending; apart = subst AreApart (sym pending) was.apart; right = right };
       spool = λ k m f e. h.shaped.spools k n.serial m o f at (e ∙ spool);
       room = λ none. absurd (none_some o (sym none ∙ at));
     } in
@@ -76,12 +77,12 @@ moved_kept s o n h there serial spool pending =
     let was_conserved = h.conserved in
     record { shaped = change_shaped s (PutMessage n) h.shaped fits; conserved = omega arith; bounded = h.bounded }
 
-hold_kept : (s : State) (m : Message) (b : Bool) → SoundState s → get s.messages m.serial ≡ Some m → Keeps s (rules.moved (if b then None else Some (record m { state = Hold })))
+hold_kept : (s : State) (m : Message) (b : Bool) → SoundState s → get s.messages m.serial ≡ Some m → Keeps s (rules.moved (if b then None else Some (record m { state = Hold; reason = customer_hold })))
 hold_kept s m true h there = h
-hold_kept s m false h there = moved_kept s m _ h there refl refl refl
+hold_kept s m false h there = moved_kept s m _ h there refl refl refl refl
 
-release_kept : (s : State) (m : Message) (at : ℕ) (b : Bool) → SoundState s → get s.messages m.serial ≡ Some m → Keeps s (rules.moved (if b then Some (record m { state = Deferred; next_try = at }) else None))
-release_kept s m at true h there = moved_kept s m _ h there refl refl refl
+release_kept : (s : State) (m : Message) (at : ℕ) (b : Bool) → SoundState s → get s.messages m.serial ≡ Some m → Keeps s (rules.moved (if b then Some (record m { state = Deferred; reason = []; next_try = at }) else None))
+release_kept s m at true h there = moved_kept s m _ h there refl refl refl refl
 release_kept s m at false h there = h
 
 delete_kept : (s : State) (m : Message) → SoundState s → get s.messages m.serial ≡ Some m → Keeps s (rules.delete s.head (Some m))

@@ -29,7 +29,7 @@ sum_by_made f g (x ∷ xs) = sum_by-cons f (g x) (map g xs) ∙ ap (λ n. f (g x
 -- one message: as many recipients are gone as are given up
 met_does : (s : State) (m : Message) (v : Swept) → ShapedState s → get s.messages m.serial ≡ Some m → Does s (change_all (changed_by (after_sweep v m, v)) s) m (given_up (after_sweep v m, v))
 met_does s m Expired h there = does_drop s m h there
-met_does s m Warned h there = does_put s m (record m { warned = true }) h there refl refl refl
+met_does s m Warned h there = does_put s m (record m { warned = true }) h there refl refl refl (λ right. right)
 met_does s m Untouched h there = does_nothing s m h
 
 -- all of them: as many recipients are gone as are given up together

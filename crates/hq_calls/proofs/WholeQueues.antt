@@ -4,6 +4,7 @@ use Rattle.std.proofs.Common.{◌≡◌, ℕ, ◌+◌, ◌<◌, ◌^◌, Bool, t
 use Rattle.std.specs.Prelude.{if◌then◌else◌, ◌==◌}
 use Rattle.std.specs.List.{flat_map, sum_by}
 use Rattle.std.specs.FinMap.{get, values}
+use Rattle.hq_envelope.specs.Words.{customer_hold}
 use Rattle.hq_queue.specs.Moves.{is_on_hold}
 use Rattle.hq_queue.specs.declared.account.Head.{Head}
 use Rattle.hq_queue.specs.declared.message.Message.{Message}
@@ -27,12 +28,12 @@ use Rattle.hq_calls.proofs.Kept.{Keeps, saturated_is}
 -- a move of one message takes no recipient
 move_does : (move : Move) (s : State) (m : Message) → ShapedState s → get s.messages m.serial ≡ Some m → Does s (change_all (put (moved_by move m)) s) m 0
 move_does Hold s m h there = cases (is_on_hold m.state) where
-  cases : (b : Bool) → Does s (change_all (put (if b then None else Some (record m { state = state.Hold }))) s) m 0
+  cases : (b : Bool) → Does s (change_all (put (if b then None else Some (record m { state = state.Hold; reason = customer_hold }))) s) m 0
   cases true = does_nothing s m h
-  cases false = does_put s m (record m { state = state.Hold }) h there refl refl refl
+  cases false = does_put s m (record m { state = state.Hold; reason = customer_hold }) h there refl refl refl (λ right. refl)
 move_does (Release at) s m h there = cases (is_on_hold m.state) where
-  cases : (b : Bool) → Does s (change_all (put (if b then Some (record m { state = state.Deferred; next_try = at }) else None)) s) m 0
-  cases true = does_put s m (record m { state = state.Deferred; next_try = at }) h there refl refl refl
+  cases : (b : Bool) → Does s (change_all (put (if b then Some (record m { state = state.Deferred; reason = []; next_try = at }) else None)) s) m 0
+  cases true = does_put s m (record m { state = state.Deferred; reason = []; next_try = at }) h there refl refl refl (λ right. refl)
   cases false = does_nothing s m h
 
 -- so all of them take none

@@ -1,6 +1,7 @@
 -- What the desk answers and changes on one message, as it was found (postsuper(1)), and on a page of messages.
 use Rattle.std.specs.Prelude.{ℕ, ◌+◌, ◌==◌, if◌then◌else◌, nat_lt, List, [], ◌∷◌, length, take, Option, None, Some}
 use Rattle.hq_base.specs.declared.failure.Refusal.TheVariants.{NoMessage, SerialsSpent}
+use Rattle.hq_envelope.specs.Words.{customer_hold}
 use Rattle.hq_queue.specs.Admission.{spent}
 use Rattle.hq_queue.specs.Moves.{held, released, requeued}
 use Rattle.hq_queue.specs.declared.account.Head.{Head}
@@ -22,7 +23,7 @@ show (Some m) = tell (answer.Shown m)
 
 abbrev pub hold : Option Message → Decision
 hold None = refuse NoMessage
-hold (Some m) = moved (held m)
+hold (Some m) = moved (held customer_hold m)
 
 abbrev pub release : ℕ → Option Message → Decision
 release at None = refuse NoMessage

@@ -2,6 +2,7 @@
 -- queue report (postqueue(1), -p).
 use Rattle.std.specs.Prelude.{ℕ, ◌≡◌, ◌+◌, ◌==◌, List, [], ◌∷◌, ◌++◌, map, length, if◌then◌else◌, Option, None, Some}
 use Rattle.std.specs.List.{flat_map}
+use Rattle.hq_envelope.specs.Words.{customer_hold}
 use Rattle.hq_queue.specs.Moves.{held, released}
 use Rattle.hq_queue.specs.declared.account.Counts.{Counts}
 use Rattle.hq_queue.specs.declared.account.Head.{Head}
@@ -22,7 +23,7 @@ use Rattle.hq_calls.specs.declared.queues.Move.TheVariants.{Hold, Release}
 
 -- the message after a move, or nothing where the move does not apply
 abbrev pub moved_by : Move → Message → Option Message
-moved_by Hold m = held m
+moved_by Hold m = held customer_hold m
 moved_by (Release at) m = released at m
 
 -- a message that a move applies to is put as it is then

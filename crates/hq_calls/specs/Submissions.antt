@@ -52,17 +52,23 @@ abbrev pub first_state : Option (List ℕ) → QueueState
 first_state None = Incoming
 first_state (Some text) = Hold
 
+-- for the reason of that action
+abbrev pub first_reason : Option (List ℕ) → List ℕ
+first_reason None = []
+first_reason (Some text) = text
+
 abbrev pub not_tried : List ℕ → Pending
 not_tried address = record { address = address; status = None; text = [] }
 
-abbrev pub new_message : ℕ → ℕ → Submission → List (List ℕ) → QueueState → Message
-new_message serial at sub addresses state = record {
+abbrev pub new_message : ℕ → ℕ → Submission → List (List ℕ) → Option (List ℕ) → Message
+new_message serial at sub addresses held = record {
   serial = serial;
   sender = sub.sender;
   spool = sub.spool;
   size = sub.size;
   arrival = at;
-  state = state;
+  state = first_state held;
+  reason = first_reason held;
   next_try = at;
   attempts = 0;
   warned = false;
@@ -78,15 +84,15 @@ enqueued head m refused = record { answer = answer.Queued m refused; changes = P
 
 -- ---- submit
 
-abbrev pub admit : Head → ℕ → Submission → List (List ℕ) → QueueState → List Refused → Result ℕ Refusal → Decision
-admit head at sub addresses state refused (Err refusal) = refuse refusal
-admit head at sub addresses state refused (Ok serial) = enqueued head (new_message serial at sub addresses state) refused
+abbrev pub admit : Head → ℕ → Submission → List (List ℕ) → Option (List ℕ) → List Refused → Result ℕ Refusal → Decision
+admit head at sub addresses held refused (Err refusal) = refuse refusal
+admit head at sub addresses held refused (Ok serial) = enqueued head (new_message serial at sub addresses held) refused
 
 -- a rejected or discarded submission uses no serial
 abbrev pub settled : Head → ℕ → Submission → Result ℕ Refusal → Verdict → Decision
 settled head at sub serial (verdict.Rejected refused) = tell (answer.Rejected refused)
 settled head at sub serial (verdict.Discarded refused) = tell (answer.Discarded refused)
-settled head at sub serial (verdict.Queue kept refused redirect held) = admit head at sub (receivers kept redirect) (first_state held) refused serial
+settled head at sub serial (verdict.Queue kept refused redirect held) = admit head at sub (receivers kept redirect) held refused serial
 
 -- a spool name that is queued already is a repeat, whatever the access tables say
 abbrev pub submit : Entry → Readings → ℕ → Submission → Option Message → Decision

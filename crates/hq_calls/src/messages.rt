@@ -6,7 +6,7 @@ ghost use Rattle.hq_calls.specs.Messages as rules;
 
 use crate::answer::Answer;
 use crate::decision::{Decision, PAGE, refuse, tell};
-use hq_envelope::{Items, Moment, Refusal, Serial};
+use hq_envelope::{Items, Moment, Refusal, Serial, Text};
 use hq_queue::{Head, Message, hold, release, requeue};
 use hq_store::Change;
 use std::alloc::{AllocError, Global};
@@ -39,7 +39,7 @@ pub fn hold_found(alloc: Global, found: Option<Message>) -> Result<Decision, All
     let Some(mut message) = found else {
         return Ok(refuse(alloc, Refusal::NoMessage));
     };
-    if hold(&mut message) {
+    if hold(&mut message, Text::customer_hold(alloc)?) {
         put(alloc, message)
     } else {
         Ok(tell(alloc, Answer::Changed(0)))

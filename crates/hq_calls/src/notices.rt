@@ -1,8 +1,10 @@
 //! Notices that calls make: who gets one, under which number, and which of all are kept; and
 //! notices told. Nothing is read or written here.
 
-ghost use Rattle.std.specs.Prelude.{◌≡◌, ◌++◌, ◌+◌, ◌≤◌, ◌^◌, IfOk, OnOk, length};
+ghost use Rattle.std.specs.Prelude.{◌≡◌, ◌∷◌, ◌++◌, ◌+◌, ◌≤◌, ◌^◌, IfOk, OnOk, length, nat_lt};
+ghost use Rattle.hq_queue.specs.Admission.{spent};
 ghost use Rattle.hq_calls.specs.Notices as rules;
+ghost use Rattle.hq_store.specs.declared.change.Change.TheVariants.{PutHead};
 
 use crate::answer::Answer;
 use crate::decision::{Decision, PAGE, refuse, tell};
@@ -118,6 +120,42 @@ fn add_from(
     Ok(())
 }
 
+/// The changes of a plan with those that number and keep its notices.
+fn with_numbers(
+    alloc: Global,
+    host: &Host,
+    quota: u64,
+    at: Moment,
+    changes: Items<Change>,
+    head: Head,
+    drafts: Items<Draft>,
+) -> Result<Items<Change>, AllocError>
+    requires { head.next_notice + length drafts ≤ 2 ^ 40 }
+    ensures { IfOk result (λ all. all ≡ changes ++ PutHead (rules.with_notices (length drafts) head)
+        ∷ (rules.added_from host.now at head.next_notice drafts
+        ++ rules.kept_below quota (head.next_notice + length drafts) drafts)) }
+{
+    let mut head = head;
+    let first = head.next_notice;
+    let count = drafts.len() as u64;
+    head.next_notice = first + count;
+    let oldest = head.next_notice.saturating_sub(quota);
+    let mut changes = changes.into_vec();
+    changes.push(Change::PutHead(head))?;
+    add_from(alloc, &mut changes, host, at, first, drafts.into_vec())?;
+    if count > 0 {
+        changes.push(Change::DropNoticesBelow(oldest))?;
+    }
+    Ok(Items::from_vec(changes))
+}
+
+/// Whether too few numbers are left for so many notices.
+fn is_spent(first: u64, count: u64) -> bool
+    ensures { result ≡ nat_lt spent (first + count) }
+{
+    first > SPENT || count > SPENT - first
+}
+
 /// Carries a plan out: its notices get the next numbers, and where there are any, the newest are
 /// kept, as many as the customer's quota says. Where too few numbers are left it is 44
 /// `NoticesSpent`, and nothing is changed.
@@ -131,29 +169,17 @@ pub fn carry_out(
     ensures { IfOk result (λ decision. decision
         ≡ rules.carried_out host.now entry.now at plan) }
 {
+    if is_spent(plan.head.next_notice, plan.drafts.len() as u64) {
+        return Ok(refuse(alloc, Refusal::NoticesSpent));
+    }
     let Plan {
         answer,
         changes,
-        mut head,
+        head,
         drafts,
     } = plan;
-    let first = head.next_notice;
-    let count = drafts.len() as u64;
-    if first > SPENT || count > SPENT - first {
-        return Ok(refuse(alloc, Refusal::NoticesSpent));
-    }
-    head.next_notice = first + count;
-    let mut changes = changes.into_vec();
-    changes.push(Change::PutHead(head))?;
-    add_from(alloc, &mut changes, host, at, first, drafts.into_vec())?;
-    if count > 0 {
-        let oldest = head.next_notice.saturating_sub(entry.quota.notices);
-        changes.push(Change::DropNoticesBelow(oldest))?;
-    }
-    Ok(Decision {
-        answer,
-        changes: Items::from_vec(changes),
-    })
+    let changes = with_numbers(alloc, host, entry.quota.notices, at, changes, head, drafts)?;
+    Ok(Decision { answer, changes })
 }
 
 /// Shows the notice that was found.

@@ -10,7 +10,7 @@ ghost use Rattle.hq_calls.specs.Queues as rules;
 
 use crate::answer::{Answer, Usage};
 use crate::decision::{Decision, tell};
-use hq_envelope::{Items, Moment};
+use hq_envelope::{Items, Moment, Text};
 use hq_queue::{Counts, Head, Message, hold, release};
 use hq_store::Change;
 use std::alloc::{AllocError, Global};
@@ -25,21 +25,30 @@ pub enum Move {
 }
 
 /// Moves a message, and tells whether the move applies to it; else it stays as it is.
-fn make(by: &Move, message: &mut Message) -> bool
-    ensures { Makes (rules.moved_by by.now message.old) message.old message.new result }
+fn make(alloc: Global, by: &Move, message: &mut Message) -> Result<bool, AllocError>
+    ensures { IfOk result
+        (Makes (rules.moved_by by.now message.old) message.old message.new) }
 {
     match by {
-        Move::Hold => hold(message),
-        Move::Release(at) => release(message, *at),
+        Move::Hold => {
+            let reason = Text::customer_hold(alloc)?;
+            Ok(hold(message, reason))
+        }
+        Move::Release(at) => Ok(release(message, *at)),
     }
 }
 
 /// Adds the change of a message, where the move applies to it.
-fn push_moved(changes: &mut Vec<Change>, by: &Move, mut message: Message) -> Result<(), AllocError>
+fn push_moved(
+    alloc: Global,
+    changes: &mut Vec<Change>,
+    by: &Move,
+    mut message: Message,
+) -> Result<(), AllocError>
     ensures { OnOk result (changes.new.items
         ≡ changes.old.items ++ rules.put (rules.moved_by by.now message)) }
 {
-    if make(by, &mut message) {
+    if make(alloc, by, &mut message)? {
         changes.push(Change::PutMessage(message))?;
     }
     Ok(())
@@ -51,7 +60,7 @@ fn moves_of(alloc: Global, by: &Move, messages: Vec<Message>) -> Result<Vec<Chan
 {
     let mut changes = Vec::new(alloc);
     for message in messages {
-        push_moved(&mut changes, by, message)?;
+        push_moved(alloc, &mut changes, by, message)?;
     }
     Ok(changes)
 }

@@ -17,8 +17,8 @@ use std::alloc::{AllocError, Global};
 struct Intake {
     /// To whom it goes.
     receivers: Items<Address>,
-    /// On hold, or not.
-    state: QueueState,
+    /// The reason for which it is put on hold.
+    held: Option<Text>,
     /// The recipients that are refused.
     refused: Items<Refused>,
 }
@@ -47,6 +47,16 @@ fn first_state(held: Option<&Text>) -> QueueState
     }
 }
 
+/// For the reason of that action.
+fn first_reason(alloc: Global, held: Option<Text>) -> Text
+    ensures { result ≡ rules.first_reason held }
+{
+    match held {
+        Some(reason) => reason,
+        None => Text::empty(alloc),
+    }
+}
+
 /// The recipients of a new message.
 fn not_tried(alloc: Global, addresses: Vec<Address>) -> Result<Vec<Pending>, AllocError>
     ensures { IfOk result (λ pending. pending.items ≡ map rules.not_tried addresses.items) }
@@ -69,12 +79,14 @@ fn new_message(
     at: Moment,
     submission: Submission,
     receivers: Items<Address>,
-    state: QueueState,
+    held: Option<Text>,
 ) -> Result<Message, AllocError>
     ensures { IfOk result (λ message. message
-        ≡ rules.new_message serial at submission receivers state) }
+        ≡ rules.new_message serial at submission receivers held) }
 {
     let pending = not_tried(alloc, receivers.into_vec())?;
+    let state = first_state(held.as_ref());
+    let reason = first_reason(alloc, held);
     Ok(Message {
         serial,
         sender: submission.sender,
@@ -82,6 +94,7 @@ fn new_message(
         size: submission.size,
         arrival: at,
         state,
+        reason,
         next_try: at,
         attempts: 0,
         warned: false,
@@ -121,17 +134,17 @@ fn admit(
 ) -> Result<Decision, AllocError>
     requires { IfOk serial (λ serial. serial ≡ head.next_serial) }
     ensures { IfOk result (λ decision. decision
-        ≡ rules.admit head at submission intake.receivers intake.state intake.refused serial) }
+        ≡ rules.admit head at submission intake.receivers intake.held intake.refused serial) }
 {
     match serial {
         Err(refusal) => Ok(refuse(alloc, refusal)),
         Ok(serial) => {
             let Intake {
                 receivers,
-                state,
+                held,
                 refused,
             } = intake;
-            let message = new_message(alloc, serial, at, submission, receivers, state)?;
+            let message = new_message(alloc, serial, at, submission, receivers, held)?;
             enqueue(alloc, head, message, refused)
         }
     }
@@ -161,7 +174,7 @@ pub fn settle(
         } => {
             let intake = Intake {
                 receivers: receivers(alloc, kept, redirect)?,
-                state: first_state(held.as_ref()),
+                held,
                 refused,
             };
             admit(alloc, head, at, submission, serial, intake)

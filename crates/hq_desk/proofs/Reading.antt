@@ -111,3 +111,15 @@ changes_on {S} {X} {Y} {Z} sight old mid new x f result is first next = subst (�
   tally = tallied_on {Y = Z} (sight.is_closed old) (sight.is_closed mid) (sight.is_closed new) (sight.fault_count old) (sight.fault_count mid) (sight.fault_count new) x (Err f) first.tally (fault_tallied Y Z (sight.is_closed mid) (sight.is_closed new) (sight.fault_count mid) (sight.fault_count new) f next.tally);
   cause = inr next.cause;
 })
+
+-- ---- then want of memory
+
+-- what reading calls keep before memory runs out
+pub no_memory_on : {S X Z : Type 0} (sight : Sight S) (old new : S) (x : X) (result : Result Z Fault) → result ≡ Err no_memory → Keeps (with_memory sight) old new (Ok x) → KeepsOnErr (with_memory sight) old new result
+no_memory_on {S} {X} {Z} sight old new x result is first = subst (λ (r : Result Z Fault). KeepsOnErr (with_memory sight) old new r) (sym is) (record {
+  none = first.same;
+  ours = first.ours;
+  quiet = first.quiet;
+  tally = first.tally;
+  cause = inl refl;
+})

@@ -1,5 +1,5 @@
 -- The rules of names, keys and texts, by their bytes. The limits are this product's own.
-use Rattle.std.specs.Prelude.{ℕ, Bool, ◌&&◌, ◌||◌, ◌==◌, nat_lt, nat_le, List, length, Result}
+use Rattle.std.specs.Prelude.{ℕ, Bool, ◌&&◌, ◌||◌, ◌==◌, nat_lt, nat_le, List, length, codes, Result}
 use Rattle.std.specs.List.{list_all}
 use Rattle.hq_base.specs.Readers.{checked}
 use Rattle.hq_base.specs.declared.failure.Refusal.{Refusal}
@@ -60,3 +60,21 @@ host_in text = checked text (is_host text) BadHost
 
 abbrev pub text_in : List ℕ → Result (List ℕ) Refusal
 text_in text = checked text (is_text text) BadText
+
+-- ---- fixed texts
+
+-- the reason of a message that its customer put on hold
+abbrev pub customer_hold : List ℕ
+customer_hold = codes "held by customer"
+
+-- the reason of a message that a line of an access table without a text put on hold
+abbrev pub table_hold : List ℕ
+table_hold = codes "held by access table"
+
+-- the reason of a message that was on hold before reasons were kept
+abbrev pub earlier_hold : List ℕ
+earlier_hold = codes "held before version 2"
+
+-- what is told to an address that a line without a text puts off
+abbrev pub try_later : List ℕ
+try_later = codes "Try again later"

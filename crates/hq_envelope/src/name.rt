@@ -1,6 +1,6 @@
 //! Customers' names.
 
-ghost use Rattle.std.specs.Prelude.{◌≡◌};
+ghost use Rattle.std.specs.Prelude.{◌≡◌, ◌≤◌, length};
 ghost use Rattle.hq_base.specs.Readers.{Reads};
 ghost use Rattle.hq_envelope.specs.Words.{is_name_byte, is_name, name_in};
 
@@ -53,9 +53,10 @@ impl Name {
         Ok(Name { text })
     }
 
-    /// The text, without taking memory.
+    /// The text, at most 32 bytes, without taking memory.
     pub fn as_str(&self) -> &str
-        ensures { result.now ≡ self.now }
+        ensures text { result.now ≡ self.now }
+        ensures short { length result.now ≤ 32 }
     {
         self.text.as_str()
     }

@@ -1,8 +1,9 @@
 //! Free texts of one line: what a remote server answered, or what a table line says.
 
-ghost use Rattle.std.specs.Prelude.{◌≡◌, []};
+ghost use Rattle.std.specs.Prelude.{◌≡◌, [], IfOk};
 ghost use Rattle.hq_base.specs.Readers.{Reads};
 ghost use Rattle.hq_envelope.specs.Words.{is_text_byte, is_text, text_in};
+ghost use Rattle.hq_envelope.specs.Words as words;
 
 use hq_base::{Fail, Refusal, TryCopy};
 use std::alloc::{AllocError, Global};
@@ -10,6 +11,18 @@ use std::marker::Model;
 
 /// The most bytes that a text has.
 const TEXT_BYTES: usize = 1000;
+
+/// The reason of a message that its customer put on hold.
+const CUSTOMER_HOLD: &str = "held by customer";
+
+/// The reason of a message that a line of an access table without a text put on hold.
+const TABLE_HOLD: &str = "held by access table";
+
+/// The reason of a message that was on hold before reasons were kept.
+const EARLIER_HOLD: &str = "held before version 2";
+
+/// What is told to an address that a line without a text puts off.
+const TRY_LATER: &str = "Try again later";
 
 /// Whether a byte is printable ASCII or the space.
 fn is_text_byte(byte: u8) -> bool
@@ -59,6 +72,40 @@ impl Text {
             return Err(Fail::Refused(Refusal::BadText));
         }
         let text = String::from_str(alloc, text)?;
+        Ok(Text { text })
+    }
+
+    /// The reason of a message that its customer put on hold: `held by customer`.
+    pub fn customer_hold(alloc: Global) -> Result<Text, AllocError>
+        ensures { IfOk result (λ text. text ≡ words.customer_hold) }
+    {
+        let text = String::from_str(alloc, CUSTOMER_HOLD)?;
+        Ok(Text { text })
+    }
+
+    /// The reason of a message that a line of an access table without a text put on hold:
+    /// `held by access table`.
+    pub fn table_hold(alloc: Global) -> Result<Text, AllocError>
+        ensures { IfOk result (λ text. text ≡ words.table_hold) }
+    {
+        let text = String::from_str(alloc, TABLE_HOLD)?;
+        Ok(Text { text })
+    }
+
+    /// The reason of a message that was on hold before reasons were kept:
+    /// `held before version 2`.
+    pub fn earlier_hold(alloc: Global) -> Result<Text, AllocError>
+        ensures { IfOk result (λ text. text ≡ words.earlier_hold) }
+    {
+        let text = String::from_str(alloc, EARLIER_HOLD)?;
+        Ok(Text { text })
+    }
+
+    /// What is told to an address that a line without a text puts off: `Try again later`.
+    pub fn try_later(alloc: Global) -> Result<Text, AllocError>
+        ensures { IfOk result (λ text. text ≡ words.try_later) }
+    {
+        let text = String::from_str(alloc, TRY_LATER)?;
         Ok(Text { text })
     }
 

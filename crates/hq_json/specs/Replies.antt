@@ -62,11 +62,12 @@ state_name Incoming = codes "incoming"
 state_name Deferred = codes "deferred"
 state_name Hold = codes "hold"
 
--- a message in a list
+-- a message in a list; the reason is empty where it is not on hold
 unfoldable pub entry : Message → Data
 entry m = having (
     (codes "arrival", count m.arrival) ∷
     (codes "id", id m.serial) ∷
+    (codes "reason", string m.reason) ∷
     (codes "recipients", count (length m.pending)) ∷
     (codes "sender", string (sender_text m.sender)) ∷
     (codes "size", count m.size) ∷
@@ -88,7 +89,7 @@ pending_entry p = having (
 abbrev pub pending_list : List Pending → Data
 pending_list ps = array (items_of (map pending_entry ps))
 
--- a message shown whole
+-- a message shown whole; the reason is empty where it is not on hold
 unfoldable pub shown : Message → Data
 shown m = having (
     (codes "arrival", count m.arrival) ∷
@@ -96,6 +97,7 @@ shown m = having (
     (codes "id", id m.serial) ∷
     (codes "next_try", count m.next_try) ∷
     (codes "pending", pending_list m.pending) ∷
+    (codes "reason", string m.reason) ∷
     (codes "sender", string (sender_text m.sender)) ∷
     (codes "size", count m.size) ∷
     (codes "spool", string m.spool) ∷

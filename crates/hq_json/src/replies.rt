@@ -88,8 +88,9 @@ fn entry_value(alloc: Global, message: &Message) -> Result<Value, AllocError>
     let id = id_value(alloc, message.serial)?;
     let recipients = message.pending.len() as u64;
     json!(in alloc; {
-        "arrival": message.arrival.get(), "id": id, "recipients": recipients,
-        "sender": message.sender.as_str(), "size": message.size, "state": state_name(message.state)
+        "arrival": message.arrival.get(), "id": id, "reason": message.reason.as_str(),
+        "recipients": recipients, "sender": message.sender.as_str(), "size": message.size,
+        "state": state_name(message.state)
     })
 }
 
@@ -138,7 +139,7 @@ fn shown_value(alloc: Global, message: &Message) -> Result<Value, AllocError>
     let pending = pending_list(alloc, message.pending.as_slice())?;
     json!(in alloc; {
         "arrival": message.arrival.get(), "attempts": message.attempts, "id": id,
-        "next_try": message.next_try.get(), "pending": pending,
+        "next_try": message.next_try.get(), "pending": pending, "reason": message.reason.as_str(),
         "sender": message.sender.as_str(), "size": message.size,
         "spool": message.spool.as_str(), "state": state_name(message.state),
         "warned": message.warned

@@ -2,7 +2,9 @@ pub mod Select
 pub mod Rows
 pub mod Writes
 pub mod Keyed
+pub mod Ordered
 pub mod Pages
+pub mod Filling
 pub mod Terms
 pub mod Left
 pub mod Making

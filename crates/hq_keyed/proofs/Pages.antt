@@ -1,5 +1,5 @@
 -- What a query over a table of typed rows answers: one row by its key, and a page in the order of the key.
-use Rattle.std.proofs.Common.{◌≡◌, ℕ, ℤ, Bool, true, false, cond, List, [], ◌∷◌, map, filter, find, take, zero, suc, slice_get, option_map, Some, None, refl, sym, ap, ap₂, ◌∙◌, Ordering, is_eq, is_gt}
+use Rattle.std.proofs.Common.{◌≡◌, ℕ, ℤ, Bool, true, false, cond, List, [], ◌∷◌, map, filter, find, take, zero, suc, slice_get, option_map, Some, None, refl, sym, ap, ap₂, ◌∙◌, Ordering, is_gt}
 use Rattle.std.specs.List.{list_all, AllByRecursion}
 use Rattle.std.specs.Ordering.{eq_by_cmp}
 use Rattle.std.specs.Cmp.{IsTotalOrder}
@@ -10,13 +10,12 @@ use Rattle.sqlite.specs.Order.{Row}
 use Rattle.sqlite.specs.Tree.{Trees}
 use Rattle.sqlite.specs.Term.{holds}
 use Rattle.sqlite.specs.Query.{Query, inner, end, page, IsAnswer, Output, output, output_cmp}
-use Rattle.sqlite_sql.proofs.QueryLemmas.{output_cmp_total}
 use Rattle.sqlite_keyed.specs.Lists.{insert_sorted, sort_by}
-use Rattle.sqlite_keyed.proofs.SortLemmas.{sorted_is-sort_by, sort_by-map}
-use Rattle.sqlite_keyed.proofs.ListLemmas.{map-map, filter-map, all-filter, slice_get-filter, ascending-map, ascending-filter, ascending_weaker}
+use Rattle.sqlite_keyed.proofs.ListLemmas.{map-map, all-filter, slice_get-filter}
 use Rattle.hq_keyed.specs.Stored.{IsStored}
 use Rattle.hq_keyed.proofs.Select.{answer_is, one_order}
-use Rattle.hq_keyed.proofs.Keyed.{one, first_of, typed, apart}
+use Rattle.hq_keyed.proofs.Keyed.{one, first_of}
+use Rattle.hq_keyed.proofs.Ordered.{passing_of, outputs_are, rows_are, values_are}
 
 module _ {A : Type 0} (P : A → Type 0) (by : A → A → Ordering) where
   all_put : (x : A) (ys : List A) → P x → AllByRecursion P ys → AllByRecursion P (insert_sorted by x ys)
@@ -69,42 +68,25 @@ module _ {X K V : Type 0} (encode : ℤ × X → Row) (decode : Row → X) {R : 
       ∙ sym (first_of encode decode o exact key val (db tree) s at)
 
   module _ (test : X → Bool) (tests : (k : ℤ × X) → list_all (holds (params ∷ encode k ∷ [])) q.filter ≡ test k.1) (order_is : (j k : ℤ × X) → output_cmp q (show j) (show k) ≡ R (key j.1) (key k.1)) where
-    abbrev is : ℤ × X → Bool
-    is k = test k.1
-
-    abbrev by : ℤ × X → ℤ × X → Ordering
-    by j k = R (key j.1) (key k.1)
-
-    abbrev value : ℤ × X → X
-    value k = k.1
-
     abbrev passing : List (ℤ × X)
-    passing = sort_by by (filter is s.kept)
+    passing = passing_of R key test s.kept
 
     all_back : AllByRecursion (λ (k : ℤ × X). decode (encode k) ≡ k.1) passing
-    all_back = all_sorted (λ (k : ℤ × X). decode (encode k) ≡ k.1) by (filter is s.kept) (all-filter (λ (k : ℤ × X). decode (encode k) ≡ k.1) is s.kept s.back)
+    all_back = all_sorted (λ (k : ℤ × X). decode (encode k) ≡ k.1) (λ j k. R (key j.1) (key k.1)) (filter (λ k. test k.1) s.kept) (all-filter (λ (k : ℤ × X). decode (encode k) ≡ k.1) (λ k. test k.1) s.kept s.back)
 
-    ordered : a.ordered ≡ map show passing
-    ordered =
-        let fs = filter is s.kept in
-        let same = answer_is q db tree params encode s.kept is from no_group no_distinct s.rows_are tests rows a in
-        let untied = ascending-map (λ x y. is_eq (output_cmp q x y) ≡ false) show fs
-        (ascending_weaker (λ j k. is_eq (by j k) ≡ false) (λ j k. is_eq (output_cmp q (show j) (show k)) ≡ false) (λ j k h. ap is_eq (order_is j k) ∙ h) fs
-        (ascending-filter (λ j k. is_eq (by j k) ≡ false) is s.kept (apart encode decode o exact key val (db tree) s))) in
-        sorted_is-sort_by (output_cmp q) (output_cmp_total q) (map show fs) a.ordered untied same a.sorted ∙ sort_by-map (output_cmp q) show fs ∙ (λ i. map show (sort_by (λ j k. order_is j k i) fs))
-
-    values : map value passing ≡ sort_by (λ x y. R (key x) (key y)) (filter test (map decode (db tree)))
-    values = sym (sort_by-map (λ x y. R (key x) (key y)) value (filter is s.kept)) ∙ ap (sort_by (λ x y. R (key x) (key y))) (sym (filter-map test value s.kept) ∙ ap (filter test) (sym (typed encode decode o exact key val (db tree) s)))
+    values : map (λ (k : ℤ × X). k.1) passing ≡ sort_by (λ x y. R (key x) (key y)) (filter test (map decode (db tree)))
+    values = values_are encode decode o exact key val q db tree params s from no_group no_distinct rows a test tests order_is
 
     -- the rows that pass, in the order of the key
     pub listed : ((xs : List Row) → page q params xs ≡ xs) → map shown rows ≡ sort_by (λ x y. R (key x) (key y)) (filter test (map decode (db tree)))
     listed whole =
-        let all : rows ≡ map (λ k. (show k).1) passing = a.shown ∙ whole _ ∙ ap (map (λ (r : Output). r.1)) ordered ∙ map-map (λ (r : Output). r.1) show passing in
-        ap (map shown) all ∙ read_shown passing all_back ∙ values
+        ap (map shown) (rows_are encode decode o exact key val q db tree params s from no_group no_distinct rows a test tests order_is whole)
+        ∙ read_shown passing all_back ∙ values
 
     -- the first so many of them
     pub paged : (limit : ℕ) → ((xs : List Row) → page q params xs ≡ take limit xs) → map shown rows ≡ take limit (sort_by (λ x y. R (key x) (key y)) (filter test (map decode (db tree))))
     paged limit cut =
+        let ordered = outputs_are encode decode o exact key val q db tree params s from no_group no_distinct rows a test tests order_is in
         let all : rows ≡ map (λ k. (show k).1) (take limit passing) =
         a.shown ∙ cut _ ∙ ap (λ l. take limit (map (λ (r : Output). r.1) l)) ordered ∙ ap (take limit) (map-map (λ (r : Output). r.1) show passing) ∙ take-map (λ (k : ℤ × X). (show k).1) limit passing in
-        ap (map shown) all ∙ read_shown (take limit passing) (all_taken (λ (k : ℤ × X). decode (encode k) ≡ k.1) limit passing all_back) ∙ sym (take-map value limit passing) ∙ ap (take limit) values
+        ap (map shown) all ∙ read_shown (take limit passing) (all_taken (λ (k : ℤ × X). decode (encode k) ≡ k.1) limit passing all_back) ∙ sym (take-map (λ (k : ℤ × X). k.1) limit passing) ∙ ap (take limit) values

@@ -20,10 +20,11 @@ use Rattle.hq_program.specs.declared.trouble.Trouble.{Trouble}
 use Rattle.hq_sql_program.specs.Runs.{MemoryEnds}
 use Rattle.hq_program.specs.Printing.{IsPrinted}
 use Rattle.hq_sql_server.specs.Runs.{ServeEnds}
+use Rattle.hq_sql_admin.specs.Migrations.{MigrateEnds}
 use Rattle.hq_sql_admin.specs.Words.{QueueEnds, ImportEnds, SweepEnds}
 use Rattle.hq_words.specs.Asked.{BatchGiven, Says, given_of}
 use Rattle.hq_words.specs.declared.words.Asked.{Asked}
-use Rattle.hq_words.specs.declared.words.Asked.TheVariants.{Serve, Batch, Queue, Import, Sweep}
+use Rattle.hq_words.specs.declared.words.Asked.TheVariants.{Serve, Batch, Queue, Import, Sweep, Migrate}
 use Rattle.hq_words.specs.declared.words.Words.{Words}
 use Rattle.hq_words.specs.declared.words.Words.TheVariants.{Builtin, Asked as OfWord, Help, Refused}
 
@@ -50,7 +51,7 @@ abbrev pub BatchEnds : BatchGiven → Type 0 → Streams → Streams → Result 
 BatchEnds given untouched old new result =
     (set : Result Settings Trouble) × SetsUp given.host given.relay_key set × SetEnds given.store untouched old new set result
 
--- one call, and how it is printed; nothing is read
+-- one call, or a migration, and how it is printed; nothing is read
 abbrev pub Prints : (Result Rendered Trouble → Type 0) → Type 0 → Type 0 → Streams → Streams → ℕ → Type 0
 Prints ends unread unwritten old new status =
     unread × ((done : Result Rendered Trouble) × ends done × IsPrinted done unwritten old.output new.output status)
@@ -64,6 +65,7 @@ DoesWord (Batch given) unread unwritten old new status =
 DoesWord (Queue given) unread unwritten old new status = Prints (QueueEnds given) unread unwritten old new status
 DoesWord (Import given) unread unwritten old new status = Prints (ImportEnds given) unread unwritten old new status
 DoesWord (Sweep given) unread unwritten old new status = Prints (SweepEnds given) unread unwritten old new status
+DoesWord (Migrate given) unread unwritten old new status = Prints MigrateEnds unread unwritten old new status
 
 -- what is done for what words ask, and the exit status; want of memory may come in place of what they ask
 abbrev pub Does : Result Words AllocError → Type 0 → Type 0 → Streams → Streams → ℕ → Type 0

@@ -1,10 +1,9 @@
 //! The program `hq_main`: the desk of a mail relay's customers.
 //!
-//! The word `serve` serves the customers of a directory over HTTP, in memory or over a file. Without
-//! words it serves two built-in customers from an empty desk in memory, and the word `batch` those
-//! of a directory, in memory or over a file: both reply to the lines of standard input on standard
-//! output until the input ends. The words `queue`, `import` and `sweep` read no input:
-//! each does one call of one customer over a store in a file, and prints its answer.
+//! `serve` serves the customers of a directory over HTTP and `batch` over lines, in memory or over
+//! a file; without words two built-in customers are served over lines, from an empty desk in memory.
+//! `queue`, `import` and `sweep` do one call of one customer over a store in a file and print its
+//! answer; `migrate` makes a store of the release before one of this release.
 #![tactic(auto)]
 
 mod command;

@@ -59,6 +59,8 @@ pub struct Message {
     pub arrival: Moment,
     /// Where it stands.
     pub state: QueueState,
+    /// Why it is on hold; empty where it is not.
+    pub reason: Text,
     /// When it may be tried next.
     pub next_try: Moment,
     /// How many attempts were reported.
@@ -73,6 +75,7 @@ impl TryCopy for Message {
     fn copy(&self, alloc: Global) -> Result<Message, AllocError> {
         let sender = self.sender.copy(alloc)?;
         let spool = self.spool.copy(alloc)?;
+        let reason = self.reason.copy(alloc)?;
         let pending = self.pending.copy(alloc)?;
         Ok(Message {
             serial: self.serial,
@@ -81,6 +84,7 @@ impl TryCopy for Message {
             size: self.size,
             arrival: self.arrival,
             state: self.state,
+            reason,
             next_try: self.next_try,
             attempts: self.attempts,
             warned: self.warned,

@@ -37,6 +37,7 @@ pub fn requeue(message: &mut Message, at: Moment, serial: Serial)
     message.serial = serial;
     message.arrival = at;
     message.state = QueueState::Incoming;
+    message.reason.clear();
     message.next_try = at;
     message.attempts = 0;
     message.warned = false;

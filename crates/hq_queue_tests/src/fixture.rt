@@ -26,6 +26,14 @@ pub fn moment(seconds: u64) -> Result<Moment, Fail> {
     Ok(Moment::new(seconds).ok_or("a moment")?)
 }
 
+/// Why a message in this state is on hold; empty where it is not.
+pub fn reason_in(state: QueueState) -> &'static str {
+    match state {
+        QueueState::Hold => "check with sales",
+        QueueState::Incoming | QueueState::Deferred => "",
+    }
+}
+
 /// A new message to these recipients, in a state.
 pub fn message(alloc: Global, recipients: &[&str], state: QueueState) -> Result<Message, Fail> {
     let mut pending = Vec::new(alloc);
@@ -43,6 +51,7 @@ pub fn message(alloc: Global, recipients: &[&str], state: QueueState) -> Result<
         size: 900,
         arrival: moment(ARRIVAL)?,
         state,
+        reason: Text::parse(alloc, reason_in(state))?,
         next_try: moment(ARRIVAL)?,
         attempts: 0,
         warned: false,

@@ -1,6 +1,7 @@
 //! The moves of each state, admission at its edges, the form of status codes, and copies. Expected
 //! values are the product's rules.
 
+use crate::fixture::reason_in;
 use hq_envelope::{Address, Items, Key, Moment, Name, Sender, Serial, Spool, Text, TryCopy};
 use hq_queue::{
     Attempt, Counts, Customer, Entry, Head, Message, Pending, QueueState, Quota, Status, Tally,
@@ -33,6 +34,7 @@ fn message_in(alloc: Global, state: QueueState) -> Result<Message, Fail> {
         size: 900,
         arrival: queued,
         state,
+        reason: Text::parse(alloc, reason_in(state))?,
         next_try: queued,
         attempts: 3,
         warned: true,
@@ -40,7 +42,8 @@ fn message_in(alloc: Global, state: QueueState) -> Result<Message, Fail> {
     })
 }
 
-/// The message is in this state with this next try, and otherwise as it was made.
+/// The message is in this state with this next try, and otherwise as it was made. Its reason is
+/// looked at by the callers.
 fn expect_message(rt: &impl Abort, message: &Message, state: QueueState, next_try: u64) {
     assert_eq!(rt;
         (
@@ -80,14 +83,16 @@ fn expect_pending(rt: &impl Abort, pending: &Pending) {
 
 #[test]
 fn holds(rt: HostRuntime) -> Result<(), Fail> {
-    for (state, applies) in [
-        (QueueState::Incoming, true),
-        (QueueState::Deferred, true),
-        (QueueState::Hold, false),
+    for (state, applies, after) in [
+        (QueueState::Incoming, true, "held by customer"),
+        (QueueState::Deferred, true, "held by customer"),
+        (QueueState::Hold, false, "check with sales"),
     ] {
         let mut message = message_in(rt.alloc(), state)?;
-        assert_eq!(rt; hold(&mut message), applies, "from {state:?}");
+        let reason = Text::customer_hold(rt.alloc())?;
+        assert_eq!(rt; hold(&mut message, reason), applies, "from {state:?}");
         expect_message(&rt, &message, QueueState::Hold, QUEUED);
+        assert_eq!(rt; message.reason.as_str(), after);
     }
     Ok(())
 }
@@ -103,6 +108,7 @@ fn releases(rt: HostRuntime) -> Result<(), Fail> {
         let mut message = message_in(rt.alloc(), state)?;
         assert_eq!(rt; release(&mut message, at), applies, "from {state:?}");
         expect_message(&rt, &message, after, next_try);
+        assert_eq!(rt; message.reason.as_str(), "");
     }
     Ok(())
 }
@@ -253,8 +259,11 @@ fn attempts(rt: HostRuntime) {
 
 #[test]
 fn copies_of_messages(rt: HostRuntime) -> Result<(), Fail> {
-    let copy = message_in(rt.alloc(), QueueState::Deferred)?.copy(rt.alloc())?;
-    expect_message(&rt, &copy, QueueState::Deferred, QUEUED);
+    for state in [QueueState::Deferred, QueueState::Hold] {
+        let copy = message_in(rt.alloc(), state)?.copy(rt.alloc())?;
+        expect_message(&rt, &copy, state, QUEUED);
+        assert_eq!(rt; copy.reason.as_str(), reason_in(state));
+    }
     Ok(())
 }
 

@@ -62,9 +62,15 @@ fn requeued_from_any_state(rt: HostRuntime) -> Result<(), Fail> {
         requeue(&mut message, moment(ARRIVAL + 50)?, serial);
         let after = shown(rt.alloc(), &message)?;
         assert_eq!(rt;
-            (after.as_str(), message.serial.get(), message.spool.as_str()),
+            (
+                after.as_str(),
+                message.reason.as_str(),
+                message.serial.get(),
+                message.spool.as_str()
+            ),
             (
                 "Incoming 1767225650 1767225650 0 false; p@far.example - ; q@far.example - ",
+                "",
                 3,
                 "s1"
             )

@@ -1,7 +1,7 @@
 //! Reports of attempts: the answer, and the message after it. Expected values are the product's
 //! rules and its worked examples.
 
-use crate::fixture::{ARRIVAL, Became, Named, message, reported, shown};
+use crate::fixture::{ARRIVAL, Became, Named, message, reason_in, reported, shown};
 use hq_queue::{Message, QueueState};
 use std::process::Abort;
 use std::test::Fail;
@@ -162,7 +162,7 @@ fn refusals_in_order(rt: HostRuntime) -> Result<(), Fail> {
 }
 
 /// Those who failed are told as the message spells them and in its order; who is not named stays as
-/// they were; and what is on hold stays there.
+/// they were; and what is on hold stays there, for the same reason.
 const ON_HOLD: &[Turn] = &[
     Turn {
         at: ARRIVAL + 400,
@@ -194,7 +194,9 @@ fn told_as_the_message_has_them(rt: HostRuntime) -> Result<(), Fail> {
         "D@far.example",
     ];
     let mut message = message(rt.alloc(), recipients, QueueState::Hold)?;
-    expect_turns(&rt, &mut message, ON_HOLD)
+    expect_turns(&rt, &mut message, ON_HOLD)?;
+    assert_eq!(rt; message.reason.as_str(), reason_in(QueueState::Hold));
+    Ok(())
 }
 
 /// At 1,000,000 attempts every report is a repeat.

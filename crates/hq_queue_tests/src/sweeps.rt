@@ -1,6 +1,6 @@
 //! Sweeps of one message. Expected values are the product's rules and its worked examples.
 
-use crate::fixture::{ARRIVAL, message, moment};
+use crate::fixture::{ARRIVAL, message, moment, reason_in};
 use hq_queue::{QueueState, Swept, sweep_one};
 use std::test::Fail;
 
@@ -99,8 +99,13 @@ fn sweeps(rt: HostRuntime) -> Result<(), Fail> {
         message.warned = *was_warned;
         let swept = sweep_one(&mut message, moment(*at)?, *delay);
         assert_eq!(rt;
-            (swept, message.warned, message.state),
-            (*want, *is_warned, *state),
+            (
+                swept,
+                message.warned,
+                message.state,
+                message.reason.as_str()
+            ),
+            (*want, *is_warned, *state, reason_in(*state)),
             "at {at} with {delay}"
         );
     }

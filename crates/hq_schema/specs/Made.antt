@@ -1,19 +1,23 @@
 -- What the texts make.
-use Rattle.std.specs.Prelude.{◌≡◌, List, ℕ, [], ◌∷◌, Ok, fold}
+use Rattle.std.specs.Prelude.{◌≡◌, List, ℕ, [], ◌∷◌, ◌++◌, Ok, fold}
 use Rattle.sqlite.specs.Compile.{table_defined_by}
 use Rattle.sqlite_catalog.specs.Change.{created}
 use Rattle.sqlite_schema.specs.declared.schema.Schema.{Schema}
 use Rattle.sqlite_schema.specs.declared.schema.Table.{Table}
-use Rattle.hq_schema.specs.Schema.{version_text, heads_text, messages_text, recipients_text, lines_text, notices_text, marks_text}
-use Rattle.hq_schema.specs.Schema.{no_schema, version, heads, messages, recipients, lines, notices, marks}
+use Rattle.hq_schema.specs.Schema.{version_text, heads_text, messages_text, recipients_text, lines_text, notices_text, marks_text, holds_text}
+use Rattle.hq_schema.specs.Schema.{no_schema, version, heads, messages, recipients, lines, notices, marks, holds}
+
+-- the tables of a desk of version 1, in the order in which they are made
+abbrev pub first_tables : List Table
+first_tables = version ∷ heads ∷ messages ∷ recipients ∷ lines ∷ notices ∷ marks ∷ []
 
 -- the tables of a desk, in the order in which they are made
 abbrev pub desk_tables : List Table
-desk_tables = version ∷ heads ∷ messages ∷ recipients ∷ lines ∷ notices ∷ marks ∷ []
+desk_tables = first_tables ++ holds ∷ []
 
 -- the text of each
 abbrev pub desk_texts : List (List ℕ)
-desk_texts = version_text ∷ heads_text ∷ messages_text ∷ recipients_text ∷ lines_text ∷ notices_text ∷ marks_text ∷ []
+desk_texts = version_text ∷ heads_text ∷ messages_text ∷ recipients_text ∷ lines_text ∷ notices_text ∷ marks_text ∷ holds_text ∷ []
 
 -- the text defines this table, as `sqlite` reads it
 abbrev pub Defines : List ℕ → Table → Type 0

@@ -1,10 +1,11 @@
-//! Laws over the texts and tables of schema 1, as `sqlite` reads and makes them, with no program in
+//! Laws over the texts and tables of schema 2, as `sqlite` reads and makes them, with no program in
 //! them. Each is an empty function whose contract is the law.
 
 ghost use Rattle.std.specs.Prelude.{◌≡◌, [], ◌∷◌};
 ghost use Rattle.std.specs.List.{AllZip};
-ghost use Rattle.hq_schema.specs.Made.{Defines, all_made, desk_tables, desk_texts};
-ghost use Rattle.hq_schema.specs.Schema.{version, version_alone, desk_schema};
+ghost use Rattle.sqlite_catalog.specs.Change.{created};
+ghost use Rattle.hq_schema.specs.Made.{Defines, all_made, first_tables, desk_tables, desk_texts};
+ghost use Rattle.hq_schema.specs.Schema.{version, holds, version_alone, first_schema, desk_schema};
 
 /// Each text defines its table.
 #[tactic(auto, using(crate::proofs::Texts::texts_defined))]
@@ -12,10 +13,17 @@ pub fn texts_define_the_tables()
     ensures { AllZip Defines desk_texts desk_tables }
 {}
 
-/// The tables of a desk, made in their order, make schema 1; the first alone makes the schema of a
+/// The tables of a desk, made in their order, make schema 2; the first alone makes the schema of a
 /// store that lacks the others.
 #[tactic(auto, using(crate::proofs::Texts::desk_is_made, crate::proofs::Texts::version_is_alone))]
 pub fn tables_make_the_desk()
     ensures whole { all_made desk_tables ≡ desk_schema }
     ensures first { all_made (version ∷ []) ≡ version_alone }
+{}
+
+/// All but the table of holds make the first schema, and holds, made last, makes schema 2 of it.
+#[tactic(auto, using(crate::proofs::Texts::first_is_made, crate::proofs::Texts::holds_made_last))]
+pub fn holds_make_the_second_schema()
+    ensures first { all_made first_tables ≡ first_schema }
+    ensures second { created first_schema holds ≡ desk_schema }
 {}

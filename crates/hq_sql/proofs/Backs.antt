@@ -6,7 +6,7 @@ use Rattle.hq_envelope.specs.Addresses.{folded}
 use Rattle.hq_access.specs.Actions.{action_text}
 use Rattle.hq_access.specs.Patterns.{class_name, is_pattern, pattern_in}
 use Rattle.hq_access.specs.declared.action.Action.{Action}
-use Rattle.hq_access.specs.declared.action.Action.TheVariants.{Okay, Reject, Dunno, Discard, Hold, Redirect}
+use Rattle.hq_access.specs.declared.action.Action.TheVariants.{Okay, Reject, Defer, Dunno, Discard, Hold, Redirect}
 use Rattle.hq_access.specs.declared.pattern.Class.{Class}
 use Rattle.hq_access.specs.declared.pattern.Class.TheVariants.{SenderSide, RecipientSide}
 use Rattle.hq_queue.specs.declared.message.QueueState.{QueueState}
@@ -34,6 +34,8 @@ action_back (Okay []) = refl
 action_back (Okay (b ∷ text)) = refl
 action_back (Reject []) = refl
 action_back (Reject (b ∷ text)) = refl
+action_back (Defer []) = refl
+action_back (Defer (b ∷ text)) = refl
 action_back (Dunno []) = refl
 action_back (Dunno (b ∷ text)) = refl
 action_back (Discard []) = refl

@@ -12,9 +12,9 @@ use Rattle.sqlite_keyed.proofs.ListLemmas.{all_weaker, all_from_test}
 use Rattle.hq_keyed.specs.Changed.{Sets}
 use Rattle.hq_schema.specs.Schema.{desk_schema}
 use Rattle.hq_store.specs.Tables.{Tables}
-use Rattle.hq_store.specs.Listed.{heads_of, messages_of, recipients_of, lines_of, marks_of, notices_of}
-use Rattle.hq_sql.specs.Rows.{head_read, message_read, recipient_read, line_read, mark_read, notice_read}
-use Rattle.hq_sql.specs.Tables.{IsDesk, Leaves, AreHeads, AreMessages, AreRecipients, AreLines, AreMarks, AreNotices, tables_in}
+use Rattle.hq_store.specs.Listed.{heads_of, messages_of, recipients_of, holds_of, lines_of, marks_of, notices_of}
+use Rattle.hq_sql.specs.Rows.{head_read, message_read, recipient_read, hold_read, line_read, mark_read, notice_read}
+use Rattle.hq_sql.specs.Tables.{IsDesk, Leaves, AreHeads, AreMessages, AreRecipients, AreHolds, AreLines, AreMarks, AreNotices, tables_in}
 
 -- a tree of a table is no index
 pub no_index : (t : ℕ) → list_all (λ (i : Index). not (eqb i.tree t)) desk_schema.indexes ≡ true → IsNoIndex desk_schema t
@@ -32,6 +32,7 @@ heads_left old new command text params count rows desk w sets are =
     let lines = sets.others 8 (apart 8 1 refl) (no_index 8 refl) in
     let notices = sets.others 10 (apart 10 1 refl) (no_index 10 refl) in
     let marks = sets.others 12 (apart 12 1 refl) (no_index 12 refl) in
+    let holds = sets.others 14 (apart 14 1 refl) (no_index 14 refl) in
     record {
       desk = record {
         schema_is = sets.schema_is;
@@ -41,9 +42,10 @@ heads_left old new command text params count rows desk w sets are =
         recipients = subst AreRecipients (sym recipients) desk.recipients;
         lines = subst AreLines (sym lines) desk.lines;
         notices = subst AreNotices (sym notices) desk.notices;
+        holds = subst AreHolds (sym holds) desk.holds;
         marks = subst AreMarks (sym marks) desk.marks;
       };
-      tables = λ i. record { heads = heads_of (map head_read (sets.rows_are i)); messages = messages_of (map message_read (messages i)); recipients = recipients_of (map recipient_read (recipients i)); lines = lines_of (map line_read (lines i)); marks = marks_of (map mark_read (marks i)); notices = notices_of (map notice_read (notices i)) };
+      tables = λ i. record { heads = heads_of (map head_read (sets.rows_are i)); messages = messages_of (map message_read (messages i)); recipients = recipients_of (map recipient_read (recipients i)); holds = holds_of (map hold_read (holds i)); lines = lines_of (map line_read (lines i)); marks = marks_of (map mark_read (marks i)); notices = notices_of (map notice_read (notices i)) };
       is_open = w.shown.is_open;
       was_open = w.shown.was_open;
       mode = w.shown.mode;
@@ -59,6 +61,7 @@ messages_left old new command text params count rows desk w sets are =
     let lines = sets.others 8 (apart 8 3 refl) (no_index 8 refl) in
     let notices = sets.others 10 (apart 10 3 refl) (no_index 10 refl) in
     let marks = sets.others 12 (apart 12 3 refl) (no_index 12 refl) in
+    let holds = sets.others 14 (apart 14 3 refl) (no_index 14 refl) in
     record {
       desk = record {
         schema_is = sets.schema_is;
@@ -68,9 +71,10 @@ messages_left old new command text params count rows desk w sets are =
         recipients = subst AreRecipients (sym recipients) desk.recipients;
         lines = subst AreLines (sym lines) desk.lines;
         notices = subst AreNotices (sym notices) desk.notices;
+        holds = subst AreHolds (sym holds) desk.holds;
         marks = subst AreMarks (sym marks) desk.marks;
       };
-      tables = λ i. record { heads = heads_of (map head_read (heads i)); messages = messages_of (map message_read (sets.rows_are i)); recipients = recipients_of (map recipient_read (recipients i)); lines = lines_of (map line_read (lines i)); marks = marks_of (map mark_read (marks i)); notices = notices_of (map notice_read (notices i)) };
+      tables = λ i. record { heads = heads_of (map head_read (heads i)); messages = messages_of (map message_read (sets.rows_are i)); recipients = recipients_of (map recipient_read (recipients i)); holds = holds_of (map hold_read (holds i)); lines = lines_of (map line_read (lines i)); marks = marks_of (map mark_read (marks i)); notices = notices_of (map notice_read (notices i)) };
       is_open = w.shown.is_open;
       was_open = w.shown.was_open;
       mode = w.shown.mode;
@@ -86,6 +90,7 @@ recipients_left old new command text params count rows desk w sets are =
     let lines = sets.others 8 (apart 8 6 refl) (no_index 8 refl) in
     let notices = sets.others 10 (apart 10 6 refl) (no_index 10 refl) in
     let marks = sets.others 12 (apart 12 6 refl) (no_index 12 refl) in
+    let holds = sets.others 14 (apart 14 6 refl) (no_index 14 refl) in
     record {
       desk = record {
         schema_is = sets.schema_is;
@@ -95,9 +100,39 @@ recipients_left old new command text params count rows desk w sets are =
         recipients = subst AreRecipients (sym sets.rows_are) are;
         lines = subst AreLines (sym lines) desk.lines;
         notices = subst AreNotices (sym notices) desk.notices;
+        holds = subst AreHolds (sym holds) desk.holds;
         marks = subst AreMarks (sym marks) desk.marks;
       };
-      tables = λ i. record { heads = heads_of (map head_read (heads i)); messages = messages_of (map message_read (messages i)); recipients = recipients_of (map recipient_read (sets.rows_are i)); lines = lines_of (map line_read (lines i)); marks = marks_of (map mark_read (marks i)); notices = notices_of (map notice_read (notices i)) };
+      tables = λ i. record { heads = heads_of (map head_read (heads i)); messages = messages_of (map message_read (messages i)); recipients = recipients_of (map recipient_read (sets.rows_are i)); holds = holds_of (map hold_read (holds i)); lines = lines_of (map line_read (lines i)); marks = marks_of (map mark_read (marks i)); notices = notices_of (map notice_read (notices i)) };
+      is_open = w.shown.is_open;
+      was_open = w.shown.was_open;
+      mode = w.shown.mode;
+      committed = λ within. w.shown.committed_is ∙ ap (λ b. cond b old.committed new.now) within;
+    }
+
+pub holds_left : (old new : State) (command : Command) (text : List ℕ) (params : Row) (count : ℕ) (rows : List Row) → IsDesk old.now → Writes old new None command text params count → Sets desk_schema old.now new.now 14 rows → AreHolds rows
+    → Leaves old new (record (tables_in old.now) { holds = holds_of (map hold_read rows) })
+holds_left old new command text params count rows desk w sets are =
+    let version = sets.others 0 (apart 0 14 refl) (no_index 0 refl) in
+    let heads = sets.others 1 (apart 1 14 refl) (no_index 1 refl) in
+    let messages = sets.others 3 (apart 3 14 refl) (no_index 3 refl) in
+    let recipients = sets.others 6 (apart 6 14 refl) (no_index 6 refl) in
+    let lines = sets.others 8 (apart 8 14 refl) (no_index 8 refl) in
+    let notices = sets.others 10 (apart 10 14 refl) (no_index 10 refl) in
+    let marks = sets.others 12 (apart 12 14 refl) (no_index 12 refl) in
+    record {
+      desk = record {
+        schema_is = sets.schema_is;
+        version = ap (map (λ r. column r 1)) version ∙ desk.version;
+        heads = subst AreHeads (sym heads) desk.heads;
+        messages = subst AreMessages (sym messages) desk.messages;
+        recipients = subst AreRecipients (sym recipients) desk.recipients;
+        lines = subst AreLines (sym lines) desk.lines;
+        notices = subst AreNotices (sym notices) desk.notices;
+        holds = subst AreHolds (sym sets.rows_are) are;
+        marks = subst AreMarks (sym marks) desk.marks;
+      };
+      tables = λ i. record { heads = heads_of (map head_read (heads i)); messages = messages_of (map message_read (messages i)); recipients = recipients_of (map recipient_read (recipients i)); holds = holds_of (map hold_read (sets.rows_are i)); lines = lines_of (map line_read (lines i)); marks = marks_of (map mark_read (marks i)); notices = notices_of (map notice_read (notices i)) };
       is_open = w.shown.is_open;
       was_open = w.shown.was_open;
       mode = w.shown.mode;
@@ -113,6 +148,7 @@ lines_left old new command text params count rows desk w sets are =
     let recipients = sets.others 6 (apart 6 8 refl) (no_index 6 refl) in
     let notices = sets.others 10 (apart 10 8 refl) (no_index 10 refl) in
     let marks = sets.others 12 (apart 12 8 refl) (no_index 12 refl) in
+    let holds = sets.others 14 (apart 14 8 refl) (no_index 14 refl) in
     record {
       desk = record {
         schema_is = sets.schema_is;
@@ -122,9 +158,10 @@ lines_left old new command text params count rows desk w sets are =
         recipients = subst AreRecipients (sym recipients) desk.recipients;
         lines = subst AreLines (sym sets.rows_are) are;
         notices = subst AreNotices (sym notices) desk.notices;
+        holds = subst AreHolds (sym holds) desk.holds;
         marks = subst AreMarks (sym marks) desk.marks;
       };
-      tables = λ i. record { heads = heads_of (map head_read (heads i)); messages = messages_of (map message_read (messages i)); recipients = recipients_of (map recipient_read (recipients i)); lines = lines_of (map line_read (sets.rows_are i)); marks = marks_of (map mark_read (marks i)); notices = notices_of (map notice_read (notices i)) };
+      tables = λ i. record { heads = heads_of (map head_read (heads i)); messages = messages_of (map message_read (messages i)); recipients = recipients_of (map recipient_read (recipients i)); holds = holds_of (map hold_read (holds i)); lines = lines_of (map line_read (sets.rows_are i)); marks = marks_of (map mark_read (marks i)); notices = notices_of (map notice_read (notices i)) };
       is_open = w.shown.is_open;
       was_open = w.shown.was_open;
       mode = w.shown.mode;
@@ -140,6 +177,7 @@ marks_left old new command text params count rows desk w sets are =
     let recipients = sets.others 6 (apart 6 12 refl) (no_index 6 refl) in
     let lines = sets.others 8 (apart 8 12 refl) (no_index 8 refl) in
     let notices = sets.others 10 (apart 10 12 refl) (no_index 10 refl) in
+    let holds = sets.others 14 (apart 14 12 refl) (no_index 14 refl) in
     record {
       desk = record {
         schema_is = sets.schema_is;
@@ -149,9 +187,10 @@ marks_left old new command text params count rows desk w sets are =
         recipients = subst AreRecipients (sym recipients) desk.recipients;
         lines = subst AreLines (sym lines) desk.lines;
         notices = subst AreNotices (sym notices) desk.notices;
+        holds = subst AreHolds (sym holds) desk.holds;
         marks = subst AreMarks (sym sets.rows_are) are;
       };
-      tables = λ i. record { heads = heads_of (map head_read (heads i)); messages = messages_of (map message_read (messages i)); recipients = recipients_of (map recipient_read (recipients i)); lines = lines_of (map line_read (lines i)); marks = marks_of (map mark_read (sets.rows_are i)); notices = notices_of (map notice_read (notices i)) };
+      tables = λ i. record { heads = heads_of (map head_read (heads i)); messages = messages_of (map message_read (messages i)); recipients = recipients_of (map recipient_read (recipients i)); holds = holds_of (map hold_read (holds i)); lines = lines_of (map line_read (lines i)); marks = marks_of (map mark_read (sets.rows_are i)); notices = notices_of (map notice_read (notices i)) };
       is_open = w.shown.is_open;
       was_open = w.shown.was_open;
       mode = w.shown.mode;
@@ -167,6 +206,7 @@ notices_left old new command text params count rows desk w sets are =
     let recipients = sets.others 6 (apart 6 10 refl) (no_index 6 refl) in
     let lines = sets.others 8 (apart 8 10 refl) (no_index 8 refl) in
     let marks = sets.others 12 (apart 12 10 refl) (no_index 12 refl) in
+    let holds = sets.others 14 (apart 14 10 refl) (no_index 14 refl) in
     record {
       desk = record {
         schema_is = sets.schema_is;
@@ -176,9 +216,10 @@ notices_left old new command text params count rows desk w sets are =
         recipients = subst AreRecipients (sym recipients) desk.recipients;
         lines = subst AreLines (sym lines) desk.lines;
         notices = subst AreNotices (sym sets.rows_are) are;
+        holds = subst AreHolds (sym holds) desk.holds;
         marks = subst AreMarks (sym marks) desk.marks;
       };
-      tables = λ i. record { heads = heads_of (map head_read (heads i)); messages = messages_of (map message_read (messages i)); recipients = recipients_of (map recipient_read (recipients i)); lines = lines_of (map line_read (lines i)); marks = marks_of (map mark_read (marks i)); notices = notices_of (map notice_read (sets.rows_are i)) };
+      tables = λ i. record { heads = heads_of (map head_read (heads i)); messages = messages_of (map message_read (messages i)); recipients = recipients_of (map recipient_read (recipients i)); holds = holds_of (map hold_read (holds i)); lines = lines_of (map line_read (lines i)); marks = marks_of (map mark_read (marks i)); notices = notices_of (map notice_read (sets.rows_are i)) };
       is_open = w.shown.is_open;
       was_open = w.shown.was_open;
       mode = w.shown.mode;

@@ -18,6 +18,7 @@ use Rattle.hq_access.specs.declared.pattern.Class.TheVariants.{SenderSide, Recip
 use Rattle.hq_queue.specs.declared.message.QueueState.{QueueState}
 use Rattle.hq_queue.specs.declared.message.QueueState.TheVariants.{Incoming, Deferred, Hold}
 use Rattle.hq_store.specs.declared.rows.HeadRow.{HeadRow}
+use Rattle.hq_store.specs.declared.rows.HoldRow.{HoldRow}
 use Rattle.hq_store.specs.declared.rows.LineRow.{LineRow}
 use Rattle.hq_store.specs.declared.rows.MarkRow.{MarkRow}
 use Rattle.hq_store.specs.declared.rows.MessageRow.{MessageRow}
@@ -90,6 +91,7 @@ abbrev pub action_of_verb : List ℕ → List ℕ → Action
 action_of_verb verb argument =
     if bytes_eq verb (codes "OK") then action.Okay argument
     else if bytes_eq verb (codes "REJECT") then action.Reject argument
+    else if bytes_eq verb (codes "DEFER") then action.Defer argument
     else if bytes_eq verb (codes "DUNNO") then action.Dunno argument
     else if bytes_eq verb (codes "DISCARD") then action.Discard argument
     else if bytes_eq verb (codes "HOLD") then action.Hold argument
@@ -163,6 +165,15 @@ recipient_read r = record {
   pending = record { address = text_in (column r 4); status = status_of (text_in (column r 5)); text = text_in (column r 6) };
 }
 
+abbrev pub hold_columns : HoldRow → Row
+hold_columns r = Text r.customer ∷ number r.serial ∷ Text r.reason ∷ []
+
+abbrev pub hold_stored : ℤ × HoldRow → Row
+hold_stored k = Int k.0 ∷ hold_columns k.1
+
+abbrev pub hold_read : Row → HoldRow
+hold_read r = record { customer = text_in (column r 1); serial = number_in (column r 2); reason = text_in (column r 3) }
+
 abbrev pub line_columns : LineRow → Row
 line_columns r = Text r.customer ∷ Text (class_name r.line.pattern.0) ∷ Text r.line.pattern.1 ∷ Text (action_text r.line.action) ∷ []
 
@@ -228,3 +239,6 @@ mark_shown r = mark_read (Null ∷ r)
 
 abbrev pub notice_shown : Row → NoticeRow
 notice_shown r = notice_read (Null ∷ r)
+
+abbrev pub hold_shown : Row → HoldRow
+hold_shown r = hold_read (Null ∷ r)

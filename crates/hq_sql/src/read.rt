@@ -51,6 +51,7 @@ fn action_with(alloc: Global, verb: &str, argument: &str) -> Result<Action, Fail
     match verb {
         "OK" => Ok(Action::Okay(Text::parse(alloc, argument)?)),
         "REJECT" => Ok(Action::Reject(Text::parse(alloc, argument)?)),
+        "DEFER" => Ok(Action::Defer(Text::parse(alloc, argument)?)),
         "DUNNO" => Ok(Action::Dunno(Text::parse(alloc, argument)?)),
         "DISCARD" => Ok(Action::Discard(Text::parse(alloc, argument)?)),
         "HOLD" => Ok(Action::Hold(Text::parse(alloc, argument)?)),

@@ -1,3 +1,4 @@
 pub mod Calls
+pub mod Migrations
 pub mod Requests
 pub mod Words

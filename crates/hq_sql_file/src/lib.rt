@@ -1,4 +1,5 @@
-//! The shelf over a file, in a crate of its own, since its store loads much.
+//! The shelf over a file, and the migration of one, in a crate of its own, since its store loads
+//! much.
 #![tactic(auto)]
 
 ghost use Rattle.std.specs.Prelude.{◌≡◌, false, IfOk};
@@ -7,8 +8,10 @@ ghost use Rattle.sqlite.specs.State.{HasCleanDisk};
 ghost use Rattle.hq_sql_open.specs.Transactions.{IsSettled};
 
 use hq_envelope::Fault;
-use hq_sql_shelf::{SqlShelf, fault_of};
+use hq_sql_shelf::{SqlShelf, fault_of, migrate};
 use sqlite::{Connection, File, FileStore};
+use std::fs;
+use std::io::ErrorKind;
 
 /// The desk in a file, which is made if it is missing. The file beside it with the ending `-wal`
 /// belongs to it; one process at a time has them.
@@ -27,5 +30,29 @@ pub fn open_file(rt: &HostRuntime, path: &str) -> Result<SqlShelf<FileStore<File
     match SqlShelf::adopt(rt.alloc(), conn) {
         Ok(shelf) => Ok(shelf),
         Err((fault, _)) => Err(fault),
+    }
+}
+
+/// Whether there is a file at a path; 90 or 91 where that cannot be told.
+fn is_there(rt: &HostRuntime, path: &str) -> Result<bool, Fault> {
+    match fs::exists(rt, path) {
+        Ok(is_there) => Ok(is_there),
+        Err(error) if error.kind() == ErrorKind::OutOfMemory => Err(Fault::WantOfMemory),
+        Err(_) => Err(Fault::Disk),
+    }
+}
+
+/// Migrates the desk in a file, as `migrate` does. No file is made: a path at which there is none
+/// is 91, and an empty file is 92 and stays empty.
+///
+/// 90 is want of memory, 91 a file that is not there or cannot be opened or read, 92 a store of
+/// neither version, and 93 one in which what was begun could not be undone.
+pub fn migrate_file(rt: &HostRuntime, path: &str) -> Result<u64, Fault> {
+    if !is_there(rt, path)? {
+        return Err(Fault::Disk);
+    }
+    match Connection::open(rt, path) {
+        Ok(mut conn) => migrate(rt.alloc(), &mut conn),
+        Err(error) => Err(fault_of(error)),
     }
 }

@@ -13,9 +13,9 @@ use Rattle.sqlite.proofs.Callers.{IsPlain, command_of}
 use Rattle.hq_keyed.proofs.Select.{query_of}
 use Rattle.hq_schema.specs.Made.{desk_tables, desk_texts}
 use Rattle.hq_schema.specs.Schema.{no_schema, version_alone, desk_schema}
-use Rattle.hq_schema.specs.Schema.{version_text, heads_text, messages_text, recipients_text, lines_text, notices_text, marks_text}
-use Rattle.hq_schema.specs.Schema.{version, heads, messages, recipients, lines, notices}
-use Rattle.hq_schema.proofs.Texts.{version_defined, heads_defined, messages_defined, recipients_defined, lines_defined, notices_defined, marks_defined, version_is_alone, desk_is_made}
+use Rattle.hq_schema.specs.Schema.{version_text, heads_text, messages_text, recipients_text, lines_text, notices_text, marks_text, holds_text}
+use Rattle.hq_schema.specs.Schema.{version, heads, messages, recipients, lines, notices, marks}
+use Rattle.hq_schema.proofs.Texts.{version_defined, heads_defined, messages_defined, recipients_defined, lines_defined, notices_defined, marks_defined, holds_defined, version_is_alone, desk_is_made}
 use Rattle.hq_sql_open.specs.Making.{IsCreate, MakeTables}
 
 -- ---- the tables, each in the schema that those before it make
@@ -37,6 +37,9 @@ schema_5 = created schema_4 lines
 
 abbrev pub schema_6 : Schema
 schema_6 = created schema_5 notices
+
+abbrev pub schema_7 : Schema
+schema_7 = created schema_6 marks
 
 version_create : IsCreate version_text (understood no_schema version_text)
 unfolding understood everything
@@ -66,6 +69,10 @@ marks_create : IsCreate marks_text (understood schema_6 marks_text)
 unfolding understood everything
 marks_create = (refl, refl, refl, refl)
 
+holds_create : IsCreate holds_text (understood schema_7 holds_text)
+unfolding understood everything
+holds_create = (refl, refl, refl, refl)
+
 pub others_made : MakeTables schema_1 (drop 1 desk_texts) (drop 1 desk_tables)
 others_made = (
   record { defined = heads_defined; is_create = heads_create; uncounted = refl },
@@ -77,7 +84,7 @@ others_made = (
         record { defined = lines_defined; is_create = lines_create; uncounted = refl },
         (
           record { defined = notices_defined; is_create = notices_create; uncounted = refl },
-          (record { defined = marks_defined; is_create = marks_create; uncounted = refl }, tt),
+          (record { defined = marks_defined; is_create = marks_create; uncounted = refl }, (record { defined = holds_defined; is_create = holds_create; uncounted = refl }, tt)),
         ),
       ),
     ),
@@ -99,10 +106,10 @@ others_whole = ap (λ s. fold created s (drop 1 desk_tables)) (sym version_is_al
 -- ---- the version
 
 abbrev pub stamp_text : List ℕ
-stamp_text = codes "INSERT INTO desk_schema (version) VALUES (1)"
+stamp_text = codes "INSERT INTO desk_schema (version) VALUES (2)"
 
 abbrev pub stamp_terms : List Term
-stamp_terms = lit Null ∷ lit (Int (pos 1)) ∷ []
+stamp_terms = lit Null ∷ lit (Int (pos 2)) ∷ []
 
 pub stamp_is : command_of (understood desk_schema stamp_text) ≡ Insert 0 (Values stamp_terms 2)
 unfolding understood everything

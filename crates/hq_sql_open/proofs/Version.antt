@@ -21,10 +21,10 @@ use Rattle.hq_keyed.proofs.Stops.{may_end, write_leaves_no_more, query_leaves_no
 use Rattle.hq_keyed.proofs.Writes.{inserted, cast_null, cast_int}
 use Rattle.hq_schema.specs.Schema.{desk_schema, version_alone, version}
 use Rattle.hq_store.specs.Tables.{no_tables, text_cmp, message_cmp, recipient_cmp, lines_cmp, mark_cmp, notice_cmp}
-use Rattle.hq_store.specs.Listed.{head_key, message_key, recipient_key, line_row_key, mark_key, notice_key, heads_of, messages_of, recipients_of, lines_of, marks_of, notices_of}
+use Rattle.hq_store.specs.Listed.{head_key, message_key, recipient_key, hold_key, line_row_key, mark_key, notice_key, heads_of, messages_of, recipients_of, holds_of, lines_of, marks_of, notices_of}
 use Rattle.hq_store.proofs.Empty.{no_rows}
 use Rattle.hq_tables.specs.Rows.{HasUniqueKeys}
-use Rattle.hq_sql.specs.Rows.{head_read, message_read, recipient_read, line_read, mark_read, notice_read}
+use Rattle.hq_sql.specs.Rows.{head_read, message_read, recipient_read, hold_read, line_read, mark_read, notice_read}
 use Rattle.hq_sql.specs.Tables.{Leaves, tables_in}
 use Rattle.hq_sql.proofs.Tables.{no_index}
 use Rattle.hq_sql_open.specs.Making.{AreEmpty}
@@ -37,9 +37,9 @@ use Rattle.hq_sql_open.proofs.Texts.{stamp_text, stamp_terms, stamp_is, stamp_pl
 abbrev version_row : ℤ × ℕ → Row
 version_row k = Int k.0 ∷ Int (pos k.1) ∷ []
 
-no_rows_of : (trees : Trees) → trees 1 ≡ [] → trees 3 ≡ [] → trees 6 ≡ [] → trees 8 ≡ [] → trees 12 ≡ [] → trees 10 ≡ [] → tables_in (record { schema = desk_schema; trees = trees }) ≡ no_tables
-no_rows_of trees h m r l k n =
-    (λ i. record { heads = heads_of (map head_read (h i)); messages = messages_of (map message_read (m i)); recipients = recipients_of (map recipient_read (r i)); lines = lines_of (map line_read (l i)); marks = marks_of (map mark_read (k i)); notices = notices_of (map notice_read (n i)) })
+no_rows_of : (trees : Trees) → trees 1 ≡ [] → trees 3 ≡ [] → trees 6 ≡ [] → trees 8 ≡ [] → trees 12 ≡ [] → trees 10 ≡ [] → trees 14 ≡ [] → tables_in (record { schema = desk_schema; trees = trees }) ≡ no_tables
+no_rows_of trees h m r l k n o =
+    (λ i. record { heads = heads_of (map head_read (h i)); messages = messages_of (map message_read (m i)); recipients = recipients_of (map recipient_read (r i)); holds = holds_of (map hold_read (o i)); lines = lines_of (map line_read (l i)); marks = marks_of (map mark_read (k i)); notices = notices_of (map notice_read (n i)) })
     ∙ no_rows
 
 apart : (m n : ℕ) → eqb m n ≡ false → m ≢ n
@@ -49,14 +49,15 @@ pub stamped : (old new : State) (count : ℕ) → old.now.schema ≡ desk_schema
 unfolding IsDistinct
 stamped old new count has empty h =
     let w = runs_as stamp_text [] old new desk_schema has _ stamp_is stamp_plain count h in
-    let source = Null ∷ Int (pos 1) ∷ [] in
-    let sets = inserted desk_schema version_row (λ k. refl) 0 (record version { tree = 0 }) refl (λ db. refl) (λ olds news. refl) stamp_terms 2 old new _ [] count [] 1 source refl refl cast_null (λ n. ap (λ v. Int n ∷ v ∷ []) (cast_int (pos 1))) has empty.0 tt w in
+    let source = Null ∷ Int (pos 2) ∷ [] in
+    let sets = inserted desk_schema version_row (λ k. refl) 0 (record version { tree = 0 }) refl (λ db. refl) (λ olds news. refl) stamp_terms 2 old new _ [] count [] 2 source refl refl cast_null (λ n. ap (λ v. Int n ∷ v ∷ []) (cast_int (pos 2))) has empty.0 tt w in
     let hs : new.now.trees 1 ≡ [] = sets.others 1 (apart 1 0 refl) (no_index 1 refl) ∙ empty.1.0 in
     let ms : new.now.trees 3 ≡ [] = sets.others 3 (apart 3 0 refl) (no_index 3 refl) ∙ empty.1.1.0 in
     let rs : new.now.trees 6 ≡ [] = sets.others 6 (apart 6 0 refl) (no_index 6 refl) ∙ empty.1.1.1.0 in
     let ls : new.now.trees 8 ≡ [] = sets.others 8 (apart 8 0 refl) (no_index 8 refl) ∙ empty.1.1.1.1.0 in
     let ns : new.now.trees 10 ≡ [] = sets.others 10 (apart 10 0 refl) (no_index 10 refl) ∙ empty.1.1.1.1.1.0 in
     let ks : new.now.trees 12 ≡ [] = sets.others 12 (apart 12 0 refl) (no_index 12 refl) ∙ empty.1.1.1.1.1.1.0 in
+    let os : new.now.trees 14 ≡ [] = sets.others 14 (apart 14 0 refl) (no_index 14 refl) ∙ empty.1.1.1.1.1.1.1.0 in
     record {
       desk = record {
         schema_is = sets.schema_is;
@@ -66,9 +67,10 @@ stamped old new count has empty h =
         recipients = record { kept = []; rows_are = rs; rises = tt; back = tt; unique = subst (λ rows. HasUniqueKeys recipient_cmp recipient_key (map recipient_read rows)) (sym rs) tt };
         lines = record { kept = []; rows_are = ls; rises = tt; back = tt; unique = subst (λ rows. HasUniqueKeys lines_cmp line_row_key (map line_read rows)) (sym ls) tt };
         notices = record { kept = []; rows_are = ns; rises = tt; back = tt; unique = subst (λ rows. HasUniqueKeys notice_cmp notice_key (map notice_read rows)) (sym ns) tt };
+        holds = record { kept = []; rows_are = os; rises = tt; back = tt; unique = subst (λ rows. HasUniqueKeys message_cmp hold_key (map hold_read rows)) (sym os) tt };
         marks = record { kept = []; rows_are = ks; rises = tt; back = tt; unique = subst (λ rows. HasUniqueKeys mark_cmp mark_key (map mark_read rows)) (sym ks) tt };
       };
-      tables = no_rows_of new.now.trees hs ms rs ls ks ns;
+      tables = no_rows_of new.now.trees hs ms rs ls ks ns os;
       is_open = w.shown.is_open;
       was_open = w.shown.was_open;
       mode = w.shown.mode;
@@ -112,22 +114,22 @@ versions_shown db rows answers =
     (sym a.shown)
     (IsPermutation-map (λ (o : Output). o.1) _ _ same)
 
-alone : (vs : List Value) (row : Row) → map (λ v. v ∷ []) vs ≡ row ∷ [] → column row 0 ≡ Int (pos 1) → vs ≡ Int (pos 1) ∷ []
+alone : (vs : List Value) (row : Row) → map (λ v. v ∷ []) vs ≡ row ∷ [] → column row 0 ≡ Int (pos 2) → vs ≡ Int (pos 2) ∷ []
 alone [] row e is = absurd (let k = e in cc)
 alone (v ∷ []) row e is =
     let same : v ∷ [] ≡ row = let k = e in cc in
-    let value : v ≡ Int (pos 1) = ap (λ r. column r 0) same ∙ is in
+    let value : v ≡ Int (pos 2) = ap (λ r. column r 0) same ∙ is in
     ap (λ x. x ∷ []) value
 alone (v ∷ w ∷ more) row e is = absurd (let k = e in cc)
 
--- one row with 1 is shown where the one version is 1
+-- one row with 2 is shown where the one version is 2
 pub one_shown : (db : Database) (rows : List Row) → IsPermutation (map (λ v. v ∷ []) (versions_in db)) rows → ShowsOne rows → IsVersioned db
 one_shown db rows same one =
     let back : IsPermutation (one.0 ∷ []) (map (λ v. v ∷ []) (versions_in db)) = subst (λ l. IsPermutation l (map (λ v. v ∷ []) (versions_in db))) one.1 (IsPermutation-sym _ _ same) in
     alone (versions_in db) one.0 (one_permutation one.0 _ back) one.2
 
 pub one_is_shown : (db : Database) (rows : List Row) → IsPermutation (map (λ v. v ∷ []) (versions_in db)) rows → IsVersioned db → ShowsOne rows
-one_is_shown db rows same is = (Int (pos 1) ∷ [], one_permutation _ _ (subst (λ vs. IsPermutation (map (λ v. v ∷ []) vs) rows) is same), refl)
+one_is_shown db rows same is = (Int (pos 2) ∷ [], one_permutation _ _ (subst (λ vs. IsPermutation (map (λ v. v ∷ []) vs) rows) is same), refl)
 
 pub read_shows : (old new : State) (rows : List Row) → HasVersions old.now → Shown read_text [] old new rows → ShowVersions old.now rows × IsUnchanged old new
 read_shows old new rows (inl has) h = (

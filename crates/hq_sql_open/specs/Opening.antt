@@ -17,15 +17,15 @@ use Rattle.hq_sql_open.specs.Transactions.{IsSettled, Commits}
 abbrev pub versions_in : Database → List Value
 versions_in db = map (λ r. column r 1) (db.trees 0)
 
--- the one row of the version table is 1
+-- the one row of the version table is 2
 abbrev pub IsVersioned : Database → Type 0
-IsVersioned db = versions_in db ≡ Int (pos 1) ∷ []
+IsVersioned db = versions_in db ≡ Int (pos 2) ∷ []
 
 -- nothing was made yet, or the version table alone, without a row
 abbrev pub IsUnmade : Database → Type 0
 IsUnmade db = (db.schema ≡ no_schema) ⊎ ((db.schema ≡ version_alone) × (db.trees 0 ≡ []))
 
--- a desk's store: its schema is exactly schema 1, and its version is 1
+-- a desk's store: its schema is exactly schema 2, and its version is 2
 abbrev pub IsOurs : Database → Type 0
 IsOurs db = (db.schema ≡ desk_schema) × IsVersioned db
 
@@ -58,9 +58,9 @@ pub record KeepsOpening {X : Type 0} (old new : State) (result : Result X Error)
 abbrev pub ShowVersions : Database → List Row → Type 0
 ShowVersions db rows = IsPermutation (map (λ v. v ∷ []) (versions_in db)) rows
 
--- one row, which shows 1
+-- one row, which shows 2
 abbrev pub ShowsOne : List Row → Type 0
-ShowsOne rows = (row : Row) × (rows ≡ row ∷ []) × (column row 0 ≡ Int (pos 1))
+ShowsOne rows = (row : Row) × (rows ≡ row ∷ []) × (column row 0 ≡ Int (pos 2))
 
 -- the version table is there, and its name means it
 abbrev pub HasVersions : Database → Type 0

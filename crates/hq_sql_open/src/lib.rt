@@ -6,4 +6,4 @@ mod create;
 mod opening;
 pub mod transaction;
 
-pub use opening::open;
+pub use opening::{is_current, open};

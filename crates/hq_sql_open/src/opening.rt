@@ -22,7 +22,7 @@ use sqlite::types::ValueRef;
 use sqlite::{Alter, Connection, Error, Row};
 
 /// The texts of the tables of a desk, in the order in which they are made.
-const TABLES: [&str; 7] = [
+const TABLES: [&str; 8] = [
     "CREATE TABLE desk_schema (version INTEGER NOT NULL) STRICT",
     "CREATE TABLE heads (customer TEXT NOT NULL, next_serial INTEGER NOT NULL, \
      next_notice INTEGER NOT NULL, accepted INTEGER NOT NULL, delivered INTEGER NOT NULL, \
@@ -45,6 +45,8 @@ const TABLES: [&str; 7] = [
     "CREATE TABLE marks (customer TEXT NOT NULL, label TEXT NOT NULL, digest BLOB NOT NULL, \
      added INTEGER NOT NULL, changed INTEGER NOT NULL, same INTEGER NOT NULL, \
      PRIMARY KEY (customer, label)) STRICT",
+    "CREATE TABLE holds (customer TEXT NOT NULL, serial INTEGER NOT NULL, \
+     hold_reason TEXT NOT NULL, PRIMARY KEY (customer, serial)) STRICT",
 ];
 
 /// Writes the version, where no table has a row.
@@ -58,7 +60,7 @@ fn stamp<S: Alter>(conn: &mut Connection<S>) -> Result<(), Error>
         → KeepsAll (state S.Store conn.old) (state S.Store conn.new) }
     ensures quiet { IsQuiet (state S.Store conn.old) (state S.Store conn.new) }
 {
-    conn.execute("INSERT INTO desk_schema (version) VALUES (1)", &[])?;
+    conn.execute("INSERT INTO desk_schema (version) VALUES (2)", &[])?;
     Ok(())
 }
 
@@ -140,18 +142,18 @@ fn versions<S: Alter>(conn: &mut Connection<S>) -> Result<Vec<Row>, Error>
     Ok(rows)
 }
 
-/// Whether the rows are one, which shows 1.
+/// Whether the rows are one, which shows 2.
 fn is_one(rows: &[Row]) -> bool
     ensures { IsTrue result ↔ ShowsOne rows.now }
 {
     match rows {
-        [row] => matches!(row.get_ref(0), Ok(ValueRef::Int(1))),
+        [row] => matches!(row.get_ref(0), Ok(ValueRef::Int(2))),
         _ => false,
     }
 }
 
-/// Whether the one version of a desk is 1.
-fn is_current<S: Alter>(conn: &mut Connection<S>) -> Result<bool, Error>
+/// Whether the one version of a desk is 2.
+pub fn is_current<S: Alter>(conn: &mut Connection<S>) -> Result<bool, Error>
     ensures found { HasCleanDisk (state S.Store conn.new)
         → HasVersions (state S.Store conn.old).now
         → IfOk result (λ yes. Tells yes (IsVersioned (state S.Store conn.old).now)
@@ -198,7 +200,7 @@ fn complete<S: Alter>(conn: &mut Connection<S>) -> Result<bool, Error>
 
 /// Opens a store as a desk. It decides by the schema, before any statement: a store in which
 /// nothing was made yet, or the version table alone and without a row, gets the tables of a desk in
-/// one transaction; one that has exactly the tables of schema 1, and its one version is 1, stays as
+/// one transaction; one that has exactly the tables of schema 2, and its one version is 2, stays as
 /// it is. For any other store it answers false, and changes nothing.
 ///
 /// It asks for a connection in no transaction. After an error `settle` undoes what was begun.

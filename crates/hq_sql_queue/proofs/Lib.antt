@@ -4,4 +4,7 @@ pub mod Found
 pub mod Loop
 pub mod OnMessages
 pub mod Dealt
+pub mod GivenRows
+pub mod Reasons
+pub mod OnHolds
 pub mod OnQueued

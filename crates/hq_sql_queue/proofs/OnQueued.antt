@@ -9,7 +9,7 @@ use Rattle.std.proofs.lemmas.Result.{on_ok_weaker, on_err_weaker}
 use Rattle.sqlite.specs.declared.error.Error.{Error}
 use Rattle.sqlite.specs.Order as sqlite
 use Rattle.sqlite.specs.State.{State, HasCleanDisk, IsUnchanged}
-use Rattle.sqlite_keyed.proofs.ListLemmas.{map-map, filter-map, slice_get-filter, first_taken}
+use Rattle.sqlite_keyed.proofs.ListLemmas.{map-map, map_same, filter-map, slice_get-filter, first_taken}
 use Rattle.hq_keyed.proofs.Left.{clean_before, quiet_then, keeps_then, unchanged_keeps}
 use Rattle.hq_keyed.proofs.Select.{option_map-map, find-map}
 use Rattle.hq_queue.specs.declared.message.Message.{Message}
@@ -24,7 +24,8 @@ use Rattle.hq_sql.specs.Kept.{Keeps}
 use Rattle.hq_sql.specs.Rows.{message_shown}
 use Rattle.hq_sql.specs.Tables.{IsDesk, tables_in}
 use Rattle.hq_sql_queue.specs.Messages.{is_on_page, has_spool_name, whole, bare, bare_entry}
-use Rattle.hq_sql_queue.specs.Dealt.{with_dealt}
+use Rattle.hq_sql_queue.specs.Giving.{with_parts}
+use Rattle.hq_sql_queue.proofs.OnHolds.{parts_joined}
 use Rattle.hq_sql_queue.proofs.OnMessages.{pairs}
 
 -- ---- messages of rows
@@ -33,10 +34,10 @@ abbrev Entry : Type 0
 Entry = (List ℕ × ℕ) × Row
 
 abbrev whole_entry : List ℕ → Tables → Entry → Message
-whole_entry c t e = joined c t.recipients e.0.1 e.1
+whole_entry c t e = joined c t.recipients t.holds e.0.1 e.1
 
 abbrev whole_own : List ℕ → Tables → ℕ × Row → Message
-whole_own c t e = joined c t.recipients e.0 e.1
+whole_own c t e = joined c t.recipients t.holds e.0 e.1
 
 abbrev own : Entry → ℕ × Row
 own e = (e.0.1, e.1)
@@ -54,9 +55,10 @@ after_is c t None es = ap (map (whole_own c t)) (sym (all es)) where
 after_is c t (Some n) es = filter-map (λ (m : Message). nat_lt n m.serial) (whole_own c t) es
 
 -- the entries of a page, with their recipients
-pub page_whole : (c : List ℕ) (t : Tables) (after : Option ℕ) (limit : ℕ) → map (with_dealt c t) (map bare_entry (take limit (filter (is_on_page c after) (entries t.messages)))) ≡ page_of after limit (read_tables c t).messages
+pub page_whole : (c : List ℕ) (t : Tables) (after : Option ℕ) (limit : ℕ) → map (with_parts c t) (map bare_entry (take limit (filter (is_on_page c after) (entries t.messages)))) ≡ page_of after limit (read_tables c t).messages
 page_whole c t after limit =
-    map-map (with_dealt c t) bare_entry (take limit (filter (is_on_page c after) (entries t.messages)))
+    map-map (with_parts c t) bare_entry (take limit (filter (is_on_page c after) (entries t.messages)))
+    ∙ map_same (λ e. with_parts c t (bare_entry e)) (whole_entry c t) (parts_joined c t) (take limit (filter (is_on_page c after) (entries t.messages)))
     ∙ sym (take-map (whole_entry c t) limit (filter (is_on_page c after) (entries t.messages)))
     ∙ ap (take limit) (sym (map-map (whole_own c t) own (filter (is_on_page c after) (entries t.messages))) ∙ ap (map (whole_own c t)) (owned text_cmp (λ (e : ℕ × Row). is_after after e.0) c (entries t.messages))
     ∙ sym (after_is c t after (rows_of text_cmp c (entries t.messages))))
@@ -83,8 +85,8 @@ spool_whole c t p rows h =
 
 -- the row at a serial, with its recipients
 pub message_whole : (c : List ℕ) (t : Tables) (serial : ℕ) (rows : List sqlite.Row) → option_map (λ r. message_value (message_shown r)) (slice_get rows 0) ≡ get t.messages (c, serial)
-    → option_map (λ r. joined c t.recipients serial (message_value (message_shown r))) (slice_get rows 0) ≡ (read_tables c t).message serial
-message_whole c t serial rows h = sym (option_map-map (joined c t.recipients serial) (λ r. message_value (message_shown r)) (slice_get rows 0)) ∙ ap (option_map (joined c t.recipients serial)) h
+    → option_map (λ r. joined c t.recipients t.holds serial (message_value (message_shown r))) (slice_get rows 0) ≡ (read_tables c t).message serial
+message_whole c t serial rows h = sym (option_map-map (joined c t.recipients t.holds serial) (λ r. message_value (message_shown r)) (slice_get rows 0)) ∙ ap (option_map (joined c t.recipients t.holds serial)) h
 
 -- ---- reads one after another
 

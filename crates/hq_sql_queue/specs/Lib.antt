@@ -2,3 +2,4 @@ pub mod Places
 pub mod Recipients
 pub mod Messages
 pub mod Dealt
+pub mod Giving

@@ -46,12 +46,12 @@ has_spool_name customer spool e = eq_by_cmp text_cmp customer e.0.0 && eq_by_cmp
 
 -- the message of a row of an answer, with its recipients
 abbrev pub whole : List ℕ → Tables → sqlite.Row → Message
-whole customer t r = joined customer t.recipients (message_shown r).serial (message_value (message_shown r))
+whole customer t r = joined customer t.recipients t.holds (message_shown r).serial (message_value (message_shown r))
 
--- the message of a row of an answer, without recipients
+-- the message of a row of an answer, without reason and recipients
 abbrev pub bare : sqlite.Row → Message
-bare r = message_of (message_shown r).serial (message_value (message_shown r)) []
+bare r = message_of (message_shown r).serial (message_value (message_shown r)) [] []
 
--- the message of an entry, without recipients
+-- the message of an entry, without reason and recipients
 abbrev pub bare_entry : (List ℕ × ℕ) × Row → Message
-bare_entry e = message_of e.0.1 e.1 []
+bare_entry e = message_of e.0.1 e.1 [] []

@@ -27,7 +27,7 @@ struct Dealing {
 
 /// The first place from `from` on of a message whose serial is not below this one; the end, where
 /// there is none.
-fn place_from(page: &[Message], from: usize, serial: u64) -> usize
+pub(crate) fn place_from(page: &[Message], from: usize, serial: u64) -> usize
     ensures { IsPlaceFrom (serials_of page.now) from serial result }
 {
     for place in from..page.len() {

@@ -7,7 +7,7 @@ ghost use Rattle.hq_store.specs.Listed.{message_value};
 ghost use Rattle.hq_sql.specs.Rows.{text_in, number_in, truth_in, sender_of, state_of};
 ghost use Rattle.hq_sql.specs.Rows.{message_shown};
 
-use hq_envelope::{Items, Moment, Sender, Serial, Spool};
+use hq_envelope::{Items, Moment, Sender, Serial, Spool, Text};
 use hq_queue::{Message, Pending, QueueState};
 use hq_sql::read;
 use sqlite::{Error, Row};
@@ -75,15 +75,16 @@ pub(crate) fn serial(row: &Row) -> Result<Serial, Error>
     }
 }
 
-/// The message of a row, with a serial and recipients that are not the row's.
+/// The message of a row, with a serial, reason and recipients that are not the row's.
 pub(crate) fn message(
     alloc: Global,
     row: &Row,
     serial: Serial,
+    reason: Text,
     pending: Items<Pending>,
 ) -> Result<Message, Error>
     ensures { IfOk result (λ message. message
-        ≡ message_of serial (message_value (message_shown row.now)) pending) }
+        ≡ message_of serial (message_value (message_shown row.now)) reason pending) }
 {
     let sender = sender(alloc, row, 2)?;
     let spool = spool(alloc, row, 3)?;
@@ -100,6 +101,7 @@ pub(crate) fn message(
         size,
         arrival,
         state,
+        reason,
         next_try,
         attempts,
         warned,

@@ -5,6 +5,7 @@
 mod bind;
 mod dealing;
 mod decode;
+mod giving;
 pub mod messages;
 mod places;
 pub mod queued;

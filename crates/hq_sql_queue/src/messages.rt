@@ -1,4 +1,4 @@
-//! The table of messages: their rows, without recipients.
+//! The table of messages: their rows, without reasons and recipients.
 
 ghost use Rattle.std.specs.Prelude.{◌≡◌, [], ◌∷◌, ◌++◌};
 ghost use Rattle.std.specs.Prelude.{map, option_map, slice_get, take, filter};
@@ -12,7 +12,7 @@ ghost use Rattle.hq_sql_queue.specs.Messages.{with_row, without_row, is_on_page,
 ghost use Rattle.hq_sql_queue.specs.Messages.{bare, bare_entry};
 
 use crate::{bind, decode};
-use hq_envelope::{Items, Name, Serial, Spool};
+use hq_envelope::{Items, Name, Serial, Spool, Text};
 use hq_queue::Message;
 use hq_sql::lent;
 use hq_sql::lent::Taker;
@@ -59,7 +59,7 @@ pub(crate) fn query_by_spool<S: Alter>(
     Ok(rows)
 }
 
-/// The messages of the rows so far, without recipients.
+/// The messages of the rows so far, without reasons and recipients.
 #[derive(Drop)]
 struct TakenMessages {
     alloc: Global,
@@ -72,14 +72,15 @@ impl Taker for TakenMessages {
     fn take(&mut self, row: &Row) -> Result<(), Error> {
         let serial = decode::serial(row)?;
         let none = Items::from_vec(Vec::new(self.alloc));
-        let message = decode::message(self.alloc, row, serial, none)?;
+        let message = decode::message(self.alloc, row, serial, Text::empty(self.alloc), none)?;
         self.page.push(message)?;
         Ok(())
     }
 }
 
-/// The customer's messages after a serial, or all, without recipients, in order of serial: at most
-/// `limit` of them. Their rows are lent one after another. A limit of 2^63 or more is an error.
+/// The customer's messages after a serial, or all, without reasons and recipients, in order of
+/// serial: at most `limit` of them. Their rows are lent one after another. A limit of 2^63 or more
+/// is an error.
 pub(crate) fn page<S: Alter>(
     alloc: Global,
     conn: &mut Connection<S>,

@@ -1,20 +1,44 @@
-//! Whole messages: their rows with their recipients.
+//! Whole messages: their rows with their reasons and their recipients.
 
 ghost use Rattle.sqlite.specs.Held.{state};
-ghost use Rattle.hq_store.specs.Tables.{joined};
+ghost use Rattle.std.specs.Prelude.{map};
+ghost use Rattle.hq_store.specs.Tables.{joined, pending_of, reason_of};
 ghost use Rattle.hq_store.specs.Listed.{message_value};
 ghost use Rattle.hq_store.specs.Readings.{read_tables, page_of};
 ghost use Rattle.hq_sql.specs.Rows.{message_shown};
-ghost use Rattle.hq_sql.specs.Kept.{Finds, Keeps};
+ghost use Rattle.hq_sql.specs.Kept.{Finds, Shows, Keeps};
 ghost use Rattle.hq_sql_queue.specs.Messages.{whole};
+ghost use Rattle.hq_sql_queue.specs.Dealt.{Spans, Rise, serials_of};
+ghost use Rattle.hq_sql_queue.specs.Giving.{with_parts};
 
-use crate::{dealing, decode, messages, recipients};
-use hq_envelope::{Items, Name, Serial, Spool};
-use hq_queue::Message;
+use crate::{dealing, decode, giving, messages, recipients};
+use hq_envelope::{Items, Name, Serial, Spool, Text};
+use hq_queue::{Message, Pending};
+use hq_sql_holds::holds;
 use sqlite::{Alter, Connection, Error, Row};
 use std::alloc::Global;
 
-/// The message of a row, with the recipients of the customer's message of this serial.
+/// The recipients and the reason of the customer's message of this serial.
+fn parts<S: Alter>(
+    alloc: Global,
+    conn: &mut Connection<S>,
+    customer: &Name,
+    serial: Serial,
+) -> Result<(Items<Pending>, Text), Error>
+    ensures found { Finds (state S.Store conn.old) (state S.Store conn.new) result
+        (λ t. (
+          pending_of customer.now serial t.recipients,
+          reason_of customer.now serial t.holds,
+        )) }
+    ensures kept { Keeps (state S.Store conn.old) (state S.Store conn.new) result }
+{
+    let pending = recipients::pending(alloc, conn, customer, serial)?;
+    let reason = holds::reason(alloc, conn, customer, serial)?;
+    Ok((pending, reason))
+}
+
+/// The message of a row, with the recipients and the reason of the customer's message of this
+/// serial.
 fn joined<S: Alter>(
     alloc: Global,
     conn: &mut Connection<S>,
@@ -23,14 +47,15 @@ fn joined<S: Alter>(
     row: &Row,
 ) -> Result<Message, Error>
     ensures found { Finds (state S.Store conn.old) (state S.Store conn.new) result
-        (λ t. joined customer.now t.recipients serial (message_value (message_shown row.now))) }
+        (λ t. joined customer.now t.recipients t.holds serial
+        (message_value (message_shown row.now))) }
     ensures kept { Keeps (state S.Store conn.old) (state S.Store conn.new) result }
 {
-    let pending = recipients::pending(alloc, conn, customer, serial)?;
-    decode::message(alloc, row, serial, pending)
+    let (pending, reason) = parts(alloc, conn, customer, serial)?;
+    decode::message(alloc, row, serial, reason, pending)
 }
 
-/// The message of a row, with its recipients.
+/// The message of a row, with its recipients and its reason.
 fn whole<S: Alter>(
     alloc: Global,
     conn: &mut Connection<S>,
@@ -46,7 +71,7 @@ fn whole<S: Alter>(
     Ok(message)
 }
 
-/// The customer's message of a serial, with its recipients.
+/// The customer's message of a serial, with its recipients and its reason.
 pub fn message<S: Alter>(
     alloc: Global,
     conn: &mut Connection<S>,
@@ -67,8 +92,8 @@ pub fn message<S: Alter>(
     }
 }
 
-/// The customer's message with a spool name, with its recipients: of several that of the
-/// smallest serial.
+/// The customer's message with a spool name, with its recipients and its reason: of several that
+/// of the smallest serial.
 pub fn by_spool<S: Alter>(
     alloc: Global,
     conn: &mut Connection<S>,
@@ -89,9 +114,30 @@ pub fn by_spool<S: Alter>(
     }
 }
 
-/// The customer's messages after a serial, or all, with their recipients, in order of serial: at
-/// most `limit` of them. A limit of 2^63 or more is an error. Nothing is held here but the page:
-/// the rows of the messages are lent one after another, and then those of their recipients.
+/// Gives their recipients and reasons to messages of the customer, which stand in the order of
+/// their serials, from `low` to `high`.
+fn filled<S: Alter>(
+    alloc: Global,
+    conn: &mut Connection<S>,
+    customer: &Name,
+    low: Serial,
+    high: Serial,
+    page: Vec<Message>,
+) -> Result<Vec<Message>, Error>
+    ensures found { Spans page.items low high → Rise (serials_of page.items)
+        → Shows (state S.Store conn.old) (state S.Store conn.new) result
+        (λ filled. filled.items) (λ t. map (with_parts customer.now t) page.items) }
+    ensures kept { Keeps (state S.Store conn.old) (state S.Store conn.new) result }
+{
+    let dealt = dealing::all(alloc, conn, customer, low, high, page)?;
+    let given = giving::reasons(alloc, conn, customer, low, high, dealt)?;
+    Ok(given)
+}
+
+/// The customer's messages after a serial, or all, with their recipients and reasons, in order of
+/// serial: at most `limit` of them. A limit of 2^63 or more is an error. Nothing is held here but the page:
+/// the rows of the messages are lent one after another, then those of their recipients, and then
+/// those of their reasons.
 pub fn page<S: Alter>(
     alloc: Global,
     conn: &mut Connection<S>,
@@ -107,8 +153,8 @@ pub fn page<S: Alter>(
     match dealing::ends(page.as_slice()) {
         None => Ok(Items::from_vec(page)),
         Some((low, high)) => {
-            let dealt = dealing::all(alloc, conn, customer, low, high, page)?;
-            Ok(Items::from_vec(dealt))
+            let filled = filled(alloc, conn, customer, low, high, page)?;
+            Ok(Items::from_vec(filled))
         }
     }
 }

@@ -1,3 +1,4 @@
 pub mod Accounts
 pub mod Stops
 pub mod Shelf
+pub mod Migration

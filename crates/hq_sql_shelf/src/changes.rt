@@ -15,6 +15,7 @@ use hq_access::{Line, Pattern};
 use hq_envelope::{Name, Serial};
 use hq_queue::Message;
 use hq_sql::lines;
+use hq_sql_holds::holds;
 use hq_sql_marks::marks;
 use hq_sql_notices::notices;
 use hq_sql_open::transaction::{begin, commit};
@@ -37,10 +38,12 @@ fn put_message<S: Alter>(
     accounts::count_message(conn, customer, message.size)?;
     messages::put(conn, customer, message)?;
     recipients::put(conn, customer, message.serial, message.pending.as_slice())?;
+    holds::put(conn, customer, message.serial, &message.reason)?;
     Ok(())
 }
 
 /// Drops a message, and counts it no more.
+#[tactic(auto, unfolding(hq_store::specs::Tables::give_reason))]
 fn drop_message<S: Alter>(
     conn: &mut Connection<S>,
     customer: &Name,
@@ -53,6 +56,7 @@ fn drop_message<S: Alter>(
     accounts::uncount_message(conn, customer, serial)?;
     messages::remove(conn, customer, serial)?;
     recipients::remove(conn, customer, serial)?;
+    holds::remove(conn, customer, serial)?;
     Ok(())
 }
 

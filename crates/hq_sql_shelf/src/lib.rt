@@ -5,7 +5,9 @@ mod accounts;
 mod calls;
 mod changes;
 pub mod laws;
+mod migrating;
 mod shelf;
 mod writing;
 
+pub use migrating::migrate;
 pub use shelf::{SqlShelf, fault_of};

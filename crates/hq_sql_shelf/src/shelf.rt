@@ -56,7 +56,7 @@ impl<S: Alter> SqlShelf<S> {
 
     /// Opens a store as a desk. A store in which nothing was made yet, or the version table alone
     /// and without a row, gets empty tables in one transaction; one that has exactly the tables of
-    /// schema 1, whose one version is 1, is taken as it is; any other is refused as 92 `BadSchema`,
+    /// schema 2, whose one version is 2, is taken as it is; any other is refused as 92 `BadSchema`,
     /// and stays as it is.
     ///
     /// It asks for a connection in no transaction, and keeps the allocator. A refused connection

@@ -17,7 +17,7 @@ use std::process::Abort;
 use std::test::Fail;
 
 /// More calls than any run makes of a file.
-const NO_STOP: u64 = 1_000_000;
+pub const NO_STOP: u64 = 1_000_000;
 
 /// What is kept once nothing, the opening, the submission, the hold and the deletion are
 /// acknowledged.
@@ -57,7 +57,7 @@ fn kept_of(session: Session) -> [&'static str; 5] {
 }
 
 /// A connection to these files, or the files again where they are not opened.
-fn connected<D: Disk + Drop>(
+pub fn connected<D: Disk + Drop>(
     alloc: Global,
     files: Files<D>,
     checkpoint_frames: usize,
@@ -120,32 +120,42 @@ fn over_files<D: Disk + Drop>(
     }
 }
 
-/// A file of its own with the same bytes, which does not stop.
-fn copied(alloc: Global, file: &Fuse<Memory>) -> Result<Fuse<Memory>, Fail> {
+/// A file of its own with the same bytes, which stops after so many calls.
+fn copied(alloc: Global, file: &Fuse<Memory>, calls: u64) -> Result<Fuse<Memory>, Fail> {
     let mut copy = Memory::new(alloc);
     copy.write_at(0, file.inner().bytes())?;
-    Ok(Fuse::new(copy, NO_STOP))
+    copy.sync()?;
+    Ok(Fuse::new(copy, calls))
+}
+
+/// Files of their own with the same bytes, which stop after so many calls.
+pub fn copies(
+    alloc: Global,
+    files: &Files<Fuse<Memory>>,
+    calls: (u64, u64),
+) -> Result<Files<Fuse<Memory>>, Fail> {
+    Ok(Files {
+        log: copied(alloc, &files.log, calls.0)?,
+        db: copied(alloc, &files.db, calls.1)?,
+    })
 }
 
 /// What is kept in copies of these files, opened again.
 fn found(alloc: Global, files: &Files<Fuse<Memory>>) -> Result<String, Fail> {
-    let copies = Files {
-        log: copied(alloc, &files.log)?,
-        db: copied(alloc, &files.db)?,
-    };
+    let copies = copies(alloc, files, (NO_STOP, NO_STOP))?;
     let (outcome, _) = over_files(alloc, copies, 1_000, (Session::Queue, 0))?;
     Ok(outcome.kept)
 }
 
 /// The files as a loss of power leaves them: what was not synced is gone.
-fn without_power(mut files: Files<Fuse<Memory>>) -> Files<Fuse<Memory>> {
+pub fn without_power(mut files: Files<Fuse<Memory>>) -> Files<Fuse<Memory>> {
     files.log.crash();
     files.db.crash();
     files
 }
 
 /// A new file that stops after so many calls.
-fn fused(alloc: Global, calls: u64) -> Fuse<Memory> {
+pub fn fused(alloc: Global, calls: u64) -> Fuse<Memory> {
     Fuse::new(Memory::new(alloc), calls)
 }
 

@@ -6,8 +6,8 @@ use sqlite::{Connection, Error, MemStore};
 use std::alloc::Global;
 use std::test::Fail;
 
-/// The tables of a desk, with no version yet.
-const TABLES: &str = "\
+/// The tables of a desk of version 1, with no version yet.
+pub const FIRST_TABLES: &str = "\
 CREATE TABLE desk_schema (version INTEGER NOT NULL) STRICT;
 CREATE TABLE heads (customer TEXT NOT NULL, next_serial INTEGER NOT NULL, \
 next_notice INTEGER NOT NULL, accepted INTEGER NOT NULL, delivered INTEGER NOT NULL, \
@@ -31,23 +31,30 @@ added INTEGER NOT NULL, changed INTEGER NOT NULL, same INTEGER NOT NULL, \
 PRIMARY KEY (customer, label)) STRICT;
 ";
 
+/// The table that version 2 has beside them.
+const HOLDS: &str = "\
+CREATE TABLE holds (customer TEXT NOT NULL, serial INTEGER NOT NULL, hold_reason TEXT NOT NULL, \
+PRIMARY KEY (customer, serial)) STRICT;
+";
+
 /// What stands beside those tables, and whether it is opened as a desk.
-const BESIDE: [(&str, bool); 8] = [
-    ("INSERT INTO desk_schema VALUES (1)", true),
+const BESIDE: [(&str, bool); 9] = [
+    ("INSERT INTO desk_schema VALUES (2)", true),
     (
-        "INSERT INTO desk_schema VALUES (1); INSERT INTO marks VALUES ('a', 'l', x'00', 1, 0, 0)",
+        "INSERT INTO desk_schema VALUES (2); INSERT INTO marks VALUES ('a', 'l', x'00', 1, 0, 0)",
         true,
     ),
+    ("INSERT INTO desk_schema VALUES (1)", false),
     ("INSERT INTO desk_schema VALUES (9)", false),
     ("", false),
-    ("INSERT INTO desk_schema VALUES (1), (1)", false),
-    ("INSERT INTO desk_schema VALUES (1), (9)", false),
+    ("INSERT INTO desk_schema VALUES (2), (2)", false),
+    ("INSERT INTO desk_schema VALUES (2), (9)", false),
     (
-        "INSERT INTO desk_schema VALUES (1); CREATE INDEX more ON heads (next_serial)",
+        "INSERT INTO desk_schema VALUES (2); CREATE INDEX more ON heads (next_serial)",
         false,
     ),
     (
-        "INSERT INTO desk_schema VALUES (1); CREATE TABLE other (a)",
+        "INSERT INTO desk_schema VALUES (2); CREATE TABLE other (a)",
         false,
     ),
 ];
@@ -55,16 +62,16 @@ const BESIDE: [(&str, bool); 8] = [
 /// Stores of other tables, whether they are opened as desks, and what is asked of them afterwards
 /// with the number that has to be answered.
 const OTHERS: [(&str, bool, &str, i64); 5] = [
-    ("", true, "SELECT version FROM desk_schema", 1),
+    ("", true, "SELECT version FROM desk_schema", 2),
     (
         "CREATE TABLE desk_schema (version INTEGER NOT NULL) STRICT",
         true,
         "SELECT version FROM desk_schema",
-        1,
+        2,
     ),
     (
         "CREATE TABLE desk_schema (version INTEGER NOT NULL) STRICT; \
-         INSERT INTO desk_schema VALUES (1)",
+         INSERT INTO desk_schema VALUES (2)",
         false,
         "SELECT count(*) FROM desk_schema",
         1,
@@ -84,12 +91,13 @@ const OTHERS: [(&str, bool, &str, i64); 5] = [
     ),
 ];
 
-fn number(conn: &mut Connection<MemStore>, text: &str) -> Result<i64, Error> {
+/// The number that a query answers.
+pub fn number(conn: &mut Connection<MemStore>, text: &str) -> Result<i64, Error> {
     conn.query_row(text, &[])?.get(0)
 }
 
 /// Opens a store on which these texts were run: whether it is a desk, or 92, and its connection.
-fn opened(alloc: Global, text: &str) -> Result<(bool, Connection<MemStore>), Fail> {
+pub fn opened(alloc: Global, text: &str) -> Result<(bool, Connection<MemStore>), Fail> {
     let mut conn = Connection::open_in_memory(alloc)?;
     conn.execute_batch(text)?;
     match SqlShelf::adopt(alloc, conn) {
@@ -102,7 +110,7 @@ fn opened(alloc: Global, text: &str) -> Result<(bool, Connection<MemStore>), Fai
 #[test]
 fn tables_of_a_desk(rt: HostRuntime) -> Result<(), Fail> {
     for (beside, is_desk) in BESIDE {
-        let text = format!(in rt.alloc(); "{TABLES}{beside}")?;
+        let text = format!(in rt.alloc(); "{FIRST_TABLES}{HOLDS}{beside}")?;
         let (yes, mut conn) = opened(rt.alloc(), text.as_str())?;
         assert_eq!(rt; yes, is_desk, "{beside}");
         assert_eq!(rt;

@@ -10,7 +10,7 @@ use Rattle.hq_store.specs.declared.change.Change.TheVariants.{PutHead, PutMessag
 use Rattle.hq_tables.specs.Owned.{given}
 use Rattle.hq_tables.proofs.Totals.{total-insert, total-remove}
 use Rattle.hq_store.specs.Tables.{State, change}
-use Rattle.hq_store.specs.Sound.{SoundState, IsQueued, IsNext, AreApart, pending_count}
+use Rattle.hq_store.specs.Sound.{SoundState, IsReasoned, IsQueued, IsNext, AreApart, pending_count}
 use Rattle.hq_store.proofs.States.{change_shaped, none_some}
 
 abbrev Queue : Type 0
@@ -77,9 +77,9 @@ pub queued_sound : (s : State) (m : Message) (head : Head) → SoundState s
     → m.serial ≡ s.head.next_serial → head.next_serial ≡ s.head.next_serial + 1 → IsNext head.next_serial → IsNext head.next_notice → s.head.next_notice ≤ head.next_notice
     → head.tally.accepted ≡ s.head.tally.accepted + pending m
     → head.tally.delivered + head.tally.failed + head.tally.deleted + head.tally.expired ≡ s.head.tally.delivered + s.head.tally.failed + s.head.tally.deleted + s.head.tally.expired
-    → 0 < pending m → pending m ≤ 100 → AreApart m.pending → ((serial : ℕ) (n : Message) → get s.messages serial ≡ Some n → n.spool ≢ m.spool) → len s.messages < 1000
+    → 0 < pending m → pending m ≤ 100 → AreApart m.pending → IsReasoned m → ((serial : ℕ) (n : Message) → get s.messages serial ≡ Some n → n.spool ≢ m.spool) → len s.messages < 1000
     → SoundState (change (PutMessage m) (change (PutHead head) s))
-queued_sound s m head h own next serial notice later accepted told some few apart new room =
+queued_sound s m head h own next serial notice later accepted told some few apart right new room =
     let put = pending_put s.messages m in
     let none : given 0 pending (get s.messages m.serial) ≡ 0 = ap (given 0 pending) (ap (get s.messages) own ∙ free s h) in
     let was = h.conserved in
@@ -93,7 +93,7 @@ queued_sound s m head h own next serial notice later accepted told some few apar
     }) in
     record {
       shaped = change_shaped (change (PutHead head) s) (PutMessage m) headed (record {
-        queued = record { own_serial = refl; positive = omega arith; below = omega arith; some_pending = some; apart = apart };
+        queued = record { own_serial = refl; positive = omega arith; below = omega arith; some_pending = some; apart = apart; right = right };
         spool = λ k n at e. absurd (new k n at e);
         room = λ empty. room;
       });

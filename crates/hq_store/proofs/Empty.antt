@@ -21,18 +21,18 @@ use Rattle.hq_store.specs.Readings.{kept_of, kept_in}
 use Rattle.hq_store.proofs.Customers.{none_own}
 use Rattle.hq_store.proofs.LineOrder.{line_total, line_exact}
 use Rattle.hq_store.specs.Sound.{IsNext, SoundState, Sound, AreCounted, numbered, pending_count}
-use Rattle.hq_store.specs.Listed.{head_key, head_value, message_key, message_value, recipient_key, recipient_value, recipients_of, heads_of, messages_of, line_row_key, line_row_value, lines_of, mark_key, mark_value, marks_of, notice_key, notice_value, notices_of}
+use Rattle.hq_store.specs.Listed.{head_key, head_value, message_key, message_value, recipient_key, recipient_value, recipients_of, hold_key, hold_value, holds_of, heads_of, messages_of, line_row_key, line_row_value, lines_of, mark_key, mark_value, marks_of, notice_key, notice_value, notices_of}
 use Rattle.hq_store.specs.Lookups.{AreUnique, AreDealt, AreUniqueLines, AreUniqueNotices}
 use Rattle.hq_store.proofs.States.{none_some}
 
 part_empty : (serial : ℕ) → part_of nat_cmp serial (empty {X = Pending} {R = by_both nat_cmp nat_cmp}) ≡ empty
 part_empty serial = same_map nat_cmp_total exact_unsigned _ _ (λ k. get_part nat_cmp nat_cmp_total serial empty k ∙ get-empty (by_both nat_cmp nat_cmp) (serial, k) ∙ sym (get-empty nat_cmp k))
 
-no_message : (customer : List ℕ) → map_values (joined customer no_tables.recipients) (part_of text_cmp customer no_tables.messages) ≡ empty
+no_message : (customer : List ℕ) → map_values (joined customer no_tables.recipients no_tables.holds) (part_of text_cmp customer no_tables.messages) ≡ empty
 no_message customer = same_map nat_cmp_total exact_unsigned _ _ (λ k.
-    get-map_values nat_cmp (joined customer no_tables.recipients) exact_unsigned (part_of text_cmp customer no_tables.messages) k
-    ∙ ap (λ m. option_map (joined customer no_tables.recipients k) (get m k)) (none_own nat_cmp_total exact_unsigned customer)
-    ∙ ap (option_map (joined customer no_tables.recipients k)) (get-empty nat_cmp k) ∙ sym (get-empty nat_cmp k))
+    get-map_values nat_cmp (joined customer no_tables.recipients no_tables.holds) exact_unsigned (part_of text_cmp customer no_tables.messages) k
+    ∙ ap (λ m. option_map (joined customer no_tables.recipients no_tables.holds k) (get m k)) (none_own nat_cmp_total exact_unsigned customer)
+    ∙ ap (option_map (joined customer no_tables.recipients no_tables.holds k)) (get-empty nat_cmp k) ∙ sym (get-empty nat_cmp k))
 
 no_account : (customer : List ℕ) → account no_tables.heads customer ≡ opening_account
 no_account customer = ap (λ o. unwrap_or o opening_account) (get-empty text_cmp customer)
@@ -90,6 +90,10 @@ empty_sound = record {
     placed = λ customer serial. no_recipients customer serial ∙ ap (numbered 1) (sym (no_pending customer serial));
     no_orphans = λ customer serial h. no_pending customer serial;
   };
+  holds = record {
+    some_reason = λ customer serial reason h. absurd (none_some reason (sym (get-empty message_cmp (customer, serial)) ∙ h));
+    no_orphans = λ customer serial h. get-empty message_cmp (customer, serial);
+  };
   counts = none_counted;
 }
 
@@ -115,5 +119,5 @@ pub none_unique_lines : AreUniqueLines []
 unfolding AreUniqueLines IsDistinct
 none_unique_lines = tt
 
-pub no_rows : record { heads = heads_of []; messages = messages_of []; recipients = recipients_of []; lines = lines_of []; marks = marks_of []; notices = notices_of [] } ≡ no_tables
-no_rows = λ i. record { heads = table_nothing text_cmp head_key head_value i; messages = table_nothing message_cmp message_key message_value i; recipients = table_nothing recipient_cmp recipient_key recipient_value i; lines = table_nothing lines_cmp line_row_key line_row_value i; marks = table_nothing mark_cmp mark_key mark_value i; notices = table_nothing notice_cmp notice_key notice_value i }
+pub no_rows : record { heads = heads_of []; messages = messages_of []; recipients = recipients_of []; holds = holds_of []; lines = lines_of []; marks = marks_of []; notices = notices_of [] } ≡ no_tables
+no_rows = λ i. record { heads = table_nothing text_cmp head_key head_value i; messages = table_nothing message_cmp message_key message_value i; recipients = table_nothing recipient_cmp recipient_key recipient_value i; holds = table_nothing message_cmp hold_key hold_value i; lines = table_nothing lines_cmp line_row_key line_row_value i; marks = table_nothing mark_cmp mark_key mark_value i; notices = table_nothing notice_cmp notice_key notice_value i }

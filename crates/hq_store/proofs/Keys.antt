@@ -15,12 +15,13 @@ use Rattle.hq_tables.proofs.Lists.{get_table, table_drop, table_keep, table_put}
 use Rattle.hq_tables.proofs.Unique.{unique_filter, unique_put}
 use Rattle.hq_access.specs.declared.pattern.Class.{Class}
 use Rattle.hq_store.specs.declared.rows.HeadRow.{HeadRow}
+use Rattle.hq_store.specs.declared.rows.HoldRow.{HoldRow}
 use Rattle.hq_store.specs.declared.rows.LineRow.{LineRow}
 use Rattle.hq_store.specs.declared.rows.MarkRow.{MarkRow}
 use Rattle.hq_store.specs.declared.rows.MessageRow.{MessageRow}
 use Rattle.hq_store.specs.declared.rows.NoticeRow.{NoticeRow}
-use Rattle.hq_store.specs.Listed.{head_key, head_value, message_key, message_value, heads_of, messages_of, line_row_key, line_row_value, lines_of, mark_key, mark_value, marks_of, notice_key, notice_value, notices_of}
-use Rattle.hq_store.specs.Lookups.{is_head, is_message, AreUnique, is_line, AreUniqueLines, is_mark, is_notice, is_kept_notice, AreUniqueNotices}
+use Rattle.hq_store.specs.Listed.{head_key, head_value, message_key, message_value, heads_of, messages_of, hold_key, hold_value, holds_of, line_row_key, line_row_value, lines_of, mark_key, mark_value, marks_of, notice_key, notice_value, notices_of}
+use Rattle.hq_store.specs.Lookups.{is_head, is_message, is_hold, AreUnique, is_line, AreUniqueLines, is_mark, is_notice, is_kept_notice, AreUniqueNotices}
 
 pub message_total : IsTotalOrder message_cmp
 message_total = both_total nat_list_cmp_total nat_cmp_total
@@ -95,6 +96,18 @@ mark_found rows c label = sym (get_table mark_total mark_exact mark_key mark_val
 pub mark_put : (rows : List MarkRow) (r : MarkRow) → marks_of (filter (λ x. not (is_mark r.customer r.mark.label x)) rows ++ r ∷ []) ≡ insert (marks_of rows) (r.customer, r.mark.label) r.mark
 unfolding is_mark
 mark_put rows r = table_put mark_total mark_exact mark_key mark_value rows r
+
+pub hold_found : (rows : List HoldRow) (c : List ℕ) (serial : ℕ) → option_map hold_value (list.find (is_hold c serial) rows) ≡ get (holds_of rows) (c, serial)
+unfolding is_hold
+hold_found rows c serial = sym (get_table message_total message_exact hold_key hold_value rows (c, serial))
+
+pub hold_drop : (rows : List HoldRow) (c : List ℕ) (serial : ℕ) → holds_of (filter (λ x. not (is_hold c serial x)) rows) ≡ remove (holds_of rows) (c, serial)
+unfolding is_hold
+hold_drop rows c serial = table_drop message_total message_exact hold_key hold_value (c, serial) rows
+
+pub hold_put : (rows : List HoldRow) (r : HoldRow) → holds_of (filter (λ x. not (is_hold r.customer r.serial x)) rows ++ r ∷ []) ≡ insert (holds_of rows) (r.customer, r.serial) r.reason
+unfolding is_hold
+hold_put rows r = table_put message_total message_exact hold_key hold_value rows r
 
 noted_found : (rows : List NoticeRow) (c : List ℕ) (number : ℕ) → option_map notice_value (list.find (is_notice c number) rows) ≡ get (notices_of rows) (c, number)
 unfolding is_notice

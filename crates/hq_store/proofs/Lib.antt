@@ -6,12 +6,14 @@ pub mod Dealt
 pub mod DealtRows
 pub mod Empty
 pub mod Keys
+pub mod Lifting
 pub mod LineOrder
 pub mod LinePages
 pub mod Many
 pub mod NoticePages
 pub mod Own
 pub mod Read
+pub mod Reasons
 pub mod Then
 pub mod Serials
 pub mod Shapes

@@ -16,7 +16,7 @@ use Rattle.hq_tables.specs.Owned.{given}
 use Rattle.hq_tables.proofs.Cases.{first, second, less}
 use Rattle.hq_tables.proofs.Parts.{tied_true, tied_false}
 use Rattle.hq_store.specs.Tables.{State, change, change_all}
-use Rattle.hq_store.specs.Sound.{ShapedState, SoundState, AreApart, IsNext, pending_count}
+use Rattle.hq_store.specs.Sound.{ShapedState, SoundState, IsReasoned, AreApart, IsNext, pending_count}
 use Rattle.hq_store.proofs.States.{change_shaped, none_some}
 use Rattle.hq_store.proofs.Conserved.{pending, pending_put, pending_drop}
 
@@ -113,8 +113,8 @@ other_drop q k x apart = get-remove nat_cmp_total q k x ∙ ap (λ b. cond b Non
 pub does_nothing : (s : State) (m : Message) → ShapedState s → Does s s m 0
 does_nothing s m h = record { shaped = h; head = refl; sum = omega arith; others = λ x apart. refl }
 
-pub does_put : (s : State) (m n : Message) → ShapedState s → get s.messages m.serial ≡ Some m → n.serial ≡ m.serial → n.spool ≡ m.spool → n.pending ≡ m.pending → Does s (change (PutMessage n) s) m 0
-does_put s m n h there serial spool same =
+pub does_put : (s : State) (m n : Message) → ShapedState s → get s.messages m.serial ≡ Some m → n.serial ≡ m.serial → n.spool ≡ m.spool → n.pending ≡ m.pending → (IsReasoned m → IsReasoned n) → Does s (change (PutMessage n) s) m 0
+does_put s m n h there serial spool same right =
     let at : get s.messages n.serial ≡ Some m = ap (get s.messages) serial ∙ there in
     let was = h.messages n.serial m at in
     let put = pending_put s.messages n in
@@ -122,7 +122,7 @@ does_put s m n h there serial spool same =
     let as_many : pending n ≡ pending m = ap length same in
     record {
       shaped = change_shaped s (PutMessage n) h (record {
-        queued = record { own_serial = refl; positive = was.positive; below = was.below; some_pending = subst (λ ps. 0 < length ps) (sym same) was.some_pending; apart = subst AreApart (sym same) was.apart };
+        queued = record { own_serial = refl; positive = was.positive; below = was.below; some_pending = subst (λ ps. 0 < length ps) (sym same) was.some_pending; apart = subst AreApart (sym same) was.apart; right = right was.right };
         spool = λ k o f e. h.spools k n.serial o m f at (e ∙ spool);
         room = λ none. absurd (none_some m (sym none ∙ at));
       });

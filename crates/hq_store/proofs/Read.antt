@@ -26,7 +26,7 @@ seconds f (e ∷ es) = ap (λ ys. f e.0 e.1 ∷ ys) (seconds f es)
 pub same_messages : (customer : List ℕ) (t : Tables) → messages_in customer t ≡ values (own customer t).messages
 same_messages customer t =
     let rows = part_of text_cmp customer t.messages in
-    let whole = joined customer t.recipients in
+    let whole = joined customer t.recipients t.holds in
     sym (ap (map (λ e. e.1)) (entries-map_values nat_cmp whole rows) ∙ seconds whole (entries rows) ∙ ap (map (λ e. whole e.0 e.1)) (entries_part nat_cmp nat_list_cmp_total customer t.messages))
 
 -- counted by rows or by messages
@@ -41,7 +41,7 @@ module _ {X Y : Type 0} (f : X → Y) where
 
 pub same_kept : (customer : List ℕ) (t : Tables) → kept_in customer t ≡ kept_of (λ (m : Message). m.size) (values (own customer t).messages) (entries (own customer t).lines)
 same_kept customer t =
-    let whole : ℕ × Row → Message = λ e. joined customer t.recipients e.0 e.1 in
+    let whole : ℕ × Row → Message = λ e. joined customer t.recipients t.holds e.0 e.1 in
     let rows = rows_of text_cmp customer (entries t.messages) in
     (λ i. record { messages = sym (same_length whole rows) i; bytes = sym (same_sum whole (λ (m : Message). m.size) rows) i; lines = length (sym (rows_own line_total line_exact customer t.lines) i) })
     ∙ ap (λ ms. kept_of (λ (m : Message). m.size) ms (entries (own customer t).lines)) (same_messages customer t)
@@ -49,7 +49,7 @@ same_kept customer t =
 pub same_readings : (customer : List ℕ) (t : Tables) → read_tables customer t ≡ read_state (own customer t)
 same_readings customer t =
     let rows = part_of text_cmp customer t.messages in
-    let whole = joined customer t.recipients in
+    let whole = joined customer t.recipients t.holds in
     let messages = same_messages customer t in
     λ i. record {
       head = (own customer t).head;

@@ -16,14 +16,15 @@ use Rattle.sqlite_keyed.proofs.ListLemmas.{map-map, filter-map, all_weaker, all_
 use Rattle.sqlite_keyed.proofs.SortLemmas.{sorted_unique, IsPermutation-sort_by}
 use Rattle.hq_queue.specs.declared.message.Message.{Message}
 use Rattle.hq_tables.specs.Owned.{part_of, given}
-use Rattle.hq_store.specs.Tables.{text_cmp, message_cmp, Row, message_of, pending_of}
+use Rattle.hq_store.specs.Tables.{text_cmp, message_cmp, Row, message_of, reason_of, pending_of}
 use Rattle.hq_store.specs.Readings.{after_serial, with_spool}
 use Rattle.hq_tables.proofs.Parts.{rows_sorted, get_part, entries_part}
 use Rattle.hq_tables.proofs.Pages.{sorted_rows}
 use Rattle.hq_tables.proofs.OwnedPages.{owned}
+use Rattle.hq_store.specs.declared.rows.HoldRow.{HoldRow}
 use Rattle.hq_store.specs.declared.rows.MessageRow.{MessageRow}
 use Rattle.hq_store.specs.declared.rows.RecipientRow.{RecipientRow}
-use Rattle.hq_store.specs.Listed.{message_key, message_value, messages_of, recipients_of}
+use Rattle.hq_store.specs.Listed.{message_key, message_value, messages_of, recipients_of, holds_of}
 use Rattle.hq_store.specs.Lookups.{AreUnique, is_after, is_past, has_spool, serials_where, serials_after, serials_with_spool, rows_with, message_at}
 use Rattle.hq_store.proofs.Keys.{message_total}
 use Rattle.hq_tables.proofs.Cases.{first, second, less}
@@ -115,14 +116,14 @@ after_is None j same es = ap (map j) (sym (all es)) where
 after_is (Some n) j same es = filter-map (λ (m : Message). nat_lt n m.serial) j es ∙ ap (map j) (λ i. filter (λ (e : ℕ × Row). nat_lt n (same e i)) es)
 
 -- a page: the messages at the first serials after a serial
-pub page_is : (c : List ℕ) (after : Option ℕ) (limit : ℕ) (messages : List MessageRow) (recipients : List RecipientRow)
-    → filter_map (message_at c messages recipients) (take limit (serials_after after (rows_with c messages)))
-    ≡ take limit (after_serial after (map (λ e. message_of e.0 e.1 (pending_of c e.0 (recipients_of recipients))) (rows_with c messages)))
-page_is c after limit messages recipients =
-    let j : ℕ → Row → Message = λ serial r. message_of serial r (pending_of c serial (recipients_of recipients)) in
+pub page_is : (c : List ℕ) (after : Option ℕ) (limit : ℕ) (messages : List MessageRow) (recipients : List RecipientRow) (holds : List HoldRow)
+    → filter_map (message_at c messages recipients holds) (take limit (serials_after after (rows_with c messages)))
+    ≡ take limit (after_serial after (map (λ e. message_of e.0 e.1 (reason_of c e.0 (holds_of holds)) (pending_of c e.0 (recipients_of recipients))) (rows_with c messages)))
+page_is c after limit messages recipients holds =
+    let j : ℕ → Row → Message = λ serial r. message_of serial r (reason_of c serial (holds_of holds)) (pending_of c serial (recipients_of recipients)) in
     let es = rows_with c messages in
     let left = filter (λ (e : ℕ × Row). is_after after e.0) es in
-    ap (filter_map (message_at c messages recipients)) (take-map (λ (e : ℕ × Row). e.0) limit left)
+    ap (filter_map (message_at c messages recipients holds)) (take-map (λ (e : ℕ × Row). e.0) limit left)
     ∙ looked_up (λ k. get (messages_of messages) (c, k)) j (take limit left) (all_take _ limit left (all-filter _ (λ (e : ℕ × Row). is_after after e.0) es (found_at c messages)))
     ∙ sym (take-map (λ (e : ℕ × Row). j e.0 e.1) limit left) ∙ ap (take limit) (sym (after_is after (λ e. j e.0 e.1) (λ e. refl) es))
 
@@ -142,16 +143,16 @@ first_match p q j same (e ∷ es) =
     ]
 
 -- the message at the first serial with a spool name
-pub spool_is : (c spool : List ℕ) (messages : List MessageRow) (recipients : List RecipientRow)
-    → given None (message_at c messages recipients) (slice_get (serials_with_spool spool (rows_with c messages)) 0)
-    ≡ with_spool spool (map (λ e. message_of e.0 e.1 (pending_of c e.0 (recipients_of recipients))) (rows_with c messages))
-spool_is c spool messages recipients =
-    let j : ℕ × Row → Message = λ e. message_of e.0 e.1 (pending_of c e.0 (recipients_of recipients)) in
+pub spool_is : (c spool : List ℕ) (messages : List MessageRow) (recipients : List RecipientRow) (holds : List HoldRow)
+    → given None (message_at c messages recipients holds) (slice_get (serials_with_spool spool (rows_with c messages)) 0)
+    ≡ with_spool spool (map (λ e. message_of e.0 e.1 (reason_of c e.0 (holds_of holds)) (pending_of c e.0 (recipients_of recipients))) (rows_with c messages))
+spool_is c spool messages recipients holds =
+    let j : ℕ × Row → Message = λ e. message_of e.0 e.1 (reason_of c e.0 (holds_of holds)) (pending_of c e.0 (recipients_of recipients)) in
     let p : ℕ × Row → Bool = λ e. eq_by_cmp text_cmp spool e.1.spool in
     let es = rows_with c messages in
     at_first (filter p es) (all-filter _ p es (found_at c messages))
     ∙ sym (first_match p (λ (m : Message). eq_by_cmp text_cmp spool m.spool) j (λ e. refl) es) where
       at_first : (es : List (ℕ × Row)) → AllByRecursion (λ (e : ℕ × Row). get (messages_of messages) (c, e.0) ≡ Some e.1) es
-          → given None (message_at c messages recipients) (slice_get (map (λ (e : ℕ × Row). e.0) es) 0) ≡ option_map (λ (e : ℕ × Row). message_of e.0 e.1 (pending_of c e.0 (recipients_of recipients))) (first_entry es)
+          → given None (message_at c messages recipients holds) (slice_get (map (λ (e : ℕ × Row). e.0) es) 0) ≡ option_map (λ (e : ℕ × Row). message_of e.0 e.1 (reason_of c e.0 (holds_of holds)) (pending_of c e.0 (recipients_of recipients))) (first_entry es)
       at_first [] h = refl
-      at_first (e ∷ es) h = ap (option_map (λ r. message_of e.0 r (pending_of c e.0 (recipients_of recipients)))) h.0
+      at_first (e ∷ es) h = ap (option_map (λ r. message_of e.0 r (reason_of c e.0 (holds_of holds)) (pending_of c e.0 (recipients_of recipients)))) h.0

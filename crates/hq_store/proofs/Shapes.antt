@@ -19,6 +19,7 @@ use Rattle.hq_store.proofs.Dealt.{Recipients, IsPlaced, placed_same, placed_othe
 use Rattle.hq_store.proofs.Own.{own_write_all, other_write_all}
 use Rattle.hq_store.proofs.Customers.{cases_name}
 use Rattle.hq_store.proofs.Counted.{counts_stay}
+use Rattle.hq_store.proofs.Reasons.{holds_write_all}
 use Rattle.hq_store.proofs.States.{change_shaped}
 
 placed_deal : (c : List ℕ) (k : ℕ) (ps : List Pending) (rs : Recipients) → ((d : List ℕ) (serial : ℕ) → IsPlaced d serial rs) → (d : List ℕ) (serial : ℕ) → IsPlaced d serial (deal c k ps rs)
@@ -119,9 +120,10 @@ pub stays_shaped : (c : List ℕ) (chs : List Change) (t : Tables) → Shaped t 
 stays_shaped c chs t h fit = record {
   states = each ShapedState c chs t (changes_shaped chs (own c t) (h.states c) fit) h.states;
   recipients = dealt_write_all c chs t h.recipients;
+  holds = holds_write_all c chs t h.holds;
   counts = counts_stay c chs t h.counts;
 }
 
 -- tables stay sound where the customer's own state does
 pub stays_sound : (c : List ℕ) (chs : List Change) (t : Tables) → Sound t → SoundState (change_all chs (own c t)) → Sound (write_all c chs t)
-stays_sound c chs t h mine = record { states = each SoundState c chs t mine h.states; recipients = dealt_write_all c chs t h.recipients; counts = counts_stay c chs t h.counts }
+stays_sound c chs t h mine = record { states = each SoundState c chs t mine h.states; recipients = dealt_write_all c chs t h.recipients; holds = holds_write_all c chs t h.holds; counts = counts_stay c chs t h.counts }

@@ -42,7 +42,7 @@ head_shaped : (s : State) (head : Head) → ShapedState s → HeadFits s head �
 head_shaped s head h fit = record {
   next_serial = fit.next_serial;
   next_notice = fit.next_notice;
-  messages = λ serial m f. let q = h.messages serial m f in record { own_serial = q.own_serial; positive = q.positive; below = fit.above serial m f; some_pending = q.some_pending; apart = q.apart };
+  messages = λ serial m f. let q = h.messages serial m f in record { own_serial = q.own_serial; positive = q.positive; below = fit.above serial m f; some_pending = q.some_pending; apart = q.apart; right = q.right };
   spools = h.spools;
   few_messages = h.few_messages;
   few_lines = h.few_lines;

@@ -5,3 +5,4 @@ pub mod Fits
 pub mod Shelves
 pub mod Listed
 pub mod Lookups
+pub mod Lifted

@@ -6,6 +6,7 @@ use Rattle.hq_access.specs.declared.action.Action.{Action}
 use Rattle.hq_access.specs.declared.pattern.Class.{Class}
 use Rattle.hq_store.specs.declared.account.Account.{Account}
 use Rattle.hq_store.specs.declared.rows.HeadRow.{HeadRow}
+use Rattle.hq_store.specs.declared.rows.HoldRow.{HoldRow}
 use Rattle.hq_store.specs.declared.rows.LineRow.{LineRow}
 use Rattle.hq_store.specs.declared.mark.Mark.{Mark}
 use Rattle.hq_store.specs.declared.rows.MarkRow.{MarkRow}
@@ -36,6 +37,12 @@ recipient_key r = (r.customer, (r.serial, r.place))
 abbrev pub recipient_value : RecipientRow → Pending
 recipient_value r = r.pending
 
+abbrev pub hold_key : HoldRow → List ℕ × ℕ
+hold_key r = (r.customer, r.serial)
+
+abbrev pub hold_value : HoldRow → List ℕ
+hold_value r = r.reason
+
 abbrev pub line_row_key : LineRow → List ℕ × (Class × List ℕ)
 line_row_key r = (r.customer, r.line.pattern)
 
@@ -65,6 +72,9 @@ messages_of rows = table message_cmp message_key message_value rows
 abbrev pub recipients_of : List RecipientRow → FinMap recipient_cmp Pending
 recipients_of rows = table recipient_cmp recipient_key recipient_value rows
 
+abbrev pub holds_of : List HoldRow → FinMap message_cmp (List ℕ)
+holds_of rows = table message_cmp hold_key hold_value rows
+
 abbrev pub lines_of : List LineRow → FinMap lines_cmp Action
 lines_of rows = table lines_cmp line_row_key line_row_value rows
 
@@ -75,4 +85,4 @@ abbrev pub notices_of : List NoticeRow → FinMap notice_cmp Noted
 notices_of rows = table notice_cmp notice_key notice_value rows
 
 abbrev pub tables_of : ListRows → Tables
-tables_of s = record { heads = heads_of s.heads.items; messages = messages_of s.messages.items; recipients = recipients_of s.recipients.items; lines = lines_of s.lines.items; marks = marks_of s.marks.items; notices = notices_of s.notices.items }
+tables_of s = record { heads = heads_of s.heads.items; messages = messages_of s.messages.items; recipients = recipients_of s.recipients.items; holds = holds_of s.holds.items; lines = lines_of s.lines.items; marks = marks_of s.marks.items; notices = notices_of s.notices.items }

@@ -7,6 +7,7 @@ use Rattle.hq_queue.specs.declared.message.Pending.{Pending}
 use Rattle.hq_access.specs.declared.action.Action.{Action}
 use Rattle.hq_access.specs.declared.pattern.Class.{Class}
 use Rattle.hq_store.specs.declared.rows.HeadRow.{HeadRow}
+use Rattle.hq_store.specs.declared.rows.HoldRow.{HoldRow}
 use Rattle.hq_store.specs.declared.rows.LineRow.{LineRow}
 use Rattle.hq_store.specs.declared.rows.MarkRow.{MarkRow}
 use Rattle.hq_store.specs.declared.rows.MessageRow.{MessageRow}
@@ -16,7 +17,7 @@ use Rattle.hq_store.specs.declared.list_rows.ListRows.{ListRows}
 use Rattle.hq_store.specs.Tables.{Row, text_cmp, message_cmp, line_cmp, lines_cmp, mark_cmp, notice_cmp, Noted, left_of, joined, pending_of}
 use Rattle.hq_tables.specs.Owned.{rows_of}
 use Rattle.hq_tables.specs.Rows.{HasUniqueKeys}
-use Rattle.hq_store.specs.Listed.{message_key, recipient_value, line_row_key, notice_key, messages_of, recipients_of, lines_of, notices_of}
+use Rattle.hq_store.specs.Listed.{message_key, recipient_value, line_row_key, notice_key, messages_of, recipients_of, holds_of, lines_of, notices_of}
 
 -- ---- tests of rows
 
@@ -28,6 +29,10 @@ is_message customer serial r = eq_by_cmp message_cmp (customer, serial) (r.custo
 
 unfoldable pub is_recipient : List ℕ → ℕ → RecipientRow → Bool
 is_recipient customer serial r = eq_by_cmp text_cmp customer r.customer && eq_by_cmp nat_cmp serial r.serial
+
+-- the reason of a message
+unfoldable pub is_hold : List ℕ → ℕ → HoldRow → Bool
+is_hold customer serial r = eq_by_cmp message_cmp (customer, serial) (r.customer, r.serial)
 
 abbrev pub is_after : Option ℕ → ℕ → Bool
 is_after None serial = true
@@ -130,5 +135,5 @@ line_rows_with customer rows = rows_of text_cmp customer (entries (lines_of rows
 abbrev pub notice_rows_with : List ℕ → List NoticeRow → List (ℕ × Noted)
 notice_rows_with customer rows = rows_of text_cmp customer (entries (notices_of rows))
 
-abbrev pub message_at : List ℕ → List MessageRow → List RecipientRow → ℕ → Option Message
-message_at customer messages recipients serial = option_map (joined customer (recipients_of recipients) serial) (get (messages_of messages) (customer, serial))
+abbrev pub message_at : List ℕ → List MessageRow → List RecipientRow → List HoldRow → ℕ → Option Message
+message_at customer messages recipients holds serial = option_map (joined customer (recipients_of recipients) (holds_of holds) serial) (get (messages_of messages) (customer, serial))

@@ -83,7 +83,7 @@ read_state s = record {
 
 -- the customer's rows of messages with their recipients, in order of serial
 abbrev pub messages_in : List ℕ → Tables → List Message
-messages_in customer t = map (λ e. joined customer t.recipients e.0 e.1) (rows_of text_cmp customer (entries t.messages))
+messages_in customer t = map (λ e. joined customer t.recipients t.holds e.0 e.1) (rows_of text_cmp customer (entries t.messages))
 
 -- how much the customer keeps, counted by the rows that have its name
 abbrev pub kept_in : List ℕ → Tables → Counts
@@ -94,7 +94,7 @@ abbrev pub read_tables : List ℕ → Tables → Readings
 read_tables customer t = record {
   head = (account t.heads customer).head;
   counts = told (kept_in customer t);
-  message = λ serial. option_map (joined customer t.recipients serial) (get t.messages (customer, serial));
+  message = λ serial. option_map (joined customer t.recipients t.holds serial) (get t.messages (customer, serial));
   by_spool = λ spool. with_spool spool (messages_in customer t);
   messages = messages_in customer t;
   line = λ class key. get t.lines (customer, (class, key));

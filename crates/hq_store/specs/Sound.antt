@@ -1,9 +1,10 @@
 -- What holds of the tables, and of every customer's state, after any calls of a desk.
-use Rattle.std.specs.Prelude.{◌≡◌, ℕ, suc, ◌+◌, ◌-◌, ◌*◌, ◌^◌, ◌<◌, ◌≤◌, List, [], ◌∷◌, length, map, Some, None}
+use Rattle.std.specs.Prelude.{◌≡◌, ℕ, suc, ◌+◌, ◌-◌, ◌*◌, ◌^◌, ◌<◌, ◌≤◌, nat_lt, List, [], ◌∷◌, length, map, Some, None}
 use Rattle.std.specs.List.{sum_by, IsDistinct}
 use Rattle.std.specs.Ordering.{nat_cmp}
 use Rattle.std.specs.FinMap.{get, len, entries, values}
 pub use Rattle.hq_envelope.specs.Addresses.{same_address}
+use Rattle.hq_queue.specs.Moves.{is_on_hold}
 use Rattle.hq_queue.specs.declared.message.Message.{Message}
 use Rattle.hq_queue.specs.declared.message.Pending.{Pending}
 use Rattle.hq_store.specs.Tables.{State, Tables, Noted, text_cmp, own, account, pending_of}
@@ -14,29 +15,41 @@ use Rattle.hq_tables.specs.Owned.{part_of}
 abbrev pub AreApart : List Pending → Type 0
 AreApart ps = IsDistinct same_address (map (λ (p : Pending). p.address) ps)
 
--- a message that may stand in the queue at a serial: it has recipients, pairwise apart, and its serial was given out
-pub record IsQueued (next serial : ℕ) (m : Message) : Type 0 where
+-- a message has a reason exactly where it is on hold
+abbrev pub IsReasoned : Message → Type 0
+IsReasoned m = nat_lt 0 (length m.reason) ≡ is_on_hold m.state
+
+-- a message that may stand in the queue at a serial: it has recipients, pairwise apart, its serial was given out, and its
+-- reason is by this rule
+pub record IsQueuedBy (IsRight : Message → Type 0) (next serial : ℕ) (m : Message) : Type 0 where
   pub own_serial : m.serial ≡ serial
   pub positive : 0 < serial
   pub below : serial < next
   pub some_pending : 0 < length m.pending
   pub apart : AreApart m.pending
+  pub right : IsRight m
+
+abbrev pub IsQueued : ℕ → ℕ → Message → Type 0
+IsQueued = IsQueuedBy IsReasoned
 
 -- next numbers are 1 to 2^40, where 2^40 is spent
 abbrev pub IsNext : ℕ → Type 0
 IsNext n = (0 < n) × (n ≤ 2 ^ 40)
 
 -- a customer's state has the shape that a desk gives it
-pub record ShapedState (s : State) : Type 0 where
+pub record ShapedStateBy (IsRight : Message → Type 0) (s : State) : Type 0 where
   pub next_serial : IsNext s.head.next_serial
   pub next_notice : IsNext s.head.next_notice
-  pub messages : (serial : ℕ) (m : Message) → get s.messages serial ≡ Some m → IsQueued s.head.next_serial serial m
+  pub messages : (serial : ℕ) (m : Message) → get s.messages serial ≡ Some m → IsQueuedBy IsRight s.head.next_serial serial m
   -- a spool name stands once
   pub spools : (k l : ℕ) (m n : Message) → get s.messages k ≡ Some m → get s.messages l ≡ Some n → m.spool ≡ n.spool → k ≡ l
   pub few_messages : len s.messages ≤ 1000
   pub few_lines : len s.lines ≤ 5000
   -- numbers of notices were given out
   pub notices : (number : ℕ) (n : Noted) → get s.notices number ≡ Some n → (0 < number) × (number < s.head.next_notice)
+
+abbrev pub ShapedState : State → Type 0
+ShapedState = ShapedStateBy IsReasoned
 
 -- recipients with the places from i on
 abbrev pub numbered : ℕ → List Pending → List (ℕ × Pending)
@@ -48,6 +61,11 @@ pub record ShapedRecipients (t : Tables) : Type 0 where
   pub placed : (customer : List ℕ) (serial : ℕ) → entries (part_of nat_cmp serial (part_of text_cmp customer t.recipients)) ≡ numbered 1 (pending_of customer serial t.recipients)
   pub no_orphans : (customer : List ℕ) (serial : ℕ) → get t.messages (customer, serial) ≡ None → pending_of customer serial t.recipients ≡ []
 
+-- no reason is empty, and each has its message
+pub record ShapedHolds (t : Tables) : Type 0 where
+  pub some_reason : (customer : List ℕ) (serial : ℕ) (reason : List ℕ) → get t.holds (customer, serial) ≡ Some reason → 0 < length reason
+  pub no_orphans : (customer : List ℕ) (serial : ℕ) → get t.messages (customer, serial) ≡ None → get t.holds (customer, serial) ≡ None
+
 -- the counts in each customer's head row are those of its rows; all are 0 where it has no head row
 abbrev pub AreCounted : Tables → Type 0
 AreCounted t = (customer : List ℕ) → (account t.heads customer).counts ≡ kept_in customer t
@@ -56,6 +74,7 @@ AreCounted t = (customer : List ℕ) → (account t.heads customer).counts ≡ k
 pub record Shaped (t : Tables) : Type 0 where
   pub states : (customer : List ℕ) → ShapedState (own customer t)
   pub recipients : ShapedRecipients t
+  pub holds : ShapedHolds t
   pub counts : AreCounted t
 
 -- how many recipients are pending
@@ -71,13 +90,20 @@ abbrev pub IsBounded : State → Type 0
 IsBounded s = s.head.tally.accepted ≤ 100 * (s.head.next_serial - 1)
 
 -- a sound state
-pub record SoundState (s : State) : Type 0 where
-  pub shaped : ShapedState s
+pub record SoundStateBy (IsRight : Message → Type 0) (s : State) : Type 0 where
+  pub shaped : ShapedStateBy IsRight s
   pub conserved : IsConserved s
   pub bounded : IsBounded s
 
+abbrev pub SoundState : State → Type 0
+SoundState = SoundStateBy IsReasoned
+
 -- sound tables
-pub record Sound (t : Tables) : Type 0 where
-  pub states : (customer : List ℕ) → SoundState (own customer t)
+pub record SoundBy (IsRight : Message → Type 0) (t : Tables) : Type 0 where
+  pub states : (customer : List ℕ) → SoundStateBy IsRight (own customer t)
   pub recipients : ShapedRecipients t
+  pub holds : ShapedHolds t
   pub counts : AreCounted t
+
+abbrev pub Sound : Tables → Type 0
+Sound = SoundBy IsReasoned

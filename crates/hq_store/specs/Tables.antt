@@ -117,34 +117,45 @@ pub record Row : Type 0 where
   pub attempts : ℕ
   pub warned : Bool
 
--- every key begins with the customer's name; recipients have a table of their own, by serial and place
+-- every key begins with the customer's name; recipients have a table of their own, by serial and place, and so have the
+-- reasons of messages on hold, by serial
 pub record Tables : Type 0 where
   pub heads : FinMap text_cmp Account
   pub messages : FinMap message_cmp Row
   pub recipients : FinMap recipient_cmp Pending
+  pub holds : FinMap message_cmp (List ℕ)
   pub lines : FinMap lines_cmp Action
   pub marks : FinMap mark_cmp Mark
   pub notices : FinMap notice_cmp Noted
 
 -- tables of nobody
 abbrev pub no_tables : Tables
-no_tables = record { heads = empty; messages = empty; recipients = empty; lines = empty; marks = empty; notices = empty }
+no_tables = record { heads = empty; messages = empty; recipients = empty; holds = empty; lines = empty; marks = empty; notices = empty }
 
 -- the row of a message
 abbrev pub row_of : Message → Row
 row_of m = record { sender = m.sender; spool = m.spool; size = m.size; arrival = m.arrival; state = m.state; next_try = m.next_try; attempts = m.attempts; warned = m.warned }
 
--- the message of a row, its serial and its recipients
-abbrev pub message_of : ℕ → Row → List Pending → Message
-message_of serial r ps = record { serial = serial; sender = r.sender; spool = r.spool; size = r.size; arrival = r.arrival; state = r.state; next_try = r.next_try; attempts = r.attempts; warned = r.warned; pending = ps }
+-- the message of a row, its serial, its reason and its recipients
+abbrev pub message_of : ℕ → Row → List ℕ → List Pending → Message
+message_of serial r reason ps = record { serial = serial; sender = r.sender; spool = r.spool; size = r.size; arrival = r.arrival; state = r.state; reason = reason; next_try = r.next_try; attempts = r.attempts; warned = r.warned; pending = ps }
 
 -- the recipients of a customer's message, in order of place
 unfoldable pub pending_of : List ℕ → ℕ → FinMap recipient_cmp Pending → List Pending
 pending_of customer serial rs = values (part_of nat_cmp serial (part_of text_cmp customer rs))
 
--- a row of messages with its recipients
-abbrev pub joined : List ℕ → FinMap recipient_cmp Pending → ℕ → Row → Message
-joined customer rs serial r = message_of serial r (pending_of customer serial rs)
+-- the reason of a customer's message; empty, where none is kept
+unfoldable pub reason_of : List ℕ → ℕ → FinMap message_cmp (List ℕ) → List ℕ
+reason_of customer serial hs = unwrap_or (get hs (customer, serial)) []
+
+-- this reason of the message, instead of the one that it had; an empty one is not kept
+unfoldable pub give_reason : List ℕ → ℕ → List ℕ → FinMap message_cmp (List ℕ) → FinMap message_cmp (List ℕ)
+give_reason customer serial [] hs = remove hs (customer, serial)
+give_reason customer serial (b ∷ reason) hs = insert hs (customer, serial) (b ∷ reason)
+
+-- a row of messages with its reason and its recipients
+abbrev pub joined : List ℕ → FinMap recipient_cmp Pending → FinMap message_cmp (List ℕ) → ℕ → Row → Message
+joined customer rs hs serial r = message_of serial r (reason_of customer serial hs) (pending_of customer serial rs)
 
 -- recipients put at the places from i on
 abbrev pub place_all : List ℕ → ℕ → ℕ → List Pending → FinMap recipient_cmp Pending → FinMap recipient_cmp Pending
@@ -205,11 +216,13 @@ write customer (PutMessage m) t = record t {
   heads = counted (with_message m.size) customer (uncounted_message customer m.serial t);
   messages = insert t.messages (customer, m.serial) (row_of m);
   recipients = deal customer m.serial m.pending t.recipients;
+  holds = give_reason customer m.serial m.reason t.holds;
 }
 write customer (DropMessage serial) t = record t {
   heads = uncounted_message customer serial t;
   messages = remove t.messages (customer, serial);
   recipients = deal customer serial [] t.recipients;
+  holds = give_reason customer serial [] t.holds;
 }
 write customer (PutLine line) t = record t {
   heads = given (counted with_line customer t.heads) (λ _. t.heads) (get t.lines (customer, line.pattern));
@@ -232,7 +245,7 @@ write_all customer (c ∷ cs) t = write_all customer cs (write customer c t)
 abbrev pub own : List ℕ → Tables → State
 own customer t = record {
   head = (account t.heads customer).head;
-  messages = map_values (joined customer t.recipients) (part_of text_cmp customer t.messages);
+  messages = map_values (joined customer t.recipients t.holds) (part_of text_cmp customer t.messages);
   lines = part_of text_cmp customer t.lines;
   marks = part_of text_cmp customer t.marks;
   notices = part_of text_cmp customer t.notices;

@@ -8,6 +8,7 @@ ghost use Rattle.hq_store.specs.Tables.{Tables, account, opening, no_tables, own
 ghost use Rattle.hq_store.specs.Readings.{read_state, read_tables, told};
 ghost use Rattle.hq_store.specs.Sound.{AreCounted, Shaped, Sound, SoundState};
 ghost use Rattle.hq_store.specs.Fits.{AllFit};
+ghost use Rattle.hq_store.specs.Lifted.{lift, lifted_tables, FirstSound};
 
 /// What is read of a customer in the tables of all is what is read of its own state.
 pub fn own_state_is_read()
@@ -65,4 +66,16 @@ pub fn sound_tables_are_shaped()
 pub fn empty_tables_are_sound()
     ensures sound { Sound no_tables }
     ensures opening { (customer : List ℕ) → own customer no_tables ≡ opening }
+{}
+
+/// What a migration makes of the tables it makes of each customer's state.
+#[tactic(auto, using(crate::proofs::Lifting::own_lifted))]
+pub fn lifted_state_is_own()
+    ensures { (customer : List ℕ) (t : Tables) → own customer (lifted_tables t)
+        ≡ lift (own customer t) }
+{}
+
+/// Tables that were sound before reasons were kept are sound after it.
+pub fn lifted_tables_are_sound()
+    ensures { (t : Tables) → FirstSound t → Sound (lifted_tables t) }
 {}

@@ -5,6 +5,7 @@
 mod account;
 mod change;
 mod heads;
+mod holds;
 pub mod laws;
 mod lines;
 mod list_rows;

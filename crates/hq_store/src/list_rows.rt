@@ -7,8 +7,8 @@ ghost use Rattle.hq_store.specs.Lookups.{AreInOrder};
 ghost use Rattle.hq_store.specs.declared.change.Change.TheVariants.{PutMessage, DropMessage, PutLine, DropLine};
 
 use crate::change::Change;
-use crate::rows::{HeadRow, LineRow, MarkRow, MessageRow, NoticeRow, RecipientRow};
-use crate::{heads, lines, marks, messages, notices, recipients};
+use crate::rows::{HeadRow, HoldRow, LineRow, MarkRow, MessageRow, NoticeRow, RecipientRow};
+use crate::{heads, holds, lines, marks, messages, notices, recipients};
 use hq_access::{Line, Pattern};
 use hq_envelope::{Name, Serial, TryCopy, copy_all};
 use hq_queue::Message;
@@ -20,6 +20,7 @@ pub(crate) struct ListRows {
     pub(crate) heads: Vec<HeadRow>,
     pub(crate) messages: Vec<MessageRow>,
     pub(crate) recipients: Vec<RecipientRow>,
+    pub(crate) holds: Vec<HoldRow>,
     pub(crate) lines: Vec<LineRow>,
     pub(crate) marks: Vec<MarkRow>,
     pub(crate) notices: Vec<NoticeRow>,
@@ -34,6 +35,7 @@ impl ListRows {
         let heads = copy_all(alloc, self.heads.as_slice())?;
         let messages = copy_all(alloc, self.messages.as_slice())?;
         let recipients = copy_all(alloc, self.recipients.as_slice())?;
+        let holds = copy_all(alloc, self.holds.as_slice())?;
         let lines = copy_all(alloc, self.lines.as_slice())?;
         let marks = copy_all(alloc, self.marks.as_slice())?;
         let notices = copy_all(alloc, self.notices.as_slice())?;
@@ -41,6 +43,7 @@ impl ListRows {
             heads,
             messages,
             recipients,
+            holds,
             lines,
             marks,
             notices,
@@ -74,7 +77,8 @@ impl ListRows {
             customer,
             serial,
             message.pending.as_slice(),
-        )
+        )?;
+        holds::put_hold(alloc, &mut self.holds, customer, serial, &message.reason)
     }
 
     /// Drops a message, and counts it no more. After an error the rows are given up.
@@ -97,6 +101,7 @@ impl ListRows {
         )?;
         messages::drop_message(&mut self.messages, customer, serial);
         recipients::drop_recipients(&mut self.recipients, customer, serial);
+        holds::drop_hold(&mut self.holds, customer, serial);
         Ok(())
     }
 

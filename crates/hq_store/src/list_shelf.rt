@@ -48,6 +48,7 @@ impl ListShelf {
             heads: Vec::new(alloc),
             messages: Vec::new(alloc),
             recipients: Vec::new(alloc),
+            holds: Vec::new(alloc),
             lines: Vec::new(alloc),
             marks: Vec::new(alloc),
             notices: Vec::new(alloc),
@@ -84,6 +85,7 @@ impl Shelf for ListShelf {
             self.alloc,
             self.rows.messages.as_slice(),
             self.rows.recipients.as_slice(),
+            self.rows.holds.as_slice(),
             customer,
             serial,
         )?)
@@ -94,6 +96,7 @@ impl Shelf for ListShelf {
             self.alloc,
             self.rows.messages.as_slice(),
             self.rows.recipients.as_slice(),
+            self.rows.holds.as_slice(),
             customer,
             spool,
         )?)
@@ -109,6 +112,7 @@ impl Shelf for ListShelf {
             self.alloc,
             self.rows.messages.as_slice(),
             self.rows.recipients.as_slice(),
+            self.rows.holds.as_slice(),
             customer,
             after,
             limit,

@@ -6,13 +6,13 @@ ghost use Rattle.std.specs.List as list;
 ghost use Rattle.std.specs.List.{filter_map, cons_option};
 ghost use Rattle.std.specs.FinMap as maps;
 ghost use Rattle.hq_queue.specs.declared.message.Message.{Message};
-ghost use Rattle.hq_store.specs.Tables.{Row, row_of, message_of, joined};
+ghost use Rattle.hq_store.specs.Tables.{Row, row_of, message_of, reason_of, joined};
 ghost use Rattle.hq_store.specs.Readings.{page_of, with_spool};
-ghost use Rattle.hq_store.specs.Listed.{messages_of, recipients_of, message_value};
+ghost use Rattle.hq_store.specs.Listed.{messages_of, recipients_of, holds_of, message_value};
 ghost use Rattle.hq_store.specs.Lookups.{is_message, is_past, message_row, pending_in, serials_where, serials_after, serials_with_spool, rows_with, has_spool, message_at, AreUnique, AreDealt};
 
-use crate::recipients;
-use crate::rows::{MessageRow, RecipientRow};
+use crate::rows::{HoldRow, MessageRow, RecipientRow};
+use crate::{holds, recipients};
 use hq_envelope::{Items, Name, Serial, Spool, TryCopy};
 use hq_queue::Message;
 use std::alloc::{AllocError, Global};
@@ -82,19 +82,22 @@ pub(crate) fn put_message(
     Ok(())
 }
 
-/// The message of a row, with its recipients.
+/// The message of a row, with its reason and its recipients.
 fn joined(
     alloc: Global,
     row: &MessageRow,
     recipients: &[RecipientRow],
+    holds: &[HoldRow],
     customer: &Name,
     serial: Serial,
 ) -> Result<Message, AllocError>
     ensures { IfOk result (λ message. message ≡ message_of serial (message_value row.now)
+        (reason_of customer.now serial (holds_of holds.now))
         (pending_in customer.now serial recipients.now)) }
 {
     let sender = row.sender.copy(alloc)?;
     let spool = row.spool.copy(alloc)?;
+    let reason = holds::reason_in(alloc, holds, customer, serial)?;
     let pending = recipients::pending_in(alloc, recipients, customer, serial)?;
     Ok(Message {
         serial,
@@ -103,6 +106,7 @@ fn joined(
         size: row.size,
         arrival: row.arrival,
         state: row.state,
+        reason,
         next_try: row.next_try,
         attempts: row.attempts,
         warned: row.warned,
@@ -115,14 +119,15 @@ pub(crate) fn message_in(
     alloc: Global,
     messages: &[MessageRow],
     recipients: &[RecipientRow],
+    holds: &[HoldRow],
     customer: &Name,
     serial: Serial,
 ) -> Result<Option<Message>, AllocError>
     ensures { AreDealt recipients.now → IfOk result
-        (λ found. found ≡ message_at customer.now messages.now recipients.now serial) }
+        (λ found. found ≡ message_at customer.now messages.now recipients.now holds.now serial) }
 {
     match find_message(messages, customer, serial) {
-        Some(row) => Ok(Some(joined(alloc, row, recipients, customer, serial)?)),
+        Some(row) => Ok(Some(joined(alloc, row, recipients, holds, customer, serial)?)),
         None => Ok(None),
     }
 }
@@ -194,16 +199,17 @@ fn messages_at(
     alloc: Global,
     messages: &[MessageRow],
     recipients: &[RecipientRow],
+    holds: &[HoldRow],
     customer: &Name,
     serials: &[Serial],
 ) -> Result<Vec<Message>, AllocError>
     ensures { AreDealt recipients.now → IfOk result
         (λ page. page.items ≡ filter_map
-        (message_at customer.now messages.now recipients.now) serials.now) }
+        (message_at customer.now messages.now recipients.now holds.now) serials.now) }
 {
     let mut page = Vec::new(alloc);
     for serial in serials {
-        let found = message_in(alloc, messages, recipients, customer, *serial)?;
+        let found = message_in(alloc, messages, recipients, holds, customer, *serial)?;
         push_found(&mut page, found)?;
     }
     Ok(page)
@@ -214,18 +220,26 @@ pub(crate) fn page_in(
     alloc: Global,
     messages: &[MessageRow],
     recipients: &[RecipientRow],
+    holds: &[HoldRow],
     customer: &Name,
     after: Option<Serial>,
     limit: usize,
 ) -> Result<Items<Message>, AllocError>
     ensures { AreUnique messages.now → AreDealt recipients.now → IfOk result
         (λ page. page ≡ page_of after limit
-        (map (λ e. joined customer.now (recipients_of recipients.now) e.0 e.1)
+        (map (λ e. joined customer.now (recipients_of recipients.now) (holds_of holds.now) e.0 e.1)
         (rows_with customer.now messages.now))) }
 {
     let mut serials = sorted_serials(alloc, messages, customer, number_of(after))?;
     serials.truncate(limit);
-    let page = messages_at(alloc, messages, recipients, customer, serials.as_slice())?;
+    let page = messages_at(
+        alloc,
+        messages,
+        recipients,
+        holds,
+        customer,
+        serials.as_slice(),
+    )?;
     Ok(Items::from_vec(page))
 }
 
@@ -275,19 +289,20 @@ pub(crate) fn by_spool_in(
     alloc: Global,
     messages: &[MessageRow],
     recipients: &[RecipientRow],
+    holds: &[HoldRow],
     customer: &Name,
     spool: &Spool,
 ) -> Result<Option<Message>, AllocError>
     ensures { AreUnique messages.now → AreDealt recipients.now → IfOk result
         (λ found. found ≡ with_spool spool.now
-        (map (λ e. joined customer.now (recipients_of recipients.now) e.0 e.1)
+        (map (λ e. joined customer.now (recipients_of recipients.now) (holds_of holds.now) e.0 e.1)
         (rows_with customer.now messages.now))) }
 {
     let serials = sorted_having(alloc, messages, customer, spool)?;
     match first_of(serials.as_slice()) {
         None => Ok(None),
         Some(serial) => {
-            let found = message_in(alloc, messages, recipients, customer, serial)?;
+            let found = message_in(alloc, messages, recipients, holds, customer, serial)?;
             Ok(found)
         }
     }

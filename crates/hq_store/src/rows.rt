@@ -3,13 +3,13 @@
 ghost use Rattle.std.specs.Prelude.{◌≡◌, not, option_map};
 ghost use Rattle.std.specs.Ordering.{nat_cmp, eq_by_cmp};
 ghost use Rattle.hq_store.specs.Tables.{text_cmp, line_cmp};
-ghost use Rattle.hq_store.specs.Lookups.{is_head, is_message, is_recipient, is_past, has_spool, is_line, is_line_past, is_mark, is_notice, is_notice_past, is_kept_notice};
+ghost use Rattle.hq_store.specs.Lookups.{is_head, is_message, is_recipient, is_hold, is_past, has_spool, is_line, is_line_past, is_mark, is_notice, is_notice_past, is_kept_notice};
 
 use crate::account::Account;
 use crate::mark::Mark;
 use crate::notice::Notice;
 use hq_access::{Class, Line, Pattern};
-use hq_envelope::{Label, Moment, Name, Sender, Serial, Spool, TryCopy};
+use hq_envelope::{Label, Moment, Name, Sender, Serial, Spool, Text, TryCopy};
 use hq_queue::{Pending, QueueState};
 use std::alloc::{AllocError, Global};
 use std::cmp::Ordering;
@@ -43,6 +43,14 @@ pub(crate) struct RecipientRow {
     pub(crate) serial: Serial,
     pub(crate) place: u64,
     pub(crate) pending: Pending,
+}
+
+/// A row of holds: the reason of a message on hold.
+#[derive(Drop)]
+pub(crate) struct HoldRow {
+    pub(crate) customer: Name,
+    pub(crate) serial: Serial,
+    pub(crate) reason: Text,
 }
 
 /// A row of lines.
@@ -151,6 +159,27 @@ impl RecipientRow {
     /// Whether it is a recipient of another message.
     pub(crate) fn is_other(&self, customer: &Name, serial: Serial) -> bool
         ensures { result ≡ not (is_recipient customer.now serial self.now) }
+    {
+        !self.is_at(customer, serial)
+    }
+}
+
+impl HoldRow {
+    /// Whether it is of the customer's message of this serial.
+    #[tactic(auto, unfolding(crate::specs::Lookups::is_hold))]
+    pub(crate) fn is_at(&self, customer: &Name, serial: Serial) -> bool
+        ensures { result ≡ is_hold customer.now serial self.now }
+    {
+        customer
+            .as_str()
+            .cmp(self.customer.as_str())
+            .then(serial.get().cmp(&self.serial.get()))
+            .is_eq()
+    }
+
+    /// Whether it is of another message.
+    pub(crate) fn is_other(&self, customer: &Name, serial: Serial) -> bool
+        ensures { result ≡ not (is_hold customer.now serial self.now) }
     {
         !self.is_at(customer, serial)
     }
@@ -305,6 +334,18 @@ impl TryCopy for RecipientRow {
             serial: self.serial,
             place: self.place,
             pending,
+        })
+    }
+}
+
+impl TryCopy for HoldRow {
+    fn copy(&self, alloc: Global) -> Result<HoldRow, AllocError> {
+        let customer = self.customer.copy(alloc)?;
+        let reason = self.reason.copy(alloc)?;
+        Ok(HoldRow {
+            customer,
+            serial: self.serial,
+            reason,
         })
     }
 }

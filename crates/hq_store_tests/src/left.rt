@@ -1,6 +1,6 @@
 //! A slow plain model of one customer's messages: what steps leave, and whether a message that was
 //! found is the one that they leave. A step is a line: customer, serial, and for a put spool name,
-//! size and recipients.
+//! size, the reason of a hold or `-`, and recipients.
 
 use hq_queue::{Counts, Message, Pending};
 use std::alloc::{AllocError, Global};
@@ -92,12 +92,21 @@ fn are_recipients(pending: &[Pending], mut addresses: Split<'_, char>) -> bool {
     addresses.next().is_none()
 }
 
-/// Whether a message is the one that is told: its serial, spool name, size and recipients.
+/// Why a message is on hold; `-` where there is no reason.
+fn reason(message: &Message) -> &str {
+    match message.reason.as_str() {
+        "" => "-",
+        reason => reason,
+    }
+}
+
+/// Whether a message is the one that is told: its serial, spool name, size, reason and recipients.
 fn is_told(message: &Message, text: &str) -> bool {
     let mut words = text.split(' ');
     words.next().map(str::parse::<u64>) == Some(Ok(message.serial.get()))
         && words.next() == Some(message.spool.as_str())
         && words.next().map(str::parse::<u32>) == Some(Ok(message.size))
+        && words.next() == Some(reason(message))
         && are_recipients(message.pending.as_slice(), words)
 }
 

@@ -9,18 +9,23 @@ use std::alloc::Global;
 use std::process::Abort;
 use std::test::Fail;
 
-/// What two customers do, one step a line: customer, serial, and for a put spool name, size and
-/// recipients. A line of two words is a drop. Both have equal serials and equal spool names.
-const STEPS: [&str; 9] = [
-    "acme 3 s3 5 eve@far.example",
-    "birch 1 s1 70 dan@far.example",
-    "acme 1 s1 900 bob@far.example cat@far.example",
-    "acme 2 s2 11 fay@far.example",
-    "birch 2 s2 13 gus@far.example hal@far.example",
-    "acme 1 s1 900 cat@far.example",
+/// What two customers do, one step a line: customer, serial, and for a put spool name, size, the
+/// reason where it is on hold or else `-`, and recipients. A line of two words is a drop. Both have
+/// equal serials and equal spool names. The first message of acme is released, and that of birch
+/// is not; a hold gets another reason; one that was on hold is dropped.
+const STEPS: [&str; 12] = [
+    "acme 3 s3 5 ask-eve eve@far.example",
+    "birch 1 s1 70 ask-dan dan@far.example",
+    "acme 1 s1 900 ask-bob bob@far.example cat@far.example",
+    "acme 2 s2 11 - fay@far.example",
+    "birch 2 s2 13 - gus@far.example hal@far.example",
+    "acme 1 s1 900 - cat@far.example",
+    "acme 2 s2 11 ask-fay fay@far.example",
+    "acme 2 s2 11 ask-gus fay@far.example",
     "acme 3",
     "birch 9",
-    "acme 4 s3 1 eve@far.example",
+    "acme 3 s3 5 - eve@far.example",
+    "acme 4 s4 1 ask-all eve@far.example",
 ];
 
 /// The moment at which the messages of these tests were queued: 2026-01-01T00:00:00Z.
@@ -65,25 +70,35 @@ fn recipient(alloc: Global, address: &str) -> Result<Pending, Fail> {
     })
 }
 
-/// The recipients of a step, from its fifth word on.
+/// The recipients of a step, from its sixth word on.
 fn pending(alloc: Global, step: &str) -> Result<Vec<Pending>, Fail> {
     let mut pending = Vec::new(alloc);
-    for address in step.split(' ').skip(4) {
+    for address in step.split(' ').skip(5) {
         pending.push(recipient(alloc, address)?)?;
     }
     Ok(pending)
 }
 
+/// Whether a step puts a message on hold, and why.
+fn reason(alloc: Global, step: &str) -> Result<(QueueState, Text), Fail> {
+    match word(step, 4) {
+        "-" => Ok((QueueState::Deferred, Text::empty(alloc))),
+        reason => Ok((QueueState::Hold, Text::parse(alloc, reason)?)),
+    }
+}
+
 /// The message that a step puts.
 fn message(alloc: Global, step: &str, serial: Serial) -> Result<Message, Fail> {
     let pending = pending(alloc, step)?;
+    let (state, reason) = reason(alloc, step)?;
     Ok(Message {
         serial,
         sender: Sender::parse(alloc, "ann@a.example")?,
         spool: Spool::parse(alloc, word(step, 2))?,
         size: word(step, 3).parse::<u32>()?,
         arrival: moment(ARRIVAL)?,
-        state: QueueState::Hold,
+        state,
+        reason,
         next_try: moment(NEXT_TRY)?,
         attempts: 2,
         warned: true,
@@ -249,8 +264,8 @@ const OPENING_HEAD: Head = Head {
 
 /// The messages that are put at once, behind a head.
 const PUTS: [&str; 2] = [
-    "acme 1 s1 900 bob@far.example cat@far.example",
-    "acme 2 s2 11 fay@far.example",
+    "acme 1 s1 900 ask-bob bob@far.example cat@far.example",
+    "acme 2 s2 11 - fay@far.example",
 ];
 
 /// A head and two messages, as one list of changes.
@@ -294,6 +309,7 @@ fn expect_whole(rt: &impl Abort, message: &Message) {
             message.arrival.get(),
             message.next_try.get(),
             message.state,
+            message.reason.as_str(),
             message.attempts,
             message.warned,
         ),
@@ -302,6 +318,7 @@ fn expect_whole(rt: &impl Abort, message: &Message) {
             ARRIVAL,
             NEXT_TRY,
             QueueState::Hold,
+            "ask-bob",
             2,
             true
         )
@@ -311,7 +328,11 @@ fn expect_whole(rt: &impl Abort, message: &Message) {
 #[test]
 fn every_part_comes_back(rt: HostRuntime) -> Result<(), Fail> {
     let mut shelf = ListShelf::new(rt.alloc());
-    apply(rt.alloc(), &mut shelf, "acme 1 s1 900 bob@far.example")?;
+    apply(
+        rt.alloc(),
+        &mut shelf,
+        "acme 1 s1 900 ask-bob bob@far.example",
+    )?;
     let acme = Name::parse(rt.alloc(), "acme")?;
     let found = found_at(&mut shelf, &acme, serial(1)?)?;
     let message = found.ok_or("the message is missing")?;

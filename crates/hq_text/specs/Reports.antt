@@ -37,6 +37,18 @@ left_columns m = serial_text m.serial ++ mark m.state ++ codes " " ++ right_in 1
 unfoldable pub message_line : Message → List ℕ
 message_line m = left_columns m ++ codes " " ++ date_text m.arrival ++ codes " " ++ shown_sender m.sender
 
+-- why a message is on hold
+abbrev pub hold_line : List ℕ → List ℕ
+hold_line reason = codes "    (hold: " ++ reason ++ codes ")"
+
+-- only a message on hold has one
+unfoldable pub hold_lines : Message → List (List ℕ)
+hold_lines m = if is_on_hold m.state then hold_line m.reason ∷ [] else []
+
+-- what stands above the recipients
+unfoldable pub top_lines : Message → List (List ℕ)
+top_lines m = message_line m ∷ hold_lines m
+
 -- why a recipient was deferred
 abbrev pub reason_line : List ℕ → List ℕ → List ℕ
 reason_line status text = codes "    (" ++ status ++ said text ++ codes ")"
@@ -50,7 +62,7 @@ recipient_lines p = reason_lines p.status p.text ++ (codes "    " ++ p.address) 
 
 -- a message with its recipients
 unfoldable pub message_lines : Message → List (List ℕ)
-message_lines m = message_line m ∷ flat_map recipient_lines m.pending
+message_lines m = top_lines m ++ flat_map recipient_lines m.pending
 
 -- how many messages there are, their bytes together, and how many are on hold
 unfoldable pub summary : ℕ → ℕ → ℕ → List ℕ

@@ -84,6 +84,39 @@ fn message_line(alloc: Global, message: &Message) -> Result<String, AllocError>
     spaced(alloc, columns.as_str(), date.as_str(), sender)
 }
 
+/// Adds the line of a reason to be on hold.
+fn put_hold_line(text: &mut String, reason: &str) -> Result<(), AllocError>
+    ensures { OnOk result (string_bytes text.new
+        ≡ string_bytes text.old ++ (reports.hold_line reason.now ++ lf)) }
+{
+    write!(text, "    (hold: {reason})\n")
+}
+
+/// Adds why a message is on hold, where it is.
+fn put_hold(text: &mut String, message: &Message) -> Result<(), AllocError>
+    ensures { OnOk result (string_bytes text.new
+        ≡ string_bytes text.old ++ text_of lf (reports.hold_lines message.now)) }
+{
+    match message.state {
+        QueueState::Hold => {
+            put_hold_line(text, message.reason.as_str())?;
+            Ok(())
+        }
+        QueueState::Incoming | QueueState::Deferred => Ok(()),
+    }
+}
+
+/// The line of a message, and why it is on hold.
+fn top_text(alloc: Global, message: &Message) -> Result<String, AllocError>
+    ensures { IfOk result (λ text. string_bytes text
+        ≡ text_of lf (reports.top_lines message.now)) }
+{
+    let mut text = message_line(alloc, message)?;
+    text.push_str("\n")?;
+    put_hold(&mut text, message)?;
+    Ok(text)
+}
+
 /// Adds a status, and what the remote server said.
 fn put_status(text: &mut String, status: &str, said: &str) -> Result<(), AllocError>
     ensures { OnOk result (string_bytes text.new
@@ -133,8 +166,7 @@ fn message_text(alloc: Global, message: &Message) -> Result<String, AllocError>
     ensures { IfOk result (λ text. string_bytes text
         ≡ text_of lf (reports.message_lines message.now)) }
 {
-    let mut text = message_line(alloc, message)?;
-    text.push_str("\n")?;
+    let mut text = top_text(alloc, message)?;
     for pending in message.pending.as_slice() {
         put_recipient(&mut text, pending)?;
     }

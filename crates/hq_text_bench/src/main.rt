@@ -74,6 +74,7 @@ fn message(alloc: Global, number: u64) -> Result<Message, BenchError> {
         size: 900,
         arrival,
         state: QueueState::Deferred,
+        reason: Text::empty(alloc),
         next_try: arrival,
         attempts: 1,
         warned: false,

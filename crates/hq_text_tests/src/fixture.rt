@@ -42,6 +42,7 @@ pub fn message(alloc: Global, serial: u64, recipients: &[Recipient]) -> Result<M
         size: 900,
         arrival,
         state: QueueState::Incoming,
+        reason: Text::empty(alloc),
         next_try: arrival,
         attempts: 0,
         warned: false,

@@ -2,7 +2,7 @@
 //! are the product's worked examples, and its columns written out.
 
 use crate::fixture::message;
-use hq_envelope::Sender;
+use hq_envelope::{Sender, Text};
 use hq_queue::{Message, QueueState};
 use hq_text::{Report, report_text};
 use std::fmt::Write;
@@ -34,13 +34,42 @@ fn of_no_message(rt: HostRuntime) -> Result<(), Fail> {
 fn of_a_message_on_hold(rt: HostRuntime) -> Result<(), Fail> {
     let mut held = message(rt.alloc(), 1, &[("bob@far.example", "", "")])?;
     held.state = QueueState::Hold;
+    held.reason = Text::customer_hold(rt.alloc())?;
     expect_report(
         &rt,
         &[held],
         "Queue ID          Size Arrival                         Sender/Recipient\n\
          0000000001!        900 Thu, 01 Jan 2026 00:00:00 +0000 ann@a.example\n    \
+             (hold: held by customer)\n    \
              bob@far.example\n\
          -- 1 queued, 900 bytes, 1 on hold\n",
+    )
+}
+
+/// The reason of a hold stands above what was said of the recipients, and only where a message is
+/// on hold.
+#[test]
+fn of_a_message_on_hold_that_was_tried(rt: HostRuntime) -> Result<(), Fail> {
+    let recipients = &[
+        ("q@far.example", "4.2.0", "mailbox busy"),
+        ("r@far.example", "", ""),
+    ];
+    let mut held = message(rt.alloc(), 1, recipients)?;
+    held.state = QueueState::Hold;
+    held.reason = Text::parse(rt.alloc(), "check (with) sales")?;
+    let other = message(rt.alloc(), 2, &[("bob@far.example", "", "")])?;
+    expect_report(
+        &rt,
+        &[held, other],
+        "Queue ID          Size Arrival                         Sender/Recipient\n\
+         0000000001!        900 Thu, 01 Jan 2026 00:00:00 +0000 ann@a.example\n    \
+             (hold: check (with) sales)\n    \
+             (4.2.0 mailbox busy)\n    \
+             q@far.example\n    \
+             r@far.example\n\
+         0000000002         900 Thu, 01 Jan 2026 00:00:00 +0000 ann@a.example\n    \
+             bob@far.example\n\
+         -- 2 queued, 1800 bytes, 1 on hold\n",
     )
 }
 

@@ -1,5 +1,5 @@
 -- Answers as one line of plain text.
-use Rattle.std.specs.Prelude.{ℕ, Bool, true, false, List, ◌++◌, codes, decimal, flat_map, Option, Some, None}
+use Rattle.std.specs.Prelude.{ℕ, ◌==◌, Bool, true, false, List, [], ◌++◌, length, codes, decimal, flat_map, Option, Some, None, if◌then◌else◌}
 use Rattle.hq_base.specs.Refusals.{refusal_shown}
 use Rattle.hq_envelope.specs.Senders.{sender_text}
 use Rattle.hq_access.specs.Actions.{action_text}
@@ -50,13 +50,17 @@ address recipient = word recipient.address
 abbrev pub serial : Message → List ℕ
 serial m = number m.serial
 
+-- why it is on hold; nothing where there is no reason
+abbrev pub held : List ℕ → List ℕ
+held reason = if length reason == 0 then [] else word (codes "(" ++ reason ++ codes ")")
+
 -- arrival, next try, attempts, and whether the sender was warned
 abbrev pub times : List ℕ → Message → List ℕ
 times front m = front ++ number m.arrival ++ number m.next_try ++ number m.attempts ++ word (warned_word m.warned)
 
--- a message whole, behind a word: serial, state, spool name, size, times, sender, recipients
+-- a message whole, behind a word: serial, state, reason, spool name, size, times, sender, recipients
 abbrev pub message : List ℕ → Message → List ℕ
-message front m = times (front ++ number m.serial ++ word (state_word m.state) ++ word m.spool ++ number m.size) m ++ word (sender_text m.sender) ++ flat_map address m.pending
+message front m = times (front ++ number m.serial ++ word (state_word m.state) ++ held m.reason ++ word m.spool ++ number m.size) m ++ word (sender_text m.sender) ++ flat_map address m.pending
 
 -- a page is told by the serials alone
 abbrev pub list : List Message → Bool → List ℕ

@@ -80,6 +80,17 @@ pub(crate) fn push_serials(
     Ok(())
 }
 
+/// Adds why a message is on hold, where there is a reason.
+fn push_reason(alloc: Global, text: &mut String, reason: &str) -> Result<(), AllocError>
+    ensures { OnOk result (string_bytes text.new ≡ string_bytes text.old ++ texts.held reason.now) }
+{
+    if reason.is_empty() {
+        return Ok(());
+    }
+    let word = format!(in alloc; "({reason})")?;
+    push_word(text, word.as_str())
+}
+
 /// Adds when a message came and may be tried next.
 fn push_times(alloc: Global, text: &mut String, message: &Message) -> Result<(), AllocError>
     ensures { OnOk result
@@ -98,6 +109,7 @@ pub fn message_text(alloc: Global, front: &str, message: &Message) -> Result<Str
     let mut text = String::from_str(alloc, front)?;
     push_number(alloc, &mut text, message.serial.get())?;
     push_word(&mut text, state_word(message.state))?;
+    push_reason(alloc, &mut text, message.reason.as_str())?;
     push_word(&mut text, message.spool.as_str())?;
     push_number(alloc, &mut text, u64::from(message.size))?;
     push_times(alloc, &mut text, message)?;

@@ -263,6 +263,21 @@ fn a_key_stays_out_of_logs(rt: HostRuntime) -> Result<(), TestFail> {
     Ok(())
 }
 
+/// The texts that no caller gives.
+#[test]
+fn fixed_texts(rt: HostRuntime) -> Result<(), TestFail> {
+    let alloc = rt.alloc();
+    for (made, want) in [
+        (Text::customer_hold(alloc), "held by customer"),
+        (Text::table_hold(alloc), "held by access table"),
+        (Text::earlier_hold(alloc), "held before version 2"),
+        (Text::try_later(alloc), "Try again later"),
+    ] {
+        assert_eq!(rt; made?.as_str(), want);
+    }
+    Ok(())
+}
+
 #[test]
 fn a_cleared_text(rt: HostRuntime) -> Result<(), TestFail> {
     let mut text = Text::parse(rt.alloc(), "mailbox busy")?;

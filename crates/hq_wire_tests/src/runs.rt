@@ -26,8 +26,9 @@ const HOLD_ACME: &str = "POST /v1/hold/0000000001 acmekey000000001";
 const LIST_BIRCH: &str = "GET /v1/messages birchkey00000001";
 
 const LISTED_BIRCH: &str =
-    "200 {\"messages\":[{\"arrival\":1767225600,\"id\":\"0000000001\",\"recipients\":1,\
-     \"sender\":\"ann@a.example\",\"size\":900,\"state\":\"incoming\"}],\"more\":false}";
+    "200 {\"messages\":[{\"arrival\":1767225600,\"id\":\"0000000001\",\"reason\":\"\",\
+     \"recipients\":1,\"sender\":\"ann@a.example\",\"size\":900,\"state\":\"incoming\"}],\
+     \"more\":false}";
 
 /// The replies of one run, in this room.
 fn replies_in<A: Allocator>(

@@ -14,6 +14,7 @@ use Rattle.hq_words.specs.declared.options.Batch.{Batch}
 use Rattle.hq_words.specs.declared.options.Queue.{Queue}
 use Rattle.hq_words.specs.declared.options.Import.{Import}
 use Rattle.hq_words.specs.declared.options.Sweep.{Sweep}
+use Rattle.hq_words.specs.declared.options.Migrate.{Migrate}
 use Rattle.hq_words.specs.declared.words.Asked.{Asked}
 use Rattle.hq_words.specs.declared.words.Asked.TheVariants as asked
 use Rattle.hq_words.specs.declared.words.Words.{Words}
@@ -56,12 +57,16 @@ pub record SweepGiven : Type 0 where
   pub customer : Text
   pub at : Text
 
+pub record MigrateGiven : Type 0 where
+  pub store : Text
+
 pub data Given : Type 0 where
   OfServe : ServeGiven → Given
   OfBatch : BatchGiven → Given
   OfQueue : QueueGiven → Given
   OfImport : ImportGiven → Given
   OfSweep : SweepGiven → Given
+  OfMigrate : MigrateGiven → Given
 
 infixl 10 ◌>>=◌
 -- a value, and what is made of it
@@ -122,6 +127,11 @@ sweep_in rows = do
   at ← first_of (codes "at") rows
   Some (record { directory = directory; host = host; store = store; customer = customer; at = at })
 
+abbrev pub migrate_in : List Row → Option MigrateGiven
+migrate_in rows = do
+  store ← first_of (codes "store") rows
+  Some (record { store = store })
+
 -- what a word is given
 abbrev pub given_in : Text → List Row → Option Given
 given_in word rows =
@@ -130,6 +140,7 @@ given_in word rows =
     else if bytes_eq word (codes "queue") then option_map OfQueue (queue_in rows)
     else if bytes_eq word (codes "import") then option_map OfImport (import_in rows)
     else if bytes_eq word (codes "sweep") then option_map OfSweep (sweep_in rows)
+    else if bytes_eq word (codes "migrate") then option_map OfMigrate (migrate_in rows)
     else None
 
 -- what words give
@@ -179,6 +190,9 @@ import_of i = record {
   label = i.label.now;
   file = i.file.now;
 }
+
+abbrev pub migrate_of : Migrate → MigrateGiven
+migrate_of m = record { store = m.store.now }
 
 -- a sweep as it was written, but for its moment
 abbrev pub sweep_at : Text → Sweep → SweepGiven
@@ -237,6 +251,7 @@ Asks (Some (OfQueue given)) (Some (asked.Queue q)) = given ≡ queue_of q
 Asks (Some (OfImport given)) (Some (asked.Import i)) = given ≡ import_of i
 Asks (Some (OfSweep given)) (Some (asked.Sweep s)) = SweepIs (Some given) (Some s)
 Asks (Some (OfSweep given)) None = SweepIs (Some given) None
+Asks (Some (OfMigrate given)) (Some (asked.Migrate m)) = given ≡ migrate_of m
 Asks None None = ⊤
 Asks _ _ = ⊥
 

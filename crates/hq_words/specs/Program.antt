@@ -1,4 +1,4 @@
--- The words that the program takes, as `clap` has commands: five words, with options that take one value each. What `clap`
+-- The words that the program takes, as `clap` has commands: six words, with options that take one value each. What `clap`
 -- makes of words is said by its own definitions.
 use Rattle.std.specs.Prelude.{Bool, true, false, ℕ, List, [], ◌∷◌, codes, Some}
 use Rattle.clap.specs.Simple.{App, Shape, new_app, new_rule, new_shape, with_subcommand}
@@ -52,10 +52,13 @@ abbrev pub sweep_shape : Shape
 sweep_shape = word_shape (codes "sweep")
     (needed (codes "directory") ∷ needed (codes "host") ∷ needed (codes "store") ∷ needed (codes "customer") ∷ moment_rule ∷ [])
 
+abbrev pub migrate_shape : Shape
+migrate_shape = word_shape (codes "migrate") (needed (codes "store") ∷ [])
+
 -- the program and its words
 abbrev pub with_words : App
-with_words = with_subcommand (with_subcommand (with_subcommand (with_subcommand (with_subcommand (new_app (codes "hq_main"))
-    serve_shape) batch_shape) queue_shape) import_shape) sweep_shape
+with_words = with_subcommand (with_subcommand (with_subcommand (with_subcommand (with_subcommand (with_subcommand
+    (new_app (codes "hq_main")) serve_shape) batch_shape) queue_shape) import_shape) sweep_shape) migrate_shape
 
 -- they stand behind the program's name, and one of them is there or help is asked for
 abbrev pub program : App

@@ -5,7 +5,7 @@ ghost use Rattle.clap.specs.Simple.{app_of, shape_of};
 ghost use Rattle.clap.specs.Walk.{rule_of};
 ghost use Rattle.clap.specs.declared.builder.command.Command.TheViews.{out-Command};
 ghost use Rattle.hq_words.specs.Program.{option_rule, default_rule, number_rule, moment_rule};
-ghost use Rattle.hq_words.specs.Program.{serve_shape, batch_shape, queue_shape, import_shape, sweep_shape, program};
+ghost use Rattle.hq_words.specs.Program.{serve_shape, batch_shape, queue_shape, import_shape, sweep_shape, migrate_shape, program};
 
 use crate::texts::*;
 use clap::{Arg, Command, value_parser};
@@ -155,6 +155,17 @@ fn sweep<'w>(alloc: Global) -> Result<Command<'w>, AllocError>
         .arg(moment(alloc))
 }
 
+/// The word `migrate`, with its option.
+fn migrate<'w>(alloc: Global) -> Result<Command<'w>, AllocError>
+    ensures shape { IfOk result (λ c. shape_of c ≡ migrate_shape) }
+    ensures local { IfOk result (λ c. (out-Command c).has_globals ≡ false) }
+{
+    Command::new(alloc, "migrate")
+        .about(MIGRATE)
+        .after_help(AFTER_MIGRATE)
+        .arg(option(alloc, "store", "FILE", OLD_STORE, true))
+}
+
 /// The program, with its words.
 pub(crate) fn program<'w>(alloc: Global) -> Result<Command<'w>, AllocError>
     ensures { IfOk result (λ c. app_of c ≡ program) }
@@ -164,6 +175,7 @@ pub(crate) fn program<'w>(alloc: Global) -> Result<Command<'w>, AllocError>
     let queue = queue(alloc)?;
     let import = import(alloc)?;
     let sweep = sweep(alloc)?;
+    let migrate = migrate(alloc)?;
     Command::new(alloc, NAME)
         .bin_name(NAME)?
         .override_usage(USAGE)
@@ -176,5 +188,6 @@ pub(crate) fn program<'w>(alloc: Global) -> Result<Command<'w>, AllocError>
         .subcommand(batch)?
         .subcommand(queue)?
         .subcommand(import)?
-        .subcommand(sweep)
+        .subcommand(sweep)?
+        .subcommand(migrate)
 }

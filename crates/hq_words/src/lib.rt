@@ -7,5 +7,5 @@ mod options;
 mod texts;
 mod words;
 
-pub use options::{Batch, Import, Queue, Serve, Sweep};
+pub use options::{Batch, Import, Migrate, Queue, Serve, Sweep};
 pub use words::{Asked, Words, read_words};

@@ -3,8 +3,9 @@
 ghost use Rattle.std.specs.Prelude.{◌≡◌, option_map};
 ghost use Rattle.clap.specs.Matches.{found_of};
 ghost use Rattle.clap.specs.Walk.{first_of, rows_of};
-ghost use Rattle.hq_words.specs.Asked.{IsMoment, IsNumber, given_of, import_of, queue_of};
-ghost use Rattle.hq_words.specs.Asked.{serve_in, batch_in, queue_in, import_in, sweep_in, ServeIs, SweepIs};
+ghost use Rattle.hq_words.specs.Asked.{IsMoment, IsNumber, given_of, import_of, migrate_of, queue_of};
+ghost use Rattle.hq_words.specs.Asked.{serve_in, batch_in, queue_in, import_in, sweep_in, migrate_in};
+ghost use Rattle.hq_words.specs.Asked.{ServeIs, SweepIs};
 
 use clap::ArgMatches;
 use hq_base::Moment;
@@ -83,6 +84,13 @@ pub struct Sweep<'w> {
     pub customer: &'w str,
     /// When it is swept.
     pub at: Moment,
+}
+
+/// What the word `migrate` is given, as it was written.
+#[derive(Clone, Copy, Debug, PartialEq, Eq, Drop)]
+pub struct Migrate<'w> {
+    /// The path of the store.
+    pub store: &'w str,
 }
 
 /// The first value of an option.
@@ -198,4 +206,12 @@ pub(crate) fn sweep_in<'w>(given: &ArgMatches<'w>) -> Option<Sweep<'w>>
         customer,
         at,
     })
+}
+
+/// What matches give the word `migrate`.
+pub(crate) fn migrate_in<'w>(given: &ArgMatches<'w>) -> Option<Migrate<'w>>
+    ensures { option_map migrate_of result ≡ migrate_in (rows_of (found_of given.now)) }
+{
+    let store = value(given, "store")?;
+    Some(Migrate { store })
 }

@@ -147,9 +147,29 @@ Example:
   hq_main sweep --directory customers.csv --host relay.example --store desk.db --customer acme \\
     --at 1767657600";
 
+/// What `migrate` does.
+pub(crate) const MIGRATE: &str = "Make a store of the release before one of this release";
+
+/// What it prints, what to do before, and an example of its calls.
+pub(crate) const AFTER_MIGRATE: &str = "\
+A store of the release before keeps no reasons of messages on hold, and is refused as
+`hq: 92 BadSchema` by the other commands. This one gives each message on hold the reason
+`held before version 2`, and prints how many there are: `migrated 1 on hold`. A store of this
+release stays as it is, and `migrated 0 on hold` is printed; any other file is refused as
+`hq: 92 BadSchema` and stays as it is.
+
+It is done whole or not at all. Stop the desk and copy the file before: the copy is the way back.
+
+Example:
+  hq_main migrate --store desk.db";
+
 pub(crate) const STORE: &str = "\
 The file that keeps what is done, a database of SQLite, made
 where it is missing. No default. Example: --store desk.db";
+
+pub(crate) const OLD_STORE: &str = "\
+The file that keeps what is done, a database of SQLite.
+No default. Example: --store desk.db";
 
 pub(crate) const CUSTOMER: &str = "\
 The customer's name, as the directory has it. No default.

@@ -11,7 +11,8 @@ ghost use Rattle.hq_words.specs.Program.{program};
 
 use crate::command::program;
 use crate::options::{
-    Batch, Import, Queue, Serve, Sweep, batch_in, import_in, queue_in, serve_in, sweep_in,
+    Batch, Import, Migrate, Queue, Serve, Sweep, batch_in, import_in, migrate_in, queue_in,
+    serve_in, sweep_in,
 };
 use clap::error::ErrorKind;
 use clap::{ArgMatches, Error};
@@ -33,6 +34,8 @@ pub enum Asked<'w> {
     Import(Import<'w>),
     /// `sweep`: a customer's messages that are too old given up, and late ones warned of.
     Sweep(Sweep<'w>),
+    /// `migrate`: a store of the release before made one of this release.
+    Migrate(Migrate<'w>),
 }
 
 /// What the words ask for.
@@ -64,6 +67,7 @@ fn asked_in<'w>(word: &str, given: &ArgMatches<'w>) -> Option<Asked<'w>>
             Some(sweep) => Some(Asked::Sweep(sweep)),
             None => None,
         },
+        "migrate" => Some(Asked::Migrate(migrate_in(given)?)),
         _ => None,
     }
 }

@@ -5,7 +5,7 @@ use std::alloc::{AllocError, Global};
 use std::test::Fail;
 
 /// Lines of words, parted by one space, and the values that they give, in the order of the help.
-const GIVEN: [(&str, &str); 16] = [
+const GIVEN: [(&str, &str); 18] = [
     (
         "serve --directory f --host h --relay-key k",
         "serve f h k - 127.0.0.1:8025 1000000 30 30",
@@ -63,10 +63,12 @@ const GIVEN: [(&str, &str); 16] = [
         "sweep --directory f --host h --store s --customer c --at +0000000000007",
         "sweep f h s c 7",
     ),
+    ("migrate --store s", "migrate s"),
+    ("migrate --store=", "migrate "),
 ];
 
 /// Lines of words that ask for help.
-const HELP: [&str; 11] = [
+const HELP: [&str; 13] = [
     "--help",
     "-h",
     "batch --help",
@@ -78,10 +80,12 @@ const HELP: [&str; 11] = [
     "--help serve",
     "serve --help",
     "serve --count 1 -h",
+    "migrate --help",
+    "--help migrate",
 ];
 
 /// Lines of words that are not taken.
-const REFUSED: [&str; 37] = [
+const REFUSED: [&str; 41] = [
     "",
     "--",
     "serve",
@@ -95,6 +99,10 @@ const REFUSED: [&str; 37] = [
     "serve --directory f --host h --relay-key k --idle-timeout 0",
     "serve --directory f --host h --relay-key k --request-timeout 3601",
     "migrate",
+    "migrate --directory f",
+    "migrate --store s --customer c",
+    "migrate --store s --store s",
+    "Migrate --store s",
     "help",
     "Batch",
     "batch batch",
@@ -164,6 +172,7 @@ fn values(alloc: Global, asked: &Asked) -> Result<String, AllocError> {
             let beside = format!(in alloc; "{} {}", it.customer, it.at.get())?;
             format!(in alloc; "sweep {} {} {} {beside}", it.directory, it.host, it.store)
         }
+        Asked::Migrate(it) => format!(in alloc; "migrate {}", it.store),
     }
 }
 

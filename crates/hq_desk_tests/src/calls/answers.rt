@@ -31,7 +31,8 @@ const TWO_CUSTOMERS: &[(&str, &str)] = &[
     ),
     (
         "1 acme show 1",
-        "0 shown 1 hold s1 900 1767225600 1767225600 0 unwarned ann@a.example bob@far.example",
+        "0 shown 1 hold (held by customer) s1 900 1767225600 1767225600 0 unwarned ann@a.example \
+         bob@far.example",
     ),
     (
         "2 birch submit s2 70 <> dan@far.example eve@far.example",

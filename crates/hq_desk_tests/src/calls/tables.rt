@@ -98,6 +98,86 @@ const REDIRECTED: &[(&str, &str)] = &[
     ),
 ];
 
+/// A message that a line holds has the line's text as its reason, until it is released; one that is
+/// held by its customer has another. A hold leaves the reason of what is on hold, and a neighbour's
+/// message of the same serial has its own.
+const REASONS: &[(&str, &str)] = &[
+    (
+        "0 acme put sender a.example hold  check with sales",
+        "0 put added",
+    ),
+    (
+        "0 acme submit s1 900 ann@a.example bob@x",
+        "0 queued 1 hold (check with sales) s1 900 1767225600 1767225600 0 unwarned ann@a.example \
+         bob@x",
+    ),
+    (
+        "0 birch submit s1 900 ann@a.example bob@x",
+        "0 queued 1 incoming s1 900 1767225600 1767225600 0 unwarned ann@a.example bob@x",
+    ),
+    ("0 acme hold 1", "0 changed 0"),
+    ("0 birch hold-all", "0 changed 1"),
+    (
+        "0 acme show 1",
+        "0 shown 1 hold (check with sales) s1 900 1767225600 1767225600 0 unwarned ann@a.example \
+         bob@x",
+    ),
+    ("0 acme outcome 1 1 bob@x=4.2.0", "0 attempted 1 0 0 1"),
+    ("60 acme release 1", "0 changed 1"),
+    (
+        "60 acme show 1",
+        "0 shown 1 deferred s1 900 1767225600 1767225660 1 unwarned ann@a.example bob@x",
+    ),
+    ("60 acme put sender a.example HOLD", "0 put changed"),
+    (
+        "60 acme submit s2 9 ann@a.example bob@x",
+        "0 queued 2 hold (held by access table) s2 9 1767225660 1767225660 0 unwarned \
+         ann@a.example bob@x",
+    ),
+    ("60 acme hold-all", "0 changed 1"),
+    (
+        "60 acme show 1",
+        "0 shown 1 hold (held by customer) s1 900 1767225600 1767225660 1 unwarned ann@a.example \
+         bob@x",
+    ),
+    (
+        "60 acme show 2",
+        "0 shown 2 hold (held by access table) s2 9 1767225660 1767225660 0 unwarned \
+         ann@a.example bob@x",
+    ),
+    ("70 acme requeue 2", "0 requeued 3"),
+    (
+        "70 acme show 3",
+        "0 shown 3 incoming s2 9 1767225670 1767225670 0 unwarned ann@a.example bob@x",
+    ),
+    (
+        "70 birch show 1",
+        "0 shown 1 hold (held by customer) s1 900 1767225600 1767225600 0 unwarned ann@a.example \
+         bob@x",
+    ),
+];
+
+/// Who is put off is told with 450, beside who is rejected.
+const DEFERRED: &[(&str, &str)] = &[
+    ("0 acme put recipient x@r DEFER", "0 put added"),
+    ("0 acme put recipient y@r REJECT", "0 put added"),
+    (
+        "0 acme submit s1 900 ann@a.example x@r y@r",
+        "0 rejected x@r 450 Try again later y@r 554 Access denied",
+    ),
+    ("0 acme put recipient x@r DEFER at noon", "0 put changed"),
+    (
+        "0 acme submit s1 900 ann@a.example x@r bob@x",
+        "0 queued 1 incoming s1 900 1767225600 1767225600 0 unwarned ann@a.example bob@x \
+         x@r 450 at noon",
+    ),
+    ("0 acme put sender a.example DEFER", "0 put added"),
+    (
+        "0 acme submit s2 900 ann@a.example y@r bob@x",
+        "0 rejected ann@a.example 450 Try again later",
+    ),
+];
+
 /// An import counts its rows by the lines before it, and is done once for its label; a bad row, a
 /// quota passed and a label used leave all as it was.
 const IMPORTED: &[(&str, &str)] = &[
@@ -146,7 +226,7 @@ const IMPORTED: &[(&str, &str)] = &[
 
 #[test]
 fn tables(rt: HostRuntime) -> Result<(), Fail> {
-    for rows in [COUNTED, REDIRECTED, IMPORTED] {
+    for rows in [COUNTED, REDIRECTED, REASONS, DEFERRED, IMPORTED] {
         expect_answers(&rt, ListShelf::new(rt.alloc()), rows)?;
     }
     Ok(())

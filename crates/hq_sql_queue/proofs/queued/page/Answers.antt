@@ -2,7 +2,8 @@ use Rattle.std.proofs.Common.{List, map, length, refl, ap, sym, subst, ◌∙◌
 use Rattle.sqlite.specs.Held.{state}
 use Rattle.hq_queue.specs.declared.message.Message.{Message}
 use Rattle.hq_sql.specs.Tables.{tables_in}
-use Rattle.hq_sql_queue.specs.Dealt.{Rise, serials_of, with_dealt}
+use Rattle.hq_sql_queue.specs.Dealt.{Rise, serials_of}
+use Rattle.hq_sql_queue.specs.Giving.{with_parts}
 use Rattle.hq_sql_queue.proofs.Dealt.{none_dealt, page_rises, spans_same}
 use Rattle.hq_sql_queue.proofs.OnQueued.{page_whole, finds_both, first_found}
 use Rattle.hq_sql_queue.proofs.queued.page.Goals as goal
@@ -11,19 +12,19 @@ pub returns-in-None-clause-found : goal.returns-in-None-clause-found
 returns-in-None-clause-found g c clean desk =
     let t = tables_in (state g.S.Store c.args.conn.now).now in
     let none = ap length (sym c.as_slice.ensures.value) ∙ c.in-None.ensures.none refl in
-    c.from_vec.ensures ∙ none_dealt (with_dealt c.args.customer.now t) c.in_ok-page.page.items none ∙ ap (map (with_dealt c.args.customer.now t)) (c.in_ok-page.ensures.found clean desk)
+    c.from_vec.ensures ∙ none_dealt (with_parts c.args.customer.now t) c.in_ok-page.page.items none ∙ ap (map (with_parts c.args.customer.now t)) (c.in_ok-page.ensures.found clean desk)
     ∙ page_whole c.args.customer.now t c.args.after c.args.limit
 
-pub returns-in_ok-dealt-in-Some-clause-found : goal.returns-in_ok-dealt-in-Some-clause-found
-returns-in_ok-dealt-in-Some-clause-found g c clean desk =
+pub returns-in_ok-filled-in-Some-clause-found : goal.returns-in_ok-filled-in-Some-clause-found
+returns-in_ok-filled-in-Some-clause-found g c clean desk =
     let old = state g.S.Store c.args.conn.now in
     let between = state g.S.Store c.page.new.conn in
-    let new = state g.S.Store c.all.new.conn in
+    let new = state g.S.Store c.filled.new.conn in
     let t = tables_in old.now in
     let first = c.in_ok-page.ensures.kept in
-    let second = c.in_ok-dealt-in-Some.ensures.kept in
+    let second = c.in_ok-filled-in-Some.ensures.kept in
     let bare = first_found old between new _ _ first second c.in_ok-page.ensures.found clean desk in
     let rise = subst (λ (page : List Message). Rise (serials_of page)) (sym bare) (page_rises c.args.customer.now c.args.after c.args.limit t) in
     c.from_vec-in-Some.ensures
-    ∙ finds_both old between new _ _ first second (λ t. map (with_dealt c.args.customer.now t) c.in_ok-page.page.items) (λ dealt. dealt.items) (c.in_ok-dealt-in-Some.ensures.found (spans_same _ _ _ _ c.as_slice.ensures.value c.in-Some.ensures.some) rise) clean desk
-    ∙ ap (map (with_dealt c.args.customer.now t)) bare ∙ page_whole c.args.customer.now t c.args.after c.args.limit
+    ∙ finds_both old between new _ _ first second (λ t. map (with_parts c.args.customer.now t) c.in_ok-page.page.items) (λ filled. filled.items) (c.in_ok-filled-in-Some.ensures.found (spans_same _ _ _ _ c.as_slice.ensures.value c.in-Some.ensures.some) rise) clean desk
+    ∙ ap (map (with_parts c.args.customer.now t)) bare ∙ page_whole c.args.customer.now t c.args.after c.args.limit

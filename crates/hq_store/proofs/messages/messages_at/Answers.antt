@@ -7,7 +7,7 @@ use Rattle.hq_store.proofs.messages.messages_at.Goals as goal
 
 pub loop-serial-preserved : goal.loop-serial-preserved
 loop-serial-preserved c all =
-    let at = message_at c.args.customer.now c.args.messages.now c.args.recipients.now in
+    let at = message_at c.args.customer.now c.args.messages.now c.args.recipients.now c.args.holds.now in
     let xs = c.args.serials.now in
     let k = c.loop-serial.serial-index in
     let x = c.serial-item.result in

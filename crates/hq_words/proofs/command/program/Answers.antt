@@ -15,4 +15,5 @@ returns c =
     let two = c.in_ok-subcommand-2.ensures.shape c.in_ok-batch.ensures.local ∙ ap₂ with_subcommand one c.in_ok-batch.ensures.shape in
     let three = c.in_ok-subcommand-3.ensures.shape c.in_ok-queue.ensures.local ∙ ap₂ with_subcommand two c.in_ok-queue.ensures.shape in
     let four = c.in_ok-subcommand-4.ensures.shape c.in_ok-import.ensures.local ∙ ap₂ with_subcommand three c.in_ok-import.ensures.shape in
-    IfOk-weaker c.subcommand-5.result _ _ (λ made added. added.shape c.in_ok-sweep.ensures.local ∙ ap₂ with_subcommand four c.in_ok-sweep.ensures.shape) c.subcommand-5.ensures
+    let five = c.in_ok-subcommand-5.ensures.shape c.in_ok-sweep.ensures.local ∙ ap₂ with_subcommand four c.in_ok-sweep.ensures.shape in
+    IfOk-weaker c.subcommand-6.result _ _ (λ made added. added.shape c.in_ok-migrate.ensures.local ∙ ap₂ with_subcommand five c.in_ok-migrate.ensures.shape) c.subcommand-6.ensures

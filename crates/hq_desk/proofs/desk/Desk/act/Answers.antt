@@ -2,7 +2,7 @@ use Rattle.std.proofs.Common.{Err, sym, subst, ap, ◌∙◌}
 use Rattle.std.proofs.lemmas.Result.{err_from_is_err_and}
 use Rattle.hq_store.specs.Sound.{Sound}
 use Rattle.hq_store.specs.Tables.{write_all}
-use Rattle.hq_desk.proofs.Reading.{changes_on}
+use Rattle.hq_desk.proofs.Reading.{changes_on, no_memory_on}
 use Rattle.hq_calls.proofs.Soundness.{shared_sound}
 use Rattle.hq_desk.proofs.desk.Desk.act.Goals as goal
 
@@ -23,3 +23,9 @@ returns-in_err-apply-clause-kept g c =
     let fault = err_from_is_err_and c.from_residual-in_err-apply.result c.from_residual-in_err-apply.ensures.1 in
     let both = changes_on g.S.Shelf.sight _ _ _ _ c.in_err-apply.field-0.0 c.from_residual-in_err-apply.result (fault.1 ∙ ap Err fault.2) c.in_ok-decision.ensures.kept c.in_err-apply.ensures.kept in
     record { none = both.none; ours = both.ours; quiet = both.quiet; tally = both.tally; cause = both.cause }
+
+pub returns-in_err-bytes-clause-kept : goal.returns-in_err-bytes-clause-kept
+returns-in_err-bytes-clause-kept g c =
+    let fault = err_from_is_err_and c.from_residual-in_err-bytes.result c.from_residual-in_err-bytes.ensures.1 in
+    let kept = no_memory_on g.S.Shelf.sight _ _ _ c.from_residual-in_err-bytes.result (fault.1 ∙ ap Err fault.2) c.in_ok-decision.ensures.kept in
+    record { none = kept.none; ours = kept.ours; quiet = kept.quiet; tally = kept.tally; cause = kept.cause }

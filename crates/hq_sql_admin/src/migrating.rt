@@ -1,0 +1,41 @@
+//! The word `migrate`: a store of the release before made one of this release.
+
+ghost use Rattle.hq_sql_admin.specs.Migrations.{IsTold, MigrateEnds};
+
+use hq_desk::Rendered;
+use hq_envelope::Fault;
+use hq_program::Trouble;
+use hq_sql_file::migrate_file;
+use hq_words::Migrate;
+use std::fmt::Write;
+
+/// The most bytes of what is printed of a migration.
+const TEXT_BYTES: usize = 40;
+
+/// What a migration is told as, written into a text that has room for it.
+fn told(room: String, done: Result<u64, Fault>) -> Result<Rendered, Fault>
+    ensures { IsTold done result }
+{
+    let count = done?;
+    let mut text = room;
+    write!(text, "migrated {count} on hold\n")?;
+    Ok(Rendered {
+        number: 0,
+        bytes: text.into_bytes(),
+    })
+}
+
+/// Makes the store of a path, which is of the release before, one of this release, and tells how
+/// many messages are on hold: each has a reason then. One of this release stays as it is, and 0 is
+/// told. 92 for any other file, which stays as it is; 90 and 91 leave it as it was.
+pub fn migrate(rt: &HostRuntime, given: &Migrate) -> Result<Rendered, Trouble>
+    ensures { MigrateEnds result }
+{
+    // (the room first, so that what is done is told)
+    let room = match String::with_capacity(rt.alloc(), TEXT_BYTES) {
+        Ok(room) => room,
+        Err(_) => return Err(Trouble::from(Fault::WantOfMemory)),
+    };
+    let done = migrate_file(rt, given.store);
+    Ok(told(room, done)?)
+}

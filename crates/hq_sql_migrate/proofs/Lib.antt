@@ -1,0 +1,6 @@
+pub mod Texts
+pub mod Held
+pub mod Statements
+pub mod Migrated
+pub mod Versions
+pub mod Customers

@@ -1,0 +1,56 @@
+-- The stores of the two versions, and what a migration makes of the first.
+use Rattle.std.specs.Prelude.{◌≡◌, ℕ, ℤ, List, [], ◌∷◌, map, filter, length}
+use Rattle.std.specs.FinMap.{FinMap, empty, entries}
+use Rattle.sqlite.specs.declared.types.Value.TheVariants.{Int}
+use Rattle.sqlite.specs.Effect.{Database}
+use Rattle.hq_keyed.specs.Values.{number}
+use Rattle.hq_schema.specs.Schema.{first_schema, desk_schema}
+use Rattle.hq_store.specs.Lifted.{on_hold, holds_for}
+use Rattle.hq_store.specs.Listed.{holds_of}
+use Rattle.hq_store.specs.Tables.{Tables, Row, message_cmp}
+use Rattle.hq_sql.specs.Rows.{hold_read}
+use Rattle.hq_sql.specs.Tables.{tables_in, AreHeads, AreMessages, AreRecipients, AreLines, AreNotices, AreMarks, AreHolds}
+
+-- the reasons in the rows of holds
+abbrev pub holds_in : Database → FinMap message_cmp (List ℕ)
+holds_in db = holds_of (map hold_read (db.trees 14))
+
+-- the one row of the version table, under some rowid
+pub record HasVersion (db : Database) (version : ℕ) : Type 0 where
+  pub rowid : ℤ
+  pub row_is : db.trees 0 ≡ (Int rowid ∷ number version ∷ []) ∷ []
+
+-- the rows of the tables that both versions have
+pub record HoldsRows (db : Database) : Type 0 where
+  pub heads : AreHeads (db.trees 1)
+  pub messages : AreMessages (db.trees 3)
+  pub recipients : AreRecipients (db.trees 6)
+  pub lines : AreLines (db.trees 8)
+  pub notices : AreNotices (db.trees 10)
+  pub marks : AreMarks (db.trees 12)
+
+-- a version 1 store: its schema is the first, its version is 1, and each row is a value of its type
+pub record IsFirst (db : Database) : Type 0 where
+  pub schema_is : db.schema ≡ first_schema
+  pub version : HasVersion db 1
+  pub rows : HoldsRows db
+
+-- a version 2 store, likewise
+pub record IsSecond (db : Database) : Type 0 where
+  pub schema_is : db.schema ≡ desk_schema
+  pub version : HasVersion db 2
+  pub rows : HoldsRows db
+  pub holds : AreHolds (db.trees 14)
+
+-- the tables of a version 1 store, in which no message has a reason
+abbrev pub first_tables_in : Database → Tables
+first_tables_in db = record (tables_in db) { holds = empty }
+
+-- how many messages are on hold
+abbrev pub count_on_hold : FinMap message_cmp Row → ℕ
+count_on_hold messages = length (filter on_hold (entries messages))
+
+-- a version 2 store with the tables of a version 1 store, and with this reason for each message on hold and no other
+pub record IsLifted (reason : List ℕ) (before after : Database) : Type 0 where
+  pub second : IsSecond after
+  pub tables : tables_in after ≡ record (first_tables_in before) { holds = holds_for reason (first_tables_in before).messages }

@@ -1,0 +1,45 @@
+//! Whether a store with the first schema is of version 1.
+
+ghost use Rattle.std.specs.Prelude.{◌≡◌, ◌↔◌, IsTrue, IfOk};
+ghost use Rattle.sqlite.specs.Held.{state};
+ghost use Rattle.sqlite.specs.State.{HasCleanDisk, IsUnchanged};
+ghost use Rattle.hq_schema.specs.Schema.{first_schema};
+ghost use Rattle.hq_sql_open.specs.Opening.{ShowVersions, Tells};
+ghost use Rattle.hq_sql_migrate.specs.Migration.{IsVersion, ShowsFirst, KeepsVersion};
+
+use sqlite::types::ValueRef;
+use sqlite::{Alter, Connection, Error, Row};
+
+/// The rows of the version table.
+fn versions<S: Alter>(conn: &mut Connection<S>) -> Result<Vec<Row>, Error>
+    ensures found { HasCleanDisk (state S.Store conn.new)
+        → (state S.Store conn.old).now.schema ≡ first_schema
+        → IfOk result (λ rows. ShowVersions (state S.Store conn.old).now rows.items
+        × IsUnchanged (state S.Store conn.old) (state S.Store conn.new)) }
+    ensures kept { KeepsVersion (state S.Store conn.old) (state S.Store conn.new) result }
+{
+    let rows = conn.query_all("SELECT version FROM desk_schema", &[])?;
+    Ok(rows)
+}
+
+/// Whether the rows are one, which shows 1.
+fn is_one(rows: &[Row]) -> bool
+    ensures { IsTrue result ↔ ShowsFirst rows.now }
+{
+    match rows {
+        [row] => matches!(row.get_ref(0), Ok(ValueRef::Int(1))),
+        _ => false,
+    }
+}
+
+/// Whether the one version is 1.
+pub(crate) fn is_first_version<S: Alter>(conn: &mut Connection<S>) -> Result<bool, Error>
+    ensures found { HasCleanDisk (state S.Store conn.new)
+        → (state S.Store conn.old).now.schema ≡ first_schema
+        → IfOk result (λ yes. Tells yes (IsVersion 1 (state S.Store conn.old).now)
+        (state S.Store conn.old) (state S.Store conn.new)) }
+    ensures kept { KeepsVersion (state S.Store conn.old) (state S.Store conn.new) result }
+{
+    let rows = versions(conn)?;
+    Ok(is_one(rows.as_slice()))
+}
