@@ -14,7 +14,7 @@ Commands:
   batch    Reply to the lines of standard input, for the customers of a directory
   queue    Print the queue report of a customer
   import   Set lines of a customer's access tables by the rows of a file
-  sweep    Give up a customer's messages that are too old, and warn of late ones
+  sweep    Give up messages that are too old, and warn of late ones
   migrate  Make a store of the release before one of this release
 
 Options:
@@ -163,9 +163,9 @@ Example:
     --file lines.csv
 """
 SWEEP_HELP = b"""\
-Give up a customer's messages that are too old, and warn of late ones
+Give up messages that are too old, and warn of late ones
 
-Usage: hq_main sweep --directory <FILE> --host <HOST> --store <FILE> --customer <NAME> --at <AT>
+Usage: hq_main sweep [OPTIONS] --directory <FILE> --host <HOST> --store <FILE> --at <AT>
 
 Options:
       --directory <FILE>  The customers: a CSV file of 1 to 1,000 rows under the header
@@ -175,8 +175,8 @@ Options:
                           Example: --host relay.example
       --store <FILE>      The file that keeps what is done, a database of SQLite, made
                           where it is missing. No default. Example: --store desk.db
-      --customer <NAME>   The customer's name, as the directory has it. No default.
-                          Example: --customer acme
+      --customer <NAME>   The customer's name, as the directory has it. By default all
+                          customers are swept. Example: --customer acme
       --at <AT>           The moment of the sweep, in seconds since 1970,
                           0 to 4102444799. No default. Example: --at 1767657600
   -h, --help              Print help
@@ -184,7 +184,13 @@ Options:
 It prints how many messages were given up, how many became warned, and how many notices were made:
 `expired 1, warned 0, notices 1`.
 
-Example:
+Without --customer all customers are swept, in the order of the directory, each by itself, and each
+has a line: `acme: expired 1, warned 0, notices 1`. One that is refused is told on standard error,
+as `hq: 44 NoticesSpent customer acme`, and the next one is swept; a fault ends it. The exit status
+is 1 where either was met.
+
+Examples:
+  hq_main sweep --directory customers.csv --host relay.example --store desk.db --at 1767657600
   hq_main sweep --directory customers.csv --host relay.example --store desk.db --customer acme \\
     --at 1767657600
 """

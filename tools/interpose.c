@@ -1,9 +1,11 @@
 // A library to be loaded before the C library's functions (LD_PRELOAD), which makes one call fail.
 //
 // STOP_AT=N ends the process, with status 77, at its N-th call that writes, syncs or cuts a file; with STOP_HALF=1 a
-// write at that call writes its first half before. REFUSE_AT=N answers "no memory" at its N-th request for memory.
+// write at that call writes its first half before. FAIL_AT=N answers "no space on the disk" at that call, and does nothing.
+// REFUSE_AT=N answers "no memory" at its N-th request for memory.
 // ACCEPT_FAILS_AT=N answers "too many open files" at its N-th acceptance of a connection, and CLOCK_AT=S has the clock tell
 // S seconds since 1970, at all times; how long something takes is not told by that clock.
+// SYNC_TAKES=MS has each sync of a file take so many milliseconds more.
 // CALLS=PATH has three counts written to that file when the process ends by itself: of those calls, of the syncs among
 // them, and of the requests.
 #define _GNU_SOURCE
@@ -18,7 +20,7 @@
 #include <time.h>
 #include <unistd.h>
 
-static long calls, syncs, requests, accepted, stop_at, refuse_at, accept_fails_at;
+static long calls, syncs, requests, accepted, stop_at, fail_at, refuse_at, accept_fails_at;
 static int half;
 
 static long number(const char *name) {
@@ -28,6 +30,7 @@ static long number(const char *name) {
 
 __attribute__((constructor)) static void begin(void) {
   stop_at = number("STOP_AT");
+  fail_at = number("FAIL_AT");
   refuse_at = number("REFUSE_AT");
   accept_fails_at = number("ACCEPT_FAILS_AT");
   half = getenv("STOP_HALF") != NULL;
@@ -47,6 +50,13 @@ __attribute__((destructor)) static void end(void) {
 
 static int is_stop(void) { return ++calls == stop_at; }
 
+// of the call that was counted last
+static int fails(void) {
+  if (calls != fail_at) return 0;
+  errno = ENOSPC;
+  return 1;
+}
+
 ssize_t pwrite64(int file, const void *bytes, size_t size, off64_t at) {
   static ssize_t (*real)(int, const void *, size_t, off64_t);
   if (!real) real = (ssize_t(*)(int, const void *, size_t, off64_t))dlsym(RTLD_NEXT, "pwrite64");
@@ -54,16 +64,26 @@ ssize_t pwrite64(int file, const void *bytes, size_t size, off64_t at) {
     if (half && size > 1 && real(file, bytes, size / 2, at) < 0) _exit(78);
     _exit(77);
   }
+  if (fails()) return -1;
   return real(file, bytes, size, at);
 }
 
 ssize_t pwrite(int file, const void *bytes, size_t size, off_t at) { return pwrite64(file, bytes, size, at); }
+
+// a disk that is slow
+static void wait_for_disk(void) {
+  long more = number("SYNC_TAKES");
+  struct timespec time = {more / 1000, more % 1000 * 1000000};
+  if (more) nanosleep(&time, NULL);
+}
 
 int fdatasync(int file) {
   static int (*real)(int);
   if (!real) real = (int (*)(int))dlsym(RTLD_NEXT, "fdatasync");
   syncs++;
   if (is_stop()) _exit(77);
+  if (fails()) return -1;
+  wait_for_disk();
   return real(file);
 }
 
@@ -72,6 +92,8 @@ int fsync(int file) {
   if (!real) real = (int (*)(int))dlsym(RTLD_NEXT, "fsync");
   syncs++;
   if (is_stop()) _exit(77);
+  if (fails()) return -1;
+  wait_for_disk();
   return real(file);
 }
 
@@ -79,6 +101,7 @@ int ftruncate64(int file, off64_t size) {
   static int (*real)(int, off64_t);
   if (!real) real = (int (*)(int, off64_t))dlsym(RTLD_NEXT, "ftruncate64");
   if (is_stop()) _exit(77);
+  if (fails()) return -1;
   return real(file, size);
 }
 

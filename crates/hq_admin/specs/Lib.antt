@@ -1,3 +1,4 @@
 pub mod Customers
 pub mod Performs
 pub mod Printed
+pub mod Sweeps

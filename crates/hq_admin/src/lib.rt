@@ -1,11 +1,14 @@
 //! What an administrator has done at the desk by one word: one call of one customer, that the
-//! directory names, over any shelf, and what is printed of its answer.
+//! directory names, or a sweep of each of its customers, over any shelf, and what is printed of
+//! the answers.
 #![tactic(auto)]
 
 mod customer;
 mod performing;
 mod printed;
+mod sweeping;
 
 pub use customer::customer_in;
 pub use performing::{Request, perform};
 pub use printed::Printed;
+pub use sweeping::{SweptAll, sweep_all};

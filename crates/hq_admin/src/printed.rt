@@ -38,7 +38,7 @@ fn put_swept(text: &mut String, counts: SweepCounts) -> Result<(), AllocError>
 }
 
 /// Adds what is printed of an answer.
-fn put_answer(text: &mut String, answer: &Answer) -> Result<(), AllocError>
+pub(crate) fn put_answer(text: &mut String, answer: &Answer) -> Result<(), AllocError>
     ensures { OnOk result (string_bytes text.new
         ≡ string_bytes text.old ++ texts.printed answer.now) }
 {
@@ -57,9 +57,12 @@ fn put_answer(text: &mut String, answer: &Answer) -> Result<(), AllocError>
 pub struct Printed;
 
 impl Render for Printed {
+    ghost use Rattle.std.specs.Prelude.{⊤};
     ghost use Rattle.hq_admin.specs.Printed.{printed};
 
     ghost text = { λ _ answer. printed answer };
+
+    ghost fits = { λ _ _. ⊤ };
 
     fn render(&self, alloc: Global, answer: &Answer) -> Result<Vec<u8>, AllocError> {
         let mut text = String::new(alloc);

@@ -1,8 +1,7 @@
 //! The desk as what answers the lines of a batch.
 
 ghost use Rattle.std.specs.Prelude.{◌≡◌, Some, IfOk, string_bytes, option_map};
-ghost use Rattle.hq_wire.specs.Exchanges.{Exchanged};
-ghost use Rattle.hq_wire.specs.Replies.{seen};
+ghost use Rattle.hq_wire.specs.Runs.{RepliesSo};
 ghost use Rattle.hq_lines.specs.Fields.{request_in, shown};
 ghost use Rattle.hq_batch.specs.Batches.{ask_in};
 ghost use Rattle.hq_batch.specs.Steps.{IsAsked, LineStep};
@@ -46,9 +45,8 @@ fn request_reply<S: Shelf + Drop>(
     directory: &Directory,
     line: &RequestLine<'_>,
 ) -> Reply
-    ensures { Exchanged S.sight directory.now desk.old
-        (ask_in directory.now (Some (shown line.now)))
-        (seen result) desk.new }
+    ensures { RepliesSo S.sight directory.now desk.old
+        (ask_in directory.now (Some (shown line.now))) result desk.new }
 {
     match exchange_of(alloc, line) {
         Ok(asked) => exchange(alloc, desk, directory, &asked),
@@ -63,8 +61,8 @@ fn line_reply<S: Shelf + Drop>(
     directory: &Directory,
     line: &[u8],
 ) -> Reply
-    ensures { Exchanged S.sight directory.now desk.old (ask_in directory.now (request_in line.now))
-        (seen result) desk.new }
+    ensures { RepliesSo S.sight directory.now desk.old (ask_in directory.now (request_in line.now))
+        result desk.new }
 {
     match read_line(line) {
         Some(line) => request_reply(alloc, desk, directory, &line),

@@ -37,9 +37,14 @@ pub trait Render {
     /// The one text of an answer.
     ghost text: { Self → Answer → List ℕ };
 
-    /// The text of an answer. The only error is want of memory.
+    /// The texts that there is room for.
+    ghost fits: { Self → List ℕ → Type 0 };
+
+    /// The text of an answer. The only error is want of memory, and that is answered too where the
+    /// text is one that there is no room for.
     fn render(&self, alloc: Global, answer: &Answer) -> Result<Vec<u8>, AllocError>
-        ensures { IfOk result (λ bytes. bytes.items ≡ text self.now answer.now) };
+        ensures text { IfOk result (λ bytes. bytes.items ≡ text self.now answer.now) }
+        ensures fits { IfOk result (λ bytes. fits self.now bytes.items) };
 }
 
 /// An answer as it is written.
@@ -292,6 +297,8 @@ impl<S: Shelf + Drop> Desk<S> {
             ≡ (stepped (on S.sight) self.old entry.now at call).1)) }
         ensures sound { OnOpenSound (on S.sight) self.old self.new
             (Sound ((on S.sight).tables self.new)) }
+        // Whatever the store is, what is written is a text that there is room for.
+        ensures fits { IfOk result (λ rendered. R.fits render.now rendered.bytes.items) }
         ensures kept { KeepsOnErr (on S.sight) self.old self.new result }
         ensures host { host_of self.new ≡ host_of self.old }
     {

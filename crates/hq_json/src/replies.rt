@@ -238,9 +238,12 @@ fn answer_bytes(alloc: Global, answer: &Answer) -> Result<Vec<u8>, AllocError>
 pub struct Json;
 
 impl Render for Json {
+    ghost use Rattle.std.specs.Prelude.{⊤};
     ghost use Rattle.hq_json.specs.Replies.{answer_text};
 
     ghost text = { λ _ answer. answer_text answer };
+
+    ghost fits = { λ _ _. ⊤ };
 
     fn render(&self, alloc: Global, answer: &Answer) -> Result<Vec<u8>, AllocError> {
         answer_bytes(alloc, answer)

@@ -3,6 +3,7 @@
 ghost use Rattle.std.specs.Prelude.{◌≡◌, ◌-◌, ◌<◌, ◌≤◌, min, IfSome, IfNone, IfOk};
 ghost use Rattle.std.specs.Duration.{as_nanos};
 ghost use Rattle.std.specs.Time.{instant_nanos};
+ghost use Rattle.hq_listener.specs.Ends.{IsEnd, IsFixed};
 
 use std::io::{self, ErrorKind, Read, Write};
 use std::net::{Shutdown, TcpStream};
@@ -11,6 +12,15 @@ use std::time::{Duration, Instant};
 
 /// How often what a client still sends is read at most, when its response is written.
 const MOST_READS: u32 = 4_096;
+
+/// When the last read or write of a stream has to have ended.
+#[derive(Clone, Copy)]
+pub(crate) enum Until {
+    /// At this instant.
+    At(Instant),
+    /// So long after the first one begins.
+    After(Duration),
+}
 
 /// Reads and writes a stream, and fails with `TimedOut` once an instant has come. A read or a write
 /// that waits longer than it may fails with `WouldBlock`.
@@ -23,7 +33,18 @@ pub(crate) struct Due<'s, C> {
     /// How long one read or one write may take; of zero, each fails with `TimedOut`.
     pub idle: Duration,
     /// When the last of them has to have ended.
-    pub until: Instant,
+    pub until: Until,
+}
+
+/// The instant by which a read or a write that begins now has to have ended; `None` where no clock
+/// counts as far.
+fn end_from(until: Until, now: Instant) -> Option<Instant>
+    ensures { IfSome result (IsEnd until (instant_nanos now)) }
+{
+    match until {
+        Until::At(end) => Some(end),
+        Until::After(time) => now.checked_add(time),
+    }
 }
 
 /// How long a read or a write that begins now may take: as long as one may, and not past the end;
@@ -44,12 +65,18 @@ fn time_left(now: Instant, until: Instant, idle: Duration) -> Option<Duration>
 
 impl<C: Clock> Due<'_, C> {
     /// How long a read or a write that begins now may take; fails with `TimedOut` where that is no
-    /// time at all.
-    fn left(&self) -> io::Result<Duration>
-        ensures { IfOk result (λ left. (0 < as_nanos left)
-            × (as_nanos left ≤ as_nanos self.now.idle)) }
+    /// time at all. The first one fixes when the last has to have ended.
+    fn left(&mut self) -> io::Result<Duration>
+        ensures left { IfOk result (λ left. (0 < as_nanos left)
+            × (as_nanos left ≤ as_nanos self.old.idle)) }
+        ensures fixed { IfOk result (λ _. IsFixed self.old.until self.new.until) }
     {
-        match time_left(Instant::now(self.clock)?, self.until, self.idle) {
+        let now = Instant::now(self.clock)?;
+        let Some(end) = end_from(self.until, now) else {
+            return Err(io::Error::from(ErrorKind::TimedOut));
+        };
+        self.until = Until::At(end);
+        match time_left(now, end, self.idle) {
             Some(left) => Ok(left),
             None => Err(io::Error::from(ErrorKind::TimedOut)),
         }
@@ -86,13 +113,11 @@ impl<C: Clock> Write for Due<'_, C> {
 pub(crate) fn linger<C: Clock>(clock: &C, stream: &TcpStream) -> io::Result<()> {
     stream.shutdown(Shutdown::Write)?;
     let second = Duration::from_secs(1);
-    let now = Instant::now(clock)?;
-    let until = now.checked_add(second).unwrap_or(now);
     let mut rest = Due {
         stream,
         clock,
         idle: second,
-        until,
+        until: Until::After(second),
     };
     let mut thrown = [0; 4_096];
     for _ in 0..MOST_READS {

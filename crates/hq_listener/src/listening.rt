@@ -1,11 +1,8 @@
 //! The connections of a listening socket.
 
-ghost use Rattle.std.specs.Prelude.{◌≡◌, ◌+◌, ◌*◌, IfOk, IfSome};
-ghost use Rattle.std.specs.Duration.{as_nanos};
-ghost use Rattle.std.specs.Time.{instant_nanos};
 ghost use Rattle.hq_listener.specs.Listening.{DoesSome};
 
-use crate::due::{Due, linger};
+use crate::due::{Due, Until, linger};
 use hq_desk::Desk;
 use hq_envelope::Moment;
 use hq_serve::{EngineFault, serve_one};
@@ -15,7 +12,7 @@ use std::alloc::Global;
 use std::io::{BufWriter, Read, Write};
 use std::net::{TcpListener, TcpStream};
 use std::rt::Clock;
-use std::time::{Duration, Instant, SystemTime};
+use std::time::{Duration, SystemTime};
 
 /// How long a client may take. A limit of zero leaves no time, so that no connection is replied to.
 #[derive(Clone, Copy, Debug, PartialEq, Eq)]
@@ -23,8 +20,8 @@ pub struct Limits {
     /// For one read or one write.
     pub idle: Duration,
     /// For its whole request to arrive, from the acceptance of the connection on, however its bytes
-    /// are cut. The response has to have been taken by the client in twice this time, from the same
-    /// instant on.
+    /// are cut; and as long again for its response to be taken, from when that begins to be
+    /// written. What its exchange takes between them is not counted.
     pub request: Duration,
 }
 
@@ -40,41 +37,11 @@ pub enum End {
     Clock,
 }
 
-/// When the parts of a connection have to have ended.
-#[derive(Clone, Copy)]
-struct Deadlines {
-    /// The reading of its request.
-    request: Instant,
-    /// The writing of its response.
-    response: Instant,
-}
-
 /// The moment that the clock tells, if it is one.
 fn moment_now<C: Clock>(clock: &C) -> Option<Moment> {
     let now = SystemTime::now(clock).ok()?;
     let since = now.duration_since(SystemTime::UNIX_EPOCH).ok()?;
     Moment::new(since.as_secs())
-}
-
-/// The deadlines of a connection that begins at an instant, whose request may take so long; `None`
-/// where no clock counts as far.
-fn deadlines_from(start: Instant, request: Duration) -> Option<Deadlines>
-    ensures request { IfSome result (λ ends. instant_nanos ends.request
-        ≡ instant_nanos start + as_nanos request) }
-    ensures response { IfSome result (λ ends. instant_nanos ends.response
-        ≡ instant_nanos start + 2 * as_nanos request) }
-{
-    let read = start.checked_add(request)?;
-    Some(Deadlines {
-        request: read,
-        response: read.checked_add(request)?,
-    })
-}
-
-/// The deadlines of a connection that begins now; `None` where there are none, or the clock tells
-/// no time.
-fn deadlines_now<C: Clock>(clock: &C, request: Duration) -> Option<Deadlines> {
-    deadlines_from(Instant::now(clock).ok()?, request)
 }
 
 /// Serves one connection, by whatever reads and writes it.
@@ -120,20 +87,18 @@ fn serve_stream<C: Clock + AllocGlobal, S: Shelf + Drop>(
 ) -> Result<(), EngineFault>
     ensures { DoesSome S.sight directory.now 1 desk.old desk.new }
 {
-    let Some(ends) = deadlines_now(rt, limits.request) else {
-        return Err(EngineFault::Read);
-    };
+    let until = Until::After(limits.request);
     let mut reader = Due {
         stream,
         clock: rt,
         idle: limits.idle,
-        until: ends.request,
+        until,
     };
     let mut writer = Due {
         stream,
         clock: rt,
         idle: limits.idle,
-        until: ends.response,
+        until,
     };
     serve_gathered(rt.alloc(), &mut reader, &mut writer, desk, directory, at)?;
     let _lingered = linger(rt, stream);

@@ -1,6 +1,6 @@
 -- What the program does: with lines of the built-in customers, from an empty desk in memory; with lines, or connections, of
 -- those of a directory; and with its words.
-use Rattle.std.specs.Prelude.{◌≡◌, ◌≤◌, ⊤, ℕ, [], List, map, Option, Some, None, Result, Ok, Err, IfOk, string_bytes}
+use Rattle.std.specs.Prelude.{◌≡◌, ◌≤◌, ⊤, ℕ, [], List, map, Option, Some, None, option_map, Result, Ok, Err, IfOk, string_bytes}
 use Rattle.std.specs.Io.KnownBytes.{Appends}
 use Rattle.std.specs.declared.alloc.AllocError.{AllocError}
 use Rattle.hq_base.specs.Refusals.{no_memory}
@@ -21,12 +21,13 @@ use Rattle.hq_sql_program.specs.Runs.{MemoryEnds}
 use Rattle.hq_program.specs.Printing.{IsPrinted}
 use Rattle.hq_sql_server.specs.Runs.{ServeEnds}
 use Rattle.hq_sql_admin.specs.Migrations.{MigrateEnds}
-use Rattle.hq_sql_admin.specs.Words.{QueueEnds, ImportEnds, SweepEnds}
+use Rattle.hq_sql_admin.specs.Words.{QueueEnds, ImportEnds}
 use Rattle.hq_words.specs.Asked.{BatchGiven, Says, given_of}
 use Rattle.hq_words.specs.declared.words.Asked.{Asked}
 use Rattle.hq_words.specs.declared.words.Asked.TheVariants.{Serve, Batch, Queue, Import, Sweep, Migrate}
 use Rattle.hq_words.specs.declared.words.Words.{Words}
 use Rattle.hq_words.specs.declared.words.Words.TheVariants.{Builtin, Asked as OfWord, Help, Refused}
+use Rattle.hq_main.specs.Sweeps.{DoesSweep}
 
 -- What lines ask for is replied to as a batch of the built-in customers from empty tables, with no fault but want of
 -- memory; to each customer the desk is its own.
@@ -64,7 +65,8 @@ DoesWord (Batch given) unread unwritten old new status =
     Exits (BatchEnds (given_of given) (unread × unwritten) old new) status
 DoesWord (Queue given) unread unwritten old new status = Prints (QueueEnds given) unread unwritten old new status
 DoesWord (Import given) unread unwritten old new status = Prints (ImportEnds given) unread unwritten old new status
-DoesWord (Sweep given) unread unwritten old new status = Prints (SweepEnds given) unread unwritten old new status
+DoesWord (Sweep given) unread unwritten old new status =
+    unread × DoesSweep given (option_map (λ c. c.now) given.customer) unwritten old.output new.output status
 DoesWord (Migrate given) unread unwritten old new status = Prints MigrateEnds unread unwritten old new status
 
 -- what is done for what words ask, and the exit status; want of memory may come in place of what they ask

@@ -5,9 +5,10 @@ ghost use Rattle.hq_program.specs.Runs.{RunEnds, Exits};
 ghost use Rattle.hq_words.specs.Asked.{given_of};
 ghost use Rattle.hq_main.specs.Runs.{Serves, BatchEnds, DoesWord, Commands};
 
+use crate::sweeping::do_sweep;
 use hq_envelope::Fault;
 use hq_program::{Trouble, builtin_settings, print, refuse, serve, set_up, show, tell};
-use hq_sql_admin::{import, migrate, queue, sweep};
+use hq_sql_admin::{import, migrate, queue};
 use hq_sql_program::serve_stored;
 use hq_sql_server::serve_http;
 use hq_store::ListShelf;
@@ -64,18 +65,18 @@ fn do_word<R: Read, W: Write, E: Write>(
         Asked::Batch(batch) => tell(serve_batch(rt, batch, input, output), errors),
         Asked::Queue(given) => print(queue(rt, given), output, errors),
         Asked::Import(given) => print(import(rt, given), output, errors),
-        Asked::Sweep(given) => print(sweep(rt, given), output, errors),
+        Asked::Sweep(given) => do_sweep(rt, given, output, errors),
         Asked::Migrate(given) => print(migrate(rt, given), output, errors),
     }
 }
 
 /// Runs the program with the words after its name, and answers its exit status: 0 when the input
-/// has ended, all connections were served, a call or a migration was done and printed, or help was
-/// shown; 1 for a refusal or a fault; 2 for words that are not taken. Each of the last two is told
-/// on `errors`, where that can be written.
+/// has ended, all connections were served, a call, a sweep of all or a migration was done and
+/// printed, or help was shown; 1 for a refusal or a fault; 2 for words that are not taken. Each of
+/// the last two is told on `errors`, where that can be written.
 ///
 /// After a failed input the whole lines before are replied to; after a failed output the exchanges
-/// of the first lines, or the call, are done; where the desk could not begin, nothing is read or
+/// of the first lines, or the calls, are done; where the desk could not begin, nothing is read or
 /// written.
 pub fn command<R: Read, W: Write, E: Write>(
     rt: &HostRuntime,

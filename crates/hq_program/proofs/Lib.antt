@@ -1,2 +1,3 @@
 pub mod Customers
 pub mod Ends
+pub mod Printed

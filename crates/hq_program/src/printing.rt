@@ -1,10 +1,10 @@
-//! What is printed: texts that words ask for, and how one call of an administrator is told.
+//! What is printed: texts that words ask for, and how calls of an administrator are told.
 
 ghost use Rattle.std.specs.Prelude.{◌≡◌, ◌≤◌, OnOk};
 ghost use Rattle.std.specs.Io.KnownBytes.{Appends};
-ghost use Rattle.hq_program.specs.Printing.{IsPrinted, IsPut};
+ghost use Rattle.hq_program.specs.Printing.{ArePrinted, AreShown, IsPrinted, IsPut, IsShown};
 
-use crate::trouble::{FAILED, Trouble, tell};
+use crate::trouble::{DONE, FAILED, Trouble, tell};
 use hq_desk::Rendered;
 use std::io::{self, Write};
 
@@ -55,6 +55,24 @@ pub fn show<W: Write, E: Write>(text: &str, output: &mut W, errors: &mut E) -> u
     put_or_tell(text.as_bytes(), output, errors)
 }
 
+/// Prints what a call was answered: an answer on the output, a refusal in one line of `errors`.
+/// Answers the exit status, or `Output` where the output fails.
+fn print_answer<W: Write, E: Write>(
+    rendered: &Rendered,
+    output: &mut W,
+    errors: &mut E,
+) -> Result<u8, Trouble>
+    ensures { IsShown rendered.now (output.new ≡ output.old) (W.contents output.old)
+        (W.contents output.new) result }
+{
+    if rendered.number != 0 {
+        let _told = tell_refused(rendered.bytes.as_slice(), errors);
+        return Ok(FAILED);
+    }
+    put(rendered.bytes.as_slice(), output)?;
+    Ok(DONE)
+}
+
 /// Prints what a call was answered, and answers the exit status: 0 when it is on the output; and 1
 /// for a refusal, a fault, or an output that fails, with one line of `errors`. Where that line
 /// cannot be written, the status tells it alone.
@@ -70,9 +88,35 @@ pub fn print<W: Write, E: Write>(
         Ok(rendered) => rendered,
         Err(trouble) => return tell(Err(trouble), errors),
     };
-    if rendered.number != 0 {
-        let _told = tell_refused(rendered.bytes.as_slice(), errors);
-        return FAILED;
+    match print_answer(&rendered, output, errors) {
+        Ok(status) => status,
+        Err(trouble) => tell(Err(trouble), errors),
     }
-    put_or_tell(rendered.bytes.as_slice(), output, errors)
+}
+
+/// Prints what calls were answered, one after the other, up to an output that fails. Answers the
+/// exit status, or `Output`.
+fn print_answers<W: Write, E: Write>(
+    told: &[Rendered],
+    output: &mut W,
+    errors: &mut E,
+) -> Result<u8, Trouble>
+    ensures { AreShown told.now (W.contents output.old) (W.contents output.new) result }
+{
+    let mut status = DONE;
+    for rendered in told {
+        status = status.max(print_answer(rendered, output, errors)?);
+    }
+    Ok(status)
+}
+
+/// Prints what calls were answered, one after the other, and answers the exit status: 0 when none
+/// is a refusal and all are on the output, and else 1. An output that fails is told, and ends it.
+pub fn print_all<W: Write, E: Write>(told: &[Rendered], output: &mut W, errors: &mut E) -> u8
+    ensures { ArePrinted told.now (W.contents output.old) (W.contents output.new) result }
+{
+    match print_answers(told, output, errors) {
+        Ok(status) => status,
+        Err(trouble) => tell(Err(trouble), errors),
+    }
 }

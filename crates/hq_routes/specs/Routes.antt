@@ -7,7 +7,7 @@ use Rattle.matchit.specs.Route.{Scan, parse_route}
 use Rattle.matchit.specs.declared.error.InsertError.{InsertError}
 use Rattle.matchit.specs.Seek.{has_slash}
 use Rattle.hq_routes.specs.declared.Path.{Path}
-use Rattle.hq_routes.specs.declared.Path.TheVariants.{Messages, MessagesAfter, Message, Hold, Release, Requeue, HoldAll, ReleaseAll, DeleteAll, Import, Lines, LinesAfter, LinePut, LineDrop, Check, Notices, NoticesAfter, Notice, Usage, Report, Submit, Outcome, Due, Sweep}
+use Rattle.hq_routes.specs.declared.Path.TheVariants.{Messages, MessagesAfter, Message, Hold, Release, Requeue, HoldAll, ReleaseAll, DeleteAll, Import, Lines, LinesAfter, LinePut, LineDrop, Check, Notices, NoticesAfter, Notice, Usage, Report, Submit, Outcome, Due, Sweep, SweepAll}
 
 -- what stands for a parameter at the end of a pattern: it is no byte
 abbrev pub parameter : ℕ
@@ -35,6 +35,7 @@ table =
     ∷ (with_parameter (codes "/relay/outcome/"), Outcome)
     ∷ (with_parameter (codes "/relay/submit/"), Submit)
     ∷ (with_parameter (codes "/relay/sweep/"), Sweep)
+    ∷ (codes "/relay/sweep", SweepAll)
     ∷ (codes "/v1/check", Check)
     ∷ (codes "/v1/delete-all", DeleteAll)
     ∷ (codes "/v1/hold-all", HoldAll)

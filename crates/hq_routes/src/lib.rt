@@ -61,10 +61,12 @@ pub enum Path {
     Due,
     /// `/relay/sweep/{customer}`
     Sweep,
+    /// `/relay/sweep`
+    SweepAll,
 }
 
 /// Every path of the desk, as the router spells it.
-const PATHS: [(&str, Path); 24] = [
+const PATHS: [(&str, Path); 25] = [
     ("/v1/messages", Path::Messages),
     ("/v1/messages-after/{id}", Path::MessagesAfter),
     ("/v1/message/{id}", Path::Message),
@@ -89,6 +91,7 @@ const PATHS: [(&str, Path); 24] = [
     ("/relay/outcome/{customer}", Path::Outcome),
     ("/relay/due/{customer}", Path::Due),
     ("/relay/sweep/{customer}", Path::Sweep),
+    ("/relay/sweep", Path::SweepAll),
 ];
 
 /// Adds a path; where it reads well and has no conflict with those that are there, the only error

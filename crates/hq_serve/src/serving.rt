@@ -1,11 +1,11 @@
 //! One connection with the desk.
 
-ghost use Rattle.std.specs.Prelude.{◌≡◌, List, ℕ, Option, string_bytes, option_map, OnOk};
+ghost use Rattle.std.specs.Prelude.{◌≡◌, List, ℕ, Option, OnOk};
 ghost use Rattle.std.specs.Io.KnownBytes.{Appends};
 ghost use Rattle.hq_http.specs.Stages.{shown, InputIs};
 ghost use Rattle.hq_wire.specs.Replies.{seen};
-ghost use Rattle.hq_serve.specs.Connections.{response_of, Answered, Ends};
-ghost use Rattle.hq_serve.specs.Steps.{IsAsked};
+ghost use Rattle.hq_serve.specs.Connections.{response_of, Ends};
+ghost use Rattle.hq_serve.specs.Steps.{IsAsked, Sends};
 
 use hq_desk::Desk;
 use hq_envelope::{Fault, Moment};
@@ -38,8 +38,7 @@ fn reply_to<S: Shelf + Drop>(
     input: Input,
 ) -> Option<Reply>
     ensures { (read_old read_new : Option (List ℕ)) → InputIs read_old read_new input
-        → Answered S.sight directory.now at read_old read_new desk.old (option_map seen result)
-        desk.new }
+        → Sends S.sight directory.now at read_old read_new desk.old result desk.new }
 {
     match input {
         Input::Nothing => None,

@@ -61,8 +61,8 @@ ImportAsks given = Then (IsRead (host_in (codes "localhost"))) (λ host.
     Then IsFile (λ lines.
     Asks host 0 entry (OfImport label lines)))))
 
--- the sweep at a moment
-abbrev pub SweepAsks : Sweep → Result Request Trouble → Type 0
-SweepAsks given = Then (IsRead (host_in given.host.now)) (λ host.
-    Then (HasCustomer given.customer.now) (λ entry.
+-- the sweep of the customer of this name, at a moment
+abbrev pub SweepAsks : Sweep → List ℕ → Result Request Trouble → Type 0
+SweepAsks given name = Then (IsRead (host_in given.host.now)) (λ host.
+    Then (HasCustomer name) (λ entry.
     Asks host given.at entry OfSweep))

@@ -12,12 +12,14 @@ use std::fmt::Write;
 /// The most bytes of what is printed of a migration.
 const TEXT_BYTES: usize = 40;
 
-/// What a migration is told as, written into a text that has room for it.
+/// What a migration is told as, written over a text that has room for it.
+#[tactic(auto, unfolding(crate::specs::Migrations::migrated))]
 fn told(room: String, done: Result<u64, Fault>) -> Result<Rendered, Fault>
     ensures { IsTold done result }
 {
     let count = done?;
     let mut text = room;
+    text.clear();
     write!(text, "migrated {count} on hold\n")?;
     Ok(Rendered {
         number: 0,

@@ -54,12 +54,12 @@ pub(crate) fn import_request(rt: &HostRuntime, given: &Import) -> Result<Request
     })
 }
 
-/// The sweep of a customer's queue.
-pub(crate) fn sweep_request(rt: &HostRuntime, given: &Sweep) -> Result<Request, Trouble>
-    ensures { SweepAsks given.now result }
+/// The sweep of the queue of the customer of this name.
+pub(crate) fn sweep_request(rt: &HostRuntime, given: &Sweep, name: &str) -> Result<Request, Trouble>
+    ensures { SweepAsks given.now name.now result }
 {
     let host = Host::parse(rt.alloc(), given.host)?;
-    let entry = customer_of(rt, given.directory, given.customer)?;
+    let entry = customer_of(rt, given.directory, name)?;
     Ok(Request {
         host,
         at: given.at,

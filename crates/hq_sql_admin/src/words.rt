@@ -26,11 +26,11 @@ pub fn import(rt: &HostRuntime, given: &Import) -> Result<Rendered, Trouble>
     perform_in_file(rt, given.store, request)
 }
 
-/// What a sweep of a customer's queue did. Checked in the order relay's name, directory, customer,
-/// store, and then what the call refuses: 44.
-pub fn sweep(rt: &HostRuntime, given: &Sweep) -> Result<Rendered, Trouble>
-    ensures { SweepEnds given.now result }
+/// What a sweep of the queue of the customer of this name did. Checked in the order relay's name,
+/// directory, customer, store, and then what the call refuses: 44.
+pub fn sweep(rt: &HostRuntime, given: &Sweep, name: &str) -> Result<Rendered, Trouble>
+    ensures { SweepEnds given.now name.now result }
 {
-    let request = sweep_request(rt, given)?;
+    let request = sweep_request(rt, given, name)?;
     perform_in_file(rt, given.store, request)
 }

@@ -38,9 +38,11 @@ const START: u64 = 1_767_225_600;
 struct Unread;
 
 impl Render for Unread {
-    ghost use Rattle.std.specs.Prelude.{[]};
+    ghost use Rattle.std.specs.Prelude.{[], ⊤};
 
     ghost text = { λ _ _. [] };
+
+    ghost fits = { λ _ _. ⊤ };
 
     fn render(&self, alloc: Global, _answer: &Answer) -> Result<Vec<u8>, AllocError> {
         Ok(Vec::new(alloc))

@@ -299,9 +299,12 @@ fn answer_text(alloc: Global, answer: &Answer) -> Result<String, AllocError>
 }
 
 impl Render for PlainText {
+    ghost use Rattle.std.specs.Prelude.{⊤};
     ghost use Rattle.hq_trial.specs.Texts as texts;
 
     ghost text = { λ _ answer. texts.answer answer };
+
+    ghost fits = { λ _ _. ⊤ };
 
     fn render(&self, alloc: Global, answer: &Answer) -> Result<Vec<u8>, AllocError> {
         let text = answer_text(alloc, answer)?;

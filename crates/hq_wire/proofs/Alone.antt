@@ -1,9 +1,8 @@
 -- What one customer sees of a run is that customer's machine alone.
-use Rattle.std.proofs.Common.{◌≡◌, ◌≢◌, ◌⊎◌, ⊎_elim, ℕ, Bool, true, false, cond, not, ◌&&◌, eqb, List, [], ◌∷◌, ◌++◌, map, Result, Ok, Err, sym, refl, ap, ◌∙◌, subst}
+use Rattle.std.proofs.Common.{◌≡◌, ◌≢◌, ◌⊎◌, ⊎_elim, ℕ, Bool, true, false, cond, not, ◌&&◌, ◌||◌, eqb, List, [], ◌∷◌, ◌++◌, map, Result, Ok, Err, sym, refl, ap, ◌∙◌, subst}
 use Rattle.std.specs.Prelude.{bytes_eq}
 use Rattle.std.specs.Ordering.{eq_by_cmp}
 use Rattle.std.specs.Cmp.Lexicographic.{nat_list_cmp_total}
-use Rattle.std.proofs.lemmas.List.{map-append}
 use Rattle.std.proofs.lemmas.Map.Lookups.{exact_bytes}
 use Rattle.std.proofs.lemmas.Map.Views.{tells_apart}
 use Rattle.std.proofs.lemmas.Bool.{eq-eqb, both_ways}
@@ -17,12 +16,12 @@ use Rattle.hq_tables.proofs.Parts.{tied_true}
 use Rattle.hq_calls.specs.Answers.{answer_number}
 use Rattle.hq_calls.specs.Machine.{step, shared, answers, state_after}
 use Rattle.hq_calls.specs.declared.answer.Answer.{Answer}
-use Rattle.hq_calls.specs.declared.call.Call.{Call}
 use Rattle.hq_calls.proofs.Isolation.{caller, others}
+use Rattle.hq_wire.specs.Calls.{Asked, CallOf, SweepOfAll}
 use Rattle.hq_wire.specs.Directories.{entry_of}
-use Rattle.hq_wire.specs.Exchanges.{Ask, MayReplyTo, MayReply, IsStruck}
-use Rattle.hq_wire.specs.Replies.{SeenReply, reply_of, status_of, reply_of_fault, fault_text, is_missing, is_conflict, tells_store}
-use Rattle.hq_wire.specs.Runs.{AllReplied, is_counted, call_of_one, reply_to_one, share, heard, Alone}
+use Rattle.hq_wire.specs.Exchanges.{Ask, Deed, Whole, AllDone, Sweeps, MayReplyTo, IsStruck, deeds_of, of_part, told_as}
+use Rattle.hq_wire.specs.Replies.{SeenReply, plain, reply_of, status_of, reply_of_fault, fault_text, is_missing, is_conflict, tells_store}
+use Rattle.hq_wire.specs.Runs.{AllReplied, deeds, deeds_for, in_share, told_of, calls_in, told_in, Alone}
 use Rattle.hq_wire.specs.declared.directory.Directory.{Directory}
 use Rattle.hq_wire.proofs.Entries.{named}
 
@@ -37,93 +36,94 @@ answer_not_struck n =
     by_test (eqb n 0) _ _ refl (by_test (eqb n 2) _ _ refl (by_test (eqb n 3) _ _ refl (by_test (is_missing n) _ _ refl (by_test (eqb n 5) _ _ refl (by_test (eqb n 6) _ _ refl (by_test (is_conflict n) _ _ refl refl))))))
 
 -- a reply with the status of an answer tells no fault
-pub tells_answer : (status n : ℕ) (body : List ℕ) → status ≡ status_of n → tells_store (record { status = status; body = body }) ≡ false
-tells_answer status n body h = ap (λ b. b && not (bytes_eq body (fault_text WantOfMemory))) (ap (λ s. eqb s 503) h ∙ answer_not_struck n)
+pub tells_answer : (status n : ℕ) (body : List ℕ) → status ≡ status_of n → tells_store (plain status body) ≡ false
+tells_answer status n body h = ap (λ b. (b && not (bytes_eq body (fault_text WantOfMemory))) || false) (ap (λ s. eqb s 503) h ∙ answer_not_struck n)
 
 fault_status : (fault : Fault) → (reply_of_fault fault).status ≡ 503
 unfolding reply_of_fault
 fault_status fault = refl
 
--- what one exchange is to one customer: a call of the machine, told and done, or nothing
-pub record Seen (host : List ℕ) (e : Entry) (before after : State) (asks : List (ℕ × Call)) (replies : List SeenReply) : Type 0 where
-  pub told : replies ≡ map reply_of (answers host e before asks)
-  pub state : after ≡ state_after host e before asks
+-- a fault has no parts
+no_parts : (fault : Fault) → (reply_of_fault fault).parts ≡ []
+unfolding reply_of_fault
+no_parts fault = refl
 
-unseen : (host : List ℕ) (e : Entry) (s t : State) → t ≡ s → Seen host e s t [] []
-unseen host e s t same = record { told = refl; state = same }
+-- ---- what one customer sees of calls that were done
 
-struck : (b : Bool) → (b && not true) ≡ false
-struck true = refl
-struck false = refl
+pub record Seen (host : List ℕ) (e : Entry) (c : List ℕ) (before after : State) (done : List Deed) : Type 0 where
+  pub told : map told_of done ≡ told_in c (map in_share done) (answers host e before (calls_in (map in_share done)))
+  pub state : after ≡ state_after host e before (calls_in (map in_share done))
 
-busy : (c name : List ℕ) (r : SeenReply) → r.status ≡ 503 → is_counted c name r ≡ false
-busy c name r h = ap (λ b. eq_by_cmp text_cmp c name && not b) (eq-eqb r.status 503 h) ∙ struck (eq_by_cmp text_cmp c name)
+module _ (host : List ℕ) (d : Directory) (c : List ℕ) where
+  abbrev Sees : Tables → Tables → List Deed → Type 0
+  Sees t t' done = Seen host (entry_of d c) c (own c t) (own c t') done
 
-module _ (host : List ℕ) (d : Directory) (c : List ℕ) (t t' : Tables) (at : ℕ) (name : List ℕ) (call : Call) (r : SeenReply) where
-  abbrev Out : Bool → Type 0
-  Out b = Seen host (entry_of d c) (own c t) (own c t') (cond b ((at, call) ∷ []) []) (cond b (r ∷ []) [])
+  abbrev next : Tables → Deed → Answer × Tables
+  next t deed = shared host (entry_of d deed.customer) t deed.at deed.call
 
-  own_call : c ≡ name → r ≡ reply_of (shared host (entry_of d name) t at call).0 → t' ≡ (shared host (entry_of d name) t at call).1 → Out true
-  own_call same is left =
+  own_deed : (t t' : Tables) (deed : Deed) (done : List Deed) → c ≡ deed.customer → deed.told ≡ told_as deed.in_part deed.customer (next t deed).0 → Sees (next t deed).1 t' done → Sees t t' (deed ∷ done)
+  own_deed t t' deed done same told rest =
       let e = entry_of d c in
-      let done : ((shared host e t at call).0, own c (shared host e t at call).1) ≡ step host e (own c t) at call = subst (λ n. ((shared host e t at call).0, own n (shared host e t at call).1) ≡ step host e (own n t) at call) (named d.customers c) (caller host e t at call) in
+      let at = deed.at in
+      let call = deed.call in
+      let calls = calls_in (map in_share done) in
+      let met : ((shared host e t at call).0, own c (shared host e t at call).1) ≡ step host e (own c t) at call = subst (λ n. ((shared host e t at call).0, own n (shared host e t at call).1) ≡ step host e (own n t) at call) (named d.customers c) (caller host e t at call) in
+      let answer : (next t deed).0 ≡ (step host e (own c t) at call).0 = ap (λ n. (shared host (entry_of d n) t at call).0) (sym same) ∙ ap (λ p. p.0) met in
+      let left : own c (next t deed).1 ≡ (step host e (own c t) at call).1 = ap (λ n. own c (shared host (entry_of d n) t at call).1) (sym same) ∙ ap (λ p. p.1) met in
+      let first : deed.told ≡ told_as deed.in_part c (step host e (own c t) at call).0 = told ∙ ap (λ n. told_as deed.in_part n (next t deed).0) (sym same) ∙ ap (told_as deed.in_part c) answer in
+      let later : map told_of done ≡ told_in c (map in_share done) (answers host e (step host e (own c t) at call).1 calls) = rest.told ∙ ap (λ s. told_in c (map in_share done) (answers host e s calls)) left in
       record {
-        told = ap (λ x. x ∷ []) (is ∙ ap (λ n. reply_of (shared host (entry_of d n) t at call).0) (sym same) ∙ ap (λ p. reply_of p.0) done);
-        state = ap (own c) left ∙ ap (λ n. own c (shared host (entry_of d n) t at call).1) (sym same) ∙ ap (λ p. p.1) done;
+        told = λ i. first i ∷ later i;
+        state = rest.state ∙ ap (λ s. state_after host e s calls) left;
       }
 
-  other_call : c ≢ name → t' ≡ (shared host (entry_of d name) t at call).1 → Out false
-  other_call apart left = unseen host _ _ _ (ap (own c) left ∙ others host (entry_of d name) t at call c (λ same. apart (same ∙ named d.customers name)))
+  other_deed : (t t' : Tables) (deed : Deed) (done : List Deed) → c ≢ deed.customer → Sees (next t deed).1 t' done → Sees t t' done
+  other_deed t t' deed done apart rest =
+      let kept : own c (next t deed).1 ≡ own c t = others host (entry_of d deed.customer) t deed.at deed.call c (λ same. apart (same ∙ named d.customers deed.customer)) in
+      subst (λ s. Seen host (entry_of d c) c s (own c t') done) kept rest
 
-  counted : eq_by_cmp text_cmp c name ≡ is_counted c name r → r ≡ reply_of (shared host (entry_of d name) t at call).0 → t' ≡ (shared host (entry_of d name) t at call).1 → Out (is_counted c name r)
-  counted e is left = subst Out e (elim (eq_by_cmp text_cmp c name) as (λ b. eq_by_cmp text_cmp c name ≡ b → Out b) [
-    | true ↦ λ h. own_call (tells_apart exact_bytes c name h) is left
-    | false ↦ λ h. other_call (λ s. both_ways _ h (ap (eq_by_cmp text_cmp c) (sym s) ∙ tied_true nat_list_cmp_total c)) left
-  ] refl)
+  -- the calls of others are passed over, and its own are those of its machine
+  pub seen : (t t' : Tables) (done : List Deed) → AllDone host d t done t' → Sees t t' (deeds_for c done)
+  seen t t' [] h = record { told = refl; state = ap (own c) h }
+  seen t t' (deed ∷ done) h =
+      let rest = seen (next t deed).1 t' done h.1 in
+      elim (eq_by_cmp text_cmp c deed.customer) as (λ b. eq_by_cmp text_cmp c deed.customer ≡ b → Sees t t' (cond b (deed ∷ deeds_for c done) (deeds_for c done))) [
+        | true ↦ λ e. own_deed t t' deed (deeds_for c done) (tells_apart exact_bytes c deed.customer e) h.0 rest
+        | false ↦ λ e. other_deed t t' deed (deeds_for c done) (λ s. both_ways _ e (ap (eq_by_cmp text_cmp c) (sym s) ∙ tied_true nat_list_cmp_total c)) rest
+      ] refl
 
-and_true : (b : Bool) → b ≡ (b && not false)
-and_true true = refl
-and_true false = refl
+-- ---- what was done by exchanges
 
-served : (c name : List ℕ) (r : SeenReply) (a : Answer) → r ≡ reply_of a → eq_by_cmp text_cmp c name ≡ is_counted c name r
-served c name r a is = and_true _ ∙ ap (λ b. eq_by_cmp text_cmp c name && not b) (sym (ap (λ x. eqb x.status 503) is ∙ answer_not_struck (answer_number a)))
+-- calls, and then further ones
+pub all_done_on : (host : List ℕ) (d : Directory) (t mid t' : Tables) (first more : List Deed) → AllDone host d t first mid → AllDone host d mid more t' → AllDone host d t (first ++ more) t'
+all_done_on host d t mid t' [] more p q = subst (λ s. AllDone host d s more t') p q
+all_done_on host d t mid t' (deed ∷ first) more p q = (p.0, all_done_on host d (shared host (entry_of d deed.customer) t deed.at deed.call).1 mid t' first more p.1 q)
 
-seen_one : (may : Fault → Type 0) (host : List ℕ) (d : Directory) (c : List ℕ) (t t' : Tables) (at : ℕ) (called : Result (List ℕ × Call) Refusal) (r : SeenReply) → MayReplyTo may host d t at called r t' → Seen host (entry_of d c) (own c t) (own c t') (call_of_one c at called r) (reply_to_one c called r)
-seen_one may host d c t t' at (Err e) r h = unseen host _ _ _ (ap (own c) h.1)
-seen_one may host d c t t' at (Ok named) r h = ⊎_elim
-    (λ (did : (r ≡ reply_of (shared host (entry_of d named.0) t at named.1).0) × (t' ≡ (shared host (entry_of d named.0) t at named.1).1)). counted host d c t t' at named.0 named.1 r (served c named.0 r _ did.0) did.0 did.1)
-    (λ (no : (fault : Fault) × ((fault ≡ no_memory) ⊎ may fault) × IsStruck fault t r t'). subst (Out host d c t t' at named.0 named.1 r) (sym (busy c named.0 r (ap (λ (x : SeenReply). x.status) no.2.0 ∙ fault_status no.0))) (unseen host _ _ _ (ap (own c) no.2.1))) h
+module _ (may : Fault → Type 0) (host : List ℕ) (d : Directory) where
+  -- what one exchange did
+  done_once : (t t' : Tables) (at : ℕ) (called : Result Asked Refusal) (r : SeenReply) → MayReplyTo may host d t at called r t' → AllDone host d t (deeds_of at called r) t'
+  done_once t t' at (Err e) r h = h.1
+  done_once t t' at (Ok (CallOf name call)) r h =
+      let deed : Deed = record { customer = name; at = at; call = call; in_part = false; told = Whole r } in
+      let Out : Bool → Type 0 = λ b. AllDone host d t (cond b [] (deed ∷ [])) t' in
+      ⊎_elim
+      (λ (did : (r ≡ reply_of (shared host (entry_of d name) t at call).0) × (t' ≡ (shared host (entry_of d name) t at call).1)). subst Out (sym (ap (λ (x : SeenReply). eqb x.status 503) did.0 ∙ answer_not_struck (answer_number (shared host (entry_of d name) t at call).0))) (ap Whole did.0, did.1))
+      (λ (no : (fault : Fault) × ((fault ≡ no_memory) ⊎ may fault) × IsStruck fault t r t'). subst Out (sym (eq-eqb r.status 503 (ap (λ (x : SeenReply). x.status) no.2.0 ∙ fault_status no.0))) no.2.1) h
+  done_once t t' at (Ok SweepOfAll) r h = ⊎_elim
+      (λ (did : Sweeps may host d t at r t'). did.done)
+      (λ (no : IsStruck no_memory t r t'). subst (λ parts. AllDone host d t (map (of_part at) parts) t') (sym (ap (λ (x : SeenReply). x.parts) no.0 ∙ no_parts no_memory)) no.1) h
 
-answers-append : (host : List ℕ) (e : Entry) (s : State) (xs ys : List (ℕ × Call)) → answers host e s (xs ++ ys) ≡ answers host e s xs ++ answers host e (state_after host e s xs) ys
-answers-append host e s [] ys = refl
-answers-append host e s (x ∷ xs) ys = ap (λ rest. (step host e s x.0 x.1).0 ∷ rest) (answers-append host e (step host e s x.0 x.1).1 xs ys)
-
-state_after-append : (host : List ℕ) (e : Entry) (s : State) (xs ys : List (ℕ × Call)) → state_after host e s (xs ++ ys) ≡ state_after host e (state_after host e s xs) ys
-state_after-append host e s [] ys = refl
-state_after-append host e s (x ∷ xs) ys = state_after-append host e (step host e s x.0 x.1).1 xs ys
-
-joined : (host : List ℕ) (e : Entry) (s mid t : State) (xs ys : List (ℕ × Call)) (rs qs : List SeenReply) → Seen host e s mid xs rs → Seen host e mid t ys qs → Seen host e s t (xs ++ ys) (rs ++ qs)
-joined host e s mid t xs ys rs qs a b =
-    let then : qs ≡ map reply_of (answers host e (state_after host e s xs) ys) = b.told ∙ ap (λ u. map reply_of (answers host e u ys)) a.state in
-    record {
-      told = (λ i. a.told i ++ then i) ∙ sym (map-append reply_of (answers host e s xs) (answers host e (state_after host e s xs) ys)) ∙ ap (map reply_of) (sym (answers-append host e s xs ys));
-      state = b.state ∙ ap (λ u. state_after host e u ys) a.state ∙ sym (state_after-append host e s xs ys);
-    }
-
-seen_all : (may : Fault → Type 0) (host : List ℕ) (d : Directory) (c : List ℕ) (t t' : Tables) (asks : List Ask) (rs : List SeenReply) → AllReplied may host d t asks rs t' → Seen host (entry_of d c) (own c t) (own c t') (share c asks rs) (heard c asks rs)
-seen_all may host d c t t' [] [] h = unseen host _ _ _ (ap (own c) h)
-seen_all may host d c t t' (a ∷ asks) (r ∷ rs) h =
-    joined host (entry_of d c) (own c t) (own c h.0) (own c t') _ _ _ _ (seen_one may host d c t h.0 a.at a.called r h.1) (seen_all may host d c h.0 t' asks rs h.2)
-seen_all may host d c t t' [] (r ∷ rs) h = absurd h
-seen_all may host d c t t' (a ∷ asks) [] h = absurd h
+  all_done : (t t' : Tables) (asks : List Ask) (rs : List SeenReply) → AllReplied may host d t asks rs t' → AllDone host d t (deeds asks rs) t'
+  all_done t t' [] [] h = h
+  all_done t t' (a ∷ asks) (r ∷ rs) h = all_done_on host d t h.0 t' _ _ (done_once t h.0 a.at a.called r h.1) (all_done h.0 t' asks rs h.2)
+  all_done t t' [] (r ∷ rs) h = absurd h
+  all_done t t' (a ∷ asks) [] h = absurd h
 
 -- the headline, of whatever was asked and replied in order
 pub alone : (may : Fault → Type 0) (host : List ℕ) (d : Directory) (t t' : Tables) (asks : List Ask) (rs : List SeenReply) → AllReplied may host d t asks rs t' → Alone host d asks rs t t'
-alone may host d t t' asks rs h = record {
-  replies = λ c. (seen_all may host d c t t' asks rs h).told;
-  state = λ c. (seen_all may host d c t t' asks rs h).state;
-}
-
--- of one
-pub alone_once : (may : Fault → Type 0) (host : List ℕ) (d : Directory) (t t' : Tables) (a : Ask) (r : SeenReply) → MayReply may host d t a r t' → Alone host d (a ∷ []) (r ∷ []) t t'
-alone_once may host d t t' a r h = alone may host d t t' (a ∷ []) (r ∷ []) (t', h, refl)
+alone may host d t t' asks rs h =
+    let done = all_done may host d t t' asks rs h in
+    record {
+      replies = λ c. (seen host d c t t' (deeds asks rs) done).told;
+      state = λ c. (seen host d c t t' (deeds asks rs) done).state;
+    }

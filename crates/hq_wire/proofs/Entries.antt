@@ -1,5 +1,5 @@
 -- The customer that a look-up finds is the one under its name.
-use Rattle.std.proofs.Common.{◌≡◌, ◌≢◌, ℕ, Bool, true, false, cond, not, ◌||◌, List, [], ◌∷◌, Some, None, Option, sym, refl, ap, ◌∙◌}
+use Rattle.std.proofs.Common.{◌≡◌, ◌≢◌, ℕ, zero, suc, ◌<◌, length, get_or, arith, Bool, true, false, cond, not, ◌||◌, List, [], ◌∷◌, Some, None, Option, sym, refl, ap, ◌∙◌, subst}
 use Rattle.std.specs.List.{find, list_any}
 use Rattle.std.specs.Ordering.{eq_by_cmp}
 use Rattle.std.specs.Cmp.Lexicographic.{nat_list_cmp_total}
@@ -51,6 +51,26 @@ under_name p (y ∷ ys) c apart f = by (and_parts (not (list_any (has_name y.ent
 -- the entry that was found is that under its name
 pub entry_found : (p : Customer → Bool) (cs : List Customer) (c : Customer) → are_customers cs ≡ true → find p cs ≡ Some c → entry_in cs c.entry.name ≡ c.entry
 entry_found p cs c h f = under_name p cs c (and_parts (names_apart cs) (keys_apart cs) h).0 f
+
+-- a test that none passes, the one at a place does not pass
+none_at : (q : Customer → Bool) (cs : List Customer) (i : ℕ) (c : Customer) → list_any q cs ≡ false → i < length cs → q (get_or cs i c) ≡ false
+none_at q [] i c none below = absurd (omega arith)
+none_at q (y ∷ ys) zero c none below = (or_false (q y) (list_any q ys) none).0
+none_at q (y ∷ ys) (suc i) c none below = none_at q ys i c (or_false (q y) (list_any q ys) none).1 (omega arith)
+
+at_place : (cs : List Customer) (i : ℕ) (c : Customer) → names_apart cs ≡ true → i < length cs → entry_in cs (get_or cs i c).entry.name ≡ (get_or cs i c).entry
+at_place [] i c apart below = absurd (omega arith)
+at_place (y ∷ ys) zero c apart below = ap (λ b. cond b y.entry (entry_in ys y.entry.name)) (tied_true nat_list_cmp_total y.entry.name)
+at_place (y ∷ ys) (suc i) c apart below =
+    let x = get_or ys i c in
+    let parts = and_parts (not (list_any (has_name y.entry.name) ys)) (names_apart ys) apart in
+    let other : eq_by_cmp text_cmp y.entry.name x.entry.name ≡ false = none_at (has_name y.entry.name) ys i c (not_true (list_any (has_name y.entry.name) ys) parts.0) (omega arith) in
+    let apart_names : x.entry.name ≢ y.entry.name = λ e. false≢true (sym other ∙ ap (eq_by_cmp text_cmp y.entry.name) e ∙ tied_true nat_list_cmp_total y.entry.name) in
+    ap (λ b. cond b y.entry (entry_in ys x.entry.name)) (tied_false exact_bytes x.entry.name y.entry.name apart_names) ∙ at_place ys i c parts.1 (omega arith)
+
+-- the entry of the customer at a place is that under its name
+pub entry_at : (cs : List Customer) (i : ℕ) (c x : Customer) → are_customers cs ≡ true → i < length cs → x ≡ get_or cs i c → entry_in cs x.entry.name ≡ x.entry
+entry_at cs i c x h below is = subst (λ (y : Customer). entry_in cs y.entry.name ≡ y.entry) (sym is) (at_place cs i c (and_parts (names_apart cs) (keys_apart cs) h).0 below)
 
 -- the entry under a name has this name, whether it is a customer's or not
 pub named : (cs : List Customer) (name : List ℕ) → (entry_in cs name).name ≡ name

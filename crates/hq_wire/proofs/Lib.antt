@@ -1,4 +1,6 @@
 pub mod Alone
 pub mod Entries
 pub mod Exchanging
+pub mod Readings
 pub mod Serving
+pub mod Swept

@@ -1,5 +1,5 @@
 -- Exchanges one after the other are served together.
-use Rattle.std.proofs.Common.{◌≡◌, ◌+◌, List, [], ◌∷◌, cond, sym, ap, ◌∙◌, subst, arith}
+use Rattle.std.proofs.Common.{◌≡◌, ◌+◌, List, [], ◌∷◌, cond, sym, ap, subst, arith}
 use Rattle.std.proofs.lemmas.List.Sums.{sum_by-append}
 use Rattle.hq_base.specs.Turns.{InTurn}
 use Rattle.hq_base.proofs.Turns.{one_turn}
@@ -9,20 +9,12 @@ use Rattle.hq_store.specs.Tables.{Tables}
 use Rattle.hq_desk.specs.Desks.{Stays, host_of, on}
 use Rattle.hq_desk.specs.declared.desk.Desk.{Desk}
 use Rattle.hq_wire.specs.Exchanges.{Ask, Exchanged}
-use Rattle.hq_wire.specs.Replies.{SeenReply, store_faults, tells_store}
-use Rattle.hq_wire.specs.Runs.{AllReplied, Served}
+use Rattle.hq_wire.specs.Replies.{SeenReply, IsSent, store_faults, tells_store}
+use Rattle.hq_wire.specs.Runs.{AllReplied, Served, RepliesSo}
+use Rattle.hq_wire.specs.declared.reply.Reply.{Reply}
 use Rattle.hq_wire.specs.declared.directory.Directory.{Directory}
 use Rattle.hq_wire.proofs.Alone.{alone}
-use Rattle.hq_wire.proofs.Exchanging.{stay_put}
-
--- what two stretches of calls keep, they keep together
-stay_on : {S : Type 0} (sight : Sight (Desk S)) (old mid new : Desk S) → Stays sight old mid → Stays sight mid new → Stays sight old new
-stay_on sight old mid new first next = record {
-  ours = λ clean ours open_. next.ours clean (first.ours (next.quiet clean) ours (next.stays_open open_)) open_;
-  quiet = λ clean. first.quiet (next.quiet clean);
-  stays_open = λ open_. first.stays_open (next.stays_open open_);
-  host = next.host ∙ first.host;
-}
+use Rattle.hq_wire.proofs.Exchanging.{stay_put, stay_on}
 
 module _ {S : Type 0} (sight : Sight S) (d : Directory) where
   abbrev tables : Desk S → Tables
@@ -85,3 +77,7 @@ module _ {S : Type 0} (sight : Sight S) (d : Directory) where
   -- one exchange
   pub served_once : (old new : Desk S) (a : Ask) (r : SeenReply) → Exchanged sight d old a r new → Served sight d old (a ∷ []) (r ∷ []) new
   served_once old new a r p = served old new (a ∷ []) (r ∷ []) (one_turn (Exchanged sight d) old new a r p)
+
+  -- as it is sent
+  pub told_once : (old new : Desk S) (a : Ask) (reply : Reply) (r : SeenReply) → IsSent reply r → Exchanged sight d old a r new → RepliesSo sight d old a reply new
+  told_once old new a reply r sent p = record { told = r; sent = sent; done = p; alone = (served_once old new a r p).alone }

@@ -1,5 +1,5 @@
 -- From an exchange to a call: the refusals in the order of the steps here.
-use Rattle.std.specs.Prelude.{ℕ, Bool, true, false, nat_le, List, length, codes, bytes_eq, string_bytes, Option, None, Some, option_map, Result, Ok, if◌then◌else◌}
+use Rattle.std.specs.Prelude.{ℕ, ⊤, ◌≡◌, Bool, true, false, nat_le, List, length, codes, bytes_eq, string_bytes, Option, None, Some, option_map, Result, Ok, if◌then◌else◌}
 use Rattle.hq_base.specs.Readers.{◌>>=◌, guard, or_refuse}
 use Rattle.hq_base.specs.Serials.{serial_in}
 use Rattle.hq_base.specs.declared.failure.Refusal.{Refusal}
@@ -14,14 +14,31 @@ use Rattle.hq_json.specs.Submissions.{read_submission}
 use Rattle.hq_routes.specs.Routes.{path_of, last_segment}
 use Rattle.hq_routes.specs.declared.Path.{Path}
 use Rattle.hq_routes.specs.declared.Path.TheVariants as path
-use Rattle.hq_wire.specs.Directories.{customer_of}
+use Rattle.hq_wire.specs.Directories.{customer_of, relay_alone, entry_of}
 use Rattle.hq_wire.specs.Numbers.{number_in}
 use Rattle.hq_wire.specs.declared.directory.Directory.{Directory}
 use Rattle.hq_wire.specs.declared.asked.Exchange.{Exchange}
+use Rattle.hq_wire.specs.declared.request.Asking.{Asking}
+use Rattle.hq_wire.specs.declared.request.Asking.TheVariants as asking
 use Rattle.hq_wire.specs.declared.request.MessageRoute.{MessageRoute}
 use Rattle.hq_wire.specs.declared.request.MessageRoute.TheVariants as about
 use Rattle.hq_wire.specs.declared.request.Route.{Route}
 use Rattle.hq_wire.specs.declared.request.Route.TheVariants as route
+
+-- What an exchange asks: a call of one customer, or a sweep of all customers.
+pub data Asked : Type 0 where
+  CallOf : List ℕ → Call → Asked
+  SweepOfAll : Asked
+
+-- as the code has it
+abbrev pub asked_seen : Asking → Asked
+asked_seen (asking.CallOf entry call) = CallOf entry.now.name call
+asked_seen asking.SweepOfAll = SweepOfAll
+
+-- whose call it is, the directory knows
+abbrev pub IsKnown : Directory → Asking → Type 0
+IsKnown d (asking.CallOf entry call) = entry.now ≡ entry_of d entry.now.name
+IsKnown d asking.SweepOfAll = ⊤
 
 -- this route, where the method is that one
 abbrev pub at_method : List ℕ → List ℕ → Route → Option Route → Option Route
@@ -53,13 +70,19 @@ route_of path.Submit method = at_method method (codes "POST") route.Submit None
 route_of path.Outcome method = at_method method (codes "POST") route.Outcome None
 route_of path.Due method = at_method method (codes "POST") route.Due None
 route_of path.Sweep method = at_method method (codes "POST") route.Sweep None
+route_of path.SweepAll method = at_method method (codes "POST") route.SweepAll None
 
 abbrev pub is_for_relay : Route → Bool
 is_for_relay route.Submit = true
 is_for_relay route.Outcome = true
 is_for_relay route.Due = true
 is_for_relay route.Sweep = true
+is_for_relay route.SweepAll = true
 is_for_relay _ = false
+
+abbrev pub is_for_all : Route → Bool
+is_for_all route.SweepAll = true
+is_for_all _ = false
 
 -- the call about a message
 abbrev pub call_about : MessageRoute → ℕ → Call
@@ -120,18 +143,29 @@ asked_of route.Due segment body = do
   after ← read_due body
   Ok (call.Due after)
 asked_of route.Sweep segment body = Ok call.Sweep
+asked_of route.SweepAll segment body = Ok call.Sweep
 
--- the customer's name and the call, or the refusal: the body's length, the path, the method, the key and whom it
--- serves, the parameter, the body
-unfoldable pub call_from : Directory → (method path : List ℕ) → Option (List ℕ) → List ℕ → Result (List ℕ × Call) Refusal
+-- the call of one customer: the key and whom it serves, the parameter, the body
+abbrev pub asked_of_one : Directory → Route → Option (List ℕ) → (segment body : List ℕ) → Result Asked Refusal
+asked_of_one d route key segment body = do
+  name ← customer_of d (is_for_relay route) key segment
+  call ← asked_of route segment body
+  Ok (CallOf name call)
+
+-- the sweep of all: the relay's key, and neither parameter nor body
+abbrev pub asked_of_all : Directory → Option (List ℕ) → Result Asked Refusal
+asked_of_all d key = do
+  relay ← relay_alone d key
+  Ok SweepOfAll
+
+-- what is asked, or the refusal: the body's length, the path, the method, and then those of the call
+unfoldable pub call_from : Directory → (method path : List ℕ) → Option (List ℕ) → List ℕ → Result Asked Refusal
 call_from d method path key body = do
   short ← guard (nat_le (length body) 262144) BodyTooLong
   known ← or_refuse NoRoute (path_of path)
   route ← or_refuse WrongMethod (route_of known method)
-  name ← customer_of d (is_for_relay route) key (last_segment path)
-  call ← asked_of route (last_segment path) body
-  Ok (name, call)
+  if is_for_all route then asked_of_all d key else asked_of_one d route key (last_segment path) body
 
 -- what an exchange asks
-abbrev pub call_of : Directory → Exchange → Result (List ℕ × Call) Refusal
+abbrev pub call_of : Directory → Exchange → Result Asked Refusal
 call_of d x = call_from d (string_bytes x.method) (string_bytes x.path) (option_map string_bytes x.key) x.body.items

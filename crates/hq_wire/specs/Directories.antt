@@ -1,5 +1,5 @@
 -- Who shows a key, and which customer an exchange is for.
-use Rattle.std.specs.Prelude.{ℕ, Bool, true, false, List, [], ◌∷◌, Option, None, Some, Result, Ok, Err, if◌then◌else◌}
+use Rattle.std.specs.Prelude.{ℕ, ⊤, Bool, true, false, List, [], ◌∷◌, map, Option, None, Some, Result, Ok, Err, if◌then◌else◌}
 use Rattle.std.specs.List.{find}
 use Rattle.std.specs.Ordering.{eq_by_cmp}
 use Rattle.hq_base.specs.declared.failure.Refusal.{Refusal}
@@ -15,6 +15,13 @@ relay_of d = d.relay
 
 abbrev pub customers_of : Directory → List Customer
 customers_of d = d.customers
+
+abbrev pub name_of : Customer → List ℕ
+name_of c = c.entry.name
+
+-- the names of the customers, in the order of the directory
+abbrev pub names_of : Directory → List (List ℕ)
+names_of d = map name_of d.customers
 
 -- stands for the entry under a name that no customer has; no call is made for it
 abbrev pub nobody : List ℕ → Entry
@@ -44,3 +51,13 @@ by_customer false (Some c) = Ok c.entry.name
 abbrev pub customer_of : Directory → Bool → Option (List ℕ) → List ℕ → Result (List ℕ) Refusal
 customer_of d for_relay None segment = Err NoKey
 customer_of d for_relay (Some key) segment = if eq_by_cmp text_cmp key d.relay then by_relay for_relay (find (has_name segment) d.customers) else by_customer for_relay (find (has_key key) d.customers)
+
+-- who is not the relay: a customer, or nobody
+abbrev pub not_relay : Option Customer → Result ⊤ Refusal
+not_relay None = Err NoKey
+not_relay (Some c) = Err WrongRole
+
+-- nothing, where the relay's key is shown
+abbrev pub relay_alone : Directory → Option (List ℕ) → Result ⊤ Refusal
+relay_alone d None = Err NoKey
+relay_alone d (Some key) = if eq_by_cmp text_cmp key d.relay then Ok tt else not_relay (find (has_key key) d.customers)

@@ -1,5 +1,6 @@
 -- What is replied: a status and the bytes of a body.
-use Rattle.std.specs.Prelude.{ℕ, ◌==◌, ◌&&◌, ◌||◌, Bool, true, false, not, nat_le, List, bytes_eq, codes, count_by, if◌then◌else◌}
+use Rattle.std.specs.Prelude.{ℕ, ⊤, ◌≡◌, ◌==◌, ◌&&◌, ◌||◌, Bool, true, false, not, nat_le, List, [], ◌∷◌, ◌++◌, take, drop, Option, None, Some, bytes_eq, codes, count_by, if◌then◌else◌}
+use Rattle.std.specs.List.{flat_map, list_all}
 use Rattle.hq_base.specs.declared.failure.Fault.{Fault}
 use Rattle.hq_base.specs.declared.failure.Fault.TheVariants.{WantOfMemory, Disk, BadSchema, Closed}
 use Rattle.hq_calls.specs.Answers.{answer_number}
@@ -9,17 +10,37 @@ use Rattle.hq_wire.specs.declared.reply.Body.{Body}
 use Rattle.hq_wire.specs.declared.reply.Body.TheVariants as body
 use Rattle.hq_wire.specs.declared.reply.Reply.{Reply}
 
--- a reply as it is seen
+-- what one customer is told in the reply to a sweep of all
+pub record Part : Type 0 where
+  pub customer : List ℕ
+  pub text : List ℕ
+
+-- the customer at whom a sweep of all stopped, and the fault
+pub record Stop : Type 0 where
+  pub customer : List ℕ
+  pub fault : Fault
+
+-- A reply as it is seen. A sweep of all is told in parts, and where it stopped.
 pub record SeenReply : Type 0 where
   pub status : ℕ
   pub body : List ℕ
+  pub parts : List Part
+  pub stopped : Option Stop
+
+-- a reply without parts
+abbrev pub plain : ℕ → List ℕ → SeenReply
+plain status body = record { status = status; body = body; parts = []; stopped = None }
 
 abbrev pub body_bytes : Body → List ℕ
 body_bytes (body.Bytes bytes) = bytes.items
 body_bytes (body.Fixed text) = text.now
 
 abbrev pub seen : Reply → SeenReply
-seen reply = record { status = reply.status; body = body_bytes reply.body }
+seen reply = plain reply.status (body_bytes reply.body)
+
+-- byte for byte it is this reply
+abbrev pub IsSent : Reply → SeenReply → Type 0
+IsSent reply r = (r.status ≡ reply.status) × (r.body ≡ body_bytes reply.body)
 
 -- nothing is there: no route, message, line, notice or customer
 abbrev pub is_missing : ℕ → Bool
@@ -42,7 +63,7 @@ status_of n =
 
 -- the reply to an answer
 abbrev pub reply_of : Answer → SeenReply
-reply_of a = record { status = status_of (answer_number a); body = answer_text a }
+reply_of a = plain (status_of (answer_number a)) (answer_text a)
 
 -- the fixed text of a fault
 abbrev pub fault_text : Fault → List ℕ
@@ -53,15 +74,77 @@ fault_text Closed = codes "{\"error\":93,\"name\":\"Closed\"}"
 
 -- the reply to a fault: 503
 unfoldable pub reply_of_fault : Fault → SeenReply
-reply_of_fault fault = record { status = 503; body = fault_text fault }
+reply_of_fault fault = plain 503 (fault_text fault)
+
+-- ---- a sweep of all
+
+-- an object's text with the member `customer` before its others
+abbrev pub for_customer : List ℕ → List ℕ → List ℕ
+for_customer name object = codes "{\"customer\":\"" ++ name ++ codes "\"," ++ drop 1 object
+
+-- what a customer is told of its answer, as a part
+abbrev pub part_of : List ℕ → Answer → List ℕ
+part_of name a = for_customer name (answer_text a)
+
+-- a part behind others has a comma before it
+abbrev pub separated : Bool → List ℕ → List ℕ
+separated true part = part
+separated false part = 44 ∷ part
+
+-- the parts, with commas between them
+abbrev pub joined : List Part → List ℕ
+joined [] = []
+joined (p ∷ ps) = p.text ++ flat_map (λ (q : Part). 44 ∷ q.text) ps
+
+abbrev pub stopped_text : Option Stop → List ℕ
+stopped_text None = codes "null"
+stopped_text (Some stop) = for_customer stop.customer (fault_text stop.fault)
+
+-- up to the first part
+abbrev pub opening : List ℕ
+opening = codes "{\"done\":["
+
+-- behind the last part
+abbrev pub closing : Option Stop → List ℕ
+closing stopped = codes "],\"stopped\":" ++ stopped_text stopped ++ codes "}"
+
+-- the reply to a sweep of all
+abbrev pub swept_reply : List Part → Option Stop → SeenReply
+swept_reply parts stopped = record { status = 200; body = opening ++ joined parts ++ closing stopped; parts = parts; stopped = stopped }
+
+-- ---- what the bytes of such a reply tell
+
+-- does not close a brace
+abbrev pub is_inside : ℕ → Bool
+is_inside byte = not (byte == 125)
+
+-- the last byte closes a brace, and no other does
+pub record Closes (text : List ℕ) : Type 0 where
+  pub before : List ℕ
+  pub text_is : text ≡ before ++ 125 ∷ []
+  pub inside : list_all is_inside before ≡ true
+
+-- begins with a brace, and ends where one is first closed
+abbrev pub IsObject : List ℕ → Type 0
+IsObject text = (take 1 text ≡ 123 ∷ []) × Closes text
+
+abbrev pub AreObjects : List Part → Type 0
+AreObjects [] = ⊤
+AreObjects (p ∷ ps) = IsObject p.text × AreObjects ps
+
+-- ---- faults of the store
 
 abbrev pub is_memory : Fault → Bool
 is_memory WantOfMemory = true
 is_memory _ = false
 
--- the reply tells a fault that is not want of memory: one that the store counts
+abbrev pub stops_by_store : Option Stop → Bool
+stops_by_store None = false
+stops_by_store (Some stop) = not (is_memory stop.fault)
+
+-- the reply tells a fault that is not want of memory, whole or as what stopped a sweep: one that the store counts
 abbrev pub tells_store : SeenReply → Bool
-tells_store r = r.status == 503 && not (bytes_eq r.body (fault_text WantOfMemory))
+tells_store r = (r.status == 503 && not (bytes_eq r.body (fault_text WantOfMemory))) || stops_by_store r.stopped
 
 -- how many replies do
 abbrev pub store_faults : List SeenReply → ℕ

@@ -1,18 +1,18 @@
 //! How the desk replies to one exchange.
 
-ghost use Rattle.std.specs.Prelude.{◌≡◌, ◌∷◌, [], Ok, false};
-ghost use Rattle.hq_store.specs.Shelves.{OnOpenSound};
-ghost use Rattle.hq_desk.specs.Desks.{host_of, on};
+ghost use Rattle.std.specs.Prelude.{◌≡◌, Ok, false};
+ghost use Rattle.hq_wire.specs.Calls.{CallOf};
 ghost use Rattle.hq_wire.specs.Directories.{entry_of};
 ghost use Rattle.hq_wire.specs.Exchanges.{Exchanged, IsRefused, ask_of};
 ghost use Rattle.hq_wire.specs.Replies.{seen, tells_store};
-ghost use Rattle.hq_wire.specs.Runs.{Alone};
+ghost use Rattle.hq_wire.specs.Runs.{RepliesSo};
 ghost use Rattle.hq_wire.specs.declared.directory.Directory.{Directory};
 
 use crate::asked::Exchange;
 use crate::directory::Directory;
 use crate::reply::{Body, Reply, fault_reply, status_of};
-use crate::request::call_of;
+use crate::request::{Asking, call_of};
+use crate::sweeping::sweep_all;
 use hq_desk::{Call, Desk};
 use hq_envelope::{Fail, Fault, Moment, Refusal};
 use hq_json::{Json, refusal_text};
@@ -45,7 +45,7 @@ fn call_reply<S: Shelf + Drop>(
     call: Call,
 ) -> Reply
     ensures { (d : Directory) → entry.now ≡ entry_of d entry.now.name
-        → Exchanged S.sight d desk.old (record { at = at; called = Ok (entry.now.name, call) })
+        → Exchanged S.sight d desk.old (record { at = at; called = Ok (CallOf entry.now.name call) })
         (seen result) desk.new }
 {
     match desk.act(alloc, at, entry, call, &Json) {
@@ -62,6 +62,9 @@ fn call_reply<S: Shelf + Drop>(
 /// want of memory, and only where there was a call with a fault that the shelf can answer, and the
 /// tables are as before. It always replies.
 ///
+/// A sweep of all is replied to with a part for each customer that is done, which are the first of
+/// the directory, each by the shared step; and with the customer and the fault that stopped it.
+///
 /// What is said of tables is said where the store is clean and open as the call ends, its rows were
 /// those of the tables before, and the tables were sound. Whatever the store is, a refusal is told
 /// as such, and where the store is closed after a call the reply is 93 `Closed`, or 90.
@@ -71,15 +74,12 @@ pub fn exchange<S: Shelf + Drop>(
     directory: &Directory,
     exchange: &Exchange,
 ) -> Reply
-    ensures done { Exchanged S.sight directory.now desk.old (ask_of directory.now exchange.now)
-        (seen result) desk.new }
-    // The headline, of one exchange.
-    ensures alone { OnOpenSound (on S.sight) desk.old desk.new
-        (Alone (host_of desk.old) directory.now (ask_of directory.now exchange.now ∷ [])
-        (seen result ∷ []) ((on S.sight).tables desk.old) ((on S.sight).tables desk.new)) }
+    ensures { RepliesSo S.sight directory.now desk.old (ask_of directory.now exchange.now) result
+        desk.new }
 {
     match call_of(alloc, directory, exchange) {
-        Ok((entry, call)) => call_reply(alloc, desk, exchange.at, entry, call),
+        Ok(Asking::CallOf(entry, call)) => call_reply(alloc, desk, exchange.at, entry, call),
+        Ok(Asking::SweepOfAll) => sweep_all(alloc, desk, directory, exchange.at),
         Err(Fail::Refused(refusal)) => refusal_reply(alloc, refusal),
         Err(Fail::Fault(fault)) => fault_reply(fault),
     }

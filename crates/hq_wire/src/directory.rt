@@ -86,7 +86,7 @@ pub struct Directory {
 }
 
 impl Directory {
-    ghost use Rattle.hq_wire.specs.Directories.{relay_of, customers_of, entry_of, by_relay, by_customer, customer_of};
+    ghost use Rattle.hq_wire.specs.Directories.{relay_of, customers_of, entry_of, by_relay, by_customer, customer_of, relay_alone};
     ghost use Rattle.std.specs.Ordering.{eq_by_cmp};
     ghost use Rattle.hq_store.specs.Tables.{text_cmp};
     ghost use Rattle.hq_routes.specs.Routes.{path_of};
@@ -183,5 +183,27 @@ impl Directory {
                 }
             }
         }
+    }
+    /// Nothing, where the relay's key is shown: else 2 `NoKey` or 3 `WrongRole`.
+    pub(crate) fn relay_alone(&self, key: Option<&str>) -> Result<(), Refusal>
+        ensures { result ≡ relay_alone self.now (option_map (λ k. k.now) key.entry) }
+    {
+        let Some(key) = key else {
+            return Err(Refusal::NoKey);
+        };
+        if self.is_relay(key) {
+            return Ok(());
+        }
+        let Some(_) = with_key(self.customers.as_slice(), key) else {
+            return Err(Refusal::NoKey);
+        };
+        Err(Refusal::WrongRole)
+    }
+
+    /// The customers, in the order in which they were given.
+    pub(crate) fn customers(&self) -> &[Customer]
+        ensures { result.now ≡ customers_of self.now }
+    {
+        self.customers.as_slice()
     }
 }

@@ -2,8 +2,7 @@
 
 ghost use Rattle.std.specs.Prelude.{◌≡◌, IfOk, OnErr, map};
 ghost use Rattle.hq_wire.specs.Exchanges.{ask_of};
-ghost use Rattle.hq_wire.specs.Replies.{seen};
-ghost use Rattle.hq_wire.specs.Runs.{Served};
+ghost use Rattle.hq_wire.specs.Runs.{RunsSo};
 
 use crate::answering::exchange;
 use crate::asked::Exchange;
@@ -27,8 +26,8 @@ pub fn run<S: Shelf + Drop, A: Allocator>(
     directory: &Directory,
     exchanges: &[Exchange],
 ) -> Result<Vec<Reply, A>, AllocError>
-    ensures served { IfOk result (λ replies. Served S.sight directory.now desk.old
-        (map (ask_of directory.now) exchanges.now) (map seen replies.items) desk.new) }
+    ensures served { IfOk result (λ replies. RunsSo S.sight directory.now desk.old
+        (map (ask_of directory.now) exchanges.now) replies.items desk.new) }
     ensures none { OnErr result (desk.new ≡ desk.old) }
 {
     let mut replies = Vec::with_capacity(room, exchanges.len())?;

@@ -3,7 +3,7 @@
 
 ghost use Rattle.std.specs.Prelude.{◌≡◌, ℕ, List};
 ghost use Rattle.hq_store.specs.Tables.{Tables, own};
-ghost use Rattle.hq_wire.specs.Exchanges.{Ask};
+ghost use Rattle.hq_wire.specs.Exchanges.{Ask, MayReply};
 ghost use Rattle.hq_wire.specs.Replies.{SeenReply};
 ghost use Rattle.hq_wire.specs.Runs.{AllReplied, share, heard};
 ghost use Rattle.hq_wire.specs.declared.directory.Directory.{Directory};
@@ -24,4 +24,14 @@ pub fn nobody_else_matters<S: Shelf>()
         → AllReplied S.sight.may_answer host d t xs rs t'
         → AllReplied S.sight.may_answer host d u ys qs u'
         → own c t ≡ own c u → share c xs rs ≡ share c ys qs → own c t' ≡ own c u' }
+{}
+
+/// A reply is read in one way: two replies of the same bytes and status to what was asked, over any
+/// tables, are the same. So the bytes of the reply to a sweep of all tell which customers were
+/// done, what each of them was told, and at whom it stopped by which fault.
+pub fn one_reading<S: Shelf>()
+    ensures { (host : List ℕ) (d : Directory) (a : Ask) (r q : SeenReply) (t t' u u' : Tables)
+        → MayReply S.sight.may_answer host d t a r t'
+        → MayReply S.sight.may_answer host d u a q u'
+        → r.status ≡ q.status → r.body ≡ q.body → r ≡ q }
 {}

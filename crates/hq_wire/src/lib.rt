@@ -10,6 +10,7 @@ pub mod laws;
 mod number;
 mod reply;
 mod request;
+mod sweeping;
 
 pub use answering::{exchange, refusal_reply};
 pub use asked::Exchange;

@@ -52,7 +52,8 @@ pub(crate) fn status_of(number: u16) -> u16
     }
 }
 
-fn fault_text(fault: Fault) -> &'static str
+/// The body of the reply to a fault.
+pub(crate) fn fault_text(fault: Fault) -> &'static str
     ensures { result.now ≡ fault_text fault }
 {
     match fault {

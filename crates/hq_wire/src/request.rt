@@ -4,7 +4,7 @@ ghost use Rattle.std.specs.Prelude.{◌≡◌, IfOk, option_map, string_bytes};
 ghost use Rattle.hq_base.specs.Readers.{Reads, seen_by, or_refuse};
 ghost use Rattle.hq_base.specs.Serials.{serial_in};
 ghost use Rattle.hq_base.specs.declared.failure.Refusal.TheVariants.{BadField};
-ghost use Rattle.hq_wire.specs.Directories.{entry_of};
+ghost use Rattle.hq_routes.specs.Routes.{last_segment};
 ghost use Rattle.hq_wire.specs.Calls as calls;
 
 use crate::asked::Exchange;
@@ -81,6 +81,17 @@ pub(crate) enum Route {
     Due,
     /// What is too old given up, and senders warned.
     Sweep,
+    /// The same for every customer.
+    SweepAll,
+}
+
+/// What an exchange asks.
+#[derive(Drop)]
+pub(crate) enum Asking<'d> {
+    /// A call of a customer.
+    CallOf(&'d Entry, Call),
+    /// A sweep of all customers.
+    SweepOfAll,
 }
 
 /// The route of a method at a path, if the path has it.
@@ -114,6 +125,7 @@ fn route_of(path: Path, method: &str) -> Option<Route>
         Path::Outcome if method == "POST" => Some(Route::Outcome),
         Path::Due if method == "POST" => Some(Route::Due),
         Path::Sweep if method == "POST" => Some(Route::Sweep),
+        Path::SweepAll if method == "POST" => Some(Route::SweepAll),
         _ => None,
     }
 }
@@ -123,7 +135,17 @@ fn is_for_relay(route: Route) -> bool
     ensures { result ≡ calls.is_for_relay route }
 {
     match route {
-        Route::Submit | Route::Outcome | Route::Due | Route::Sweep => true,
+        Route::Submit | Route::Outcome | Route::Due | Route::Sweep | Route::SweepAll => true,
+        _ => false,
+    }
+}
+
+/// Whether a route is for all customers together.
+fn is_for_all(route: Route) -> bool
+    ensures { result ≡ calls.is_for_all route }
+{
+    match route {
+        Route::SweepAll => true,
         _ => false,
     }
 }
@@ -195,7 +217,7 @@ fn asked_of(alloc: Global, route: Route, segment: &str, body: &[u8]) -> Result<C
         Route::Submit => Ok(Call::Submit(read_submission(alloc, body)?)),
         Route::Outcome => Ok(Call::Outcome(read_report(alloc, body)?)),
         Route::Due => Ok(Call::Due(read_due(alloc, body)?)),
-        Route::Sweep => Ok(Call::Sweep),
+        Route::Sweep | Route::SweepAll => Ok(Call::Sweep),
     }
 }
 
@@ -209,18 +231,47 @@ fn key_of(exchange: &Exchange) -> Option<&str>
     }
 }
 
-/// The customer and the call of an exchange, or the first refusal in the order: 6 `BodyTooLong`, 4
-/// `NoRoute`, 5 `WrongMethod`, 2 `NoKey`, 3 `WrongRole`, 13 `NoCustomer`, then those of the
+/// The call of one customer that is asked for: refused as 2 `NoKey`, 3 `WrongRole`, 13 `NoCustomer`,
+/// and then as the parameter and the body are.
+fn asked_of_one<'d>(
+    alloc: Global,
+    directory: &'d Directory,
+    route: Route,
+    exchange: &Exchange,
+) -> Result<Asking<'d>, Fail>
+    ensures call { Reads (seen_by calls.asked_seen result)
+        (calls.asked_of_one directory.now route (option_map string_bytes exchange.now.key)
+        (last_segment (string_bytes exchange.now.path)) exchange.now.body.items) }
+    ensures known { IfOk result (calls.IsKnown directory.now) }
+{
+    let segment = last_segment(exchange.path.as_str());
+    let entry = directory.customer(is_for_relay(route), key_of(exchange), segment)?;
+    let call = asked_of(alloc, route, segment, exchange.body.as_slice())?;
+    Ok(Asking::CallOf(entry, call))
+}
+
+/// The sweep of all customers that is asked for: refused as 2 `NoKey` or 3 `WrongRole`.
+fn asked_of_all<'d>(directory: &'d Directory, exchange: &Exchange) -> Result<Asking<'d>, Fail>
+    ensures call { Reads (seen_by calls.asked_seen result)
+        (calls.asked_of_all directory.now (option_map string_bytes exchange.now.key)) }
+    ensures known { IfOk result (calls.IsKnown directory.now) }
+{
+    directory.relay_alone(key_of(exchange))?;
+    Ok(Asking::SweepOfAll)
+}
+
+/// What an exchange asks, or the first refusal in the order: 6 `BodyTooLong`, 4 `NoRoute`, 5
+/// `WrongMethod`, 2 `NoKey`, 3 `WrongRole`, and for one customer 13 `NoCustomer`, then those of the
 /// parameter and the body.
 #[tactic(auto, unfolding(crate::specs::Calls::call_from))]
 pub(crate) fn call_of<'d>(
     alloc: Global,
     directory: &'d Directory,
     exchange: &Exchange,
-) -> Result<(&'d Entry, Call), Fail>
-    ensures call { Reads (seen_by (λ named. (named.0.now.name, named.1)) result)
+) -> Result<Asking<'d>, Fail>
+    ensures call { Reads (seen_by calls.asked_seen result)
         (calls.call_of directory.now exchange.now) }
-    ensures entry { IfOk result (λ named. named.0.now ≡ entry_of directory.now named.0.now.name) }
+    ensures known { IfOk result (calls.IsKnown directory.now) }
 {
     if exchange.body.len() > BODY_BYTES {
         return Err(Fail::Refused(Refusal::BodyTooLong));
@@ -229,8 +280,9 @@ pub(crate) fn call_of<'d>(
         .path(exchange.path.as_str())
         .ok_or(Refusal::NoRoute)?;
     let route = route_of(path, exchange.method.as_str()).ok_or(Refusal::WrongMethod)?;
-    let segment = last_segment(exchange.path.as_str());
-    let entry = directory.customer(is_for_relay(route), key_of(exchange), segment)?;
-    let call = asked_of(alloc, route, segment, exchange.body.as_slice())?;
-    Ok((entry, call))
+    if is_for_all(route) {
+        asked_of_all(directory, exchange)
+    } else {
+        asked_of_one(alloc, directory, route, exchange)
+    }
 }

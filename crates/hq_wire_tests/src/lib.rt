@@ -14,3 +14,5 @@ mod notices;
 mod relay;
 #[cfg(test)]
 mod runs;
+#[cfg(test)]
+mod sweeps;

@@ -54,7 +54,7 @@ pub record SweepGiven : Type 0 where
   pub directory : Text
   pub host : Text
   pub store : Text
-  pub customer : Text
+  pub customer : Option Text
   pub at : Text
 
 pub record MigrateGiven : Type 0 where
@@ -74,7 +74,7 @@ abbrev pub ◌>>=◌ : {A B : Type 0} → Option A → (A → Option B) → Opti
 found >>= next = option_and_then next found
 
 -- the values of the options of each word, the first of each, in the written order; all but the store of a server or of a
--- batch are there
+-- batch, and the customer of a sweep, are there
 abbrev pub serve_in : List Row → Option ServeGiven
 serve_in rows = do
   directory ← first_of (codes "directory") rows
@@ -123,9 +123,8 @@ sweep_in rows = do
   directory ← first_of (codes "directory") rows
   host ← first_of (codes "host") rows
   store ← first_of (codes "store") rows
-  customer ← first_of (codes "customer") rows
   at ← first_of (codes "at") rows
-  Some (record { directory = directory; host = host; store = store; customer = customer; at = at })
+  Some (record { directory = directory; host = host; store = store; customer = first_of (codes "customer") rows; at = at })
 
 abbrev pub migrate_in : List Row → Option MigrateGiven
 migrate_in rows = do
@@ -200,7 +199,7 @@ sweep_at at s = record {
   directory = s.directory.now;
   host = s.host.now;
   store = s.store.now;
-  customer = s.customer.now;
+  customer = option_map (λ c. c.now) s.customer;
   at = at;
 }
 

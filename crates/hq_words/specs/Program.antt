@@ -50,7 +50,8 @@ import_shape = word_shape (codes "import")
 
 abbrev pub sweep_shape : Shape
 sweep_shape = word_shape (codes "sweep")
-    (needed (codes "directory") ∷ needed (codes "host") ∷ needed (codes "store") ∷ needed (codes "customer") ∷ moment_rule ∷ [])
+    (needed (codes "directory") ∷ needed (codes "host") ∷ needed (codes "store") ∷ option_rule (codes "customer") false
+    ∷ moment_rule ∷ [])
 
 abbrev pub migrate_shape : Shape
 migrate_shape = word_shape (codes "migrate") (needed (codes "store") ∷ [])

@@ -151,7 +151,7 @@ fn sweep<'w>(alloc: Global) -> Result<Command<'w>, AllocError>
         .arg(option(alloc, "directory", "FILE", DIRECTORY, true))?
         .arg(option(alloc, "host", "HOST", HOST, true))?
         .arg(option(alloc, "store", "FILE", STORE, true))?
-        .arg(option(alloc, "customer", "NAME", CUSTOMER, true))?
+        .arg(option(alloc, "customer", "NAME", CUSTOMER_OR_ALL, false))?
         .arg(moment(alloc))
 }
 

@@ -80,8 +80,8 @@ pub struct Sweep<'w> {
     pub host: &'w str,
     /// The path of the store.
     pub store: &'w str,
-    /// The name of the customer.
-    pub customer: &'w str,
+    /// The name of the customer, where one is named; else all customers are swept.
+    pub customer: Option<&'w str>,
     /// When it is swept.
     pub at: Moment,
 }
@@ -197,7 +197,7 @@ pub(crate) fn sweep_in<'w>(given: &ArgMatches<'w>) -> Option<Sweep<'w>>
     let directory = value(given, "directory")?;
     let host = value(given, "host")?;
     let store = value(given, "store")?;
-    let customer = value(given, "customer")?;
+    let customer = value(given, "customer");
     let at = moment_in(value(given, "at")?)?;
     Some(Sweep {
         directory,

@@ -135,15 +135,20 @@ Example:
     --file lines.csv";
 
 /// What `sweep` does.
-pub(crate) const SWEEP: &str =
-    "Give up a customer's messages that are too old, and warn of late ones";
+pub(crate) const SWEEP: &str = "Give up messages that are too old, and warn of late ones";
 
 /// What it prints, and an example of its calls.
 pub(crate) const AFTER_SWEEP: &str = "\
 It prints how many messages were given up, how many became warned, and how many notices were made:
 `expired 1, warned 0, notices 1`.
 
-Example:
+Without --customer all customers are swept, in the order of the directory, each by itself, and each
+has a line: `acme: expired 1, warned 0, notices 1`. One that is refused is told on standard error,
+as `hq: 44 NoticesSpent customer acme`, and the next one is swept; a fault ends it. The exit status
+is 1 where either was met.
+
+Examples:
+  hq_main sweep --directory customers.csv --host relay.example --store desk.db --at 1767657600
   hq_main sweep --directory customers.csv --host relay.example --store desk.db --customer acme \\
     --at 1767657600";
 
@@ -174,6 +179,10 @@ No default. Example: --store desk.db";
 pub(crate) const CUSTOMER: &str = "\
 The customer's name, as the directory has it. No default.
 Example: --customer acme";
+
+pub(crate) const CUSTOMER_OR_ALL: &str = "\
+The customer's name, as the directory has it. By default all
+customers are swept. Example: --customer acme";
 
 pub(crate) const LABEL: &str = "\
 What the import goes by: 1 to 64 letters, digits, dots,

@@ -32,7 +32,8 @@ pub enum Asked<'w> {
     Queue(Queue<'w>),
     /// `import`: lines of a customer's access tables, from a file.
     Import(Import<'w>),
-    /// `sweep`: a customer's messages that are too old given up, and late ones warned of.
+    /// `sweep`: messages of a customer, or of all, that are too old given up, and late ones warned
+    /// of.
     Sweep(Sweep<'w>),
     /// `migrate`: a store of the release before made one of this release.
     Migrate(Migrate<'w>),

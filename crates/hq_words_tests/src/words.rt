@@ -5,7 +5,7 @@ use std::alloc::{AllocError, Global};
 use std::test::Fail;
 
 /// Lines of words, parted by one space, and the values that they give, in the order of the help.
-const GIVEN: [(&str, &str); 18] = [
+const GIVEN: [(&str, &str); 20] = [
     (
         "serve --directory f --host h --relay-key k",
         "serve f h k - 127.0.0.1:8025 1000000 30 30",
@@ -63,6 +63,14 @@ const GIVEN: [(&str, &str); 18] = [
         "sweep --directory f --host h --store s --customer c --at +0000000000007",
         "sweep f h s c 7",
     ),
+    (
+        "sweep --directory f --host h --store s --at 7",
+        "sweep f h s - 7",
+    ),
+    (
+        "sweep --customer= --at=7 --store=s --host=h --directory=f",
+        "sweep f h s  7",
+    ),
     ("migrate --store s", "migrate s"),
     ("migrate --store=", "migrate "),
 ];
@@ -85,7 +93,7 @@ const HELP: [&str; 13] = [
 ];
 
 /// Lines of words that are not taken.
-const REFUSED: [&str; 41] = [
+const REFUSED: [&str; 44] = [
     "",
     "--",
     "serve",
@@ -121,6 +129,9 @@ const REFUSED: [&str; 41] = [
     "queue --directory f --store s --customer c --host h",
     "import --directory f --store s --customer c --label l",
     "import --directory f --store s --customer c --file t",
+    "sweep --directory f --host h --store s",
+    "sweep --directory f --host h --at 0",
+    "sweep --directory f --host h --store s --at 0 --customer",
     "sweep --directory f --host h --store s --customer c",
     "sweep --directory f --store s --customer c --at 0",
     "sweep --directory f --host h --store s --customer c --at 4102444800",
@@ -169,7 +180,8 @@ fn values(alloc: Global, asked: &Asked) -> Result<String, AllocError> {
             )
         }
         Asked::Sweep(it) => {
-            let beside = format!(in alloc; "{} {}", it.customer, it.at.get())?;
+            let customer = it.customer.unwrap_or("-");
+            let beside = format!(in alloc; "{customer} {}", it.at.get())?;
             format!(in alloc; "sweep {} {} {} {beside}", it.directory, it.host, it.store)
         }
         Asked::Migrate(it) => format!(in alloc; "migrate {}", it.store),

@@ -1,5 +1,5 @@
 use Rattle.std.proofs.Common.{◌≡◌, ◌+◌, ◌≤◌, Bool, true, false, cond, rules, sym, subst, arith, ◌∙◌}
-use Rattle.hq_wire.specs.Replies.{tells_store}
+use Rattle.hq_wire.specs.Replies.{plain, tells_store}
 use Rattle.hq_wire.proofs.Alone.{tells_answer}
 use Rattle.hq_wire.proofs.answering.call_reply.Goals as goal
 
@@ -8,7 +8,7 @@ differ e = cc
 
 pub returns-in-Ok : goal.returns-in-Ok
 returns-in-Ok g c = λ d entry.
-    let none : tells_store (record { status = c.status_of.result; body = c.in-Ok.rendered.bytes.items }) ≡ false = tells_answer c.status_of.result c.in-Ok.rendered.number c.in-Ok.rendered.bytes.items c.status_of.ensures in
+    let none : tells_store (plain c.status_of.result c.in-Ok.rendered.bytes.items) ≡ false = tells_answer c.status_of.result c.in-Ok.rendered.number c.in-Ok.rendered.bytes.items c.status_of.ensures in
     let tally = c.in-Ok.ensures.kept.tally in
     let old = g.S.Shelf.sight.fault_count c.args.desk.now.shelf in
     let new = g.S.Shelf.sight.fault_count c.act.new.self.shelf in

@@ -3,7 +3,7 @@ use Rattle.std.proofs.lemmas.Result.{IfOk-weaker}
 use Rattle.clap.specs.Simple.{App, app_of, app_of_fields, new_app, with_rule}
 use Rattle.clap.specs.Walk.{rule_of}
 use Rattle.clap.specs.declared.builder.command.Command.TheViews.{out-Command}
-use Rattle.hq_words.specs.Program.{needed}
+use Rattle.hq_words.specs.Program.{needed, option_rule}
 use Rattle.hq_words.proofs.command.sweep.Goals as goal
 
 pub returns-clause-shape : goal.returns-clause-shape
@@ -12,7 +12,7 @@ returns-clause-shape c =
     let directory : rule_of c.option.result ≡ needed (codes "directory") = search rules in
     let host : rule_of c.option-2.result ≡ needed (codes "host") = search rules in
     let store : rule_of c.option-3.result ≡ needed (codes "store") = search rules in
-    let customer : rule_of c.option-4.result ≡ needed (codes "customer") = search rules in
+    let customer : rule_of c.option-4.result ≡ option_rule (codes "customer") false = search rules in
     let one = c.in_ok-arg.ensures.shape c.option.ensures.local ∙ ap₂ with_rule bare directory in
     let two = c.in_ok-arg-2.ensures.shape c.option-2.ensures.local ∙ ap₂ with_rule one host in
     let three = c.in_ok-arg-3.ensures.shape c.option-3.ensures.local ∙ ap₂ with_rule two store in

@@ -1,9 +1,11 @@
-use Rattle.std.proofs.Common.{refl}
+use Rattle.std.proofs.Common.{◌≡◌, ◌∷◌, ◌++◌, [], refl, sym}
 use Rattle.hq_wire.specs.Replies.{seen}
-use Rattle.hq_batch.specs.Batches.{reply_line}
+use Rattle.hq_batch.specs.Batches.{reply_line, three_digits}
 use Rattle.hq_batch.proofs.front.FrontAnswers.answer.Goals as goal
 
 pub returns : goal.returns
 returns g c =
-    let reply = seen c.line_reply-reply.result in
-    (reply_line reply, record { directory = refl; same_desk = refl; reply = reply; line_is = refl; done = c.line_reply-reply.ensures }, c.write_reply.ensures)
+    let line = reply_line (seen c.line_reply-reply.result) in
+    let so = c.line_reply-reply.ensures in
+    let same : line ≡ reply_line so.told = sym (λ i. three_digits (so.sent.0 i) ++ 32 ∷ so.sent.1 i ++ 10 ∷ []) in
+    (line, record { directory = refl; same_desk = refl; reply = so.told; line_is = same; done = so.done }, c.write_reply.ensures)

@@ -1,0 +1,91 @@
+//! A sweep of all customers over a shelf.
+
+ghost use Rattle.std.specs.Prelude.{◌≡◌, string_bytes, IfOk};
+ghost use Rattle.hq_admin.specs.Sweeps.{SweepsAll, printed_of};
+
+use crate::printed::put_answer;
+use hq_desk::{Answer, Call, Desk, Render, Rendered};
+use hq_envelope::{Fault, Host, Moment, Name};
+use hq_queue::Customer;
+use hq_store::Shelf;
+use std::alloc::{AllocError, Global};
+use std::fmt::Write;
+
+/// What a sweep of all customers came to.
+#[derive(Drop)]
+pub struct SweptAll {
+    /// What is printed of each customer that was swept, in the order of the directory: 0 and its
+    /// counts, or a refusal's number and its text.
+    pub told: Vec<Rendered>,
+    /// The fault that stopped it at the next customer.
+    pub stopped: Option<Fault>,
+}
+
+/// What is printed of one customer among others.
+fn text_of(alloc: Global, name: &Name, answer: &Answer) -> Result<String, AllocError>
+    ensures { IfOk result (λ text. string_bytes text ≡ printed_of name.now answer.now) }
+{
+    let mut text = String::new(alloc);
+    match answer {
+        Answer::Refused(refusal) => write!(text, "{refusal} customer {}", name.as_str())?,
+        _ => {
+            write!(text, "{}: ", name.as_str())?;
+            put_answer(&mut text, answer)?;
+        }
+    }
+    Ok(text)
+}
+
+/// An answer as it is printed of one customer among others.
+#[derive(Drop)]
+struct PrintedOf<'n> {
+    name: &'n Name,
+}
+
+impl Render for PrintedOf<'_> {
+    ghost use Rattle.std.specs.Prelude.{⊤};
+    ghost use Rattle.hq_admin.specs.Sweeps.{printed_of};
+
+    ghost text = { λ by answer. printed_of by.name.now answer };
+
+    ghost fits = { λ _ _. ⊤ };
+
+    fn render(&self, alloc: Global, answer: &Answer) -> Result<Vec<u8>, AllocError> {
+        let text = text_of(alloc, self.name, answer)?;
+        Ok(text.into_bytes())
+    }
+}
+
+/// Sweeps the customers of a directory at a moment, in their order, each by a call of its own, over
+/// a shelf that is dropped when it is done; and stops at the first fault. A refusal does not stop
+/// it. Room for what is told of all is taken first; where it is refused, nothing is done.
+pub fn sweep_all<S: Shelf + Drop>(
+    alloc: Global,
+    shelf: S,
+    host: Host,
+    at: Moment,
+    customers: &[Customer],
+) -> Result<SweptAll, AllocError>
+    ensures { IfOk result (SweepsAll S.sight shelf host at customers.now) }
+{
+    let mut told = Vec::with_capacity(alloc, customers.len())?;
+    let mut desk = Desk::new(shelf, host);
+    for customer in customers {
+        let by = PrintedOf {
+            name: &customer.entry.name,
+        };
+        match desk.act(alloc, at, &customer.entry, Call::Sweep, &by) {
+            Ok(rendered) => told.push_reserved(rendered),
+            Err(fault) => {
+                return Ok(SweptAll {
+                    told,
+                    stopped: Some(fault),
+                });
+            }
+        }
+    }
+    Ok(SweptAll {
+        told,
+        stopped: None,
+    })
+}

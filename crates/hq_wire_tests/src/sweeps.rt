@@ -1,0 +1,184 @@
+//! Sweeps of all customers.
+
+use crate::relay::{asked, desk_over, directory, line_of};
+use hq_desk::Desk;
+use hq_envelope::{Fail as Failure, Host, Moment, Name};
+use hq_queue::{Head, Tally};
+use hq_store::{Change, ListShelf, Shelf};
+use hq_trial::{FailingShelf, Failure as Plan};
+use hq_wire::exchange;
+use std::alloc::Global;
+use std::process::Abort;
+use std::test::Fail;
+
+const START: u64 = 1_767_225_600;
+
+fn expect_at<S: Shelf + Drop>(
+    rt: &(impl Abort + AllocGlobal),
+    desk: &mut Desk<S>,
+    seconds: u64,
+    line: &str,
+    want: &str,
+) -> Result<(), Fail> {
+    let directory = directory(rt)?;
+    let mut asked = asked(rt.alloc(), line)?;
+    asked.at = Moment::new(START.saturating_add(seconds)).ok_or("no moment")?;
+    let reply = exchange(rt.alloc(), desk, &directory, &asked);
+    assert_eq!(rt; line_of(rt.alloc(), &reply)?.as_str(), want);
+    Ok(())
+}
+
+const QUEUED: &str = "200 {\"id\":\"0000000001\",\"recipients\":[\"bob@far.example\"],\
+    \"refused\":[],\"state\":\"incoming\",\"verdict\":\"queued\"}";
+
+fn submit_both<S: Shelf + Drop>(
+    rt: &(impl Abort + AllocGlobal),
+    desk: &mut Desk<S>,
+) -> Result<(), Fail> {
+    for name in ["acme", "birch"] {
+        let line = format!(in rt.alloc();
+            "POST /relay/submit/{name} relaykey00000001 {{\"spool\":\"s1\",\
+             \"sender\":\"ann@a.example\",\"recipients\":[\"bob@far.example\"],\"size\":900}}"
+        )?;
+        expect_at(rt, desk, 0, line.as_str(), QUEUED)?;
+    }
+    Ok(())
+}
+
+const SWEEP: &str = "POST /relay/sweep relaykey00000001";
+
+#[test]
+fn a_sweep_of_all(rt: HostRuntime) -> Result<(), Fail> {
+    let mut desk = desk_over(rt.alloc(), ListShelf::new(rt.alloc()))?;
+    submit_both(&rt, &mut desk)?;
+    expect_at(
+        &rt,
+        &mut desk,
+        3600,
+        SWEEP,
+        "200 {\"done\":[{\"customer\":\"acme\",\"expired\":0,\"notices\":1,\"warned\":1},\
+         {\"customer\":\"birch\",\"expired\":0,\"notices\":1,\"warned\":1}],\"stopped\":null}",
+    )?;
+    for (line, want) in [
+        (
+            "POST /relay/sweep acmekey000000001",
+            "403 {\"error\":3,\"name\":\"WrongRole\"}",
+        ),
+        (
+            "GET /relay/sweep relaykey00000001",
+            "405 {\"error\":5,\"name\":\"WrongMethod\"}",
+        ),
+        (
+            "POST /relay/sweep -",
+            "401 {\"error\":2,\"name\":\"NoKey\"}",
+        ),
+        (
+            "POST /relay/sweep nobody",
+            "401 {\"error\":2,\"name\":\"NoKey\"}",
+        ),
+        (
+            "POST /relay/sweep/ relaykey00000001",
+            "404 {\"error\":4,\"name\":\"NoRoute\"}",
+        ),
+        (
+            "POST /relay/sweep/cedar relaykey00000001",
+            "404 {\"error\":13,\"name\":\"NoCustomer\"}",
+        ),
+    ] {
+        expect_at(&rt, &mut desk, 3600, line, want)?;
+    }
+    Ok(())
+}
+
+fn spent() -> Head {
+    Head {
+        next_serial: 2,
+        next_notice: 1_099_511_627_776,
+        tally: Tally {
+            accepted: 1,
+            delivered: 0,
+            failed: 0,
+            deleted: 0,
+            expired: 0,
+        },
+    }
+}
+
+fn desk_of<S: Shelf + Drop>(alloc: Global, shelf: S) -> Result<Desk<S>, Failure> {
+    Ok(Desk::new(shelf, Host::parse(alloc, "relay.example")?))
+}
+
+#[test]
+fn a_refusal_does_not_stop_it(rt: HostRuntime) -> Result<(), Fail> {
+    let mut desk = desk_over(rt.alloc(), ListShelf::new(rt.alloc()))?;
+    submit_both(&rt, &mut desk)?;
+    let acme = Name::parse(rt.alloc(), "acme")?;
+    let mut shelf = desk.into_shelf();
+    shelf.apply(&acme, &[Change::PutHead(spent())])?;
+    let mut desk = desk_over(rt.alloc(), shelf)?;
+    expect_at(
+        &rt,
+        &mut desk,
+        432_000,
+        SWEEP,
+        "200 {\"done\":[{\"customer\":\"acme\",\"error\":44,\"name\":\"NoticesSpent\"},\
+         {\"customer\":\"birch\",\"expired\":1,\"notices\":1,\"warned\":0}],\"stopped\":null}",
+    )
+}
+
+const ALL_SWEPT: &str = "200 {\"done\":[\
+    {\"customer\":\"acme\",\"expired\":1,\"notices\":1,\"warned\":0},\
+    {\"customer\":\"birch\",\"expired\":1,\"notices\":1,\"warned\":0}],\"stopped\":null}";
+
+const BIRCH_SWEPT: &str = "200 {\"done\":[\
+    {\"customer\":\"acme\",\"expired\":0,\"notices\":0,\"warned\":0},\
+    {\"customer\":\"birch\",\"expired\":1,\"notices\":1,\"warned\":0}],\"stopped\":null}";
+
+const STOPPED_AT_ACME: &str = "200 {\"done\":[],\
+    \"stopped\":{\"customer\":\"acme\",\"error\":91,\"name\":\"Disk\"}}";
+
+const STOPPED_AT_BIRCH: &str = "200 {\"done\":[\
+    {\"customer\":\"acme\",\"expired\":1,\"notices\":1,\"warned\":0}],\
+    \"stopped\":{\"customer\":\"birch\",\"error\":91,\"name\":\"Disk\"}}";
+
+const CLOSED_AT_BIRCH: &str = "200 {\"done\":[\
+    {\"customer\":\"acme\",\"expired\":1,\"notices\":1,\"warned\":0}],\
+    \"stopped\":{\"customer\":\"birch\",\"error\":93,\"name\":\"Closed\"}}";
+
+/// What a sweep of all is told where the shelf fails so, and what another one is told then.
+fn expect_stop(
+    rt: &(impl Abort + AllocGlobal),
+    plan: Plan,
+    told: &str,
+    then: &str,
+) -> Result<(), Fail> {
+    let mut desk = desk_over(rt.alloc(), ListShelf::new(rt.alloc()))?;
+    submit_both(rt, &mut desk)?;
+    let mut desk = desk_of(rt.alloc(), FailingShelf::new(desk.into_shelf(), plan))?;
+    expect_at(rt, &mut desk, 432_000, SWEEP, told)?;
+    expect_at(rt, &mut desk, 432_000, SWEEP, then)
+}
+
+/// Each customer's sweep makes three calls of the shelf: each of the six fails once.
+#[test]
+fn a_fault_stops_it(rt: HostRuntime) -> Result<(), Fail> {
+    for (first, told, then) in [
+        (1, STOPPED_AT_ACME, ALL_SWEPT),
+        (4, STOPPED_AT_BIRCH, BIRCH_SWEPT),
+    ] {
+        for at in first..first + 3 {
+            expect_stop(&rt, Plan::DiskOnce { at }, told, then)?;
+        }
+    }
+    expect_stop(&rt, Plan::DiskOnce { at: 7 }, ALL_SWEPT, STOPPED_AT_ACME)
+}
+
+#[test]
+fn a_closed_store_stops_it(rt: HostRuntime) -> Result<(), Fail> {
+    let closed = "200 {\"done\":[],\"stopped\":\
+        {\"customer\":\"acme\",\"error\":93,\"name\":\"Closed\"}}";
+    for at in 4..7 {
+        expect_stop(&rt, Plan::ClosedFrom { at }, CLOSED_AT_BIRCH, closed)?;
+    }
+    Ok(())
+}
