@@ -33,10 +33,11 @@ pub fn open_file(rt: &HostRuntime, path: &str) -> Result<SqlShelf<FileStore<File
     }
 }
 
-/// Whether there is a file at a path; 90 or 91 where that cannot be told.
-fn is_there(rt: &HostRuntime, path: &str) -> Result<bool, Fault> {
-    match fs::exists(rt, path) {
-        Ok(is_there) => Ok(is_there),
+/// Whether the file at a path has no byte; 90 or 91 where that cannot be told, so where there is
+/// none.
+fn is_empty(rt: &HostRuntime, path: &str) -> Result<bool, Fault> {
+    match fs::metadata(rt, path) {
+        Ok(found) => Ok(found.is_file() && found.len() == 0),
         Err(error) if error.kind() == ErrorKind::OutOfMemory => Err(Fault::WantOfMemory),
         Err(_) => Err(Fault::Disk),
     }
@@ -48,8 +49,9 @@ fn is_there(rt: &HostRuntime, path: &str) -> Result<bool, Fault> {
 /// 90 is want of memory, 91 a file that is not there or cannot be opened or read, 92 a store of
 /// neither version, and 93 one in which what was begun could not be undone.
 pub fn migrate_file(rt: &HostRuntime, path: &str) -> Result<u64, Fault> {
-    if !is_there(rt, path)? {
-        return Err(Fault::Disk);
+    // (an empty file that is opened becomes an empty store)
+    if is_empty(rt, path)? {
+        return Err(Fault::BadSchema);
     }
     match Connection::open(rt, path) {
         Ok(mut conn) => migrate(rt.alloc(), &mut conn),
