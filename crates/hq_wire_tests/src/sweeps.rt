@@ -4,6 +4,7 @@ use crate::relay::{asked, desk_over, directory, line_of};
 use hq_desk::Desk;
 use hq_envelope::{Fail as Failure, Host, Moment, Name};
 use hq_queue::{Head, Tally};
+use hq_sql_shelf::SqlShelf;
 use hq_store::{Change, ListShelf, Shelf};
 use hq_trial::{FailingShelf, Failure as Plan};
 use hq_wire::exchange;
@@ -108,22 +109,28 @@ fn desk_of<S: Shelf + Drop>(alloc: Global, shelf: S) -> Result<Desk<S>, Failure>
     Ok(Desk::new(shelf, Host::parse(alloc, "relay.example")?))
 }
 
-#[test]
-fn a_refusal_does_not_stop_it(rt: HostRuntime) -> Result<(), Fail> {
-    let mut desk = desk_over(rt.alloc(), ListShelf::new(rt.alloc()))?;
-    submit_both(&rt, &mut desk)?;
+/// Of two customers one has no numbers of notices left.
+fn expect_refusal<S: Shelf + Drop>(rt: &(impl Abort + AllocGlobal), shelf: S) -> Result<(), Fail> {
+    let mut desk = desk_of(rt.alloc(), shelf)?;
+    submit_both(rt, &mut desk)?;
     let acme = Name::parse(rt.alloc(), "acme")?;
     let mut shelf = desk.into_shelf();
     shelf.apply(&acme, &[Change::PutHead(spent())])?;
-    let mut desk = desk_over(rt.alloc(), shelf)?;
+    let mut desk = desk_of(rt.alloc(), shelf)?;
     expect_at(
-        &rt,
+        rt,
         &mut desk,
         432_000,
         SWEEP,
         "200 {\"done\":[{\"customer\":\"acme\",\"error\":44,\"name\":\"NoticesSpent\"},\
          {\"customer\":\"birch\",\"expired\":1,\"notices\":1,\"warned\":0}],\"stopped\":null}",
     )
+}
+
+#[test]
+fn a_refusal_does_not_stop_it(rt: HostRuntime) -> Result<(), Fail> {
+    expect_refusal(&rt, ListShelf::new(rt.alloc()))?;
+    expect_refusal(&rt, SqlShelf::open_memory(rt.alloc())?)
 }
 
 const ALL_SWEPT: &str = "200 {\"done\":[\
@@ -146,17 +153,30 @@ const CLOSED_AT_BIRCH: &str = "200 {\"done\":[\
     \"stopped\":{\"customer\":\"birch\",\"error\":93,\"name\":\"Closed\"}}";
 
 /// What a sweep of all is told where the shelf fails so, and what another one is told then.
+fn expect_stop_over<S: Shelf + Drop>(
+    rt: &(impl Abort + AllocGlobal),
+    shelf: S,
+    plan: Plan,
+    told: &str,
+    then: &str,
+) -> Result<(), Fail> {
+    let mut desk = desk_of(rt.alloc(), shelf)?;
+    submit_both(rt, &mut desk)?;
+    let mut desk = desk_of(rt.alloc(), FailingShelf::new(desk.into_shelf(), plan))?;
+    expect_at(rt, &mut desk, 432_000, SWEEP, told)?;
+    expect_at(rt, &mut desk, 432_000, SWEEP, then)
+}
+
+/// The same over plain lists, and over a store in memory.
 fn expect_stop(
     rt: &(impl Abort + AllocGlobal),
     plan: Plan,
     told: &str,
     then: &str,
 ) -> Result<(), Fail> {
-    let mut desk = desk_over(rt.alloc(), ListShelf::new(rt.alloc()))?;
-    submit_both(rt, &mut desk)?;
-    let mut desk = desk_of(rt.alloc(), FailingShelf::new(desk.into_shelf(), plan))?;
-    expect_at(rt, &mut desk, 432_000, SWEEP, told)?;
-    expect_at(rt, &mut desk, 432_000, SWEEP, then)
+    expect_stop_over(rt, ListShelf::new(rt.alloc()), plan, told, then)?;
+    let shelf = SqlShelf::open_memory(rt.alloc())?;
+    expect_stop_over(rt, shelf, plan, told, then)
 }
 
 /// Each customer's sweep makes three calls of the shelf: each of the six fails once.
