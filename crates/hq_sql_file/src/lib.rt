@@ -2,10 +2,11 @@
 //! much.
 #![tactic(auto)]
 
-ghost use Rattle.std.specs.Prelude.{◌≡◌, false, IfOk};
+ghost use Rattle.std.specs.Prelude.{◌≡◌, IfOk};
 ghost use Rattle.sqlite.specs.Files.{file_state};
 ghost use Rattle.sqlite.specs.State.{HasCleanDisk};
 ghost use Rattle.hq_sql_open.specs.Transactions.{IsSettled};
+ghost use Rattle.hq_sql_open.specs.declared.transaction.Standing.TheVariants.{Open};
 
 use hq_envelope::Fault;
 use hq_sql_shelf::{SqlShelf, fault_of, migrate};
@@ -17,11 +18,11 @@ use std::io::ErrorKind;
 /// belongs to it; one process at a time has them.
 ///
 /// 90 is want of memory, 91 a file that cannot be opened or read, 92 a store that is no desk, and
-/// 93 one in which what was begun could not be undone.
+/// 93 one whose connection is gone.
 pub fn open_file(rt: &HostRuntime, path: &str) -> Result<SqlShelf<FileStore<File>>, Fault>
     ensures settled { IfOk result (λ s. HasCleanDisk (file_state s.conn)
         → IsSettled (file_state s.conn)) }
-    ensures fresh { IfOk result (λ s. (s.closed ≡ false) × (s.faults ≡ 0)) }
+    ensures fresh { IfOk result (λ s. (s.standing ≡ Open) × (s.faults ≡ 0)) }
 {
     let conn = match Connection::open(rt, path) {
         Ok(conn) => conn,
@@ -47,7 +48,7 @@ fn is_empty(rt: &HostRuntime, path: &str) -> Result<bool, Fault> {
 /// is 91, and an empty file is 92 and stays empty.
 ///
 /// 90 is want of memory, 91 a file that is not there or cannot be opened or read, 92 a store of
-/// neither version, and 93 one in which what was begun could not be undone.
+/// neither version, and 93 one whose connection is gone.
 pub fn migrate_file(rt: &HostRuntime, path: &str) -> Result<u64, Fault> {
     // (an empty file that is opened becomes an empty store)
     if is_empty(rt, path)? {

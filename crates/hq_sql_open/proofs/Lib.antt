@@ -1,4 +1,5 @@
 pub mod Transactions
+pub mod Standings
 pub mod Making
 pub mod Texts
 pub mod Version

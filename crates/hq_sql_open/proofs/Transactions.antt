@@ -1,20 +1,19 @@
--- BEGIN, COMMIT, ROLLBACK and SELECT 1, under any schema.
-use Rattle.std.proofs.Common.{◌≡◌, inl, inr, ℕ, Bool, true, false, true≢false, not, List, [], None, Result, Ok, Err, IsTrue, OnErr, codes, is_ok, refl, sym, ap, ◌∙◌, subst}
+-- BEGIN, COMMIT, ROLLBACK and the statement that does nothing, under any schema.
+use Rattle.std.proofs.Common.{◌≡◌, inl, inr, ℕ, Bool, true, false, true≢false, List, [], None, Result, Ok, Err, OnErr, codes, refl, sym, ap, ◌∙◌, subst}
 use Rattle.sqlite.specs.Order.{Row}
 use Rattle.sqlite.specs.Tree.{Trees}
 use Rattle.sqlite.specs.Schema.{Schema}
 use Rattle.sqlite.specs.Command.{Command}
-use Rattle.sqlite.specs.Command.TheVariants.{Begin, Commit, Rollback, Release}
+use Rattle.sqlite.specs.Command.TheVariants.{Begin, Commit, Rollback, Release, Nothing}
 use Rattle.sqlite.specs.declared.error.Error.{Error}
 use Rattle.sqlite.specs.Listing.{understood}
-use Rattle.sqlite.specs.State.{State, HasCleanDisk, Executes, Survives, CommitsBy, CommitsShowing, MayWrite, QueriesRow, IsUnchanged, text_of}
+use Rattle.sqlite.specs.State.{State, HasCleanDisk, Executes, Survives, CommitsBy, MayWrite, text_of}
 use Rattle.sqlite.specs.Clock.{timed}
 use Rattle.sqlite_tied.specs.Compute.{everything}
 use Rattle.sqlite.proofs.Callers.{IsPlain, command_of, runs_as}
 use Rattle.hq_keyed.specs.Left.{IsLeft, LeavesNoMore}
-use Rattle.hq_keyed.proofs.Left.{execute_left, left_keeps, shown_unchanged, unchanged_keeps}
-use Rattle.hq_keyed.proofs.Stops.{query_leaves_no_more}
-use Rattle.hq_sql_open.specs.Transactions.{IsBegun, IsDone, IsSettled, LeavesAlso, KeepsOnErr, KeepsOrCommits, KeepsAll, TellsSettled}
+use Rattle.hq_keyed.proofs.Left.{left_keeps}
+use Rattle.hq_sql_open.specs.Transactions.{IsBegun, IsDone, LeavesAlso, KeepsOnErr, KeepsOrCommits}
 
 -- ---- the texts
 
@@ -27,8 +26,9 @@ commit_text = codes "COMMIT"
 abbrev pub rollback_text : List ℕ
 rollback_text = codes "ROLLBACK"
 
-abbrev pub one_text : List ℕ
-one_text = codes "SELECT 1"
+-- a text without a statement
+abbrev pub no_text : List ℕ
+no_text = codes ""
 
 begin_is : (schema : Schema) → command_of (understood schema begin_text) ≡ Begin
 unfolding understood everything
@@ -46,17 +46,21 @@ commit_plain : (schema : Schema) → IsPlain (understood schema commit_text)
 unfolding understood everything
 commit_plain schema = (refl, refl)
 
-rollback_is : (schema : Schema) → command_of (understood schema rollback_text) ≡ Rollback
+pub rollback_is : (schema : Schema) → command_of (understood schema rollback_text) ≡ Rollback
 unfolding understood everything
 rollback_is schema = refl
 
-rollback_plain : (schema : Schema) → IsPlain (understood schema rollback_text)
+pub rollback_plain : (schema : Schema) → IsPlain (understood schema rollback_text)
 unfolding understood everything
 rollback_plain schema = (refl, refl)
 
-one_plain : (schema : Schema) → IsPlain (understood schema one_text)
+pub no_is : (schema : Schema) → command_of (understood schema no_text) ≡ Nothing
 unfolding understood everything
-one_plain schema = (refl, refl)
+no_is schema = refl
+
+pub no_plain : (schema : Schema) → IsPlain (understood schema no_text)
+unfolding understood everything
+no_plain schema = (refl, refl)
 
 -- ---- what they leave
 
@@ -66,23 +70,14 @@ begun old new count h = (runs_as begin_text [] old new old.now.schema refl Begin
 pub done : (old new : State) (count : ℕ) → Executes commit_text [] old new (Ok count) → IsDone old new
 done old new count h = (runs_as commit_text [] old new old.now.schema refl Commit (commit_is old.now.schema) (commit_plain old.now.schema) count h).1
 
-undone : (old new : State) (r : Result ℕ Error) → Executes rollback_text [] old new r → IsLeft old new
-unfolding IsLeft
-undone old new (Ok count) h = inr (runs_as rollback_text [] old new old.now.schema refl Rollback (rollback_is old.now.schema) (rollback_plain old.now.schema) count h).1
-undone old new (Err e) h = execute_left old new _ _ e h
-
-answered : (old new : State) (row : Row) → QueriesRow one_text [] old new (Ok row) → IsUnchanged old new
-unfolding QueriesRow IsLeft
-answered old new row (inl h) = h.1
-answered old new row (inr h) = shown_unchanged old new one_text [] h.0 (one_plain old.now.schema) h.1
-
 -- ---- what a crash may find
 
--- whether it begins, commits or undoes a transaction by itself
+-- whether it begins, commits or undoes a transaction by itself, or does nothing
 abbrev moves : Command → Bool
 moves Begin = true
 moves Commit = true
 moves Rollback = true
+moves Nothing = true
 moves _ = false
 
 abbrev is_commit : Command → Bool
@@ -98,6 +93,7 @@ never_writes : (s : State) (command : Command) (text : List ℕ) (params : Row) 
 never_writes s Begin text params db e h = absurd (let no = h.3 in cc)
 never_writes s Commit text params db e h = absurd (let no = h.3 in cc)
 never_writes s Rollback text params db e h = absurd (let no = h.3 in cc)
+never_writes s Nothing text params db e h = absurd (let no = h.3 in cc)
 never_writes s _ text params db e h = cc
 
 module _ (old : State) (text : List ℕ) (db : Trees) (plain : IsPlain (understood old.now.schema text)) (known : moves (command_of (understood old.now.schema text)) ≡ true) (h : CommitsBy text [] old db) where
@@ -132,8 +128,11 @@ commit_stops old new h = λ clean db may. elim (h.crash clean db may) [
   | inr commits ↦ inr (commits_now old commit_text db (commit_plain old.now.schema) (ap moves (commit_is old.now.schema)) commits).1
 ]
 
-one_stops : (old new : State) → Survives old new (CommitsShowing one_text [] old) → LeavesNoMore old new
-one_stops old new h = query_leaves_no_more old new one_text [] (one_plain old.now.schema) h
+pub no_stops : (old new : State) → Survives old new (CommitsBy no_text [] old) → LeavesNoMore old new
+no_stops old new h = λ clean db may. elim (h.crash clean db may) [
+  | inl was ↦ was
+  | inr commits ↦ absurd (true≢false (sym (commits_now old no_text db (no_plain old.now.schema) (ap moves (no_is old.now.schema)) commits).0 ∙ ap is_commit (no_is old.now.schema)))
+]
 
 -- ---- what they keep
 
@@ -144,29 +143,3 @@ begin_keeps old new (Err e) survives h = record { kept = λ clean. left_keeps ol
 pub commit_keeps : {X : Type 0} (old new : State) (result : Result X Error) → Survives old new (CommitsBy commit_text [] old) → (HasCleanDisk new → OnErr result (IsLeft old new)) → KeepsOrCommits old new result
 commit_keeps old new (Ok x) survives h = record { kept = λ clean. tt; quiet = survives.clean; stops = commit_stops old new survives }
 commit_keeps old new (Err e) survives h = record { kept = λ clean. left_keeps old new (h clean); quiet = survives.clean; stops = commit_stops old new survives }
-
-pub rollback_keeps : (old new : State) (r : Result ℕ Error) → Survives old new (CommitsBy rollback_text [] old) → (HasCleanDisk new → Executes rollback_text [] old new r) → KeepsAll old new
-rollback_keeps old new r survives h = record { kept = λ clean. left_keeps old new (undone old new r (h clean)); quiet = survives.clean; stops = rollback_stops old new survives }
-
-off : (b : Bool) → not b ≡ true → b ≡ false
-off true e = absurd (let k = e in cc)
-off false e = refl
-
-settled_after : (old new : State) → not old.in_transaction ≡ true → (IsTrue old.is_open → old.now ≡ old.committed) → IsUnchanged old new → IsSettled new
-settled_after old new auto settled same =
-    record { is_open = same.0.is_open; mode = same.0.mode ∙ off old.in_transaction auto; now = same.0.now_is ∙ settled same.0.was_open ∙ sym same.0.committed_is }
-
-pub tells : (old new : State) (r : Result Row Error) → not old.in_transaction ≡ true → (IsTrue old.is_open → old.now ≡ old.committed) → Survives old new (CommitsShowing one_text [] old)
-    → (HasCleanDisk new → QueriesRow one_text [] old new r) → TellsSettled (is_ok r) old new
-tells old new (Ok row) auto settled survives h = record {
-  settled = λ clean yes. settled_after old new auto settled (answered old new row (h clean));
-  kept = λ clean yes. unchanged_keeps old new (answered old new row (h clean));
-  quiet = survives.clean;
-  stops = one_stops old new survives;
-}
-tells old new (Err e) auto settled survives h = record {
-  settled = λ clean yes. absurd (let no = yes in cc);
-  kept = λ clean yes. absurd (let no = yes in cc);
-  quiet = survives.clean;
-  stops = one_stops old new survives;
-}

@@ -1,3 +1,4 @@
 pub mod Transactions
+pub mod Standings
 pub mod Making
 pub mod Opening

@@ -1,8 +1,10 @@
 -- Transactions: what begins one, ends one or undoes one leaves. `old` and `new` are what is seen of a connection before and
 -- after.
-use Rattle.std.specs.Prelude.{◌≡◌, ◌⊎◌, Bool, true, false, Result, OnErr, IsTrue}
+use Rattle.std.specs.Prelude.{◌≡◌, ◌⊎◌, true, false, ⊤, Result, Err, OnOk, OnErr, IsTrue}
 use Rattle.sqlite.specs.declared.error.Error.{Error}
-use Rattle.sqlite.specs.State.{State, HasCleanDisk, Shows, KeepsCommit}
+use Rattle.sqlite.specs.declared.error.Error.TheVariants.{SqliteFailure}
+use Rattle.sqlite.specs.declared.error.ErrorCode.TheVariants.{Closed}
+use Rattle.sqlite.specs.State.{State, HasCleanDisk, Shows, IsUnchanged, KeepsCommit}
 use Rattle.sqlite.specs.Tree.{Trees}
 use Rattle.hq_keyed.specs.Left.{IsQuiet, LeavesNoMore}
 use Rattle.hq_store.specs.Tables.{Tables}
@@ -57,9 +59,27 @@ pub record KeepsAll (old new : State) : Type 0 where
   pub quiet : IsQuiet old new
   pub stops : LeavesNoMore old new
 
--- Whether it is settled, and then what was committed is.
-pub record TellsSettled (yes : Bool) (old new : State) : Type 0 where
-  pub settled : HasCleanDisk new → IsTrue yes → IsSettled new
-  pub kept : HasCleanDisk new → IsTrue yes → KeepsCommit old new
+-- in no transaction; and while the connection is open, with what the last commit left, which is what was committed
+pub record IsUndone (old new : State) : Type 0 where
+  pub kept : KeepsCommit old new
+  pub mode : new.in_transaction ≡ false
+  pub now : IsTrue new.is_open → new.now ≡ new.committed
+
+-- What undoing does, whether there is a transaction or none.
+pub record Undoes (old new : State) : Type 0 where
+  pub undone : HasCleanDisk new → IsUndone old new
+  pub quiet : IsQuiet old new
+  pub stops : LeavesNoMore old new
+
+-- the error that is told of a connection that is gone
+abbrev pub gone : Error
+gone = SqliteFailure Closed
+
+-- What asking tells: a connection that answers is open, and one is gone where that is the error. Nothing is done.
+pub record Asks (old new : State) (result : Result ⊤ Error) : Type 0 where
+  pub shown : HasCleanDisk new → OnOk result (IsUnchanged old new)
+  pub shut : HasCleanDisk new → result ≡ Err gone → new.is_open ≡ false
+  -- one in no transaction stays as it was
+  pub left : HasCleanDisk new → old.in_transaction ≡ false → (IsTrue old.is_open → old.now ≡ old.committed) → IsUndone old new
   pub quiet : IsQuiet old new
   pub stops : LeavesNoMore old new

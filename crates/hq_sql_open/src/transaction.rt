@@ -3,9 +3,21 @@
 ghost use Rattle.std.specs.Prelude.{OnOk};
 ghost use Rattle.sqlite.specs.Held.{state};
 ghost use Rattle.sqlite.specs.State.{HasCleanDisk};
-ghost use Rattle.hq_sql_open.specs.Transactions.{IsBegun, IsDone, KeepsOnErr, KeepsOrCommits, KeepsAll, TellsSettled};
+ghost use Rattle.hq_sql_open.specs.Transactions.{IsBegun, IsDone, KeepsOnErr, KeepsOrCommits, Undoes, Asks};
+ghost use Rattle.hq_sql_open.specs.Standings.{Settles};
 
-use sqlite::{Alter, Connection, Error};
+use sqlite::{Alter, Connection, Error, ErrorCode};
+
+/// What is known of a connection after a statement failed.
+#[derive(Clone, Copy, Debug, PartialEq, Eq)]
+pub enum Standing {
+    /// It is open.
+    Open,
+    /// It is gone, and every further statement fails.
+    Gone,
+    /// It could not be asked, for want of memory.
+    InDoubt,
+}
 
 /// Begins a transaction; an error where there is one.
 pub fn begin<S: Alter>(conn: &mut Connection<S>) -> Result<(), Error>
@@ -29,28 +41,34 @@ pub fn commit<S: Alter>(conn: &mut Connection<S>) -> Result<(), Error>
 
 /// Undoes the transaction, where there is one.
 fn roll_back<S: Alter>(conn: &mut Connection<S>)
-    ensures { KeepsAll (state S.Store conn.old) (state S.Store conn.new) }
+    ensures { Undoes (state S.Store conn.old) (state S.Store conn.new) }
 {
     if !conn.is_autocommit() {
         let _ = conn.execute("ROLLBACK", &[]);
     }
 }
 
-/// Whether the connection is open and in no transaction.
-fn is_settled<S: Alter>(conn: &mut Connection<S>) -> bool
-    ensures { TellsSettled result (state S.Store conn.old) (state S.Store conn.new) }
+/// Asks whether the connection is open, by a statement that does nothing. It takes memory where the
+/// connection has not kept the statement from an earlier time.
+fn ask<S: Alter>(conn: &mut Connection<S>) -> Result<(), Error>
+    ensures { Asks (state S.Store conn.old) (state S.Store conn.new) result }
 {
-    if !conn.is_autocommit() {
-        return false;
+    match conn.execute("", &[]) {
+        Ok(_) => Ok(()),
+        Err(error) => Err(error),
     }
-    conn.query_row("SELECT 1", &[]).is_ok()
 }
 
-/// Undoes the transaction, where there is one. It tells whether the connection is open then; where
-/// it is not, nothing more can be done with it.
-pub fn settle<S: Alter>(conn: &mut Connection<S>) -> bool
-    ensures { TellsSettled result (state S.Store conn.old) (state S.Store conn.new) }
+/// Undoes the transaction, where there is one, and asks what became of the connection. After
+/// `Open` it is in no transaction; after `Gone` nothing more can be done with it. After `InDoubt` it
+/// was not told, for want of memory: what was begun is undone, and it can be asked again.
+pub fn settle<S: Alter>(conn: &mut Connection<S>) -> Standing
+    ensures { Settles (state S.Store conn.old) (state S.Store conn.new) result }
 {
     roll_back(conn);
-    is_settled(conn)
+    match ask(conn) {
+        Ok(()) => Standing::Open,
+        Err(Error::SqliteFailure(ErrorCode::Closed)) => Standing::Gone,
+        Err(_) => Standing::InDoubt,
+    }
 }

@@ -1,7 +1,7 @@
 -- What a batch over a shelf in memory does from empty tables.
-use Rattle.std.proofs.Common.{◌≡◌, inl, inr, ℕ, List, Option, Result, Ok, Err, IfOk, sym, ap, ◌∙◌, subst, map}
+use Rattle.std.proofs.Common.{◌≡◌, inl, inr, ℕ, List, Option, Result, Ok, Err, IfOk, refl, sym, ap, ◌∙◌, subst, map}
 use Rattle.std.specs.Bool.{⊤}
-use Rattle.sqlite.specs.Held.{state}
+use Rattle.sqlite.specs.Held.{Held, state}
 use Rattle.sqlite.specs.Steps.{over_memory}
 use Rattle.sqlite.proofs.Callers.{memory_is_clean}
 use Rattle.sqlite_trees.specs.declared.memory.MemStore.{MemStore}
@@ -10,7 +10,9 @@ use Rattle.hq_store.specs.Sound.{Sound}
 use Rattle.hq_store.specs.Tables.{no_tables}
 use Rattle.hq_store.proofs.Empty.{empty_sound}
 use Rattle.hq_sql.specs.Tables.{tables_in}
-use Rattle.hq_sql_shelf.specs.Shelf.{IsOurs}
+use Rattle.hq_sql_open.specs.declared.transaction.Standing.{Standing}
+use Rattle.hq_sql_open.specs.declared.transaction.Standing.TheVariants.{Open, Gone, InDoubt}
+use Rattle.hq_sql_shelf.specs.Shelf.{IsOurs, Stands}
 use Rattle.hq_sql_shelf.specs.declared.shelf.SqlShelf.{SqlShelf}
 use Rattle.hq_desk.specs.Desks.{on, host_of, shelf_of}
 use Rattle.hq_desk.specs.declared.desk.Desk.{Desk}
@@ -27,6 +29,12 @@ use Rattle.hq_program.specs.declared.trouble.Trouble.{Trouble}
 use Rattle.hq_program.proofs.Ends.{run_ends_as}
 use Rattle.hq_sql_program.specs.Runs.{memory, FromEmpty, Serves, OpenedEnds, MemoryEnds}
 
+-- a store in memory is always open
+stands_in_memory : (standing : Standing) (c : Held MemStore) → Stands standing (state over_memory c)
+stands_in_memory Open c = tt
+stands_in_memory Gone c = refl
+stands_in_memory InDoubt c = refl
+
 -- what a desk over a shelf in memory that is empty replied to
 pub from_empty : (settings : Settings) (shelf : SqlShelf MemStore) → IsOurs (state over_memory shelf.conn) → tables_in (state over_memory shelf.conn).committed ≡ no_tables
     → (old new : Desk (SqlShelf MemStore)) → host_of old ≡ settings.host → shelf_of old ≡ shelf
@@ -36,7 +44,7 @@ from_empty settings shelf ours none old new named is asks replies p =
     let empty = ap memory.tables is ∙ none in
     let after = (on memory).tables new in
     let sound = subst Sound (sym empty) empty_sound in
-    let clean = memory_is_clean (shelf_of new).conn in
+    let clean : (on memory).is_clean new = (memory_is_clean (shelf_of new).conn, stands_in_memory (shelf_of new).standing (shelf_of new).conn) in
     let owned = subst memory.is_ours (sym is) ours in
     record {
       replied = λ stays.

@@ -1,5 +1,5 @@
 -- What a batch of the program does over a store of `sqlite`, however it ends.
-use Rattle.std.specs.Prelude.{◌≡◌, ◌⊎◌, ⊤, ℕ, false, List, map, Option, Some, None, Result, Ok, Err}
+use Rattle.std.specs.Prelude.{◌≡◌, ◌⊎◌, ⊤, ℕ, false, List, map, Option, Result, Ok, Err}
 use Rattle.sqlite.specs.Held.{Held, state}
 use Rattle.sqlite.specs.State.{State}
 use Rattle.sqlite.specs.Steps.{over_memory}
@@ -39,8 +39,8 @@ OpenedEnds seen settings (Err fault) untouched old new result = IsUnopened untou
 abbrev pub memory : Sight (SqlShelf MemStore)
 memory = sight_over (state over_memory)
 
--- What was asked of a desk from empty tables, and replied to: where its store was not closed by a transaction that could
--- not be undone, each was replied to as its exchange is, and to each customer the desk is its own.
+-- What was asked of a desk from empty tables, and replied to: where its store was not closed, each was replied to as its
+-- exchange is, and to each customer the desk is its own.
 pub record FromEmpty (settings : Settings) (asks : List Ask) (replies : List SeenReply) (new : Desk (SqlShelf MemStore)) : Type 0 where
   pub replied : (on memory).is_closed new ≡ false
       → AllReplied memory.may_answer settings.host settings.directory no_tables asks replies ((on memory).tables new)

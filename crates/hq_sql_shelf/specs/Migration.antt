@@ -1,5 +1,5 @@
 -- What migrating a desk's store does. `old` and `new` are what is seen of a connection before and after.
-use Rattle.std.specs.Prelude.{◌≡◌, ◌⊎◌, ⊤, ℕ, List, Result, Ok, Err}
+use Rattle.std.specs.Prelude.{◌≡◌, ◌⊎◌, ℕ, false, List, Result, Ok, Err}
 use Rattle.sqlite.specs.State.{State, HasCleanDisk}
 use Rattle.sqlite.specs.Tree.{Trees}
 use Rattle.hq_base.specs.declared.failure.Fault.{Fault}
@@ -11,7 +11,7 @@ use Rattle.hq_store.specs.Sound.{Sound}
 use Rattle.hq_store.specs.Tables.{own}
 use Rattle.hq_sql.specs.Tables.{IsDesk, tables_in}
 use Rattle.hq_sql_open.specs.Opening.{Stays}
-use Rattle.hq_sql_open.specs.Transactions.{IsSettled}
+use Rattle.hq_sql_open.specs.Transactions.{IsSettled, IsUndone}
 use Rattle.hq_sql_migrate.specs.Migration.{IsFirstStore, IsSecondStore}
 use Rattle.hq_sql_migrate.specs.Stores.{first_tables_in, count_on_hold, IsLifted}
 use Rattle.hq_sql_shelf.specs.Shelf.{IsOurs}
@@ -26,12 +26,12 @@ pub record IsMigrated (count : ℕ) (old new : State) : Type 0 where
   pub count_is : count ≡ count_on_hold (first_tables_in old.now).messages
 
 -- What the answer tells of the store: a number of one of version 1, or 0 of one of version 2, which stays; 92 of any other,
--- which stays; and after 90 and 91 it stays as well.
+-- which stays. After 90 and 91 what was begun is undone, and 93 tells that the connection is gone.
 abbrev pub TellsVersion : Result ℕ Fault → State → State → Type 0
 TellsVersion (Ok count) old new = IsFirstStore old.now ⊎ (IsSecondStore old.now × (count ≡ 0) × Stays old new)
 TellsVersion (Err BadSchema) old new = (¬ IsFirstStore old.now) × (¬ IsSecondStore old.now) × Stays old new
-TellsVersion (Err Closed) old new = ⊤
-TellsVersion (Err _) old new = Stays old new
+TellsVersion (Err Closed) old new = new.is_open ≡ false
+TellsVersion (Err _) old new = IsUndone old new
 
 -- Wherever in it a crash comes, it leaves the trees as they were, or the whole store of version 2.
 abbrev pub LeavesEither : State → State → Type 0

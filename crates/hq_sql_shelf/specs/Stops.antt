@@ -1,6 +1,6 @@
 -- Transactions on a desk's store: what one leaves, whether it is made or fails, and what a crash may leave of it. `old` and
 -- `new` are what is seen of the connection before and after.
-use Rattle.std.specs.Prelude.{◌≡◌, ◌⊎◌, Result, OnOk, OnErr}
+use Rattle.std.specs.Prelude.{◌≡◌, ◌⊎◌, Result, OnErr}
 use Rattle.sqlite.specs.declared.error.Error.{Error}
 use Rattle.sqlite.specs.State.{State, HasCleanDisk, KeepsCommit}
 use Rattle.sqlite.specs.Tree.{Trees}
@@ -8,7 +8,7 @@ use Rattle.hq_keyed.specs.Left.{IsQuiet}
 use Rattle.hq_schema.specs.Schema.{desk_schema}
 use Rattle.hq_store.specs.Tables.{Tables}
 use Rattle.hq_sql.specs.Tables.{tables_in}
-use Rattle.hq_sql_open.specs.Transactions.{IsAtRest, Commits}
+use Rattle.hq_sql_open.specs.Transactions.{IsAtRest}
 
 -- the tables of a desk's store with these trees
 abbrev pub tables_of : Trees → Tables

@@ -19,9 +19,7 @@ impl<S: Alter> Shelf for SqlShelf<S> {
     ghost sight = { sight_over (state S.Store) };
 
     fn head(&mut self, customer: &Name) -> Result<Head, Fault> {
-        if self.closed {
-            return Err(self.refuse());
-        }
+        self.ready()?;
         match accounts::account(&mut self.conn, customer) {
             Ok(account) => Ok(account.head),
             Err(error) => Err(self.give_up(error)),
@@ -29,9 +27,7 @@ impl<S: Alter> Shelf for SqlShelf<S> {
     }
 
     fn counts(&mut self, customer: &Name) -> Result<Counts, Fault> {
-        if self.closed {
-            return Err(self.refuse());
-        }
+        self.ready()?;
         match accounts::account(&mut self.conn, customer) {
             Ok(account) => Ok(account.counts),
             Err(error) => Err(self.give_up(error)),
@@ -39,9 +35,7 @@ impl<S: Alter> Shelf for SqlShelf<S> {
     }
 
     fn message(&mut self, customer: &Name, serial: Serial) -> Result<Option<Message>, Fault> {
-        if self.closed {
-            return Err(self.refuse());
-        }
+        self.ready()?;
         match queued::message(self.alloc, &mut self.conn, customer, serial) {
             Ok(found) => Ok(found),
             Err(error) => Err(self.give_up(error)),
@@ -49,9 +43,7 @@ impl<S: Alter> Shelf for SqlShelf<S> {
     }
 
     fn by_spool(&mut self, customer: &Name, spool: &Spool) -> Result<Option<Message>, Fault> {
-        if self.closed {
-            return Err(self.refuse());
-        }
+        self.ready()?;
         match queued::by_spool(self.alloc, &mut self.conn, customer, spool) {
             Ok(found) => Ok(found),
             Err(error) => Err(self.give_up(error)),
@@ -64,9 +56,7 @@ impl<S: Alter> Shelf for SqlShelf<S> {
         after: Option<Serial>,
         limit: usize,
     ) -> Result<Items<Message>, Fault> {
-        if self.closed {
-            return Err(self.refuse());
-        }
+        self.ready()?;
         match queued::page(self.alloc, &mut self.conn, customer, after, limit) {
             Ok(page) => Ok(page),
             Err(error) => Err(self.give_up(error)),
@@ -79,9 +69,7 @@ impl<S: Alter> Shelf for SqlShelf<S> {
         class: Class,
         key: &LookupKey,
     ) -> Result<Option<Action>, Fault> {
-        if self.closed {
-            return Err(self.refuse());
-        }
+        self.ready()?;
         match lines::line(self.alloc, &mut self.conn, customer, class, key) {
             Ok(found) => Ok(found),
             Err(error) => Err(self.give_up(error)),
@@ -94,9 +82,7 @@ impl<S: Alter> Shelf for SqlShelf<S> {
         after: Option<&Pattern>,
         limit: usize,
     ) -> Result<Items<Line>, Fault> {
-        if self.closed {
-            return Err(self.refuse());
-        }
+        self.ready()?;
         match line_pages::page(self.alloc, &mut self.conn, customer, after, limit) {
             Ok(page) => Ok(page),
             Err(error) => Err(self.give_up(error)),
@@ -104,9 +90,7 @@ impl<S: Alter> Shelf for SqlShelf<S> {
     }
 
     fn mark(&mut self, customer: &Name, label: &Label) -> Result<Option<Mark>, Fault> {
-        if self.closed {
-            return Err(self.refuse());
-        }
+        self.ready()?;
         match marks::mark(self.alloc, &mut self.conn, customer, label) {
             Ok(found) => Ok(found),
             Err(error) => Err(self.give_up(error)),
@@ -114,9 +98,7 @@ impl<S: Alter> Shelf for SqlShelf<S> {
     }
 
     fn notice(&mut self, customer: &Name, number: u64) -> Result<Option<Notice>, Fault> {
-        if self.closed {
-            return Err(self.refuse());
-        }
+        self.ready()?;
         match notices::notice(self.alloc, &mut self.conn, customer, number) {
             Ok(found) => Ok(found),
             Err(error) => Err(self.give_up(error)),
@@ -129,9 +111,7 @@ impl<S: Alter> Shelf for SqlShelf<S> {
         after: Option<u64>,
         limit: usize,
     ) -> Result<Items<Notice>, Fault> {
-        if self.closed {
-            return Err(self.refuse());
-        }
+        self.ready()?;
         match pages::page(self.alloc, &mut self.conn, customer, after, limit) {
             Ok(page) => Ok(page),
             Err(error) => Err(self.give_up(error)),

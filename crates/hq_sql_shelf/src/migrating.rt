@@ -9,7 +9,7 @@ ghost use Rattle.hq_sql_migrate.specs.Stores.{IsFirst};
 ghost use Rattle.hq_sql_open.specs.Transactions.{IsSettled};
 ghost use Rattle.hq_sql_shelf.specs.Migration.{IsMigrated, TellsVersion, LeavesEither};
 
-use crate::shelf::fault_of;
+use crate::shelf::fault_after;
 use hq_envelope::{Fault, Text};
 use hq_sql_migrate::migration;
 use hq_sql_open::transaction::settle;
@@ -22,8 +22,8 @@ use std::alloc::Global;
 /// too, is refused as 92 `BadSchema`, and stays as it is.
 ///
 /// It asks for a connection in no transaction. After 90, 91 and 92 the store holds what it held; 93
-/// tells that what was begun could not be undone, or that the connection is gone. Wherever in it
-/// the process or its machine stops, the store is left as it was or migrated whole.
+/// tells that the connection is gone. Wherever in it the process or its machine stops, the store is
+/// left as it was or migrated whole.
 pub fn migrate<S: Alter>(alloc: Global, conn: &mut Connection<S>) -> Result<u64, Fault>
     ensures lifts { HasCleanDisk (state S.Store conn.new)
         → IsSettled (state S.Store conn.old) → IsFirst (state S.Store conn.old).now
@@ -42,11 +42,8 @@ pub fn migrate<S: Alter>(alloc: Global, conn: &mut Connection<S>) -> Result<u64,
         Ok(Some(count)) => Ok(count as u64),
         Ok(None) => Err(Fault::BadSchema),
         Err(error) => {
-            if settle(conn) {
-                Err(fault_of(error))
-            } else {
-                Err(Fault::Closed)
-            }
+            let standing = settle(conn);
+            Err(fault_after(standing, error))
         }
     }
 }

@@ -1,20 +1,23 @@
 //! The shelf over a connection, its opening, and what it does where a statement fails.
 
-ghost use Rattle.std.specs.Prelude.{◌≡◌, ◌≢◌, true, false, IfOk, IfErr};
+ghost use Rattle.std.specs.Prelude.{◌≡◌, ◌≢◌, true, false, IfOk, IfErr, OnOk};
 ghost use Rattle.sqlite.specs.Held.{state};
 ghost use Rattle.sqlite.specs.State.{HasCleanDisk};
 ghost use Rattle.sqlite.specs.Steps.{over_memory};
 ghost use Rattle.hq_base.specs.declared.failure.Fault.TheVariants.{BadSchema, Closed};
-ghost use Rattle.hq_keyed.specs.Left.{IsQuiet};
+ghost use Rattle.hq_keyed.specs.Left.{IsQuiet, LeavesNoMore};
+ghost use Rattle.hq_store.specs.Shelves.{Keeps};
 ghost use Rattle.hq_store.specs.Tables.{no_tables};
 ghost use Rattle.hq_sql.specs.Tables.{tables_in};
 ghost use Rattle.hq_sql_open.specs.Opening.{IsForeign, Stays};
-ghost use Rattle.hq_sql_open.specs.Transactions.{IsSettled};
-ghost use Rattle.hq_sql_shelf.specs.Shelf.{fault_in, GivesUp, LeavesOpen, Adopts, IsOurs};
+ghost use Rattle.hq_sql_open.specs.Standings.{Settles};
+ghost use Rattle.hq_sql_open.specs.Transactions.{IsSettled, IsUndone};
+ghost use Rattle.hq_sql_open.specs.declared.transaction.Standing.TheVariants.{Open};
+ghost use Rattle.hq_sql_shelf.specs.Shelf.{sight_over, fault_in, fault_left, counted, is_gone, GivesUp, Adopts, IsOurs};
 
 use hq_envelope::Fault;
 use hq_sql_open::open;
-use hq_sql_open::transaction::settle;
+use hq_sql_open::transaction::{Standing, settle};
 use sqlite::{Alter, Connection, Error, ErrorCode, MemStore};
 use std::alloc::Global;
 
@@ -22,13 +25,13 @@ use std::alloc::Global;
 /// transaction.
 ///
 /// Its faults: 90 is the store's want of memory; 91 is any other failure of a statement, or a row
-/// that is no value of its type; 93 comes once a transaction could not be undone or the connection
-/// is gone, and then every call answers it.
+/// that is no value of its type; 93 comes once the connection is gone, which only a failure of the
+/// disk takes away, and then every call answers it.
 #[derive(Drop)]
 pub struct SqlShelf<S: Alter> {
     pub(crate) alloc: Global,
     pub(crate) conn: Connection<S>,
-    pub(crate) closed: bool,
+    pub(crate) standing: Standing,
     pub(crate) faults: u64,
 }
 
@@ -42,14 +45,24 @@ pub fn fault_of(error: Error) -> Fault
     }
 }
 
+/// The fault that is told once a statement failed with this error and left the connection so.
+pub(crate) fn fault_after(standing: Standing, error: Error) -> Fault
+    ensures { result ≡ fault_left standing error }
+{
+    match standing {
+        Standing::Gone => Fault::Closed,
+        Standing::Open | Standing::InDoubt => fault_of(error),
+    }
+}
+
 impl<S: Alter> SqlShelf<S> {
     fn over(alloc: Global, conn: Connection<S>) -> SqlShelf<S>
-        ensures { result ≡ record { alloc = alloc; conn = conn; closed = false; faults = 0 } }
+        ensures { result ≡ record { alloc = alloc; conn = conn; standing = Open; faults = 0 } }
     {
         SqlShelf {
             alloc,
             conn,
-            closed: false,
+            standing: Standing::Open,
             faults: 0,
         }
     }
@@ -60,8 +73,7 @@ impl<S: Alter> SqlShelf<S> {
     /// and stays as it is.
     ///
     /// It asks for a connection in no transaction, and keeps the allocator. A refused connection
-    /// comes back. After 90, 91 and 92 it holds what it held; 93 tells that what was begun could
-    /// not be undone, or that the connection is gone.
+    /// comes back, and it holds what it held. 93 tells that it is gone.
     pub fn adopt(
         alloc: Global,
         mut conn: Connection<S>,
@@ -69,24 +81,23 @@ impl<S: Alter> SqlShelf<S> {
         ensures opened { IfOk result (λ s. HasCleanDisk (state S.Store s.conn)
             → IsSettled (state S.Store conn)
             → Adopts (state S.Store conn) (state S.Store s.conn)) }
-        ensures fresh { IfOk result (λ s. (s.closed ≡ false) × (s.faults ≡ 0)) }
+        ensures fresh { IfOk result (λ s. (s.standing ≡ Open) × (s.faults ≡ 0)) }
         ensures refused { IfErr result (λ e. HasCleanDisk (state S.Store e.1)
             → IsSettled (state S.Store conn) → e.0 ≡ BadSchema
-            → IsForeign (state S.Store conn).now) }
+            → IsForeign (state S.Store conn).now × Stays (state S.Store conn) (state S.Store e.1)) }
         ensures kept { IfErr result (λ e. HasCleanDisk (state S.Store e.1)
-            → IsSettled (state S.Store conn) → e.0 ≢ Closed
-            → Stays (state S.Store conn) (state S.Store e.1)) }
+            → IsSettled (state S.Store conn)
+            → IsUndone (state S.Store conn) (state S.Store e.1)) }
+        ensures gone { IfErr result (λ e. HasCleanDisk (state S.Store e.1)
+            → e.0 ≡ Closed → (state S.Store e.1).is_open ≡ false) }
         ensures quiet { IfOk result (λ s. IsQuiet (state S.Store conn) (state S.Store s.conn)) }
     {
         match open(&mut conn) {
             Ok(true) => Ok(SqlShelf::over(alloc, conn)),
             Ok(false) => Err((Fault::BadSchema, conn)),
             Err(error) => {
-                if settle(&mut conn) {
-                    Err((fault_of(error), conn))
-                } else {
-                    Err((Fault::Closed, conn))
-                }
+                let standing = settle(&mut conn);
+                Err((fault_after(standing, error), conn))
             }
         }
     }
@@ -98,38 +109,49 @@ impl<S: Alter> SqlShelf<S> {
         let SqlShelf {
             alloc: _,
             conn,
-            closed: _,
+            standing: _,
             faults: _,
         } = self;
         conn
     }
 
-    /// The fault of a call of a closed shelf.
-    pub(crate) fn refuse(&mut self) -> Fault
-        ensures fault { result ≡ Closed }
-        ensures conn { self.new.conn ≡ self.old.conn }
-        ensures tally { GivesUp true self.old.faults self.new.faults result }
-        ensures closed { self.new.closed ≡ self.old.closed }
+    /// Makes ready for a call. A shelf in doubt asks first what became of its connection; one that
+    /// is gone refuses every call.
+    pub(crate) fn ready(&mut self) -> Result<(), Fault>
+        ensures kept { Keeps (sight_over (state S.Store)) self.old self.new result }
+        ensures open { OnOk result (self.new.standing ≡ Open) }
+        ensures gone { HasCleanDisk (state S.Store self.new.conn)
+            → is_gone self.old.standing ≡ false → is_gone self.new.standing ≡ true
+            → (state S.Store self.new.conn).is_open ≡ false }
+        ensures stops { LeavesNoMore (state S.Store self.old.conn) (state S.Store self.new.conn) }
     {
-        self.faults = self.faults.saturating_add(1);
-        Fault::Closed
+        if self.standing == Standing::InDoubt {
+            self.standing = settle(&mut self.conn);
+        }
+        match self.standing {
+            Standing::Open => Ok(()),
+            Standing::Gone => Err(self.count(Fault::Closed)),
+            Standing::InDoubt => Err(Fault::WantOfMemory),
+        }
     }
 
-    /// The fault of a statement that failed; what was begun is undone. Where it cannot be, the
-    /// shelf is closed.
+    /// The fault of a statement that failed; what was begun is undone.
     pub(crate) fn give_up(&mut self, error: Error) -> Fault
-        ensures kept { LeavesOpen self.new.closed (state S.Store self.old.conn)
-            (state S.Store self.new.conn) }
-        ensures tally { self.old.closed ≡ false
-            → GivesUp self.new.closed self.old.faults self.new.faults result }
-        ensures told { self.new.closed ≡ false → result ≡ fault_in error }
+        ensures kept { Settles (state S.Store self.old.conn) (state S.Store self.new.conn)
+            self.new.standing }
+        ensures tally { GivesUp self.new.standing self.old.faults self.new.faults result }
+        ensures told { result ≡ fault_left self.new.standing error }
     {
-        if !settle(&mut self.conn) {
-            self.closed = true;
-            return self.refuse();
-        }
-        let fault = fault_of(error);
-        if fault == Fault::Disk {
+        self.standing = settle(&mut self.conn);
+        self.count(fault_after(self.standing, error))
+    }
+
+    /// Counts a fault: 91 and 93, and nothing else.
+    fn count(&mut self, fault: Fault) -> Fault
+        ensures counted { self.new ≡ record self.old { faults = counted fault self.old.faults } }
+        ensures same { result ≡ fault }
+    {
+        if matches!(fault, Fault::Disk | Fault::Closed) {
             self.faults = self.faults.saturating_add(1);
         }
         fault
@@ -137,12 +159,14 @@ impl<S: Alter> SqlShelf<S> {
 }
 
 impl SqlShelf<MemStore> {
-    /// A shelf in memory, of which nobody has anything yet.
+    /// A shelf in memory, of which nobody has anything yet. It is no stranger's and never gone, so
+    /// that 92 and 93 do not come.
     pub fn open_memory(alloc: Global) -> Result<SqlShelf<MemStore>, Fault>
         ensures ours { IfOk result (λ s. IsOurs (state over_memory s.conn)) }
         ensures empty { IfOk result
             (λ s. tables_in (state over_memory s.conn).committed ≡ no_tables) }
-        ensures fresh { IfOk result (λ s. (s.closed ≡ false) × (s.faults ≡ 0)) }
+        ensures fresh { IfOk result (λ s. (s.standing ≡ Open) × (s.faults ≡ 0)) }
+        ensures cause { IfErr result (λ fault. (fault ≢ BadSchema) × (fault ≢ Closed)) }
     {
         let Ok(conn) = Connection::open_in_memory(alloc) else {
             return Err(Fault::WantOfMemory);

@@ -1,14 +1,12 @@
 //! Changes in one transaction, and what a crash leaves of them.
 
-ghost use Rattle.std.specs.Prelude.{◌≡◌, ◌≢◌, false, OnOk, OnErr, IfErr};
+ghost use Rattle.std.specs.Prelude.{◌≡◌, true, false, OnOk};
 ghost use Rattle.sqlite.specs.Held.{state};
 ghost use Rattle.sqlite.specs.State.{HasCleanDisk};
-ghost use Rattle.hq_base.specs.declared.failure.Fault.TheVariants.{BadSchema};
-ghost use Rattle.hq_keyed.specs.Left.{IsQuiet};
-ghost use Rattle.hq_store.specs.Shelves.{IsTallied};
+ghost use Rattle.hq_store.specs.Shelves.{OnClean, KeepsOnErr};
 ghost use Rattle.hq_store.specs.Tables.{write_all};
 ghost use Rattle.hq_sql.specs.Tables.{tables_in};
-ghost use Rattle.hq_sql_shelf.specs.Shelf.{IsOurs};
+ghost use Rattle.hq_sql_shelf.specs.Shelf.{sight_over, is_gone, IsOurs};
 ghost use Rattle.hq_sql_shelf.specs.Stops.{LeavesWhole, LeavesOnly};
 
 use crate::changes;
@@ -20,26 +18,19 @@ use sqlite::Alter;
 impl<S: Alter> SqlShelf<S> {
     /// Makes all changes of the customer's rows, in order, or none: what `Shelf::apply` does.
     ///
-    /// Wherever in it the process or its machine stops, the next opening finds the tables before it
-    /// or those after it, and after `Ok` those after it alone (`stops`, `durable`). This rests on
-    /// what the store says of its disk.
+    /// Wherever in it the process or its machine stops, the disk holds the trees of the tables before
+    /// it or of those after it, and after `Ok` of those after it alone (`stops`, `durable`). This
+    /// rests on what the store says of its disk. It closes the shelf only where the connection is
+    /// gone (`gone`).
     pub fn write(&mut self, customer: &Name, changes: &[Change]) -> Result<(), Fault>
-        ensures made { HasCleanDisk (state S.Store self.new.conn)
-            → IsOurs (state S.Store self.old.conn)
-            → OnOk result (tables_in (state S.Store self.new.conn).committed
+        ensures made { OnClean (sight_over (state S.Store)) self.old self.new
+            (OnOk result (tables_in (state S.Store self.new.conn).committed
             ≡ write_all customer.now changes.now
-            (tables_in (state S.Store self.old.conn).committed)) }
-        ensures none { HasCleanDisk (state S.Store self.new.conn)
-            → IsOurs (state S.Store self.old.conn) → self.new.closed ≡ false
-            → OnErr result (tables_in (state S.Store self.new.conn).committed
-            ≡ tables_in (state S.Store self.old.conn).committed) }
-        ensures ours { HasCleanDisk (state S.Store self.new.conn)
-            → IsOurs (state S.Store self.old.conn) → self.new.closed ≡ false
-            → IsOurs (state S.Store self.new.conn) }
-        ensures quiet { IsQuiet (state S.Store self.old.conn) (state S.Store self.new.conn) }
-        ensures tally { IsTallied
-            self.old.closed self.new.closed self.old.faults self.new.faults result }
-        ensures cause { IfErr result (λ fault. fault ≢ BadSchema) }
+            (tables_in (state S.Store self.old.conn).committed))) }
+        ensures kept { KeepsOnErr (sight_over (state S.Store)) self.old self.new result }
+        ensures gone { HasCleanDisk (state S.Store self.new.conn)
+            → is_gone self.old.standing ≡ false → is_gone self.new.standing ≡ true
+            → (state S.Store self.new.conn).is_open ≡ false }
         ensures stops { IsOurs (state S.Store self.old.conn)
             → LeavesWhole (state S.Store self.old.conn) (state S.Store self.new.conn)
             (tables_in (state S.Store self.old.conn).committed)
@@ -50,9 +41,7 @@ impl<S: Alter> SqlShelf<S> {
             → OnOk result (LeavesOnly (state S.Store self.new.conn) (write_all customer.now
             changes.now (tables_in (state S.Store self.old.conn).committed))) }
     {
-        if self.closed {
-            return Err(self.refuse());
-        }
+        self.ready()?;
         match changes::apply(self.alloc, &mut self.conn, customer, changes) {
             Ok(()) => Ok(()),
             Err(error) => Err(self.give_up(error)),

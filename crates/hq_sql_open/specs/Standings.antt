@@ -1,0 +1,15 @@
+-- What is known of a connection after a statement failed. `old` and `new` are what is seen of it before and after.
+use Rattle.std.specs.Prelude.{◌≡◌, false}
+use Rattle.sqlite.specs.State.{State, HasCleanDisk}
+use Rattle.hq_keyed.specs.Left.{IsQuiet, LeavesNoMore}
+use Rattle.hq_sql_open.specs.Transactions.{IsSettled, IsUndone}
+use Rattle.hq_sql_open.specs.declared.transaction.Standing.{Standing}
+use Rattle.hq_sql_open.specs.declared.transaction.Standing.TheVariants.{Open, Gone}
+
+-- What settling does: what was begun is undone, a connection that is told as open is so, and one that is told as gone is gone.
+pub record Settles (old new : State) (standing : Standing) : Type 0 where
+  pub undone : HasCleanDisk new → IsUndone old new
+  pub settled : HasCleanDisk new → standing ≡ Open → IsSettled new
+  pub gone : HasCleanDisk new → standing ≡ Gone → new.is_open ≡ false
+  pub quiet : IsQuiet old new
+  pub stops : LeavesNoMore old new
