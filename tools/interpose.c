@@ -2,7 +2,7 @@
 //
 // STOP_AT=N ends the process, with status 77, at its N-th call that writes, syncs or cuts a file; with STOP_HALF=1 a
 // write at that call writes its first half before. FAIL_AT=N answers "no space on the disk" at that call, and does nothing.
-// REFUSE_AT=N answers "no memory" at its N-th request for memory.
+// REFUSE_AT=N answers "no memory" at its N-th request for memory, and REFUSE_EACH=N at each N-th.
 // ACCEPT_FAILS_AT=N answers "too many open files" at its N-th acceptance of a connection, and CLOCK_AT=S has the clock tell
 // S seconds since 1970, at all times; how long something takes is not told by that clock.
 // SYNC_TAKES=MS has each sync of a file take so many milliseconds more.
@@ -20,7 +20,7 @@
 #include <time.h>
 #include <unistd.h>
 
-static long calls, syncs, requests, accepted, stop_at, fail_at, refuse_at, accept_fails_at;
+static long calls, syncs, requests, accepted, stop_at, fail_at, refuse_at, refuse_each, accept_fails_at;
 static int half;
 
 static long number(const char *name) {
@@ -32,6 +32,7 @@ __attribute__((constructor)) static void begin(void) {
   stop_at = number("STOP_AT");
   fail_at = number("FAIL_AT");
   refuse_at = number("REFUSE_AT");
+  refuse_each = number("REFUSE_EACH");
   accept_fails_at = number("ACCEPT_FAILS_AT");
   half = getenv("STOP_HALF") != NULL;
   calls = syncs = requests = accepted = 0;
@@ -107,7 +108,10 @@ int ftruncate64(int file, off64_t size) {
 
 int ftruncate(int file, off_t size) { return ftruncate64(file, size); }
 
-static int is_refused(void) { return ++requests == refuse_at; }
+static int is_refused(void) {
+  requests++;
+  return requests == refuse_at || (refuse_each && requests % refuse_each == 0);
+}
 
 void *malloc(size_t size) {
   static void *(*real)(size_t);

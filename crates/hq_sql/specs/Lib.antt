@@ -1,4 +1,5 @@
 pub mod Rows
+pub mod Errors
 pub mod Bound
 pub mod Tables
 pub mod Kept

@@ -4,6 +4,7 @@ ghost use Rattle.std.specs.Prelude.{◌≡◌, IfOk, string_bytes};
 ghost use Rattle.sqlite.specs.Order.{column};
 ghost use Rattle.hq_access.specs.Actions.{is_space};
 ghost use Rattle.std.specs.List.{after_first, before_first};
+ghost use Rattle.hq_sql.specs.Errors.{unread_as};
 ghost use Rattle.hq_sql.specs.Rows.{text_in, number_in, class_of, action_of, action_of_verb};
 
 use hq_access::{Action, Class, Pattern};
@@ -12,7 +13,9 @@ use sqlite::{Error, ErrorCode, Row};
 use std::alloc::Global;
 
 /// The error of a text that is no value of its type, or of want of memory.
-pub fn unread(fail: Fail) -> Error {
+pub fn unread(fail: Fail) -> Error
+    ensures { result ≡ unread_as fail }
+{
     match fail {
         Fail::Fault(_) => Error::SqliteFailure(ErrorCode::OutOfMemory),
         Fail::Refused(_) => Error::InvalidQuery,
