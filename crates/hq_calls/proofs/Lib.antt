@@ -13,4 +13,5 @@ pub mod SameAddresses
 pub mod Settled
 pub mod Soundness
 pub mod SweptRows
+pub mod Unchanged
 pub mod WholeQueues

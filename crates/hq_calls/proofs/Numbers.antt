@@ -1,5 +1,5 @@
 -- Notices under numbers in a row.
-use Rattle.std.proofs.Common.{◌≡◌, ℕ, suc, ◌+◌, List, [], ◌∷◌, ◌++◌, length, refl, ap, ◌∙◌, arith}
+use Rattle.std.proofs.Common.{◌≡◌, ℕ, suc, ◌+◌, List, [], ◌∷◌, ◌++◌, length, ap, ◌∙◌, arith}
 use Rattle.hq_store.specs.declared.change.Change.TheVariants.{AddNotice}
 use Rattle.hq_calls.specs.Notices.{noticed, added_from}
 use Rattle.hq_calls.specs.declared.notices.Draft.{Draft}

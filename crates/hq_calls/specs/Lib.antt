@@ -11,3 +11,4 @@ pub mod Outcomes
 pub mod Queues
 pub mod Submissions
 pub mod Sweeps
+pub mod Unchanged

@@ -1,6 +1,6 @@
 -- What the desk answers and changes on all messages of a customer (postsuper(1), `ALL`), what it tells of its use, and the
 -- queue report (postqueue(1), -p).
-use Rattle.std.specs.Prelude.{ℕ, ◌≡◌, ◌+◌, ◌==◌, List, [], ◌∷◌, ◌++◌, map, length, if◌then◌else◌, Option, None, Some}
+use Rattle.std.specs.Prelude.{◌≡◌, ◌+◌, ◌==◌, List, [], ◌∷◌, ◌++◌, map, length, if◌then◌else◌, Option, None, Some}
 use Rattle.std.specs.List.{flat_map}
 use Rattle.hq_envelope.specs.Words.{customer_hold}
 use Rattle.hq_queue.specs.Moves.{held, released}
@@ -14,7 +14,6 @@ use Rattle.hq_store.specs.declared.change.Change.TheVariants.{PutHead, PutMessag
 use Rattle.hq_calls.specs.Answering.{tell}
 use Rattle.hq_calls.specs.Messages.{with_deleted}
 use Rattle.hq_calls.specs.declared.answer.Answer.TheVariants as answer
-use Rattle.hq_calls.specs.declared.answer.Usage.{Usage}
 use Rattle.hq_calls.specs.declared.decision.Decision.{Decision}
 use Rattle.hq_calls.specs.declared.queues.Move.{Move}
 use Rattle.hq_calls.specs.declared.queues.Move.TheVariants.{Hold, Release}
