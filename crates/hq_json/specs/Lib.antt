@@ -1,6 +1,7 @@
 pub mod AttemptReplies
 pub mod NoticeReplies
 pub mod Objects
+pub mod OneLine
 pub mod QueueReplies
 pub mod TableReplies
 pub mod Replies

@@ -3,6 +3,7 @@
 #![tactic(auto)]
 
 mod attempt_replies;
+pub mod laws;
 mod members;
 mod notice_replies;
 mod objects;

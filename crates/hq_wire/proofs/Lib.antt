@@ -1,6 +1,8 @@
 pub mod Alone
 pub mod Entries
 pub mod Exchanging
+pub mod Left
+pub mod OneLine
 pub mod Readings
 pub mod Serving
 pub mod Swept

@@ -1,5 +1,5 @@
 -- The bytes of the reply to a sweep of all are read in one way.
-use Rattle.std.proofs.Common.{◌≡◌, ℕ, Bool, true, false, not, ◌==◌, ◌&&◌, if◌then◌else◌, List, [], ◌∷◌, ◌++◌, map, get_or, take, drop, codes, Option, Some, None, Result, Ok, Err, ◌⊎◌, inl, inr, refl, sym, ap, ◌∙◌, append_assoc}
+use Rattle.std.proofs.Common.{◌≡◌, ℕ, Bool, true, false, ◌==◌, ◌&&◌, if◌then◌else◌, List, [], ◌∷◌, ◌++◌, map, get_or, take, drop, codes, Option, Some, None, Result, Ok, Err, inl, inr, refl, sym, ap, ◌∙◌, append_assoc}
 use Rattle.std.specs.List.{flat_map, list_all}
 use Rattle.std.proofs.lemmas.Bool.{false≢true}
 use Rattle.std.proofs.lemmas.List.{append_cancel_left}
@@ -10,7 +10,6 @@ use Rattle.hq_base.specs.declared.failure.Refusal.{Refusal}
 use Rattle.hq_store.specs.Tables.{Tables}
 use Rattle.hq_calls.specs.declared.call.Call.{Call}
 use Rattle.hq_wire.specs.Calls.{Asked, CallOf, SweepOfAll}
-use Rattle.hq_wire.specs.Directories.{names_of}
 use Rattle.hq_wire.specs.Exchanges.{EndsAt, IsRefused, MayReplyTo, Sweeps}
 use Rattle.hq_wire.specs.Replies.{AreObjects, Closes, Part, SeenReply, Stop, closing, fault_text, for_customer, is_inside, joined, opening, plain, reply_of_fault, stopped_text, swept_reply}
 use Rattle.hq_wire.specs.declared.directory.Directory.{Directory}

@@ -20,7 +20,7 @@ use Rattle.hq_wire.specs.Exchanges.{AllDone, Exchanged, InPart, StopsClosed, of_
 use Rattle.hq_wire.specs.Replies.{AreObjects, IsObject, Part, is_memory, joined, opening, part_of, separated, swept_reply}
 use Rattle.hq_wire.specs.declared.directory.Directory.{Directory}
 use Rattle.hq_wire.proofs.Alone.{all_done_on}
-use Rattle.hq_wire.proofs.Exchanging.{stay_put, stay_on}
+use Rattle.hq_wire.proofs.Exchanging.{stay_put, stay_on, stop_closes, tells_none}
 
 -- ---- the text of parts
 
@@ -169,6 +169,7 @@ module _ {S : Type 0} (sight : Sight S) (d : Directory) (at : ℕ) where
       reply = refl;
     });
     anyway = λ closed. inr (inr (either so_far.open_ closed));
+    closed = tells_none (swept_reply so_far.parts None) refl;
     sound = so_far.sound;
     stays = so_far.stays;
     counted = λ small. let same = so_far.tally in omega (arith, same);
@@ -204,6 +205,7 @@ module _ {S : Type 0} (sight : Sight S) (d : Directory) (at : ℕ) where
               reply = refl;
             });
         anyway = λ closed. inl (tells_closed fault _ _ _ _ name kept.tally closed);
+        closed = stop_closes fault _ _ _ _ so_far.parts name kept.tally;
         sound = λ clean ours open_ fit.
             let then = kept.quiet clean in
             sound clean (so_far.stays.ours then ours (opens open_)) open_ (so_far.sound then ours (opens open_) fit);

@@ -108,6 +108,10 @@ MayReply may host d t a r t' = MayReplyTo may host d t a.at a.called r t'
 abbrev pub StopsClosed : Option Stop → Type 0
 StopsClosed stopped = (customer : List ℕ) × (stopped ≡ Some (record { customer = customer; fault = Closed }))
 
+-- the reply tells 93, whole or as what stopped a sweep of all
+abbrev pub TellsClosed : SeenReply → Type 0
+TellsClosed r = (r ≡ reply_of_fault Closed) ⊎ StopsClosed r.stopped
+
 -- Whatever the store is: a refusal is told, and the desk stays as it is; and where the store is closed after a call, the
 -- reply tells this, or want of memory; and so of a sweep of all, unless there is no customer.
 abbrev pub RepliesAnyway : {S : Type 0} → Sight (Desk S) → Directory → Desk S → Result Asked Refusal → SeenReply → Desk S → Type 0
@@ -119,6 +123,8 @@ RepliesAnyway sight d old (Ok SweepOfAll) r new = sight.is_closed new ≡ true �
 pub record Exchanged {S : Type 0} (sight : Sight S) (d : Directory) (old : Desk S) (a : Ask) (r : SeenReply) (new : Desk S) : Type 0 where
   pub replied : OnOpenSound (on sight) old new (MayReply sight.may_answer (host_of old) d ((on sight).tables old) a r ((on sight).tables new))
   pub anyway : RepliesAnyway (on sight) d old a.called r new
+  -- 93 is told only where the store is closed then
+  pub closed : TellsClosed r → (on sight).is_closed new ≡ true
   pub sound : OnOpenSound (on sight) old new (Sound ((on sight).tables new))
   pub stays : Stays (on sight) old new
   -- 91 and 93 are told only where the shelf counted a fault, as long as its count does not stand still

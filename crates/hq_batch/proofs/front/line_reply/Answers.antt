@@ -1,4 +1,4 @@
-use Rattle.std.proofs.Common.{None, refl, sym, subst}
+use Rattle.std.proofs.Common.{None, refl, subst}
 use Rattle.hq_base.specs.declared.failure.Refusal.TheVariants.{BadRequest}
 use Rattle.hq_wire.specs.Replies.{seen}
 use Rattle.hq_wire.specs.Runs.{RepliesSo}

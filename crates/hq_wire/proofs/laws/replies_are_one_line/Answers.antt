@@ -1,0 +1,6 @@
+use Rattle.hq_wire.proofs.OneLine.{reply_one_line}
+use Rattle.hq_wire.proofs.laws.replies_are_one_line.Goals as goal
+
+pub returns : goal.returns
+returns g c = λ host d a r t t' names replied.
+    reply_one_line g.S.Shelf.sight.may_answer host d t t' a.at names a.called r replied

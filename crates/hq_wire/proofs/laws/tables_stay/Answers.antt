@@ -1,0 +1,14 @@
+use Rattle.std.proofs.Common.{Result, subst}
+use Rattle.hq_base.specs.declared.failure.Refusal.{Refusal}
+use Rattle.hq_wire.specs.Calls.{Asked}
+use Rattle.hq_wire.specs.Exchanges.{MayReplyTo}
+use Rattle.hq_wire.proofs.Left.{left_by_others, left_by_reading}
+use Rattle.hq_wire.proofs.laws.tables_stay.Goals as goal
+
+pub returns-clause-refused : goal.returns-clause-refused
+returns-clause-refused g c = λ host d a r t t' replied other.
+    left_by_others g.S.Shelf.sight.may_answer host d t t' a.at a.called r replied other
+
+pub returns-clause-reads : goal.returns-clause-reads
+returns-clause-reads g c = λ host d a r t t' name call replied asked reads.
+    left_by_reading g.S.Shelf.sight.may_answer host d t t' a.at name call r (subst (λ (called : Result Asked Refusal). MayReplyTo g.S.Shelf.sight.may_answer host d t a.at called r t') asked replied) reads
