@@ -67,7 +67,8 @@ fn call_reply<S: Shelf + Drop>(
 ///
 /// What is said of tables is said where the store is clean and open as the call ends, its rows were
 /// those of the tables before, and the tables were sound. Whatever the store is, a refusal is told
-/// as such, and where the store is closed after a call the reply is 93 `Closed`, or 90.
+/// as such, and where the store is closed after a call the reply is 93 `Closed`, or 90; 93 is told
+/// only then.
 pub fn exchange<S: Shelf + Drop>(
     alloc: Global,
     desk: &mut Desk<S>,

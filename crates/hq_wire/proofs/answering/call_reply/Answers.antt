@@ -1,6 +1,5 @@
 use Rattle.std.proofs.Common.{◌≡◌, ◌+◌, ◌≤◌, Bool, true, false, cond, rules, sym, subst, arith, ◌∙◌}
-use Rattle.hq_wire.specs.Replies.{plain, tells_store}
-use Rattle.hq_wire.specs.Replies.{seen}
+use Rattle.hq_wire.specs.Replies.{plain, seen, tells_store}
 use Rattle.hq_wire.proofs.Alone.{tells_answer}
 use Rattle.hq_wire.proofs.Exchanging.{fault_closes, tells_none}
 use Rattle.hq_wire.proofs.answering.call_reply.Goals as goal
