@@ -1,5 +1,5 @@
 -- From chunk to chunk.
-use Rattle.std.proofs.Common.{◌≡◌, ℕ, ◌≤◌, List, [], ◌++◌, length, take, Option, Some, None, option_map, string_bytes, inl, inr, refl, sym, ap, ◌∙◌, subst, append-nil, Bool, true, false, eqb}
+use Rattle.std.proofs.Common.{◌≡◌, ℕ, ◌<◌, ◌≤◌, List, [], ◌++◌, length, take, Option, Some, None, option_map, string_bytes, inl, inr, refl, sym, ap, ◌∙◌, subst, append-nil, arith, Bool, true, false, eqb}
 use Rattle.std.proofs.lemmas.Bool.{eq-eqb}
 use Rattle.std.specs.Prelude.{IfSome}
 use Rattle.std.specs.Io.KnownBytes.{Consumes, IsAtEnd, Keeps}
@@ -12,7 +12,8 @@ use Rattle.hq_http.specs.declared.stages.Stage.TheVariants.{Head, Body}
 use Rattle.hq_http.specs.declared.reading.Input.{Input}
 use Rattle.hq_http.specs.declared.reading.Input.TheVariants as input
 use Rattle.hq_base.specs.declared.failure.Refusal.TheVariants.{BadRequest}
-use Rattle.hq_http.specs.Requests.{Asked, nothing, refused, request, RequestOf, Settles, IsOpen, Received}
+use Rattle.hq_http.specs.Requests.{Asked, nothing, refused, request, RequestOf, Settles, IsOpen, Received, HasNoRoom}
+use Rattle.hq_http.specs.Ends.{place_of}
 use Rattle.hq_http.specs.Stages.{BodyBegun, StageIs, Going, InputIs, EndIs}
 use Rattle.hq_http.proofs.HeadEnds.{none_yet}
 use Rattle.hq_http.proofs.Asking.{whole_settles, settled_asks, not_whole_by}
@@ -26,7 +27,7 @@ body_settles bytes m n b enough = λ more.
 
 -- as long as no stage is left, more has to be read
 pub stage_open : (bytes : List ℕ) (s : Stage) → StageIs bytes s → IsOpen bytes
-stage_open bytes (Head begun) h = inl (subst HasNoRequest h.0 (none_yet begun.bytes.items begun.place begun.known h.1), h.2)
+stage_open bytes (Head begun) h = inl (subst HasNoRequest h.0 (none_yet begun.bytes.items begun.place begun.known h.1), λ ended. h.1 (begun.known ∙ ap place_of h.0 ∙ ended), h.2)
 stage_open bytes (Body m n) h = inr (h.0.head, record { length = n; key = option_map string_bytes m.key }, m.body.items, h.0.reads, h.0.limit, h.1)
 
 -- what the end makes of it
@@ -47,16 +48,28 @@ whole_end (Some xs) None bytes x c e r = absurd c
 whole_end (Some xs) (Some ys) bytes x c e r = subst (λ input. RequestOf input x) (sym (c ∙ ap (λ zs. bytes ++ zs) e ∙ append-nil bytes)) r
 
 -- what a chunk settles
-pub received : (a m b : Option (List ℕ)) (s : Stage) (chunk : List ℕ) (x : Asked) (g : Going a m s) → Consumes m b chunk → Settles (g.0 ++ chunk) x → Received a b x
-received a m b s chunk x g c settles =
+pub received : (a m b : Option (List ℕ)) (s : Stage) (chunk : List ℕ) (x : Asked) (g : Going a m s) → Consumes m b chunk → length chunk ≤ 4096 → Settles (g.0 ++ chunk) x → Received a b x
+received a m b s chunk x g c near settles =
     let read = Consumes-trans a m b g.0 chunk g.1 c in record {
       front = g.0;
       last = chunk;
       read = read;
       went_on = stage_open g.0 s g.2;
+      near = near;
       asks = settled_asks (g.0 ++ chunk) x settles;
       whole = whole_input a b (g.0 ++ chunk) x read settles;
     }
+
+-- a chunk for which there is no room
+pub no_room : (a m b : Option (List ℕ)) (s : Stage) (chunk : List ℕ) (g : Going a m s) → Consumes m b chunk → length chunk ≤ 4096 → 0 < length chunk → HasNoRoom a b
+no_room a m b s chunk g c near some = record {
+  front = g.0;
+  last = chunk;
+  read = Consumes-trans a m b g.0 chunk g.1 c;
+  went_on = stage_open g.0 s g.2;
+  near = near;
+  some = λ e. let n : length chunk ≡ 0 = ap length e in absurd (omega arith);
+}
 
 -- what the end settles
 pub received_end : (a m b : Option (List ℕ)) (s : Stage) (x : Asked) (g : Going a m s) → Consumes m b [] → IsAtEnd b → RequestOf g.0 x → Received a b x
@@ -67,6 +80,7 @@ received_end a m b s x g c e r =
       last = [];
       read = read;
       went_on = stage_open g.0 s g.2;
+      near = omega arith;
       asks = subst (λ xs. RequestOf xs x) (sym same) r;
       whole = whole_end a b (g.0 ++ []) x read e (subst (λ xs. RequestOf xs x) (sym same) r);
     }

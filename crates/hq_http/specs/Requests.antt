@@ -5,6 +5,7 @@ use Rattle.httparse.specs.Grammar.{RequestHead, print_request, ReadsRequest, Has
 use Rattle.httparse.specs.Spans.{name_and_value}
 use Rattle.hq_base.specs.declared.failure.Refusal.{Refusal}
 use Rattle.hq_base.specs.declared.failure.Refusal.TheVariants.{BadRequest, BodyTooLong}
+use Rattle.hq_http.specs.Ends.{HasEnd}
 use Rattle.hq_http.specs.Fields.{Framing, framing}
 
 -- a method and a path with a key or none, and the bytes of a body
@@ -50,17 +51,29 @@ RequestOf bytes asked =
 abbrev pub Settles : List ℕ → Asked → Type 0
 Settles bytes asked = (more : List ℕ) → RequestOf (bytes ++ more) asked
 
--- More has to be read: no head has ended, or the body of one is not whole.
+-- More has to be read: in fewer than 16,384 bytes no head has ended, be it a good one or not; or the body of one is not
+-- whole.
 abbrev pub IsOpen : List ℕ → Type 0
 IsOpen bytes =
-    (HasNoRequest bytes × (length bytes < 16384))
+    (HasNoRequest bytes × (HasEnd bytes → ⊥) × (length bytes < 16384))
     ⊎ ((h : RequestHead) × (f : Framing) × (rest : List ℕ) × Reads bytes h f rest × (f.length ≤ 262144) × (length rest < f.length))
 
--- Some bytes were read, and what they ask for is what the whole input asks for; nothing was read once that was settled.
+-- Some bytes were read, and what they ask for is what the whole input asks for. Up to the last read, of 4,096 bytes at
+-- most, more had to be read.
 pub record Received (read_old read_new : Option (List ℕ)) (asked : Asked) : Type 0 where
   pub front : List ℕ
   pub last : List ℕ
   pub read : Consumes read_old read_new (front ++ last)
   pub went_on : IsOpen front
+  pub near : length last ≤ 4096
   pub asks : RequestOf (front ++ last) asked
   pub whole : IfSome read_old (λ input. RequestOf input asked)
+
+-- There was no room for what was read. Up to the last read, which gave some bytes and 4,096 at most, more had to be read.
+pub record HasNoRoom (read_old read_new : Option (List ℕ)) : Type 0 where
+  pub front : List ℕ
+  pub last : List ℕ
+  pub read : Consumes read_old read_new (front ++ last)
+  pub went_on : IsOpen front
+  pub near : length last ≤ 4096
+  pub some : last ≢ []

@@ -1,11 +1,11 @@
 -- How far a request has come.
-use Rattle.std.specs.Prelude.{◌≡◌, ◌≢◌, ◌⊎◌, ◌≤◌, ◌<◌, ℕ, List, [], length, Option, option_map, string_bytes}
+use Rattle.std.specs.Prelude.{◌≡◌, ◌≢◌, ◌⊎◌, ◌≤◌, ◌<◌, ℕ, List, length, Option, option_map, string_bytes}
 use Rattle.std.specs.Io.KnownBytes.{Consumes}
 use Rattle.httparse.specs.Grammar.{RequestHead}
 use Rattle.hq_lines.specs.declared.batch.EngineFault.{EngineFault}
 use Rattle.hq_lines.specs.declared.batch.EngineFault.TheVariants as fault
 use Rattle.hq_http.specs.Requests as requests
-use Rattle.hq_http.specs.Requests.{IsOpen, Reads, Settles, RequestOf, Received, nothing, refused, request}
+use Rattle.hq_http.specs.Requests.{IsOpen, Reads, Settles, RequestOf, Received, HasNoRoom, nothing, refused, request}
 use Rattle.hq_http.specs.declared.ends.Place.TheVariants.{Ended}
 use Rattle.hq_http.specs.declared.head.WholeHead.{WholeHead}
 use Rattle.hq_http.specs.declared.stages.Message.{Message}
@@ -52,14 +52,14 @@ StepIs bytes (step.Whole m) = Settles bytes (request (shown m))
 abbrev pub Going : Option (List ℕ) → Option (List ℕ) → Stage → Type 0
 Going read_old read_new stage = (bytes : List ℕ) × Consumes read_old read_new bytes × StageIs bytes stage
 
--- What was read. Where there was no room for it, some byte was read.
+-- what was read, or that there was no room for it
 abbrev pub InputIs : Option (List ℕ) → Option (List ℕ) → Input → Type 0
 InputIs read_old read_new input.Nothing = Received read_old read_new nothing
 InputIs read_old read_new (input.Refused refusal) = Received read_old read_new (refused refusal)
 InputIs read_old read_new (input.Request m) = Received read_old read_new (request (shown m))
-InputIs read_old read_new input.NoRoom = (bytes : List ℕ) × Consumes read_old read_new bytes × (bytes ≢ [])
+InputIs read_old read_new input.NoRoom = HasNoRoom read_old read_new
 
--- Bytes were read, and they leave the request open: it is neither whole nor refused.
+-- Bytes were read, and more had to be: no head has ended in them, or the body of one is not whole.
 abbrev pub StaysOpen : Option (List ℕ) → Option (List ℕ) → Type 0
 StaysOpen read_old read_new = (bytes : List ℕ) × Consumes read_old read_new bytes × IsOpen bytes
 

@@ -1,6 +1,6 @@
 //! One request from any reader, however its bytes are cut.
 
-ghost use Rattle.std.specs.Prelude.{◌≡◌, ◌<◌, List, ℕ, Option, length, IfOk, IfErr};
+ghost use Rattle.std.specs.Prelude.{◌≡◌, ◌<◌, ◌≤◌, List, ℕ, Option, length, IfOk, IfErr};
 ghost use Rattle.std.specs.Io.KnownBytes.{Consumes};
 ghost use Rattle.hq_http.specs.Stages.{StageIs, Going, InputIs, LeavesOpen, TurnIs, EndIs};
 
@@ -54,7 +54,8 @@ fn at_end(stage: &Stage) -> Input
 fn take_chunk(alloc: Global, stage: Stage, chunk: &[u8]) -> Turn
     requires { 0 < length chunk.now }
     ensures { (read_old read_mid read_new : Option (List ℕ)) → Going read_old read_mid stage
-        → Consumes read_mid read_new chunk.now → TurnIs read_old read_new result }
+        → Consumes read_mid read_new chunk.now → length chunk.now ≤ 4096
+        → TurnIs read_old read_new result }
 {
     match advance(alloc, stage, chunk) {
         Ok(Step::Open(stage)) => Turn::Again(stage),
@@ -68,10 +69,9 @@ fn take_chunk(alloc: Global, stage: Stage, chunk: &[u8]) -> Turn
 fn read_more<R: Read>(
     alloc: Global,
     reader: &mut R,
-    room: &mut [u8],
+    room: &mut [u8; CHUNK_BYTES],
     stage: Stage,
 ) -> Result<Turn, EngineFault>
-    requires { 0 < length room.old }
     ensures turn { (read_old : Option (List ℕ)) → Going read_old (R.remaining reader.old) stage
         → IfOk result (TurnIs read_old (R.remaining reader.new)) }
     ensures fault { (read_old : Option (List ℕ)) → Going read_old (R.remaining reader.old) stage
@@ -107,15 +107,17 @@ pub(crate) fn read_within<R: Read>(
     Err(EngineFault::TooManyReads)
 }
 
-/// Reads one request, up to where it is whole or refused: what it asks for is what the whole input
-/// asks for, however it is cut, and nothing is read once that is settled. An interrupted read is
-/// tried again and counts as a read, and at most 300,000 are made.
+/// Reads one request: what it asks for is what the whole input asks for, however it is cut. A read
+/// gives 4,096 bytes at most, and another one is made only where fewer than 16,384 bytes came and
+/// none of them ended a head, or the body of a head is not whole. An interrupted read is tried
+/// again and counts as a read, and at most 300,000 are made.
 ///
 /// A head has at most 16,384 bytes, empty lines before it counted, and 64 fields; a body 262,144
-/// bytes. The key is the field `X-Desk-Key`. All that is no request is refused as 1 `BadRequest`, a
-/// second `Content-Length` or `X-Desk-Key` and any `Transfer-Encoding` among it; a longer body, told
-/// by a head with no other fault, as 6 `BodyTooLong`. An error is a read that failed or one too
-/// many, and leaves a request that was neither whole nor refused.
+/// bytes. The key is the field `X-Desk-Key`. All that is no request is refused as 1 `BadRequest`,
+/// a second `Content-Length` or `X-Desk-Key` and any `Transfer-Encoding` among it; a longer body,
+/// told by a head with no other fault, as 6 `BodyTooLong`. An error is a read that failed or one
+/// too many: up to it no head had ended, or the body of one was not whole. Bytes that can be no
+/// head are refused where an empty line ends them, and not before.
 pub fn read_request<R: Read>(alloc: Global, reader: &mut R) -> Result<Input, EngineFault>
     ensures told { IfOk result (InputIs (R.remaining reader.old) (R.remaining reader.new)) }
     ensures fault { IfErr result (LeavesOpen (R.remaining reader.old) (R.remaining reader.new)) }

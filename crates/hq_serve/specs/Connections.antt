@@ -1,6 +1,6 @@
 -- One connection: what it asks for is replied to once.
-use Rattle.std.specs.Prelude.{◌≡◌, ◌≢◌, ◌⊎◌, ⊤, ℕ, List, [], ◌∷◌, Option, None, Some, option_to_list, Result, Ok, Err}
-use Rattle.std.specs.Io.KnownBytes.{Consumes, Appends, Keeps}
+use Rattle.std.specs.Prelude.{◌≡◌, ◌⊎◌, ⊤, ℕ, List, [], ◌∷◌, Option, None, Some, option_to_list, Result, Ok, Err}
+use Rattle.std.specs.Io.KnownBytes.{Appends, Keeps}
 use Rattle.hq_base.specs.Refusals.{no_memory}
 use Rattle.hq_store.specs.Shelves.{Sight}
 use Rattle.hq_desk.specs.declared.desk.Desk.{Desk}
@@ -12,7 +12,7 @@ use Rattle.hq_wire.specs.declared.directory.Directory.{Directory}
 use Rattle.hq_lines.specs.Lines.{Streams}
 use Rattle.hq_lines.specs.declared.batch.EngineFault.{EngineFault}
 use Rattle.hq_lines.specs.declared.batch.EngineFault.TheVariants.{Read, Write, TooManyReads, WantOfMemory}
-use Rattle.hq_http.specs.Requests.{Asked, nothing, refused, request, Received}
+use Rattle.hq_http.specs.Requests.{Asked, nothing, refused, request, Received, HasNoRoom}
 use Rattle.hq_http.specs.Responses.{response_text}
 use Rattle.hq_http.specs.Stages.{StaysOpen}
 
@@ -31,10 +31,6 @@ abbrev pub IsWritten : Option (List ℕ) → Option (List ℕ) → Option SeenRe
 IsWritten old new None = Keeps old new
 IsWritten old new (Some r) = Appends old new (response_of r)
 
--- Some bytes were read, and there was no room for the request.
-abbrev pub HasNoRoom : Option (List ℕ) → Option (List ℕ) → Type 0
-HasNoRoom read_old read_new = (bytes : List ℕ) × Consumes read_old read_new bytes × (bytes ≢ [])
-
 -- What was read was served as its exchange is, or as none; or there was no room for it, which is told, and nothing was done.
 abbrev pub Answered : {S : Type 0} → Sight S → Directory → ℕ → Option (List ℕ) → Option (List ℕ) → Desk S → Option SeenReply → Desk S → Type 0
 Answered sight d at read_old read_new old reply new =
@@ -42,7 +38,7 @@ Answered sight d at read_old read_new old reply new =
     ⊎ (HasNoRoom read_old read_new × (reply ≡ Some (reply_of_fault no_memory)) × (new ≡ old))
 
 -- How the serving of a connection ends: what was read is answered, and the response is written; or nothing was done, as
--- the request was not whole; or what was read is answered, and its response is not told to be whole.
+-- more had to be read; or what was read is answered, and its response is not told to be whole.
 abbrev pub Ends : {S : Type 0} → Sight S → Directory → ℕ → Streams → Streams → Type 0 → Desk S → Desk S → Result ⊤ EngineFault → Type 0
 Ends sight d at start end quiet old new (Ok _) = (reply : Option SeenReply) × Answered sight d at start.input end.input old reply new × IsWritten start.output end.output reply
 Ends sight d at start end quiet old new (Err Read) = StaysOpen start.input end.input × quiet × (new ≡ old)

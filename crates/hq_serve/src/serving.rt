@@ -63,16 +63,17 @@ fn write_reply<W: Write>(writer: &mut W, reply: &Reply) -> io::Result<()>
 /// written and flushed. Where no byte comes, nothing is written.
 ///
 /// What is read asks for what the whole input asks for, however its bytes are cut (`hq_http`). A
-/// refusal is told and changes nothing; a request is replied to as its exchange is. Where there is
-/// no room for the request, 503 with 90 `WantOfMemory` is told, and nothing was done.
+/// refusal is told, or 503 with 90 `WantOfMemory` in its place, and changes nothing; a request is
+/// replied to as its exchange is. Where there is no room for the request, 503 with 90 is told, and
+/// nothing was done.
 ///
 /// To every customer the reply to its call, and what is kept of it afterwards, are those of the
 /// machine of one customer, started from its own state and given its share of the calls alone; a
 /// call that is replied to with 503 is struck out.
 ///
-/// An error is `Read` or `TooManyReads`, the request was neither whole nor refused, and nothing was
-/// done and nothing written; or `Write`: what was asked was done, and how much of its response went
-/// out is not told. At most 300,000 reads are made, an interrupted one counted.
+/// An error is `Read` or `TooManyReads`: no head had ended, or the body of one was not whole, and
+/// nothing was done and nothing written; or `Write`: what was asked was done, and how much of its
+/// response went out is not told. At most 300,000 reads are made, an interrupted one counted.
 pub fn serve_one<R: Read, W: Write, S: Shelf + Drop>(
     alloc: Global,
     reader: &mut R,
