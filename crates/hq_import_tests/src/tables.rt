@@ -101,7 +101,7 @@ fn rows_under_the_header(rt: HostRuntime) -> Result<(), TestFail> {
 }
 
 /// Whole files, and what they are read as.
-const FILES: [(&[u8], &str); 17] = [
+const FILES: [(&[u8], &str); 18] = [
     (b"", "50 BadCsv row 0"),
     (b"x", "50 BadCsv row 0"),
     (b"\n\n", "50 BadCsv row 0"),
@@ -109,6 +109,11 @@ const FILES: [(&[u8], &str); 17] = [
     (
         b"\xef\xbb\xbfclass,pattern,action\nsender,a,OK\n",
         "sender a OK;",
+    ),
+    (
+        b"\xef\xbb\xbfclass,pattern,action\nsender,a.example,HOLD\nsender,<>,DISCARD\n\
+            recipient,bob@,REJECT\n",
+        "sender a.example HOLD;sender <> DISCARD;recipient bob@ REJECT;",
     ),
     (
         b"\xef\xbb\xbf\xef\xbb\xbfclass,pattern,action\nsender,a,OK\n",
