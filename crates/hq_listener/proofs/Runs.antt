@@ -1,5 +1,5 @@
 -- What a connection does to a desk, and what several do.
-use Rattle.std.proofs.Common.{◌≡◌, ◌+◌, ◌≤◌, ℕ, List, [], ◌++◌, length, Option, Some, Result, Ok, Err, inl, inr, arith, length-append}
+use Rattle.std.proofs.Common.{◌≡◌, ◌+◌, ◌-◌, ◌≤◌, ◌<◌, ℕ, List, [], ◌++◌, length, Option, Some, Result, Ok, Err, inl, inr, refl, arith, length-append}
 use Rattle.std.specs.Prelude.{option_to_list}
 use Rattle.std.specs.Bool.{⊤}
 use Rattle.hq_store.specs.Shelves.{Sight}
@@ -14,7 +14,9 @@ use Rattle.hq_lines.specs.declared.batch.EngineFault.{EngineFault}
 use Rattle.hq_lines.specs.declared.batch.EngineFault.TheVariants.{Read, Write, TooManyReads, WantOfMemory}
 use Rattle.hq_http.specs.Requests.{Asked, nothing, refused, request}
 use Rattle.hq_serve.specs.Connections.{asks as asked_of, Answered, Ends}
-use Rattle.hq_listener.specs.Listening.{DoesSome}
+use Rattle.hq_listener.specs.Listening.{DoesSome, ServesComing}
+use Rattle.hq_listener.specs.declared.listening.End.{End}
+use Rattle.hq_listener.specs.declared.listening.End.TheVariants.{Done, Network, Clock}
 
 module _ {S : Type 0} (sight : Sight S) (d : Directory) where
   -- nothing is done, of however many connections
@@ -39,6 +41,38 @@ module _ {S : Type 0} (sight : Sight S) (d : Directory) where
         one_each = omega (arith, both, few, more);
         served = served sight d old new (p.asks ++ q.asks) (p.replies ++ q.replies) (turns_on (Exchanged sight d) old mid new p.asks q.asks p.replies q.replies p.served.each q.served.each);
       }
+
+  -- so far some connections came, and the others are left
+  pub record SoFar (coming left : ℕ) (old new : Desk S) : Type 0 where
+    pub came : ℕ
+    pub counted : came + left ≡ coming
+    pub does : DoesSome sight d came old new
+
+  pub none_came : (coming : ℕ) (desk : Desk S) → SoFar coming coming desk desk
+  none_came coming desk = record { came = 0; counted = omega arith; does = nothing_done 0 desk desk refl }
+
+  pub one_more : (coming left less : ℕ) (old mid new : Desk S) → SoFar coming left old mid → 0 < left → less ≡ left - 1 → DoesSome sight d 1 mid new → SoFar coming less old new
+  one_more coming left less old mid new so some fewer one =
+      let counted = so.counted in
+      record { came = so.came + 1; counted = omega arith; does = and_then so.came 1 old mid new so.does one }
+
+  pub all_came : (coming left : ℕ) (old new : Desk S) → SoFar coming left old new → left ≡ 0 → ServesComing sight d coming left Done old new
+  all_came coming left old new so none = record { came = so.came; counted = so.counted; does = so.does; over = none }
+
+  pub one_failed : (coming left : ℕ) (old new : Desk S) → SoFar coming left old new → 0 < left → ServesComing sight d coming left Network old new
+  one_failed coming left old new so some = record { came = so.came; counted = so.counted; does = so.does; over = some }
+
+  pub one_unserved : (coming left less : ℕ) (old new : Desk S) → SoFar coming left old new → 0 < left → less ≡ left - 1 → ServesComing sight d coming less Clock old new
+  one_unserved coming left less old new so some fewer =
+      let counted = so.counted in
+      let few = so.does.one_each in
+      record { came = so.came + 1; counted = omega arith; does = record { asks = so.does.asks; replies = so.does.replies; one_each = omega arith; served = so.does.served }; over = omega arith }
+
+  -- what is done of those that came is done of those that were to come
+  pub of_coming : (coming left : ℕ) (why : End) (old new : Desk S) → ServesComing sight d coming left why old new → DoesSome sight d coming old new
+  of_coming coming left why old new so =
+      let counted = so.counted in
+      of_more so.came coming old new (omega arith) so.does
 
   at_most_one : (at : ℕ) (asked : Asked) → length (asked_of d at asked) ≤ 1
   at_most_one at nothing = omega arith

@@ -1,7 +1,8 @@
 //! The connections of a listening socket.
 
-ghost use Rattle.hq_listener.specs.Listening.{DoesSome};
+ghost use Rattle.hq_listener.specs.Listening.{left_of, DoesSome, ServesComing};
 
+use crate::connections::Connections;
 use crate::due::{Due, Until, linger};
 use hq_desk::Desk;
 use hq_envelope::Moment;
@@ -10,7 +11,7 @@ use hq_store::Shelf;
 use hq_wire::Directory;
 use std::alloc::Global;
 use std::io::{BufWriter, Read, Write};
-use std::net::{TcpListener, TcpStream};
+use std::net::TcpStream;
 use std::rt::Clock;
 use std::time::{Duration, SystemTime};
 
@@ -28,9 +29,9 @@ pub struct Limits {
 /// Why no more connections are served.
 #[derive(Clone, Copy, Debug, PartialEq, Eq)]
 pub enum End {
-    /// As many were as there were to be.
+    /// All that were to come came.
     Done,
-    /// A connection could not be accepted.
+    /// One that was to come could not be accepted.
     Network,
     /// The clock tells no time, or one that is no moment of the desk. The connection that was
     /// accepted is closed with no reply.
@@ -115,14 +116,15 @@ fn tell<E: Write>(errors: &mut E, served: Result<(), EngineFault>) {
     let _told = errors.write_all(line.as_bytes());
 }
 
-/// Serves so many connections, one after another, each by [`serve_one`] at the moment of its
-/// acceptance, and then no more.
+/// Serves the connections that are to come, one after another, each by [`serve_one`] at the moment
+/// of its acceptance, and then no more. So it ends with `Done` once all have come and been served,
+/// and not before.
 ///
 /// What a connection asks for is done as its exchange is, so that all of them together are a run of
-/// exchanges: to every customer its replies, and what is kept of it, are those that it would have
-/// alone. A connection that ends in a fault, or takes longer than the limits allow, is told in a
-/// line, `hq: input` while its request is read and `hq: output` while its response is written, and
-/// the next is served.
+/// exchanges, of one at most for each that came: to every customer its replies, and what is kept of
+/// it, are those that it would have alone. A connection that ends in a fault, or takes longer than
+/// the limits allow, is told in a line, `hq: input` while its request is read and `hq: output`
+/// while its response is written, and the next is served.
 ///
 /// When a response is written, what its client still sends is read and thrown away, until the
 /// client ends its side, for a second at most: a connection closed before that would be reset, and
@@ -130,18 +132,20 @@ fn tell<E: Write>(errors: &mut E, served: Result<(), EngineFault>) {
 /// what its exchange takes.
 pub fn serve_on<C: Clock + AllocGlobal, S: Shelf + Drop, E: Write>(
     rt: &C,
-    listener: &TcpListener,
-    count: u32,
+    connections: &mut Connections,
     limits: Limits,
     desk: &mut Desk<S>,
     directory: &Directory,
     errors: &mut E,
 ) -> End
-    ensures { DoesSome S.sight directory.now count desk.old desk.new }
+    ensures { ServesComing S.sight directory.now (left_of connections.old)
+        (left_of connections.new) result desk.old desk.new }
 {
-    for _connection in 0..count {
-        let Ok((stream, _)) = listener.accept() else {
-            return End::Network;
+    loop {
+        let stream = match connections.accept() {
+            Ok(Some(stream)) => stream,
+            Ok(None) => return End::Done,
+            Err(_) => return End::Network,
         };
         let Some(at) = moment_now(rt) else {
             return End::Clock;
@@ -149,5 +153,4 @@ pub fn serve_on<C: Clock + AllocGlobal, S: Shelf + Drop, E: Write>(
         let served = serve_stream(rt, &stream, limits, desk, directory, at);
         tell(errors, served);
     }
-    End::Done
 }

@@ -3,7 +3,7 @@
 
 use hq_desk::Desk;
 use hq_envelope::Fail as Failure;
-use hq_listener::{End, Limits, serve_on};
+use hq_listener::{Connections, End, Limits, serve_on};
 use hq_settings::{Relay, Settings};
 use hq_store::ListShelf;
 use std::alloc::Global;
@@ -61,21 +61,21 @@ fn has_response(rt: &HostRuntime, client: &mut TcpStream, wanted: &str) -> io::R
 }
 
 /// Serves so many connections, and gives what was told of them.
-fn served(rt: &HostRuntime, listener: &TcpListener, count: u32) -> Result<Vec<u8>, Fail> {
+fn served(rt: &HostRuntime, listener: TcpListener, count: u32) -> Result<Vec<u8>, Fail> {
     let settings = settings(rt.alloc())?;
     let mut desk = Desk::new(ListShelf::new(rt.alloc()), settings.host);
     let mut errors = Vec::new(rt.alloc());
     let directory = &settings.directory;
+    let mut connections = Connections::new(listener, count);
     let end = serve_on(
         rt,
-        listener,
-        count,
+        &mut connections,
         limits(),
         &mut desk,
         directory,
         &mut errors,
     );
-    if end != End::Done {
+    if end != End::Done || connections.left() != 0 {
         return Err(Fail::from("as many connections as there were to be"));
     }
     Ok(errors)
@@ -88,7 +88,7 @@ fn connections_one_after_another(rt: HostRuntime) -> Result<(), Fail> {
     let mut first = client(&rt, &listener, USAGE, true)?;
     let _second = client(&rt, &listener, &USAGE[..10], false)?;
     let mut third = client(&rt, &listener, USAGE, true)?;
-    let errors = served(&rt, &listener, 3)?;
+    let errors = served(&rt, listener, 3)?;
     assert_eq!(rt; errors.as_slice(), b"hq: input\n".as_slice());
     assert!(rt; has_response(&rt, &mut first, EMPTY)?);
     assert!(rt; has_response(&rt, &mut third, EMPTY)?);
@@ -105,7 +105,7 @@ fn a_body_longer_than_any(rt: HostRuntime) -> Result<(), Fail> {
     for _ in 0..16 {
         client.write_all(&[b'x'; 4_096])?;
     }
-    let errors = served(&rt, &listener, 1)?;
+    let errors = served(&rt, listener, 1)?;
     assert!(rt; errors.is_empty());
     assert!(rt; has_response(&rt, &mut client, TOO_LONG)?);
     Ok(())

@@ -26,7 +26,8 @@ pub record ServesConnections {S : Type 0} (sight : Sight S) (settings : Settings
   pub new : Desk S
   pub served : DoesSome sight settings.directory count old new
 
--- why no more are served: as many were as there were to be, or one could not be accepted, or the clock tells no moment
+-- Why no more are served: as many came as there were to be, or one could not be accepted, or the clock tells no moment.
+-- That as many came is said where connections are counted, of `serve_on`; nothing that is seen here tells of a socket.
 abbrev pub IsEnd : Result ⊤ Trouble → Type 0
 IsEnd (Ok _) = ⊤
 IsEnd (Err Network) = ⊤

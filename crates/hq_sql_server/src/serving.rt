@@ -7,7 +7,7 @@ ghost use Rattle.hq_sql_server.specs.Runs.{IsEnd, ShelfEnds, OpenedEnds, MemoryE
 use crate::listening::{limits, listen};
 use hq_desk::Desk;
 use hq_envelope::Fault;
-use hq_listener::{End, serve_on};
+use hq_listener::{Connections, End, serve_on};
 use hq_program::{Trouble, set_up};
 use hq_settings::Settings;
 use hq_sql_file::open_file;
@@ -43,12 +43,11 @@ fn serve_over<S: Shelf + Drop, W: Write, E: Write>(
     let listener = listen(rt, given.listen, output)?;
     let Settings { host, directory } = settings;
     let mut desk = Desk::new(shelf, host);
-    let limits = limits(given);
+    let mut connections = Connections::new(listener, given.count);
     ended(serve_on(
         rt,
-        &listener,
-        given.count,
-        limits,
+        &mut connections,
+        limits(given),
         &mut desk,
         &directory,
         errors,

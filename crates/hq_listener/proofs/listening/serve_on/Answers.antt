@@ -1,18 +1,17 @@
-use Rattle.std.proofs.Common.{refl}
-use Rattle.hq_listener.proofs.Runs.{nothing_done, and_then, of_more}
+use Rattle.std.proofs.Common.{ap}
+use Rattle.hq_listener.specs.Listening.{left_of}
+use Rattle.hq_listener.proofs.Runs.{none_came, one_more, one_unserved}
 use Rattle.hq_listener.proofs.listening.serve_on.Goals as goal
 
-pub loop-connection-init : goal.loop-connection-init
-loop-connection-init g c = nothing_done g.S.Shelf.sight c.args.directory.now 0 c.args.desk.now c.args.desk.now refl
-
-pub loop-connection-preserved : goal.loop-connection-preserved
-loop-connection-preserved g c = and_then g.S.Shelf.sight c.args.directory.now c.loop-connection._connection 1 c.args.desk.now c.loop-connection.desk c.serve_stream-served.new.desk c.loop-connection.invariant c.serve_stream-served.ensures
+pub loop-stream-init : goal.loop-stream-init
+loop-stream-init g c = none_came g.S.Shelf.sight c.args.directory.now (left_of c.args.connections.now) c.args.desk.now
 
 pub returns-in_default : goal.returns-in_default
-returns-in_default g c = of_more g.S.Shelf.sight c.args.directory.now c.loop-connection._connection c.args.count c.args.desk.now c.loop-connection.desk c.loop-connection.auto._connection-end c.loop-connection.invariant
+returns-in_default g c =
+    let came = rw c.in-Ok-Some.field-0-is at c.in-Ok-Some.ensures in
+    one_unserved g.S.Shelf.sight c.args.directory.now (left_of c.args.connections.now) (left_of c.loop-stream.connections) (left_of c.accept.new.self) c.args.desk.now c.loop-stream.desk c.loop-stream.invariant came.0 (ap left_of came.1)
 
-pub returns-in_default-moment_now : goal.returns-in_default-moment_now
-returns-in_default-moment_now g c = of_more g.S.Shelf.sight c.args.directory.now c.loop-connection._connection c.args.count c.args.desk.now c.loop-connection.desk c.loop-connection.auto._connection-end c.loop-connection.invariant
-
-pub returns : goal.returns
-returns g c = of_more g.S.Shelf.sight c.args.directory.now c.loop-connection._connection c.args.count c.args.desk.now c.loop-connection.desk c.loop-connection.auto._connection-end c.loop-connection.invariant
+pub loop-stream-preserved : goal.loop-stream-preserved
+loop-stream-preserved g c =
+    let came = rw c.in-Ok-Some.field-0-is at c.in-Ok-Some.ensures in
+    one_more g.S.Shelf.sight c.args.directory.now (left_of c.args.connections.now) (left_of c.loop-stream.connections) (left_of c.accept.new.self) c.args.desk.now c.loop-stream.desk c.serve_stream-served.new.desk c.loop-stream.invariant came.0 (ap left_of came.1) c.serve_stream-served.ensures
