@@ -7,4 +7,6 @@ mod desk;
 #[cfg(test)]
 mod faults;
 #[cfg(test)]
+mod limits;
+#[cfg(test)]
 mod responses;

@@ -6,14 +6,15 @@ use std::test::Fail;
 
 pub const USAGE: &[u8] = b"GET /v1/usage HTTP/1.1\r\nX-Desk-Key: acmekey000000001\r\n\r\n";
 
-const EMPTY: &str = "HTTP/1.1 200 OK\r\nContent-Type: application/json\r\nContent-Length: 108\r\n\
+pub const EMPTY: &str =
+    "HTTP/1.1 200 OK\r\nContent-Type: application/json\r\nContent-Length: 108\r\n\
     Connection: close\r\n\r\n{\"accepted\":0,\"bytes\":0,\"deleted\":0,\"delivered\":0,\
     \"expired\":0,\"failed\":0,\"lines\":0,\"messages\":0,\"pending\":0}";
 
-const REFUSED: &str = "HTTP/1.1 400 Bad Request\r\nContent-Type: application/json\r\n\
+pub const REFUSED: &str = "HTTP/1.1 400 Bad Request\r\nContent-Type: application/json\r\n\
     Content-Length: 31\r\nConnection: close\r\n\r\n{\"error\":1,\"name\":\"BadRequest\"}";
 
-const TOO_LONG: &str = "HTTP/1.1 413 Payload Too Large\r\nContent-Type: application/json\r\n\
+pub const TOO_LONG: &str = "HTTP/1.1 413 Payload Too Large\r\nContent-Type: application/json\r\n\
     Content-Length: 32\r\nConnection: close\r\n\r\n{\"error\":6,\"name\":\"BodyTooLong\"}";
 
 const NO_KEY: &str = "HTTP/1.1 401 Unauthorized\r\nContent-Type: application/json\r\n\
