@@ -1,5 +1,6 @@
 //! A batch over plain lists, and readers and writers in memory: how it ends, and what it writes.
 
+use hq_pieces::Pieces;
 use hq_program::{Trouble, builtin_settings, serve};
 use hq_settings::{Relay, Settings};
 use hq_store::ListShelf;
@@ -12,6 +13,10 @@ use std::test::Fail;
 const LIST: &str = "1767225600 GET /v1/messages acmekey000000001";
 
 const LISTED: &str = "200 {\"messages\":[],\"more\":false}\n";
+
+/// What is told of one line that was put.
+const ONE_LINE: &str = "200 {\"lines\":[{\"action\":\"OK\",\"class\":\"sender\",\
+    \"pattern\":\"a.example\"}],\"more\":false}\n";
 
 /// Gives some bytes, and then fails.
 #[derive(Drop)]
@@ -139,6 +144,24 @@ fn reader_that_fails_in_the_second_line(rt: HostRuntime) -> Result<(), Fail> {
     };
     let ended = run_over(rt.alloc(), &mut torn);
     expect_ended(&rt, &ended, Err(Trouble::Input), LISTED);
+    Ok(())
+}
+
+/// Interrupted before each byte, and before the end: each line is answered once, as it is whole.
+#[test]
+fn reader_that_is_interrupted(rt: HostRuntime) -> Result<(), Fail> {
+    let put = "1767225600 POST /v1/line-put acmekey000000001 \
+        {\"class\":\"sender\",\"pattern\":\"a.example\",\"action\":\"OK\"}";
+    let lines = "1767225600 GET /v1/lines acmekey000000001";
+    let input = format!(in rt.alloc(); "{put}\n{put}\r\n\n{lines}\n{LIST}")?;
+    let output = format!(in rt.alloc();
+        "200 {{\"put\":\"added\"}}\n200 {{\"put\":\"same\"}}\n{ONE_LINE}{LISTED}"
+    )?;
+    let mut reader = Pieces::new(input.as_bytes(), 1);
+    reader.interruptions = 1;
+    reader.flickers = true;
+    let ended = run_over(rt.alloc(), &mut reader);
+    expect_ended(&rt, &ended, Ok(()), output.as_str());
     Ok(())
 }
 
