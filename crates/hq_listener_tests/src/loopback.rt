@@ -9,6 +9,7 @@ use hq_store::ListShelf;
 use std::alloc::Global;
 use std::io::{self, Read, Write};
 use std::net::{Net, Shutdown, TcpListener, TcpStream};
+use std::process::Abort;
 use std::test::Fail;
 use std::time::Duration;
 
@@ -60,13 +61,21 @@ fn has_response(rt: &HostRuntime, client: &mut TcpStream, wanted: &str) -> io::R
     Ok(response.as_slice() == wanted.as_bytes())
 }
 
-/// Serves so many connections, and gives what was told of them.
-fn served(rt: &HostRuntime, listener: TcpListener, count: u32) -> Result<Vec<u8>, Fail> {
+/// How the serving of connections ended, how many were left, and what was told of those that came.
+#[derive(Drop)]
+struct Outcome {
+    end: End,
+    left: u32,
+    errors: Vec<u8>,
+}
+
+/// Serves so many connections.
+fn served(rt: &HostRuntime, listener: TcpListener, count: u32) -> Result<Outcome, Failure> {
     let settings = settings(rt.alloc())?;
     let mut desk = Desk::new(ListShelf::new(rt.alloc()), settings.host);
     let mut errors = Vec::new(rt.alloc());
-    let directory = &settings.directory;
     let mut connections = Connections::new(listener, count);
+    let directory = &settings.directory;
     let end = serve_on(
         rt,
         &mut connections,
@@ -75,10 +84,19 @@ fn served(rt: &HostRuntime, listener: TcpListener, count: u32) -> Result<Vec<u8>
         directory,
         &mut errors,
     );
-    if end != End::Done || connections.left() != 0 {
-        return Err(Fail::from("as many connections as there were to be"));
-    }
-    Ok(errors)
+    Ok(Outcome {
+        end,
+        left: connections.left(),
+        errors,
+    })
+}
+
+/// The serving ended so, with so many connections left, and this was told.
+fn expect_served(rt: &impl Abort, served: &Outcome, end: End, left: u32, errors: &str) {
+    assert_eq!(rt;
+        (served.end, served.left, served.errors.as_slice()),
+        (end, left, errors.as_bytes())
+    );
 }
 
 #[test]
@@ -88,8 +106,8 @@ fn connections_one_after_another(rt: HostRuntime) -> Result<(), Fail> {
     let mut first = client(&rt, &listener, USAGE, true)?;
     let _second = client(&rt, &listener, &USAGE[..10], false)?;
     let mut third = client(&rt, &listener, USAGE, true)?;
-    let errors = served(&rt, listener, 3)?;
-    assert_eq!(rt; errors.as_slice(), b"hq: input\n".as_slice());
+    let served = served(&rt, listener, 3)?;
+    expect_served(&rt, &served, End::Done, 0, "hq: input\n");
     assert!(rt; has_response(&rt, &mut first, EMPTY)?);
     assert!(rt; has_response(&rt, &mut third, EMPTY)?);
     Ok(())
@@ -105,8 +123,20 @@ fn a_body_longer_than_any(rt: HostRuntime) -> Result<(), Fail> {
     for _ in 0..16 {
         client.write_all(&[b'x'; 4_096])?;
     }
-    let errors = served(&rt, listener, 1)?;
-    assert!(rt; errors.is_empty());
+    let served = served(&rt, listener, 1)?;
+    expect_served(&rt, &served, End::Done, 0, "");
     assert!(rt; has_response(&rt, &mut client, TOO_LONG)?);
+    Ok(())
+}
+
+/// Of two that were to come one did, and a socket that does not wait accepts no other.
+#[test]
+fn a_connection_that_is_not_accepted(rt: HostRuntime) -> Result<(), Fail> {
+    let listener = TcpListener::bind(&rt, "127.0.0.1:0")?;
+    let mut client = client(&rt, &listener, USAGE, true)?;
+    listener.set_nonblocking(true)?;
+    let served = served(&rt, listener, 2)?;
+    expect_served(&rt, &served, End::Network, 1, "");
+    assert!(rt; has_response(&rt, &mut client, EMPTY)?);
     Ok(())
 }
