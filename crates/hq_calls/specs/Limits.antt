@@ -1,7 +1,11 @@
--- The limit of a submission.
-use Rattle.std.specs.Prelude.{ℕ, Bool}
+-- The limits of a submission.
+use Rattle.std.specs.Prelude.{ℕ, Bool, nat_le}
 use Rattle.hq_queue.specs.Limits.{is_within}
 
 -- 1 to 100 recipients
 abbrev pub is_recipient_count : ℕ → Bool
 is_recipient_count n = is_within 1 100 n
+
+-- bytes of its message, at most 2^31 - 1
+abbrev pub is_size : ℕ → Bool
+is_size n = nat_le n 2147483647

@@ -1,7 +1,7 @@
 //! What can be asked of the desk, by a customer or by a relay worker that names one.
 
 ghost use Rattle.std.specs.Prelude.{IsTrue, length};
-ghost use Rattle.hq_calls.specs.Limits.{is_recipient_count};
+ghost use Rattle.hq_calls.specs.Limits.{is_recipient_count, is_size};
 
 use hq_access::{Class, Line, Pattern};
 use hq_envelope::{Address, Items, Label, Sender, Serial, Spool};
@@ -20,6 +20,7 @@ pub struct Submission {
     /// Its size in bytes, at most 2,147,483,647.
     pub size: u32,
     pub ghost number: { IsTrue (is_recipient_count (length recipients)) },
+    pub ghost limit: { IsTrue (is_size size) },
 }
 
 /// What a relay worker reports of one attempt to deliver a message.

@@ -18,6 +18,9 @@ use std::test::Fail;
 /// 2026-01-01T00:00:00Z.
 const START: u64 = 1_767_225_600;
 
+/// The most bytes of a message.
+const MOST_BYTES: u32 = 2_147_483_647;
+
 /// A word of a line; one that is missing is empty.
 fn word<'a>(line: &'a str, index: usize) -> &'a str {
     line.split(' ').nth(index).unwrap_or("")
@@ -87,11 +90,15 @@ fn submission(alloc: Global, line: &str) -> Result<Submission, Fail> {
     if !(1..=100).contains(&recipients.len()) {
         return Err(Fail::new("a submission has 1 to 100 recipients"));
     }
+    let size = word(line, 4).parse::<u32>()?;
+    if size > MOST_BYTES {
+        return Err(Fail::new("a message has at most 2,147,483,647 bytes"));
+    }
     Ok(Submission {
         spool: Spool::parse(alloc, word(line, 3))?,
         sender: sender(alloc, word(line, 5))?,
         recipients: Items::from_vec(recipients),
-        size: word(line, 4).parse::<u32>()?,
+        size,
     })
 }
 

@@ -1,16 +1,17 @@
 -- The body of a submission: {"spool", "sender", "recipients", "size"}.
-use Rattle.std.specs.Prelude.{ℕ, List, [], ◌∷◌, IsTrue, Result, Ok, codes, length, map, string_bytes}
+use Rattle.std.specs.Prelude.{ℕ, List, [], ◌∷◌, IsTrue, Result, Ok, codes, length, map, string_bytes, option_and_then}
 use Rattle.serde_json.specs.Data.{Data}
-use Rattle.serde_json.specs.Find.{as_object}
+use Rattle.serde_json.specs.Find.{get, as_number, as_object, as_u64}
 use Rattle.hq_base.specs.Readers.{◌>>=◌, guard, or_refuse, passes}
 use Rattle.hq_base.specs.declared.failure.Refusal.{Refusal}
 use Rattle.hq_base.specs.declared.failure.Refusal.TheVariants.{BadJson, BadField}
 use Rattle.hq_envelope.specs.Addresses.{address_in}
 use Rattle.hq_envelope.specs.Senders.{sender_in}
 use Rattle.hq_envelope.specs.Words.{spool_in}
-use Rattle.hq_calls.specs.Limits.{is_recipient_count}
+use Rattle.hq_calls.specs.Limits.{is_recipient_count, is_size}
 use Rattle.hq_calls.specs.declared.call.Submission.{Submission}
-use Rattle.hq_bodies.specs.Reading.{json_of, has_only_members, text_at, number_at, texts_at}
+use Rattle.hq_bodies.specs.Reading.{json_of, has_only_members, text_at, texts_at}
+use Rattle.hq_json.specs.declared.members.MessageSize.{MessageSize}
 use Rattle.hq_json.specs.declared.members.RecipientTexts.{RecipientTexts}
 use Rattle.hq_json.specs.declared.members.SubmissionTexts.{SubmissionTexts}
 
@@ -19,12 +20,17 @@ pub record Recipients : Type 0 where
   pub texts : List (List ℕ)
   pub number : IsTrue (is_recipient_count (length texts))
 
+-- a number of bytes within its limit
+pub record Size : Type 0 where
+  pub bytes : ℕ
+  pub limit : IsTrue (is_size bytes)
+
 -- the members as they stand
 pub record Fields : Type 0 where
   pub spool : List ℕ
   pub sender : List ℕ
   pub recipients : Recipients
-  pub size : ℕ
+  pub size : Size
 
 abbrev pub names : List (List ℕ)
 names = codes "spool" ∷ codes "sender" ∷ codes "recipients" ∷ codes "size" ∷ []
@@ -35,6 +41,17 @@ recipients_of d = do
   number ← passes (is_recipient_count (length texts)) BadField
   Ok (record { texts = texts; number = number })
 
+-- a member that is a number of digits alone
+abbrev pub bytes_at : Data → Result ℕ Refusal
+bytes_at d = or_refuse BadField (option_and_then as_u64 (option_and_then as_number (get (codes "size") d)))
+
+-- within its limit
+unfoldable pub size_of : Data → Result Size Refusal
+size_of d = do
+  bytes ← bytes_at d
+  limit ← passes (is_size bytes) BadField
+  Ok (record { bytes = bytes; limit = limit })
+
 -- each member of its kind and in its range, and no other
 unfoldable pub fields_of : Data → Result Fields Refusal
 fields_of d = do
@@ -42,7 +59,7 @@ fields_of d = do
   spool ← or_refuse BadField (text_at (codes "spool") d)
   sender ← or_refuse BadField (text_at (codes "sender") d)
   recipients ← recipients_of d
-  size ← or_refuse BadField (number_at (codes "size") 0 2147483647 d)
+  size ← size_of d
   Ok (record { spool = spool; sender = sender; recipients = recipients; size = size })
 
 -- each text is an address
@@ -59,7 +76,7 @@ submission_of fields = do
   spool ← spool_in fields.spool
   sender ← sender_in fields.sender
   recipients ← addresses_in fields.recipients.texts
-  Ok (record { spool = spool; sender = sender; recipients = fields.recipients.texts; size = fields.size; number = fields.recipients.number })
+  Ok (record { spool = spool; sender = sender; recipients = fields.recipients.texts; size = fields.size.bytes; number = fields.recipients.number; limit = fields.size.limit })
 
 -- JSON, then the members, then their values
 unfoldable pub read_submission : List ℕ → Result Submission Refusal
@@ -72,5 +89,8 @@ read_submission bytes = do
 abbrev pub shown_recipients : RecipientTexts → Recipients
 shown_recipients r = record { texts = map string_bytes r.texts.items; number = r.number }
 
+abbrev pub shown_size : MessageSize → Size
+shown_size s = record { bytes = s.bytes; limit = s.limit }
+
 abbrev pub shown : SubmissionTexts → Fields
-shown t = record { spool = t.spool.now; sender = t.sender.now; recipients = shown_recipients t.recipients; size = t.size }
+shown t = record { spool = t.spool.now; sender = t.sender.now; recipients = shown_recipients t.recipients; size = shown_size t.size }

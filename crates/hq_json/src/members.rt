@@ -1,7 +1,7 @@
 //! The members of a submission as they stand in its body, before their values are read.
 
 ghost use Rattle.std.specs.Prelude.{IsTrue, length, map, string_bytes};
-ghost use Rattle.hq_calls.specs.Limits.{is_recipient_count};
+ghost use Rattle.hq_calls.specs.Limits.{is_recipient_count, is_size};
 
 /// The texts of 1 to 100 recipients.
 #[derive(Drop)]
@@ -11,11 +11,18 @@ pub(crate) struct RecipientTexts {
         (is_recipient_count (length (map string_bytes texts.items))) },
 }
 
+/// The size of a message, in bytes.
+#[derive(Clone, Copy, Drop)]
+pub(crate) struct MessageSize {
+    pub(crate) bytes: u32,
+    pub(crate) ghost limit: { IsTrue (is_size bytes) },
+}
+
 /// The members of a submission.
 #[derive(Drop)]
 pub(crate) struct SubmissionTexts<'v> {
     pub(crate) spool: &'v str,
     pub(crate) sender: &'v str,
     pub(crate) recipients: RecipientTexts,
-    pub(crate) size: u32,
+    pub(crate) size: MessageSize,
 }
