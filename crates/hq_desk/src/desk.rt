@@ -279,7 +279,7 @@ impl<S: Shelf + Drop> Desk<S> {
 
     /// Does a call of a customer at a moment. The answer is rendered before anything is changed,
     /// and nothing takes memory after the changes, so after 90 and 91 the tables are as before;
-    /// after 93 every call answers 93 until the store is opened again.
+    /// after 93 every call answers 93, or 90, until the store is opened again.
     pub fn act<R: Render>(
         &mut self,
         alloc: Global,

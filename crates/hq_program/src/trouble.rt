@@ -88,8 +88,9 @@ pub fn refuse<E: Write>(text: &str, errors: &mut E) -> u8
     BAD_WORDS
 }
 
-/// Tells how a run ended, and answers its exit status: 0 when the input has ended, and else 1, with
-/// one line of `errors`; where that cannot be written, the status tells it alone.
+/// Tells how a run ended, and answers its exit status: 0 when it ended with its input, every reply
+/// written, and else 1, with one line of `errors`; where that cannot be written, the status tells
+/// it alone.
 pub fn tell<E: Write>(ended: Result<(), Trouble>, errors: &mut E) -> u8
     ensures { result ≡ status ended }
 {
