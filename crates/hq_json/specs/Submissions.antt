@@ -1,7 +1,7 @@
 -- The body of a submission: {"spool", "sender", "recipients", "size"}.
-use Rattle.std.specs.Prelude.{ℕ, List, [], ◌∷◌, IsTrue, Result, Ok, codes, length, map, string_bytes, option_and_then}
+use Rattle.std.specs.Prelude.{ℕ, List, [], ◌∷◌, IsTrue, Result, Ok, codes, length, map, string_bytes}
 use Rattle.serde_json.specs.Data.{Data}
-use Rattle.serde_json.specs.Find.{get, as_number, as_object, as_u64}
+use Rattle.serde_json.specs.Find.{as_object}
 use Rattle.hq_base.specs.Readers.{◌>>=◌, guard, or_refuse, passes}
 use Rattle.hq_base.specs.declared.failure.Refusal.{Refusal}
 use Rattle.hq_base.specs.declared.failure.Refusal.TheVariants.{BadJson, BadField}
@@ -10,7 +10,7 @@ use Rattle.hq_envelope.specs.Senders.{sender_in}
 use Rattle.hq_envelope.specs.Words.{spool_in}
 use Rattle.hq_calls.specs.Limits.{is_recipient_count, is_size}
 use Rattle.hq_calls.specs.declared.call.Submission.{Submission}
-use Rattle.hq_bodies.specs.Reading.{json_of, has_only_members, text_at, texts_at}
+use Rattle.hq_bodies.specs.Reading.{json_of, has_only_members, text_at, number_at, texts_at}
 use Rattle.hq_json.specs.declared.members.MessageSize.{MessageSize}
 use Rattle.hq_json.specs.declared.members.RecipientTexts.{RecipientTexts}
 use Rattle.hq_json.specs.declared.members.SubmissionTexts.{SubmissionTexts}
@@ -41,9 +41,9 @@ recipients_of d = do
   number ← passes (is_recipient_count (length texts)) BadField
   Ok (record { texts = texts; number = number })
 
--- a member that is a number of digits alone
+-- a member that is a number of 64 bits
 abbrev pub bytes_at : Data → Result ℕ Refusal
-bytes_at d = or_refuse BadField (option_and_then as_u64 (option_and_then as_number (get (codes "size") d)))
+bytes_at d = or_refuse BadField (number_at (codes "size") 0 18446744073709551615 d)
 
 -- within its limit
 unfoldable pub size_of : Data → Result Size Refusal

@@ -3,10 +3,10 @@
 ghost use Rattle.std.specs.Prelude.{map as map_list, string_bytes};
 ghost use Rattle.serde_json.specs.View.{view};
 ghost use Rattle.hq_base.specs.Readers.{Reads, seen_by};
-ghost use Rattle.hq_json.specs.Submissions.{recipients_of, bytes_at, size_of, fields_of, addresses_in, submission_of, read_submission, shown_recipients, shown_size, shown};
+ghost use Rattle.hq_json.specs.Submissions.{recipients_of, size_of, fields_of, addresses_in, submission_of, read_submission, shown_recipients, shown_size, shown};
 
 use crate::members::{MessageSize, RecipientTexts, SubmissionTexts};
-use hq_bodies::{has_only, json_value, text_member, texts_member};
+use hq_bodies::{has_only, json_value, number_member, text_member, texts_member};
 use hq_desk::Submission;
 use hq_envelope::{Address, Fail, Items, Refusal, Sender, Spool};
 use serde_json::Value;
@@ -30,22 +30,12 @@ fn recipients_in(alloc: Global, value: &Value) -> Result<RecipientTexts, Fail>
     Ok(RecipientTexts { texts })
 }
 
-/// The number of the member `size`, or 8 `BadField`.
-fn bytes_in(value: &Value) -> Result<u64, Fail>
-    ensures { Reads result (bytes_at (view value.now)) }
-{
-    match value.get("size").and_then(Value::as_u64) {
-        Some(bytes) => Ok(bytes),
-        None => Err(Fail::Refused(Refusal::BadField)),
-    }
-}
-
 /// The size of the message, or 8 `BadField`.
 #[tactic(auto, unfolding(crate::specs::Submissions::size_of))]
 fn size_in(value: &Value) -> Result<MessageSize, Fail>
     ensures { Reads (seen_by shown_size result) (size_of (view value.now)) }
 {
-    let bytes = bytes_in(value)?;
+    let bytes = number_member(value, "size", 0, u64::MAX).ok_or(Refusal::BadField)?;
     if bytes > MOST_BYTES {
         return Err(Fail::Refused(Refusal::BadField));
     }
