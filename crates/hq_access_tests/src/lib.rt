@@ -13,4 +13,6 @@ mod lookups;
 #[cfg(test)]
 mod patterns;
 #[cfg(test)]
+mod telling;
+#[cfg(test)]
 mod verdicts;

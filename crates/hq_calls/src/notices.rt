@@ -1,7 +1,7 @@
 //! Notices that calls make: who gets one, under which number, and which of all are kept; and
 //! notices told. Nothing is read or written here.
 
-ghost use Rattle.std.specs.Prelude.{◌≡◌, ◌∷◌, ◌++◌, ◌+◌, ◌≤◌, ◌^◌, IfOk, OnOk, length, nat_lt};
+ghost use Rattle.std.specs.Prelude.{◌≡◌, ◌∷◌, ◌++◌, ◌+◌, ◌≤◌, ◌^◌, IfOk, OnErr, OnOk, length, nat_lt};
 ghost use Rattle.hq_queue.specs.Admission.{spent};
 ghost use Rattle.hq_calls.specs.Notices as rules;
 ghost use Rattle.hq_store.specs.declared.change.Change.TheVariants.{PutHead};
@@ -44,7 +44,7 @@ pub struct Plan {
 }
 
 /// Drafts a notice to the sender of a message that tells of these recipients: none to the null
-/// sender, and none of nobody.
+/// sender, and none of nobody. The only error is want of memory, and then nothing is drafted.
 pub fn draft_notice(
     alloc: Global,
     drafts: &mut Vec<Draft>,
@@ -52,8 +52,9 @@ pub fn draft_notice(
     kind: Kind,
     told: Items<Told>,
 ) -> Result<(), AllocError>
-    ensures { OnOk result (drafts.new.items
+    ensures drafted { OnOk result (drafts.new.items
         ≡ drafts.old.items ++ rules.drafted message.now kind told) }
+    ensures kept { OnErr result (drafts.new.items ≡ drafts.old.items) }
 {
     if told.is_empty() {
         return Ok(());

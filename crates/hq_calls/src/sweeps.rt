@@ -1,7 +1,7 @@
 //! What is answered and changed by a sweep of one customer's queue. Nothing is read or written
 //! here.
 
-ghost use Rattle.std.specs.Prelude.{◌≡◌, ◌++◌, IfOk, OnOk, map, option_map};
+ghost use Rattle.std.specs.Prelude.{◌≡◌, ◌++◌, IfOk, OnErr, OnOk, map, option_map};
 ghost use Rattle.std.specs.List.{sum_by, flat_map};
 ghost use Rattle.hq_store.specs.Readings.{saturated};
 ghost use Rattle.hq_calls.specs.Sweeps as rules;
@@ -119,13 +119,14 @@ fn all_told(alloc: Global, kind: Kind, pending: &[Pending]) -> Result<Vec<Told>,
     Ok(told)
 }
 
-/// Drafts the notice of a message.
+/// Drafts the notice of a message, or nothing where memory runs out.
 fn draft_row(
     alloc: Global,
     drafts: &mut Vec<Draft>,
     row: &(Message, Swept),
 ) -> Result<(), AllocError>
-    ensures { OnOk result (drafts.new.items ≡ drafts.old.items ++ rules.told_by row.now) }
+    ensures drafted { OnOk result (drafts.new.items ≡ drafts.old.items ++ rules.told_by row.now) }
+    ensures kept { OnErr result (drafts.new.items ≡ drafts.old.items) }
 {
     let (message, swept) = row;
     let kind = match swept {
