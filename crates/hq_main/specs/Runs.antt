@@ -1,9 +1,10 @@
 -- What the program does: with lines of the built-in customers, from an empty desk in memory; with lines, or connections, of
 -- those of a directory; and with its words.
-use Rattle.std.specs.Prelude.{◌≡◌, ◌≤◌, ⊤, ℕ, [], List, map, Option, Some, None, option_map, Result, Ok, Err, IfOk, string_bytes}
+use Rattle.std.specs.Prelude.{◌≡◌, ◌≤◌, ⊤, ℕ, [], List, map, Option, option_map, Result, Ok, Err, IfOk, string_bytes}
 use Rattle.std.specs.Io.KnownBytes.{Appends}
 use Rattle.std.specs.declared.alloc.AllocError.{AllocError}
 use Rattle.hq_base.specs.Refusals.{no_memory}
+use Rattle.hq_store.specs.Shelves.{Sight}
 use Rattle.hq_store.specs.Tables.{Tables, no_tables}
 use Rattle.hq_wire.specs.Replies.{SeenReply, store_faults}
 use Rattle.hq_wire.specs.Runs.{AllReplied, Alone}
@@ -17,7 +18,7 @@ use Rattle.hq_program.specs.Builtin.{settings}
 use Rattle.hq_program.specs.Runs.{RunEnds, Exits}
 use Rattle.hq_program.specs.SettingUp.{SetsUp}
 use Rattle.hq_program.specs.declared.trouble.Trouble.{Trouble}
-use Rattle.hq_sql_program.specs.Runs.{MemoryEnds}
+use Rattle.hq_sql_program.specs.Runs.{StoreEnds}
 use Rattle.hq_program.specs.Printing.{IsPrinted}
 use Rattle.hq_sql_server.specs.Runs.{ServeEnds}
 use Rattle.hq_sql_admin.specs.Migrations.{MigrateEnds}
@@ -42,45 +43,45 @@ pub record Serves (asked : List (Option Request)) (lines : List (List ℕ)) : Ty
   pub no_faults : store_faults replies ≡ 0
 
 -- How a batch ends with the settings that its words name: with the trouble of these, and then nothing is read or written;
--- or as its store has it. What a file holds is said by no contract, so nothing is said here of a store in one.
-abbrev pub SetEnds : Option (List ℕ) → Type 0 → Streams → Streams → Result Settings Trouble → Result ⊤ Trouble → Type 0
-SetEnds store untouched old new (Err trouble) result = untouched × (result ≡ Err trouble)
-SetEnds None untouched old new (Ok set) result = MemoryEnds set untouched old new result
-SetEnds (Some path) untouched old new (Ok set) result = ⊤
+-- or as its store has it.
+abbrev pub SetEnds : {S : Type 0} → Sight S → Option (List ℕ) → Type 0 → Streams → Streams → Result Settings Trouble
+    → Result ⊤ Trouble → Type 0
+SetEnds sight store untouched old new (Err trouble) result = untouched × (result ≡ Err trouble)
+SetEnds sight store untouched old new (Ok set) result = StoreEnds sight store set untouched old new result
 
-abbrev pub BatchEnds : BatchGiven → Type 0 → Streams → Streams → Result ⊤ Trouble → Type 0
-BatchEnds given untouched old new result =
-    (set : Result Settings Trouble) × SetsUp given.host given.relay_key set × SetEnds given.store untouched old new set result
+abbrev pub BatchEnds : {S : Type 0} → Sight S → BatchGiven → Type 0 → Streams → Streams → Result ⊤ Trouble → Type 0
+BatchEnds sight given untouched old new result =
+    (set : Result Settings Trouble) × SetsUp given.host given.relay_key set × SetEnds sight given.store untouched old new set result
 
 -- one call, or a migration, and how it is printed; nothing is read
 abbrev pub Prints : (Result Rendered Trouble → Type 0) → Type 0 → Type 0 → Streams → Streams → ℕ → Type 0
 Prints ends unread unwritten old new status =
     unread × ((done : Result Rendered Trouble) × ends done × IsPrinted done unwritten old.output new.output status)
 
--- what is done for a word
-abbrev pub DoesWord : Asked → Type 0 → Type 0 → Streams → Streams → ℕ → Type 0
-DoesWord (Serve given) unread unwritten old new status =
-    unread × Exits (ServeEnds given unwritten old.output new.output) status
-DoesWord (Batch given) unread unwritten old new status =
-    Exits (BatchEnds (given_of given) (unread × unwritten) old new) status
-DoesWord (Queue given) unread unwritten old new status = Prints (QueueEnds given) unread unwritten old new status
-DoesWord (Import given) unread unwritten old new status = Prints (ImportEnds given) unread unwritten old new status
-DoesWord (Sweep given) unread unwritten old new status =
-    unread × DoesSweep given (option_map (λ c. c.now) given.customer) unwritten old.output new.output status
-DoesWord (Migrate given) unread unwritten old new status = Prints MigrateEnds unread unwritten old new status
+-- what is done for a word, by what is sight of a store in a file
+abbrev pub DoesWord : {S : Type 0} → Sight S → Asked → Type 0 → Type 0 → Streams → Streams → ℕ → Type 0
+DoesWord sight (Serve given) unread unwritten old new status =
+    unread × Exits (ServeEnds sight given unwritten old.output new.output) status
+DoesWord sight (Batch given) unread unwritten old new status =
+    Exits (BatchEnds sight (given_of given) (unread × unwritten) old new) status
+DoesWord sight (Queue given) unread unwritten old new status = Prints (QueueEnds sight given) unread unwritten old new status
+DoesWord sight (Import given) unread unwritten old new status = Prints (ImportEnds sight given) unread unwritten old new status
+DoesWord sight (Sweep given) unread unwritten old new status =
+    unread × DoesSweep sight given (option_map (λ c. c.now) given.customer) unwritten old.output new.output status
+DoesWord sight (Migrate given) unread unwritten old new status = Prints MigrateEnds unread unwritten old new status
 
 -- what is done for what words ask, and the exit status; want of memory may come in place of what they ask
-abbrev pub Does : Result Words AllocError → Type 0 → Type 0 → Streams → Streams → ℕ → Type 0
-Does (Ok Builtin) unread unwritten old new status = Exits (RunEnds Serves (unread × unwritten) old new) status
-Does (Ok (OfWord asked)) unread unwritten old new status = DoesWord asked unread unwritten old new status
-Does (Ok (Help text)) unread unwritten old new status =
+abbrev pub Does : {S : Type 0} → Sight S → Result Words AllocError → Type 0 → Type 0 → Streams → Streams → ℕ → Type 0
+Does sight (Ok Builtin) unread unwritten old new status = Exits (RunEnds Serves (unread × unwritten) old new) status
+Does sight (Ok (OfWord asked)) unread unwritten old new status = DoesWord sight asked unread unwritten old new status
+Does sight (Ok (Help text)) unread unwritten old new status =
     unread × (status ≤ 1) × (status ≡ 0 → Appends old.output new.output (string_bytes text))
-Does (Ok (Refused text)) unread unwritten old new status = unread × unwritten × (status ≡ 2)
-Does (Err error) unread unwritten old new status = unread × unwritten × (status ≡ 1)
+Does sight (Ok (Refused text)) unread unwritten old new status = unread × unwritten × (status ≡ 2)
+Does sight (Err error) unread unwritten old new status = unread × unwritten × (status ≡ 1)
 
 -- The program does what its words ask for.
-pub record Commands (words : List (List ℕ)) (unread unwritten : Type 0) (old new : Streams) (status : ℕ) : Type 0 where
+pub record Commands {S : Type 0} (sight : Sight S) (words : List (List ℕ)) (unread unwritten : Type 0) (old new : Streams) (status : ℕ) : Type 0 where
   pub asked : Result Words AllocError
   pub says : IfOk asked (Says words)
   pub none : words ≡ [] → asked ≡ Ok Builtin
-  pub does : Does asked unread unwritten old new status
+  pub does : Does sight asked unread unwritten old new status

@@ -1,6 +1,7 @@
 -- What the word `sweep` does, and how it is printed.
 use Rattle.std.specs.Prelude.{ℕ, ◌≡◌, List, Option, Some, None, Result, Ok, Err}
 use Rattle.hq_base.specs.declared.failure.Fault.{Fault}
+use Rattle.hq_store.specs.Shelves.{Sight}
 use Rattle.hq_desk.specs.declared.desk.Rendered.{Rendered}
 use Rattle.hq_admin.specs.declared.sweeping.SweptAll.{SweptAll}
 use Rattle.hq_program.specs.Printing.{IsPrinted, ArePrinted}
@@ -21,8 +22,8 @@ IsSweptPrinted (Ok swept) unwritten old new status =
 IsSweptPrinted (Err trouble) unwritten old new status = unwritten × (status ≡ 1)
 
 -- The customer that is named is swept, or all are where none is, and it is printed.
-abbrev pub DoesSweep : Sweep → Option (List ℕ) → Type 0 → Option (List ℕ) → Option (List ℕ) → ℕ → Type 0
-DoesSweep given (Some name) unwritten old new status =
-    (done : Result Rendered Trouble) × SweepEnds given name done × IsPrinted done unwritten old new status
-DoesSweep given None unwritten old new status =
-    (done : Result SweptAll Trouble) × SweepAllEnds given done × IsSweptPrinted done unwritten old new status
+abbrev pub DoesSweep : {S : Type 0} → Sight S → Sweep → Option (List ℕ) → Type 0 → Option (List ℕ) → Option (List ℕ) → ℕ → Type 0
+DoesSweep sight given (Some name) unwritten old new status =
+    (done : Result Rendered Trouble) × SweepEnds sight given name done × IsPrinted done unwritten old new status
+DoesSweep sight given None unwritten old new status =
+    (done : Result SweptAll Trouble) × SweepAllEnds sight given done × IsSweptPrinted done unwritten old new status

@@ -9,9 +9,10 @@ use crate::sweeping::do_sweep;
 use hq_envelope::Fault;
 use hq_program::{Trouble, builtin_settings, print, refuse, serve, set_up, show, tell};
 use hq_sql_admin::{import, migrate, queue};
+use hq_sql_file::FileShelf;
 use hq_sql_program::serve_stored;
 use hq_sql_server::serve_http;
-use hq_store::ListShelf;
+use hq_store::{ListShelf, Shelf};
 use hq_words::{Asked, Batch, Words, read_words};
 use std::io::{Read, Write};
 
@@ -37,7 +38,8 @@ fn serve_batch<R: Read, W: Write>(
     input: &mut R,
     output: &mut W,
 ) -> Result<(), Trouble>
-    ensures { BatchEnds (given_of batch.now) ((input.new ≡ input.old) × (output.new ≡ output.old))
+    ensures { BatchEnds ⟦<FileShelf as Shelf>⟧.sight (given_of batch.now)
+        ((input.new ≡ input.old) × (output.new ≡ output.old))
         (record { input = R.remaining input.old; output = W.contents output.old })
         (record { input = R.remaining input.new; output = W.contents output.new }) result }
 {
@@ -53,7 +55,8 @@ fn do_word<R: Read, W: Write, E: Write>(
     output: &mut W,
     errors: &mut E,
 ) -> u8
-    ensures { DoesWord asked.now (input.new ≡ input.old) (output.new ≡ output.old)
+    ensures { DoesWord ⟦<FileShelf as Shelf>⟧.sight asked.now
+        (input.new ≡ input.old) (output.new ≡ output.old)
         (record { input = R.remaining input.old; output = W.contents output.old })
         (record { input = R.remaining input.new; output = W.contents output.new }) result }
 {
@@ -89,8 +92,8 @@ pub fn command<R: Read, W: Write, E: Write>(
         ((input.new ≡ input.old) × (output.new ≡ output.old))
         (record { input = R.remaining input.old; output = W.contents output.old })
         (record { input = R.remaining input.new; output = W.contents output.new })) result }
-    ensures words { Commands (map_list string_bytes words.now) (input.new ≡ input.old)
-        (output.new ≡ output.old)
+    ensures words { Commands ⟦<FileShelf as Shelf>⟧.sight
+        (map_list string_bytes words.now) (input.new ≡ input.old) (output.new ≡ output.old)
         (record { input = R.remaining input.old; output = W.contents output.old })
         (record { input = R.remaining input.new; output = W.contents output.new }) result }
 {

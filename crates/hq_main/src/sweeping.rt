@@ -6,6 +6,8 @@ ghost use Rattle.hq_main.specs.Sweeps.{DoesSweep, IsSweptPrinted};
 use hq_admin::SweptAll;
 use hq_program::{Trouble, print, print_all, tell};
 use hq_sql_admin::{sweep, sweep_all};
+use hq_sql_file::FileShelf;
+use hq_store::Shelf;
 use hq_words::Sweep;
 use std::io::Write;
 
@@ -38,8 +40,9 @@ pub(crate) fn do_sweep<W: Write, E: Write>(
     output: &mut W,
     errors: &mut E,
 ) -> u8
-    ensures { DoesSweep given.now (option_map (λ c. c.now) given.now.customer)
-        (output.new ≡ output.old) (W.contents output.old) (W.contents output.new) result }
+    ensures { DoesSweep ⟦<FileShelf as Shelf>⟧.sight given.now
+        (option_map (λ c. c.now) given.now.customer) (output.new ≡ output.old)
+        (W.contents output.old) (W.contents output.new) result }
 {
     match given.customer {
         Some(name) => print(sweep(rt, given, name), output, errors),

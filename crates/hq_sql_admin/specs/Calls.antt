@@ -1,12 +1,10 @@
 -- One call over a store, however it ends.
 use Rattle.std.specs.Prelude.{◌≡◌, Result, Ok, Err}
-use Rattle.sqlite.specs.Held.{Held}
-use Rattle.sqlite.specs.State.{State}
 use Rattle.hq_base.specs.declared.failure.Fail.TheVariants.{Fault as AsFault}
 use Rattle.hq_base.specs.declared.failure.Fault.{Fault}
+use Rattle.hq_store.specs.Shelves.{Sight}
+use Rattle.hq_sql_file.specs.Opened.{OverFile}
 use Rattle.hq_desk.specs.declared.desk.Rendered.{Rendered}
-use Rattle.hq_sql_shelf.specs.Shelf.{sight_over}
-use Rattle.hq_sql_shelf.specs.declared.shelf.SqlShelf.{SqlShelf}
 use Rattle.hq_admin.specs.Performs.{Performs}
 use Rattle.hq_admin.specs.declared.performing.Request.{Request}
 use Rattle.hq_program.specs.declared.trouble.Trouble.{Trouble}
@@ -17,8 +15,12 @@ abbrev pub told : Result Rendered Fault → Result Rendered Trouble
 told (Ok rendered) = Ok rendered
 told (Err fault) = Err (Desk (AsFault fault))
 
--- A call is done over a store as it was opened; where it could not be, that is told.
-abbrev pub PerformsOpened : {S : Type 0} → (Held S → State) → Result (SqlShelf S) Fault → Request → Result Rendered Trouble → Type 0
-PerformsOpened seen (Ok shelf) asked result =
-    (done : Result Rendered Fault) × Performs (sight_over seen) shelf asked done × (result ≡ told done)
-PerformsOpened seen (Err fault) asked result = result ≡ Err (Desk (AsFault fault))
+-- A call is done over a desk as it was opened; where it could not be, that is told.
+abbrev pub PerformsOpened : {S : Type 0} → Sight S → Result S Fault → Request → Result Rendered Trouble → Type 0
+PerformsOpened sight (Ok shelf) asked result =
+    (done : Result Rendered Fault) × Performs sight shelf asked done × (result ≡ told done)
+PerformsOpened sight (Err fault) asked result = result ≡ Err (Desk (AsFault fault))
+
+-- so it is, over the desk in some file
+abbrev pub PerformsInFile : {S : Type 0} → Sight S → Request → Result Rendered Trouble → Type 0
+PerformsInFile sight asked result = OverFile sight (λ opened. PerformsOpened sight opened asked result)

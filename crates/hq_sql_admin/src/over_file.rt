@@ -1,14 +1,16 @@
 //! One call over a store in a file.
 
 ghost use Rattle.sqlite.specs.Held.{state};
-ghost use Rattle.hq_sql_admin.specs.Calls.{PerformsOpened};
+ghost use Rattle.hq_sql_shelf.specs.Shelf.{sight_over};
+ghost use Rattle.hq_sql_admin.specs.Calls.{PerformsOpened, PerformsInFile};
 
 use hq_admin::{Request, perform};
 use hq_desk::Rendered;
 use hq_envelope::Fault;
 use hq_program::Trouble;
-use hq_sql_file::open_file;
+use hq_sql_file::{FileShelf, open_file};
 use hq_sql_shelf::SqlShelf;
+use hq_store::Shelf;
 use sqlite::Alter;
 
 /// Does what is asked for over a store as it was opened; or tells why it could not be opened.
@@ -17,7 +19,7 @@ fn perform_opened<S: Alter + Drop>(
     opened: Result<SqlShelf<S>, Fault>,
     request: Request,
 ) -> Result<Rendered, Trouble>
-    ensures { PerformsOpened (state S.Store) opened request result }
+    ensures { PerformsOpened (sight_over (state S.Store)) opened request result }
 {
     Ok(perform(rt.alloc(), opened?, request)?)
 }
@@ -28,6 +30,8 @@ pub(crate) fn perform_in_file(
     rt: &HostRuntime,
     store: &str,
     request: Request,
-) -> Result<Rendered, Trouble> {
+) -> Result<Rendered, Trouble>
+    ensures { PerformsInFile ⟦<FileShelf as Shelf>⟧.sight request result }
+{
     perform_opened(rt, open_file(rt, store), request)
 }

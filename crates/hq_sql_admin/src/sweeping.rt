@@ -1,6 +1,7 @@
 //! The word `sweep` without a customer: all customers of a directory, one after the other.
 
 ghost use Rattle.sqlite.specs.Held.{state};
+ghost use Rattle.hq_sql_shelf.specs.Shelf.{sight_over};
 ghost use Rattle.hq_base.specs.Readers.{seen_by};
 ghost use Rattle.hq_sql_admin.specs.Sweeps.{HasCustomers, SweepAllAsks, SweepAllEnds, SweepsOpened};
 
@@ -9,8 +10,9 @@ use hq_envelope::{Fault, Host, Moment};
 use hq_import::directory_of;
 use hq_program::{Trouble, file_of};
 use hq_queue::Customer;
-use hq_sql_file::open_file;
+use hq_sql_file::{FileShelf, open_file};
 use hq_sql_shelf::SqlShelf;
+use hq_store::Shelf;
 use hq_words::Sweep;
 use sqlite::Alter;
 
@@ -52,7 +54,7 @@ fn sweep_opened<S: Alter + Drop>(
     opened: Result<SqlShelf<S>, Fault>,
     asked: SweepOfAll,
 ) -> Result<SweptAll, Trouble>
-    ensures { SweepsOpened (state S.Store) opened asked result }
+    ensures { SweepsOpened (sight_over (state S.Store)) opened asked result }
 {
     let SweepOfAll {
         host,
@@ -69,7 +71,7 @@ fn sweep_opened<S: Alter + Drop>(
 /// the directory, up to the first fault. Checked in the order relay's name, directory, store, which
 /// is made where it is missing; what a customer's call refuses is told among the others.
 pub fn sweep_all(rt: &HostRuntime, given: &Sweep) -> Result<SweptAll, Trouble>
-    ensures { SweepAllEnds given.now result }
+    ensures { SweepAllEnds ⟦<FileShelf as Shelf>⟧.sight given.now result }
 {
     let asked = request_of(rt, given)?;
     sweep_opened(rt, open_file(rt, given.store), asked)

@@ -2,27 +2,31 @@
 //! much.
 #![tactic(auto)]
 
-ghost use Rattle.std.specs.Prelude.{◌≡◌, IfOk};
+ghost use Rattle.std.specs.Prelude.{IfOk};
 ghost use Rattle.sqlite.specs.Files.{file_state};
 ghost use Rattle.sqlite.specs.State.{HasCleanDisk};
 ghost use Rattle.hq_sql_open.specs.Transactions.{IsSettled};
-ghost use Rattle.hq_sql_open.specs.declared.transaction.Standing.TheVariants.{Open};
+ghost use Rattle.hq_sql_file.specs.Opened.{IsOpened};
 
 use hq_envelope::Fault;
 use hq_sql_shelf::{SqlShelf, fault_of, migrate};
+use hq_store::Shelf;
 use sqlite::{Connection, File, FileStore};
 use std::fs;
 use std::io::ErrorKind;
+
+/// The shelf over a store in a file.
+pub type FileShelf = SqlShelf<FileStore<File>>;
 
 /// The desk in a file, which is made if it is missing. The file beside it with the ending `-wal`
 /// belongs to it; one process at a time has them.
 ///
 /// 90 is want of memory, 91 a file that cannot be opened or read, 92 a store that is no desk, and
 /// 93 one whose connection is gone.
-pub fn open_file(rt: &HostRuntime, path: &str) -> Result<SqlShelf<FileStore<File>>, Fault>
+pub fn open_file(rt: &HostRuntime, path: &str) -> Result<FileShelf, Fault>
     ensures settled { IfOk result (λ s. HasCleanDisk (file_state s.conn)
         → IsSettled (file_state s.conn)) }
-    ensures fresh { IfOk result (λ s. (s.standing ≡ Open) × (s.faults ≡ 0)) }
+    ensures fresh { IfOk result (IsOpened ⟦<FileShelf as Shelf>⟧.sight) }
 {
     let conn = match Connection::open(rt, path) {
         Ok(conn) => conn,

@@ -65,6 +65,6 @@ serves settings shelf ours none asked lines it = record {
 
 pub memory_ends : (settings : Settings) (opened : Result (SqlShelf MemStore) Fault) (untouched : Type 0) (old new : Streams) (result : Result ⊤ Trouble)
     → IfOk opened (λ s. IsOurs (state over_memory s.conn)) → IfOk opened (λ s. tables_in (state over_memory s.conn).committed ≡ no_tables)
-    → OpenedEnds (state over_memory) settings opened untouched old new result → MemoryEnds settings untouched old new result
+    → OpenedEnds memory settings opened untouched old new result → MemoryEnds settings untouched old new result
 memory_ends settings (Ok shelf) untouched old new result ours none p = inl (run_ends_as (ServesOver memory settings shelf) (Serves settings) untouched (serves settings shelf ours none) old new result p)
 memory_ends settings (Err fault) untouched old new result ours none p = inr (fault, p)

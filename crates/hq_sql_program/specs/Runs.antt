@@ -1,13 +1,13 @@
 -- What a batch of the program does over a store of `sqlite`, however it ends.
-use Rattle.std.specs.Prelude.{◌≡◌, ◌⊎◌, ⊤, ℕ, false, List, map, Option, Result, Ok, Err}
-use Rattle.sqlite.specs.Held.{Held, state}
-use Rattle.sqlite.specs.State.{State}
+use Rattle.std.specs.Prelude.{◌≡◌, ◌⊎◌, ⊤, ℕ, false, List, map, Option, Some, None, Result, Ok, Err}
+use Rattle.sqlite.specs.Held.{state}
 use Rattle.sqlite.specs.Steps.{over_memory}
 use Rattle.sqlite_trees.specs.declared.memory.MemStore.{MemStore}
 use Rattle.hq_base.specs.declared.failure.Fail.TheVariants.{Fault as AsFault}
 use Rattle.hq_base.specs.declared.failure.Fault.{Fault}
 use Rattle.hq_store.specs.Shelves.{Sight}
 use Rattle.hq_store.specs.Tables.{no_tables}
+use Rattle.hq_sql_file.specs.Opened.{OverFile}
 use Rattle.hq_sql_shelf.specs.Shelf.{sight_over}
 use Rattle.hq_sql_shelf.specs.declared.shelf.SqlShelf.{SqlShelf}
 use Rattle.hq_desk.specs.Desks.{on}
@@ -27,12 +27,10 @@ use Rattle.hq_program.specs.declared.trouble.Trouble.TheVariants.{Desk as OfDesk
 abbrev pub IsUnopened : Type 0 → Fault → Result ⊤ Trouble → Type 0
 IsUnopened untouched fault result = untouched × (result ≡ Err (OfDesk (AsFault fault)))
 
--- How a run ends over a store as it was opened: the lines are those of a batch over this shelf, or there is none.
-abbrev pub OpenedEnds : {S : Type 0} → (Held S → State) → Settings → Result (SqlShelf S) Fault → Type 0 → Streams → Streams
-    → Result ⊤ Trouble → Type 0
-OpenedEnds seen settings (Ok shelf) untouched old new result =
-    RunEnds (ServesOver (sight_over seen) settings shelf) untouched old new result
-OpenedEnds seen settings (Err fault) untouched old new result = IsUnopened untouched fault result
+-- How a run ends over a desk as it was opened: the lines are those of a batch over this shelf, or there is none.
+abbrev pub OpenedEnds : {S : Type 0} → Sight S → Settings → Result S Fault → Type 0 → Streams → Streams → Result ⊤ Trouble → Type 0
+OpenedEnds sight settings (Ok shelf) untouched old new result = RunEnds (ServesOver sight settings shelf) untouched old new result
+OpenedEnds sight settings (Err fault) untouched old new result = IsUnopened untouched fault result
 
 -- ---- in memory
 
@@ -56,3 +54,10 @@ pub record Serves (settings : Settings) (asked : List (Option Request)) (lines :
 abbrev pub MemoryEnds : Settings → Type 0 → Streams → Streams → Result ⊤ Trouble → Type 0
 MemoryEnds settings untouched old new result =
     RunEnds (Serves settings) untouched old new result ⊎ ((fault : Fault) × IsUnopened untouched fault result)
+
+-- ---- in memory, or in the file of a path
+
+abbrev pub StoreEnds : {S : Type 0} → Sight S → Option (List ℕ) → Settings → Type 0 → Streams → Streams → Result ⊤ Trouble → Type 0
+StoreEnds sight None settings untouched old new result = MemoryEnds settings untouched old new result
+StoreEnds sight (Some path) settings untouched old new result =
+    OverFile sight (λ opened. OpenedEnds sight settings opened untouched old new result)

@@ -1,15 +1,17 @@
 //! The program's batch over a store on `sqlite`, in memory or in a file.
 #![tactic(auto)]
 
-ghost use Rattle.std.specs.Prelude.{◌≡◌, None};
+ghost use Rattle.std.specs.Prelude.{◌≡◌, option_map};
 ghost use Rattle.sqlite.specs.Held.{state};
-ghost use Rattle.hq_sql_program.specs.Runs.{OpenedEnds, MemoryEnds};
+ghost use Rattle.hq_sql_shelf.specs.Shelf.{sight_over};
+ghost use Rattle.hq_sql_program.specs.Runs.{OpenedEnds, MemoryEnds, StoreEnds};
 
 use hq_envelope::Fault;
 use hq_program::{Trouble, serve};
 use hq_settings::Settings;
-use hq_sql_file::open_file;
+use hq_sql_file::{FileShelf, open_file};
 use hq_sql_shelf::SqlShelf;
+use hq_store::Shelf;
 use sqlite::Alter;
 use std::io::{Read, Write};
 
@@ -22,7 +24,7 @@ fn serve_opened<S: Alter + Drop, R: Read, W: Write>(
     input: &mut R,
     output: &mut W,
 ) -> Result<(), Trouble>
-    ensures { OpenedEnds (state S.Store) settings opened
+    ensures { OpenedEnds (sight_over (state S.Store)) settings opened
         ((input.new ≡ input.old) × (output.new ≡ output.old))
         (record { input = R.remaining input.old; output = W.contents output.old })
         (record { input = R.remaining input.new; output = W.contents output.new }) result }
@@ -56,7 +58,8 @@ pub fn serve_stored<R: Read, W: Write>(
     input: &mut R,
     output: &mut W,
 ) -> Result<(), Trouble>
-    ensures { store.entry ≡ None → MemoryEnds settings
+    ensures { StoreEnds ⟦<FileShelf as Shelf>⟧.sight
+        (option_map (λ s. s.now) store.entry) settings
         ((input.new ≡ input.old) × (output.new ≡ output.old))
         (record { input = R.remaining input.old; output = W.contents output.old })
         (record { input = R.remaining input.new; output = W.contents output.new }) result }

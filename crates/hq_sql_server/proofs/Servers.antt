@@ -1,4 +1,4 @@
--- What a server does over a shelf in memory that is empty, and what is printed over any.
+-- What a server does over a shelf in memory that is empty.
 use Rattle.std.proofs.Common.{◌≡◌, inl, inr, ℕ, List, Option, Result, Ok, Err, IfOk}
 use Rattle.std.specs.Bool.{⊤}
 use Rattle.sqlite.specs.Held.{Held, state}
@@ -14,7 +14,7 @@ use Rattle.hq_settings.specs.declared.settings.Settings.{Settings}
 use Rattle.hq_program.specs.declared.trouble.Trouble.{Trouble}
 use Rattle.hq_sql_program.specs.Runs.{memory}
 use Rattle.hq_sql_program.proofs.Memory.{from_empty}
-use Rattle.hq_sql_server.specs.Runs.{ServesConnections, ServesEmpty, ServedEnds, OpenedEnds, MemoryEnds, PrintEnds}
+use Rattle.hq_sql_server.specs.Runs.{ServesConnections, ServesEmpty, ServedEnds, OpenedEnds, MemoryEnds}
 
 module _ (served other : Type 0) (so : served → other) (unwritten : Type 0) (old new : Option (List ℕ)) (result : Result ⊤ Trouble) where
   -- what is said of the connections may be said in other words
@@ -32,13 +32,7 @@ serves_empty settings count shelf ours none it = record {
 
 pub memory_ends : (settings : Settings) (count : ℕ) (opened : Result (SqlShelf MemStore) Fault) (unwritten : Type 0) (old new : Option (List ℕ)) (result : Result ⊤ Trouble)
     → IfOk opened (λ s. IsOurs (state over_memory s.conn)) → IfOk opened (λ s. tables_in (state over_memory s.conn).committed ≡ no_tables)
-    → OpenedEnds (state over_memory) settings count opened unwritten old new result → MemoryEnds settings count unwritten old new result
+    → OpenedEnds memory settings count opened unwritten old new result → MemoryEnds settings count unwritten old new result
 memory_ends settings count (Ok shelf) unwritten old new result ours none p =
     inl (served_ends_as (ServesConnections memory settings count shelf) (ServesEmpty settings count) (serves_empty settings count shelf ours none) unwritten old new result p)
 memory_ends settings count (Err fault) unwritten old new result ours none p = inr (fault, p)
-
-pub print_ends : {S : Type 0} (seen : Held S → State) (settings : Settings) (count : ℕ) (opened : Result (SqlShelf S) Fault) (unwritten : Type 0) (old new : Option (List ℕ)) (result : Result ⊤ Trouble)
-    → OpenedEnds seen settings count opened unwritten old new result → PrintEnds unwritten old new result
-print_ends seen settings count (Ok shelf) unwritten old new result p =
-    inl (served_ends_as (ServesConnections _ settings count shelf) ⊤ (λ _. tt) unwritten old new result p)
-print_ends seen settings count (Err fault) unwritten old new result p = inr (fault, p)

@@ -1,11 +1,9 @@
 -- What a server of the program does over a store of `sqlite`, however it ends.
-use Rattle.std.specs.Prelude.{◌≡◌, ◌⊎◌, ⊤, ℕ, List, Option, None, Result, Ok, Err}
-use Rattle.sqlite.specs.Held.{Held}
-use Rattle.sqlite.specs.State.{State}
+use Rattle.std.specs.Prelude.{◌≡◌, ◌⊎◌, ⊤, ℕ, List, Option, Some, None, option_map, Result, Ok, Err}
 use Rattle.sqlite_trees.specs.declared.memory.MemStore.{MemStore}
 use Rattle.hq_base.specs.declared.failure.Fault.{Fault}
 use Rattle.hq_store.specs.Shelves.{Sight}
-use Rattle.hq_sql_shelf.specs.Shelf.{sight_over}
+use Rattle.hq_sql_file.specs.Opened.{OverFile}
 use Rattle.hq_sql_shelf.specs.declared.shelf.SqlShelf.{SqlShelf}
 use Rattle.hq_desk.specs.Desks.{host_of, shelf_of}
 use Rattle.hq_desk.specs.declared.desk.Desk.{Desk}
@@ -47,11 +45,11 @@ ServedEnds served unwritten old new result =
 abbrev pub ShelfEnds : {S : Type 0} → Sight S → Settings → ℕ → S → Type 0 → Option (List ℕ) → Option (List ℕ) → Result ⊤ Trouble → Type 0
 ShelfEnds sight settings count shelf = ServedEnds (ServesConnections sight settings count shelf)
 
--- over a store as it was opened: by a desk over this shelf, or there is none
-abbrev pub OpenedEnds : {S : Type 0} → (Held S → State) → Settings → ℕ → Result (SqlShelf S) Fault → Type 0 → Option (List ℕ) → Option (List ℕ)
+-- over a desk as it was opened: over this shelf, or there is none
+abbrev pub OpenedEnds : {S : Type 0} → Sight S → Settings → ℕ → Result S Fault → Type 0 → Option (List ℕ) → Option (List ℕ)
     → Result ⊤ Trouble → Type 0
-OpenedEnds seen settings count (Ok shelf) unwritten old new result = ShelfEnds (sight_over seen) settings count shelf unwritten old new result
-OpenedEnds seen settings count (Err fault) unwritten old new result = IsUnopened unwritten fault result
+OpenedEnds sight settings count (Ok shelf) unwritten old new result = ShelfEnds sight settings count shelf unwritten old new result
+OpenedEnds sight settings count (Err fault) unwritten old new result = IsUnopened unwritten fault result
 
 -- ---- in memory
 
@@ -62,25 +60,26 @@ pub record ServesEmpty (settings : Settings) (count : ℕ) : Type 0 where
   pub over : ServesConnections memory settings count shelf
   pub from_empty : FromEmpty settings over.served.asks over.served.replies over.new
 
--- a server with a store that is opened, or that cannot be
-abbrev pub StoredEnds : Type 0 → Type 0 → Option (List ℕ) → Option (List ℕ) → Result ⊤ Trouble → Type 0
-StoredEnds served unwritten old new result =
-    ServedEnds served unwritten old new result ⊎ ((fault : Fault) × IsUnopened unwritten fault result)
-
 abbrev pub MemoryEnds : Settings → ℕ → Type 0 → Option (List ℕ) → Option (List ℕ) → Result ⊤ Trouble → Type 0
-MemoryEnds settings count = StoredEnds (ServesEmpty settings count)
+MemoryEnds settings count unwritten old new result =
+    ServedEnds (ServesEmpty settings count) unwritten old new result ⊎ ((fault : Fault) × IsUnopened unwritten fault result)
 
--- What is printed, over any store. What a file holds is said by no contract, so nothing more is said of a store in one.
-abbrev pub PrintEnds : Type 0 → Option (List ℕ) → Option (List ℕ) → Result ⊤ Trouble → Type 0
-PrintEnds = StoredEnds ⊤
+-- ---- in memory, or in the file of a path
+
+abbrev pub StoreEnds : {S : Type 0} → Sight S → Option (List ℕ) → Settings → ℕ → Type 0 → Option (List ℕ) → Option (List ℕ)
+    → Result ⊤ Trouble → Type 0
+StoreEnds sight None settings count unwritten old new result = MemoryEnds settings count unwritten old new result
+StoreEnds sight (Some path) settings count unwritten old new result =
+    OverFile sight (λ opened. OpenedEnds sight settings count opened unwritten old new result)
 
 -- How a server ends with the settings that its words name: with the trouble of these, and then nothing is printed; or as its
 -- store has it.
-abbrev pub SetEnds : Serve → Type 0 → Option (List ℕ) → Option (List ℕ) → Result Settings Trouble → Result ⊤ Trouble → Type 0
-SetEnds given unwritten old new (Err trouble) result = unwritten × (result ≡ Err trouble)
-SetEnds given unwritten old new (Ok set) result =
-    PrintEnds unwritten old new result × (given.store ≡ None → MemoryEnds set given.count unwritten old new result)
+abbrev pub SetEnds : {S : Type 0} → Sight S → Serve → Type 0 → Option (List ℕ) → Option (List ℕ) → Result Settings Trouble
+    → Result ⊤ Trouble → Type 0
+SetEnds sight given unwritten old new (Err trouble) result = unwritten × (result ≡ Err trouble)
+SetEnds sight given unwritten old new (Ok set) result =
+    StoreEnds sight (option_map (λ s. s.now) given.store) set given.count unwritten old new result
 
-abbrev pub ServeEnds : Serve → Type 0 → Option (List ℕ) → Option (List ℕ) → Result ⊤ Trouble → Type 0
-ServeEnds given unwritten old new result =
-    (set : Result Settings Trouble) × SetsUp given.host.now given.relay_key.now set × SetEnds given unwritten old new set result
+abbrev pub ServeEnds : {S : Type 0} → Sight S → Serve → Type 0 → Option (List ℕ) → Option (List ℕ) → Result ⊤ Trouble → Type 0
+ServeEnds sight given unwritten old new result =
+    (set : Result Settings Trouble) × SetsUp given.host.now given.relay_key.now set × SetEnds sight given unwritten old new set result

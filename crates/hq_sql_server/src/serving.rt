@@ -1,8 +1,10 @@
 //! The connections of a server, over a store as it was opened.
 
-ghost use Rattle.std.specs.Prelude.{◌≡◌, None};
+ghost use Rattle.std.specs.Prelude.{◌≡◌, option_map};
 ghost use Rattle.sqlite.specs.Held.{state};
-ghost use Rattle.hq_sql_server.specs.Runs.{IsEnd, ShelfEnds, OpenedEnds, MemoryEnds, PrintEnds, ServeEnds};
+ghost use Rattle.hq_sql_shelf.specs.Shelf.{sight_over};
+ghost use Rattle.hq_sql_server.specs.Runs.{IsEnd, ShelfEnds, OpenedEnds, MemoryEnds};
+ghost use Rattle.hq_sql_server.specs.Runs.{StoreEnds, ServeEnds};
 
 use crate::listening::{limits, listen};
 use hq_desk::Desk;
@@ -10,7 +12,7 @@ use hq_envelope::Fault;
 use hq_listener::{Connections, End, serve_on};
 use hq_program::{Trouble, set_up};
 use hq_settings::Settings;
-use hq_sql_file::open_file;
+use hq_sql_file::{FileShelf, open_file};
 use hq_sql_shelf::SqlShelf;
 use hq_store::Shelf;
 use hq_words::Serve;
@@ -64,7 +66,7 @@ fn serve_opened<S: Alter + Drop, W: Write, E: Write>(
     output: &mut W,
     errors: &mut E,
 ) -> Result<(), Trouble>
-    ensures { OpenedEnds (state S.Store) settings given.now.count opened
+    ensures { OpenedEnds (sight_over (state S.Store)) settings given.now.count opened
         (output.new ≡ output.old) (W.contents output.old) (W.contents output.new) result }
 {
     serve_over(rt, opened?, settings, given, output, errors)
@@ -78,32 +80,15 @@ fn serve_memory<W: Write, E: Write>(
     output: &mut W,
     errors: &mut E,
 ) -> Result<(), Trouble>
-    ensures memory { MemoryEnds settings given.now.count (output.new ≡ output.old)
+    ensures { MemoryEnds settings given.now.count (output.new ≡ output.old)
         (W.contents output.old) (W.contents output.new) result }
-    ensures printed { PrintEnds (output.new ≡ output.old) (W.contents output.old)
-        (W.contents output.new) result }
 {
     let opened = SqlShelf::open_memory(rt.alloc());
     serve_opened(rt, opened, settings, given, output, errors)
 }
 
-/// Serves the connections of an address over the store of a path, which is made where it is
-/// missing.
-fn serve_file<W: Write, E: Write>(
-    rt: &HostRuntime,
-    path: &str,
-    settings: Settings,
-    given: &Serve,
-    output: &mut W,
-    errors: &mut E,
-) -> Result<(), Trouble>
-    ensures { PrintEnds (output.new ≡ output.old) (W.contents output.old)
-        (W.contents output.new) result }
-{
-    serve_opened(rt, open_file(rt, path), settings, given, output, errors)
-}
-
-/// Serves connections over the store that is given, or without one over an empty one in memory.
+/// Serves connections over the store of the path that is given, which is made where it is missing,
+/// or without one over an empty one in memory.
 fn serve_stored<W: Write, E: Write>(
     rt: &HostRuntime,
     settings: Settings,
@@ -111,14 +96,16 @@ fn serve_stored<W: Write, E: Write>(
     output: &mut W,
     errors: &mut E,
 ) -> Result<(), Trouble>
-    ensures memory { given.now.store ≡ None → MemoryEnds settings given.now.count
+    ensures { StoreEnds ⟦<FileShelf as Shelf>⟧.sight
+        (option_map (λ s. s.now) given.now.store) settings given.now.count
         (output.new ≡ output.old) (W.contents output.old) (W.contents output.new) result }
-    ensures printed { PrintEnds (output.new ≡ output.old) (W.contents output.old)
-        (W.contents output.new) result }
 {
     match given.store {
         None => serve_memory(rt, settings, given, output, errors),
-        Some(path) => serve_file(rt, path, settings, given, output, errors),
+        Some(path) => {
+            let opened = open_file(rt, path);
+            serve_opened(rt, opened, settings, given, output, errors)
+        }
     }
 }
 
@@ -141,8 +128,8 @@ pub fn serve_http<W: Write, E: Write>(
     output: &mut W,
     errors: &mut E,
 ) -> Result<(), Trouble>
-    ensures { ServeEnds given.now (output.new ≡ output.old) (W.contents output.old)
-        (W.contents output.new) result }
+    ensures { ServeEnds ⟦<FileShelf as Shelf>⟧.sight given.now
+        (output.new ≡ output.old) (W.contents output.old) (W.contents output.new) result }
 {
     let settings = set_up(rt, given.host, given.relay_key, given.directory)?;
     serve_stored(rt, settings, given, output, errors)

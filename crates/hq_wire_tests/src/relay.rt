@@ -3,7 +3,7 @@
 use hq_desk::Desk;
 use hq_envelope::{Fail as Failure, Host, Key, Moment, Name};
 use hq_queue::{Customer, Entry, Quota};
-use hq_store::ListShelf;
+use hq_store::{ListShelf, Shelf};
 use hq_wire::{Directory, Exchange, Reply, are_customers, exchange};
 use std::alloc::{AllocError, Global};
 use std::process::Abort;
@@ -68,7 +68,7 @@ pub fn directory(rt: &(impl Abort + AllocGlobal)) -> Result<Directory, Failure> 
 }
 
 /// A desk over this shelf.
-pub fn desk_over(alloc: Global, shelf: ListShelf) -> Result<Desk<ListShelf>, Failure> {
+pub fn desk_over<S: Shelf + Drop>(alloc: Global, shelf: S) -> Result<Desk<S>, Failure> {
     Ok(Desk::new(shelf, Host::parse(alloc, "relay.example")?))
 }
 

@@ -2,7 +2,8 @@
 
 use crate::relay::{asked, desk_over, directory, expect_rows, line_of};
 use hq_desk::Desk;
-use hq_store::ListShelf;
+use hq_sql_shelf::SqlShelf;
+use hq_store::{ListShelf, Shelf};
 use hq_wire::{Directory, Exchange, Reply, run};
 use linked_list_allocator::LocalHeap;
 use std::alloc::{AllocError, Allocator, Global};
@@ -31,10 +32,10 @@ const LISTED_BIRCH: &str =
      \"more\":false}";
 
 /// The replies of one run, in this room.
-fn replies_in<A: Allocator>(
+fn replies_in<S: Shelf + Drop, A: Allocator>(
     alloc: Global,
     room: A,
-    desk: &mut Desk<ListShelf>,
+    desk: &mut Desk<S>,
     directory: &Directory,
     exchanges: &[Exchange],
 ) -> Result<Vec<Reply, A>, AllocError> {
@@ -54,12 +55,16 @@ fn expect_replies(
     Ok(())
 }
 
-/// The rows are replied to in one run over an empty desk.
-fn expect_run(rt: &(impl Abort + AllocGlobal), rows: &[(&str, &str)]) -> Result<(), Fail> {
+/// The rows are replied to in one run over a desk on this empty shelf.
+fn expect_run<S: Shelf + Drop>(
+    rt: &(impl Abort + AllocGlobal),
+    shelf: S,
+    rows: &[(&str, &str)],
+) -> Result<(), Fail> {
     let alloc = rt.alloc();
     let directory = directory(rt)?;
     let exchanges = exchanges(alloc, rows)?;
-    let mut desk = desk_over(alloc, ListShelf::new(alloc))?;
+    let mut desk = desk_over(alloc, shelf)?;
     let replies = replies_in(alloc, alloc, &mut desk, &directory, exchanges.as_slice())?;
     expect_replies(rt, replies.as_slice(), rows)
 }
@@ -87,7 +92,8 @@ const BIRCH_ROWS: &[(&str, &str)] = &[(SUBMIT_BIRCH, QUEUED_FIRST), (LIST_BIRCH,
 #[test]
 fn runs(rt: HostRuntime) -> Result<(), Fail> {
     for rows in [FIRST_ROWS, BIRCH_ROWS, &[]] {
-        expect_run(&rt, rows)?;
+        expect_run(&rt, ListShelf::new(rt.alloc()), rows)?;
+        expect_run(&rt, SqlShelf::open_memory(rt.alloc())?, rows)?;
     }
     Ok(())
 }

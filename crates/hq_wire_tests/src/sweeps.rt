@@ -2,13 +2,12 @@
 
 use crate::relay::{asked, desk_over, directory, line_of};
 use hq_desk::Desk;
-use hq_envelope::{Fail as Failure, Host, Moment, Name};
+use hq_envelope::{Moment, Name};
 use hq_queue::{Head, Tally};
 use hq_sql_shelf::SqlShelf;
 use hq_store::{Change, ListShelf, Shelf};
 use hq_trial::{FailingShelf, Failure as Plan};
 use hq_wire::exchange;
-use std::alloc::Global;
 use std::process::Abort;
 use std::test::Fail;
 
@@ -105,18 +104,14 @@ fn spent() -> Head {
     }
 }
 
-fn desk_of<S: Shelf + Drop>(alloc: Global, shelf: S) -> Result<Desk<S>, Failure> {
-    Ok(Desk::new(shelf, Host::parse(alloc, "relay.example")?))
-}
-
 /// Of two customers one has no numbers of notices left.
 fn expect_refusal<S: Shelf + Drop>(rt: &(impl Abort + AllocGlobal), shelf: S) -> Result<(), Fail> {
-    let mut desk = desk_of(rt.alloc(), shelf)?;
+    let mut desk = desk_over(rt.alloc(), shelf)?;
     submit_both(rt, &mut desk)?;
     let acme = Name::parse(rt.alloc(), "acme")?;
     let mut shelf = desk.into_shelf();
     shelf.apply(&acme, &[Change::PutHead(spent())])?;
-    let mut desk = desk_of(rt.alloc(), shelf)?;
+    let mut desk = desk_over(rt.alloc(), shelf)?;
     expect_at(
         rt,
         &mut desk,
@@ -160,9 +155,9 @@ fn expect_stop_over<S: Shelf + Drop>(
     told: &str,
     then: &str,
 ) -> Result<(), Fail> {
-    let mut desk = desk_of(rt.alloc(), shelf)?;
+    let mut desk = desk_over(rt.alloc(), shelf)?;
     submit_both(rt, &mut desk)?;
-    let mut desk = desk_of(rt.alloc(), FailingShelf::new(desk.into_shelf(), plan))?;
+    let mut desk = desk_over(rt.alloc(), FailingShelf::new(desk.into_shelf(), plan))?;
     expect_at(rt, &mut desk, 432_000, SWEEP, told)?;
     expect_at(rt, &mut desk, 432_000, SWEEP, then)
 }
