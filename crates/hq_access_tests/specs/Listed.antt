@@ -1,12 +1,11 @@
 -- The lines of an access table in a list, and what asking them tells.
-use Rattle.std.specs.Prelude.{◌≡◌, ℕ, Bool, true, false, ◌&&◌, bytes_eq, List, Option, option_map, Result, IfOk}
+use Rattle.std.specs.Prelude.{◌≡◌, ℕ, Bool, true, false, ◌&&◌, bytes_eq, List, Option, option_map, IfOk}
 use Rattle.std.specs.List.{find}
-use Rattle.hq_base.specs.declared.failure.Fault.{Fault}
+use Rattle.hq_access.specs.Lookups.{Gets}
 use Rattle.hq_access.specs.declared.action.Action.{Action}
 use Rattle.hq_access.specs.declared.pattern.Class.{Class}
 use Rattle.hq_access.specs.declared.pattern.Class.TheVariants.{SenderSide, RecipientSide}
 use Rattle.hq_access.specs.declared.pattern.Line.{Line}
-use Rattle.hq_access_tests.specs.declared.telling.Listed.{Listed}
 
 abbrev pub same_class : Class → Class → Bool
 same_class SenderSide SenderSide = true
@@ -21,6 +20,6 @@ is_for class key line = same_class class line.pattern.0 && bytes_eq key line.pat
 abbrev pub action_at : List Line → Class → List ℕ → Option Action
 action_at lines class key = option_map (λ l. l.action) (find (is_for class key) lines)
 
--- What asking may do: it tells that action, or memory runs out, and the lines stay.
-abbrev pub ListGets : Listed → Class → List ℕ → Result (Option Action) Fault → Listed → Type 0
-ListGets old class key answer new = IfOk answer (λ a. a ≡ action_at old.lines.items class key) × (new ≡ old)
+-- What asking for a key may do, where these are the lines: it tells that action, or memory runs out, and nothing changes.
+abbrev pub ListGets : {S : Type 0} → (S → List Line) → Gets S
+ListGets lines old class key answer new = IfOk answer (λ a. a ≡ action_at (lines old) class key) × (new ≡ old)

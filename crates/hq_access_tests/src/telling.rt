@@ -50,7 +50,7 @@ fn action_at(
 }
 
 impl Lines for Listed {
-    ghost gets = { ListGets };
+    ghost gets = { ListGets (λ l. l.lines.items) };
 
     fn get(&mut self, class: Class, key: &LookupKey) -> Result<Option<Action>, Fault> {
         Ok(action_at(self.alloc, self.lines.as_slice(), class, key)?)
