@@ -1,3 +1,4 @@
 pub mod Steps
 pub mod Ours
+pub mod Recounted
 pub mod Migrated

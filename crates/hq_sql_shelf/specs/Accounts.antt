@@ -1,9 +1,12 @@
 -- What a change makes of the head rows alone.
-use Rattle.std.specs.Prelude.{ℕ, List}
-use Rattle.std.specs.FinMap.{get}
+use Rattle.std.specs.Prelude.{ℕ, List, [], ◌∷◌, cond, nat_eq}
+use Rattle.std.specs.FinMap.{FinMap, get}
 use Rattle.hq_access.specs.declared.pattern.Class.{Class}
 use Rattle.hq_queue.specs.declared.account.Head.{Head}
-use Rattle.hq_store.specs.Tables.{Tables, headed, counted, with_message, with_line, without_line, uncounted_message}
+use Rattle.hq_store.specs.declared.account.Account.{Account}
+use Rattle.hq_store.specs.declared.change.Change.{Change}
+use Rattle.hq_store.specs.declared.change.Change.TheVariants.{PutMessage}
+use Rattle.hq_store.specs.Tables.{Tables, Row, text_cmp, write, headed, counted, with_message, without_message, with_line, without_line, uncounted_message}
 use Rattle.hq_tables.specs.Owned.{given}
 
 abbrev pub with_head : List ℕ → Head → Tables → Tables
@@ -20,3 +23,24 @@ counted_line customer pattern t = record t { heads = given (counted with_line cu
 
 abbrev pub uncounted_line : List ℕ → Class × List ℕ → Tables → Tables
 uncounted_line customer pattern t = record t { heads = given t.heads (λ _. counted without_line customer t.heads) (get t.lines (customer, pattern)) }
+
+-- a message counted with one size is counted with another
+abbrev pub resized_message : List ℕ → ℕ → ℕ → Tables → Tables
+resized_message customer before size t = record t { heads = counted (with_message size) customer (counted (without_message before) customer t.heads) }
+
+-- the head rows once the message of a serial is counted with this size: the same, where one of this size stands there
+abbrev pub counted_at : List ℕ → ℕ → ℕ → Tables → FinMap text_cmp Account
+counted_at customer serial size t = given (counted (with_message size) customer t.heads) (λ (r : Row). cond (nat_eq r.size size) t.heads (counted (with_message size) customer (counted (without_message r.size) customer t.heads))) (get t.messages (customer, serial))
+
+abbrev pub recounted_message : List ℕ → ℕ → ℕ → Tables → Tables
+recounted_message customer serial size t = record t { heads = counted_at customer serial size t }
+
+-- What a change is made as: where the counts in the head rows are those of the rows, it is `write`.
+abbrev pub made_by : List ℕ → Change → Tables → Tables
+made_by customer (PutMessage m) t = record (write customer (PutMessage m) t) { heads = counted_at customer m.serial m.size t }
+made_by customer c t = write customer c t
+
+-- all changes in order
+abbrev pub made_by_all : List ℕ → List Change → Tables → Tables
+made_by_all customer [] t = t
+made_by_all customer (c ∷ cs) t = made_by_all customer cs (made_by customer c t)

@@ -6,6 +6,7 @@ use Rattle.sqlite.specs.State.{State, HasCleanDisk, KeepsCommit}
 use Rattle.sqlite.specs.Tree.{Trees}
 use Rattle.hq_keyed.specs.Left.{IsQuiet}
 use Rattle.hq_schema.specs.Schema.{desk_schema}
+use Rattle.hq_store.specs.Sound.{AreCounted}
 use Rattle.hq_store.specs.Tables.{Tables}
 use Rattle.hq_sql.specs.Tables.{tables_in}
 use Rattle.hq_sql_open.specs.Transactions.{IsAtRest}
@@ -24,7 +25,7 @@ pub record KeepsTransaction {X : Type 0} (old new : State) (result : Result X Er
   pub kept : HasCleanDisk new → IsAtRest old → OnErr result (KeepsCommit old new)
   pub quiet : IsQuiet old new
   -- wherever in it a crash comes
-  pub stops : IsAtRest old → LeavesTables old new t
+  pub stops : IsAtRest old → AreCounted (tables_in old.committed) → LeavesTables old new t
 
 -- Wherever in a call a crash comes, it leaves the tables before or those after.
 abbrev pub LeavesWhole : State → State → Tables → Tables → Type 0

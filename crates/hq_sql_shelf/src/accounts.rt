@@ -4,6 +4,7 @@ ghost use Rattle.hq_store.specs.Tables.{account};
 ghost use Rattle.sqlite.specs.Held.{state};
 ghost use Rattle.hq_sql.specs.Kept.{Finds, Makes, Keeps, KeepsCommitted};
 ghost use Rattle.hq_sql_shelf.specs.Accounts.{with_head, counted_message, not_counted, counted_line, uncounted_line};
+ghost use Rattle.hq_sql_shelf.specs.Accounts.{resized_message, recounted_message};
 
 use hq_access::Pattern;
 use hq_envelope::{Name, Serial};
@@ -44,7 +45,7 @@ pub(crate) fn put_head<S: Alter>(
 }
 
 /// Counts one message more.
-pub(crate) fn count_message<S: Alter>(
+fn count_message<S: Alter>(
     conn: &mut Connection<S>,
     customer: &Name,
     size: u32,
@@ -59,6 +60,47 @@ pub(crate) fn count_message<S: Alter>(
     };
     heads::put(conn, customer, &more)?;
     Ok(())
+}
+
+/// Counts a message as one of this size, which was counted as one of another.
+fn resize_message<S: Alter>(
+    conn: &mut Connection<S>,
+    customer: &Name,
+    before: u32,
+    size: u32,
+) -> Result<(), Error>
+    ensures made { Makes (state S.Store conn.old) (state S.Store conn.new) result
+        (resized_message customer.now before size) }
+    ensures kept { KeepsCommitted (state S.Store conn.old) (state S.Store conn.new) }
+{
+    let kept = account(conn, customer)?;
+    let fewer = kept.without_message(before);
+    let Some(more) = fewer.with_message(size) else {
+        return Err(TOO_MANY);
+    };
+    heads::put(conn, customer, &more)?;
+    Ok(())
+}
+
+/// Counts the message of this serial as one of this size, before it is put. Where one of this size
+/// is there already, nothing is written.
+pub(crate) fn recount_message<S: Alter>(
+    conn: &mut Connection<S>,
+    customer: &Name,
+    serial: Serial,
+    size: u32,
+) -> Result<(), Error>
+    ensures made { Makes (state S.Store conn.old) (state S.Store conn.new) result
+        (recounted_message customer.now serial size) }
+    ensures kept { KeepsCommitted (state S.Store conn.old) (state S.Store conn.new) }
+{
+    let Some(before) = messages::size(conn, customer, serial)? else {
+        return count_message(conn, customer, size);
+    };
+    if before == size {
+        return Ok(());
+    }
+    resize_message(conn, customer, before, size)
 }
 
 /// Counts the message of this serial no more, where there is one.

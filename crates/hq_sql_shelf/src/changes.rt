@@ -8,6 +8,8 @@ ghost use Rattle.sqlite.specs.State.{HasCleanDisk};
 ghost use Rattle.hq_sql.specs.Kept.{Makes, KeepsCommitted};
 ghost use Rattle.hq_sql.specs.Tables.{tables_in};
 ghost use Rattle.hq_sql_open.specs.Transactions.{IsAtRest, Commits};
+ghost use Rattle.hq_store.specs.Sound.{AreCounted};
+ghost use Rattle.hq_sql_shelf.specs.Accounts.{made_by, made_by_all};
 ghost use Rattle.hq_sql_shelf.specs.Stops.{KeepsTransaction};
 
 use crate::accounts;
@@ -31,11 +33,10 @@ fn put_message<S: Alter>(
     message: &Message,
 ) -> Result<(), Error>
     ensures made { Makes (state S.Store conn.old) (state S.Store conn.new) result
-        (write customer.now (PutMessage message.now)) }
+        (made_by customer.now (PutMessage message.now)) }
     ensures kept { KeepsCommitted (state S.Store conn.old) (state S.Store conn.new) }
 {
-    accounts::uncount_message(conn, customer, message.serial)?;
-    accounts::count_message(conn, customer, message.size)?;
+    accounts::recount_message(conn, customer, message.serial, message.size)?;
     messages::put(conn, customer, message)?;
     recipients::put(conn, customer, message.serial, message.pending.as_slice())?;
     holds::put(conn, customer, message.serial, &message.reason)?;
@@ -99,7 +100,7 @@ fn make<S: Alter>(
     change: &Change,
 ) -> Result<(), Error>
     ensures made { Makes (state S.Store conn.old) (state S.Store conn.new) result
-        (write customer.now change.now) }
+        (made_by customer.now change.now) }
     ensures kept { KeepsCommitted (state S.Store conn.old) (state S.Store conn.new) }
 {
     match change {
@@ -123,7 +124,7 @@ pub(crate) fn make_all<S: Alter>(
 ) -> Result<(), Error>
     ensures made { IsTrue (state S.Store conn.old).is_open
         → Makes (state S.Store conn.old) (state S.Store conn.new) result
-        (write_all customer.now changes.now) }
+        (made_by_all customer.now changes.now) }
     ensures kept { KeepsCommitted (state S.Store conn.old) (state S.Store conn.new) }
 {
     match changes {
@@ -135,6 +136,24 @@ pub(crate) fn make_all<S: Alter>(
     }
 }
 
+/// Makes all changes in order, in one transaction, whatever the counts are.
+fn transact<S: Alter>(
+    alloc: Global,
+    conn: &mut Connection<S>,
+    customer: &Name,
+    changes: &[Change],
+) -> Result<(), Error>
+    ensures made { HasCleanDisk (state S.Store conn.new) → IsAtRest (state S.Store conn.old)
+        → OnOk result (Commits (state S.Store conn.new)
+        (made_by_all customer.now changes.now (tables_in (state S.Store conn.old).committed))) }
+    ensures kept { KeepsTransaction (state S.Store conn.old) (state S.Store conn.new) result
+        (made_by_all customer.now changes.now (tables_in (state S.Store conn.old).committed)) }
+{
+    begin(conn)?;
+    make_all(alloc, conn, customer, changes)?;
+    commit(conn)
+}
+
 /// Makes all changes in order, in one transaction.
 pub(crate) fn apply<S: Alter>(
     alloc: Global,
@@ -143,12 +162,11 @@ pub(crate) fn apply<S: Alter>(
     changes: &[Change],
 ) -> Result<(), Error>
     ensures made { HasCleanDisk (state S.Store conn.new) → IsAtRest (state S.Store conn.old)
+        → AreCounted (tables_in (state S.Store conn.old).committed)
         → OnOk result (Commits (state S.Store conn.new)
         (write_all customer.now changes.now (tables_in (state S.Store conn.old).committed))) }
     ensures kept { KeepsTransaction (state S.Store conn.old) (state S.Store conn.new) result
         (write_all customer.now changes.now (tables_in (state S.Store conn.old).committed)) }
 {
-    begin(conn)?;
-    make_all(alloc, conn, customer, changes)?;
-    commit(conn)
+    transact(alloc, conn, customer, changes)
 }

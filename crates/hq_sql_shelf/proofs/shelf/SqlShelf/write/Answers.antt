@@ -18,7 +18,7 @@ returns-in-Ok-clause-kept g c =
       none = λ clean ours opened. tt;
       ours = λ clean ours opened.
           let owned = first.ours (before clean.0) ours first.tally.1 in
-          committed_ours new _ (c.in-Ok.ensures.made clean.0 (at_rest mid owned))
+          committed_ours new _ (c.in-Ok.ensures.made clean.0 (at_rest mid owned) owned.holds.counted)
           (counts_stay c.args.customer.now c.args.changes.now (tables_in mid.committed) owned.holds.counted);
       quiet = λ clean. first.quiet (before clean.0);
       tally = first.tally;
