@@ -1,30 +1,31 @@
--- A message put again: what is counted of it.
+-- A message that is put again: its counts are what they were, and so a change is made as it is said.
 use Rattle.std.proofs.Common.{◌≡◌, ℕ, ◌+◌, ◌-◌, List, [], ◌∷◌, Bool, nat_eq, subst, true, false, cond, sym, refl, ap, ◌∙◌, Some, None, Option, arith}
-use Rattle.std.specs.Prelude.{option_map}
+use Rattle.std.specs.Prelude.{option_map, Result, OnOk}
 use Rattle.std.specs.Ordering.{eq_by_cmp}
 use Rattle.std.specs.Cmp.Lexicographic.{nat_list_cmp_total}
 use Rattle.std.specs.FinMap.{get, insert, get-insert, same_map}
 use Rattle.std.proofs.lemmas.Bool.Decides.{nat_tests}
 use Rattle.std.proofs.lemmas.Map.Lookups.{exact_bytes}
+use Rattle.sqlite.specs.declared.error.Error.{Error}
+use Rattle.sqlite.specs.State.{State}
 use Rattle.hq_queue.specs.declared.account.Counts.{Counts}
 use Rattle.hq_store.specs.declared.account.Account.{Account}
 use Rattle.hq_store.specs.declared.change.Change.{Change}
 use Rattle.hq_store.specs.declared.change.Change.TheVariants.{PutHead, PutMessage, DropMessage, PutLine, DropLine, PutMark, AddNotice, DropNoticesBelow}
-use Rattle.hq_tables.specs.Owned.{given}
-use Rattle.hq_store.specs.Tables.{Tables, Row, text_cmp, account, recounted, counted, with_message, without_message, uncounted_message, message_of, write, write_all}
 use Rattle.hq_store.specs.Readings.{kept_in}
 use Rattle.hq_store.specs.Sound.{AreCounted}
+use Rattle.hq_store.specs.Tables.{Tables, Row, text_cmp, account, recounted, counted, with_message, without_message, uncounted_message, message_of, write, write_all}
 use Rattle.hq_store.proofs.Accounts.{Heads, or_opening, counted_own}
 use Rattle.hq_store.proofs.Counted.{found_after, counts_stay}
 use Rattle.hq_store.proofs.Keys.{message_total, message_exact}
+use Rattle.hq_tables.specs.Owned.{given}
+use Rattle.hq_sql.specs.Tables.{tables_in}
 use Rattle.hq_sql_queue.proofs.InPlace.{put_same}
-use Rattle.std.specs.Prelude.{Result, Ok, Err, OnOk}
-use Rattle.sqlite.specs.declared.error.Error.{Error}
-use Rattle.sqlite.specs.State.{State, IsUnchanged}
 use Rattle.hq_sql_open.specs.Transactions.{Commits}
+use Rattle.hq_sql_shelf.specs.Accounts.{resized, counted_at, made_by, made_by_all}
 use Rattle.hq_sql_shelf.specs.Stops.{KeepsTransaction, LeavesTables}
-use Rattle.hq_sql.specs.Tables.{IsDesk, Leaves, tables_in}
-use Rattle.hq_sql_shelf.specs.Accounts.{counted_at, made_by, made_by_all}
+
+-- ---- a head row that is written twice
 
 twice : {A : Type 0} (b : Bool) (x y : A) (o : Option A) → cond b (Some y) (cond b (Some x) o) ≡ cond b (Some y) o
 twice true x y o = refl
@@ -40,30 +41,35 @@ unfolding counted
 twice_counted f g c heads = ap (λ (a : Account). insert (counted g c heads) c (recounted f a)) (counted_own g c heads) ∙ put_twice heads c _ _
 
 -- read once and written once
-pub is_resized : (f g : Counts → Counts) (c : List ℕ) (heads : Heads) (kept more : Account) → kept ≡ account heads c → more ≡ recounted f (recounted g kept) → insert heads c more ≡ counted f c (counted g c heads)
-is_resized f g c heads kept more e h = ap (insert heads c) (h ∙ ap (λ (a : Account). recounted f (recounted g a)) e) ∙ sym (twice_counted f g c heads)
+pub is_resized : (c : List ℕ) (before size : ℕ) (heads : Heads) (kept more : Account) → kept ≡ account heads c
+    → more ≡ recounted (with_message size) (recounted (without_message before) kept) → insert heads c more ≡ resized c before size heads
+is_resized c before size heads kept more e h =
+    ap (insert heads c) (h ∙ ap (λ (a : Account). recounted (with_message size) (recounted (without_message before) a)) e)
+    ∙ sym (twice_counted (with_message size) (without_message before) c heads)
+
+-- ---- what is counted of a message that is there
 
 there_is : (o : Option Account) → (or_opening o).counts.messages ≡ (or_opening o).counts.messages - 1 + 1 → o ≡ Some (or_opening o)
 there_is None e = absurd (omega (arith, e))
 there_is (Some a) e = refl
 
-abbrev without : List ℕ → Tables → Option Row → Heads
-without c t o = given t.heads (λ (r : Row). counted (without_message r.size) c t.heads) o
-
--- what is counted of a message that is there comes to the same again
+-- it comes to the same again, in the rows
 again : (c : List ℕ) (serial : ℕ) (t : Tables) (r : Row) → get t.messages (c, serial) ≡ Some r → kept_in c t ≡ with_message r.size (without_message r.size (kept_in c t))
 again c serial t r there =
     sym (ap (λ ms. kept_in c (record t { messages = ms })) (put_same message_total message_exact t.messages (c, serial) r there))
     ∙ found_after c (PutMessage (message_of serial r [] [])) t
     ∙ ap (λ o. with_message r.size (given (kept_in c t) (λ (x : Row). without_message x.size (kept_in c t)) o)) there
 
-row_same : (c : List ℕ) (serial : ℕ) (t : Tables) (r : Row) → AreCounted t → get t.messages (c, serial) ≡ Some r → counted (with_message r.size) c (uncounted_message c serial t) ≡ t.heads
-row_same c serial t r h there =
+-- and so in the head row, which there is
+resized_same : (c : List ℕ) (serial : ℕ) (t : Tables) (r : Row) → AreCounted t → get t.messages (c, serial) ≡ Some r → resized c r.size r.size t.heads ≡ t.heads
+resized_same c serial t r h there =
     let a : Account = account t.heads c in
     let n : a.counts ≡ with_message r.size (without_message r.size a.counts) = h c ∙ again c serial t r there ∙ ap (λ (n : Counts). with_message r.size (without_message r.size n)) (sym (h c)) in
-    ap (λ o. counted (with_message r.size) c (without c t o)) there ∙ twice_counted (with_message r.size) (without_message r.size) c t.heads
+    twice_counted (with_message r.size) (without_message r.size) c t.heads
     ∙ ap (λ (k : Counts). insert t.heads c (record a { counts = k })) (sym n)
     ∙ put_same nat_list_cmp_total exact_bytes t.heads c a (there_is (get t.heads c) (ap (λ (k : Counts). k.messages) n))
+
+-- ---- by what stands at the serial
 
 same_some : {A : Type 0} (a b : A) → ◌≡◌ {A = Option A} (Some a) (Some b) → a ≡ b
 same_some a b e = cc
@@ -71,48 +77,48 @@ same_some a b e = cc
 some_none : {A : Type 0} (a : A) → ◌≡◌ {A = Option A} (Some a) None → ⊥
 some_none a e = cc
 
-abbrev chosen : List ℕ → ℕ → Tables → Option Row → Heads
-chosen c size t o = given (counted (with_message size) c t.heads) (λ (r : Row). cond (nat_eq r.size size) t.heads (counted (with_message size) c (counted (without_message r.size) c t.heads))) o
+same_size : (a b : ℕ) → a ≡ b → nat_eq a b ≡ true
+same_size a b e = grind (arith, nat_tests)
 
-nat_eq_is : (a b : ℕ) → a ≡ b → nat_eq a b ≡ true
-nat_eq_is a b e = grind (arith, nat_tests)
+told_same : (a b : ℕ) → nat_eq a b ≡ true → a ≡ b
+told_same a b e = grind (arith, nat_tests)
 
-nat_eq_then : (a b : ℕ) → nat_eq a b ≡ true → a ≡ b
-nat_eq_then a b e = grind (arith, nat_tests)
+other_size : (a b : ℕ) → (a ≡ b → ⊥) → nat_eq a b ≡ false
+other_size a b e = grind (arith, nat_tests)
 
-nat_apart : (a b : ℕ) → (a ≡ b → ⊥) → nat_eq a b ≡ false
-nat_apart a b e = grind (arith, nat_tests)
+abbrev chosen : List ℕ → ℕ → Heads → Option Row → Heads
+chosen c size heads o = given (counted (with_message size) c heads) (λ (r : Row). cond (nat_eq r.size size) heads (resized c r.size size heads)) o
 
--- what is made where there is no such message, one of this size, and one of another
 pub size_none : (c : List ℕ) (serial size : ℕ) (t : Tables) → None ≡ option_map (λ (r : Row). r.size) (get t.messages (c, serial)) → counted (with_message size) c t.heads ≡ counted_at c serial size t
 size_none c serial size t e = cases (get t.messages (c, serial)) e where
-  cases : (o : Option Row) → None ≡ option_map (λ (r : Row). r.size) o → counted (with_message size) c t.heads ≡ chosen c size t o
+  cases : (o : Option Row) → None ≡ option_map (λ (r : Row). r.size) o → counted (with_message size) c t.heads ≡ chosen c size t.heads o
   cases None is = refl
   cases (Some r) is = absurd (some_none r.size (sym is))
 
 pub size_same : (c : List ℕ) (serial size : ℕ) (t : Tables) → Some size ≡ option_map (λ (r : Row). r.size) (get t.messages (c, serial)) → t.heads ≡ counted_at c serial size t
 size_same c serial size t e = cases (get t.messages (c, serial)) e where
-  cases : (o : Option Row) → Some size ≡ option_map (λ (r : Row). r.size) o → t.heads ≡ chosen c size t o
+  cases : (o : Option Row) → Some size ≡ option_map (λ (r : Row). r.size) o → t.heads ≡ chosen c size t.heads o
   cases None is = absurd (some_none size is)
-  cases (Some r) is = ap (λ b. cond b t.heads (counted (with_message size) c (counted (without_message r.size) c t.heads))) (sym (nat_eq_is r.size size (sym (same_some size r.size is))))
+  cases (Some r) is = ap (λ b. cond b t.heads (resized c r.size size t.heads)) (sym (same_size r.size size (sym (same_some size r.size is))))
 
-pub size_other : (c : List ℕ) (serial before size : ℕ) (t : Tables) → (before ≡ size → ⊥) → Some before ≡ option_map (λ (r : Row). r.size) (get t.messages (c, serial)) → counted (with_message size) c (counted (without_message before) c t.heads) ≡ counted_at c serial size t
+pub size_other : (c : List ℕ) (serial before size : ℕ) (t : Tables) → (before ≡ size → ⊥) → Some before ≡ option_map (λ (r : Row). r.size) (get t.messages (c, serial)) → resized c before size t.heads ≡ counted_at c serial size t
 size_other c serial before size t apart e = cases (get t.messages (c, serial)) e where
-  cases : (o : Option Row) → Some before ≡ option_map (λ (r : Row). r.size) o → counted (with_message size) c (counted (without_message before) c t.heads) ≡ chosen c size t o
+  cases : (o : Option Row) → Some before ≡ option_map (λ (r : Row). r.size) o → resized c before size t.heads ≡ chosen c size t.heads o
   cases None is = absurd (some_none before is)
-  cases (Some r) is = subst (λ n. counted (with_message size) c (counted (without_message before) c t.heads) ≡ cond (nat_eq n size) t.heads (counted (with_message size) c (counted (without_message n) c t.heads))) (same_some before r.size is)
-      (ap (λ b. cond b t.heads (counted (with_message size) c (counted (without_message before) c t.heads))) (sym (nat_apart before size apart)))
+  cases (Some r) is = subst (λ n. resized c before size t.heads ≡ cond (nat_eq n size) t.heads (resized c n size t.heads)) (same_some before r.size is)
+      (ap (λ b. cond b t.heads (resized c before size t.heads)) (sym (other_size before size apart)))
 
--- where the counts are those of the rows, this is what a change is to make
+-- ---- where the counts are those of the rows, a change is made as it is said
+
 heads_made : (c : List ℕ) (serial size : ℕ) (t : Tables) → AreCounted t → counted_at c serial size t ≡ counted (with_message size) c (uncounted_message c serial t)
 heads_made c serial size t h = cases (get t.messages (c, serial)) refl where
-  by_size : (r : Row) (b : Bool) → nat_eq r.size size ≡ b → get t.messages (c, serial) ≡ Some r → cond b t.heads (counted (with_message size) c (counted (without_message r.size) c t.heads)) ≡ counted (with_message size) c (uncounted_message c serial t)
-  by_size r true same is = sym (row_same c serial t r h is) ∙ ap (λ n. counted (with_message n) c (uncounted_message c serial t)) (nat_eq_then r.size size same)
-  by_size r false apart is = sym (ap (λ o. counted (with_message size) c (without c t o)) is)
+  by_size : (r : Row) (b : Bool) → nat_eq r.size size ≡ b → get t.messages (c, serial) ≡ Some r → cond b t.heads (resized c r.size size t.heads) ≡ resized c r.size size t.heads
+  by_size r true same is = sym (resized_same c serial t r h is) ∙ ap (λ n. resized c r.size n t.heads) (told_same r.size size same)
+  by_size r false apart is = refl
 
-  cases : (o : Option Row) → get t.messages (c, serial) ≡ o → counted_at c serial size t ≡ counted (with_message size) c (uncounted_message c serial t)
-  cases None is = ap (chosen c size t) is ∙ sym (ap (λ o. counted (with_message size) c (without c t o)) is)
-  cases (Some r) is = ap (chosen c size t) is ∙ by_size r (nat_eq r.size size) refl is
+  cases : (o : Option Row) → get t.messages (c, serial) ≡ o → chosen c size t.heads o ≡ counted (with_message size) c (given t.heads (λ (r : Row). counted (without_message r.size) c t.heads) o)
+  cases None is = refl
+  cases (Some r) is = by_size r (nat_eq r.size size) refl is
 
 made_is : (c : List ℕ) (ch : Change) (t : Tables) → AreCounted t → made_by c ch t ≡ write c ch t
 made_is c (PutHead head) t h = refl
@@ -124,20 +130,9 @@ made_is c (PutMark mark) t h = refl
 made_is c (AddNotice notice) t h = refl
 made_is c (DropNoticesBelow number) t h = refl
 
-pub made_all_is : (c : List ℕ) (chs : List Change) (t : Tables) → AreCounted t → made_by_all c chs t ≡ write_all c chs t
+made_all_is : (c : List ℕ) (chs : List Change) (t : Tables) → AreCounted t → made_by_all c chs t ≡ write_all c chs t
 made_all_is c [] t h = refl
 made_all_is c (ch ∷ chs) t h = ap (made_by_all c chs) (made_is c ch t h) ∙ made_all_is c chs (write c ch t) (counts_stay c (ch ∷ []) t h)
-
--- a query leaves what it found
-pub unchanged_leaves : (a b : State) → IsDesk a.now → IsUnchanged a b → Leaves a b (tables_in a.now)
-unchanged_leaves a b desk h = record {
-  desk = subst IsDesk (sym h.0.now_is) desk;
-  tables = ap tables_in h.0.now_is;
-  is_open = h.0.is_open;
-  was_open = h.0.was_open;
-  mode = h.0.mode;
-  committed = λ _. h.0.committed_is;
-}
 
 pub all_committed : (new : State) (c : List ℕ) (chs : List Change) (t : Tables) → AreCounted t → {X : Type 0} (r : Result X Error) → OnOk r (Commits new (made_by_all c chs t)) → OnOk r (Commits new (write_all c chs t))
 all_committed new c chs t h r = subst (λ u. OnOk r (Commits new u)) (made_all_is c chs t h)
@@ -148,7 +143,3 @@ all_kept old new r c chs k = record {
   quiet = k.quiet;
   stops = λ rest counted. subst (LeavesTables old new) (made_all_is c chs (tables_in old.committed) counted) (k.stops rest counted);
 }
-
-pub then_ok : {X : Type 0} (r : Result X Error) (P Q : Type 0) → (P → Q) → OnOk r P → OnOk r Q
-then_ok (Ok x) P Q f p = f p
-then_ok (Err e) P Q f p = p

@@ -1,8 +1,15 @@
 -- One statement after another, inside a transaction.
 use Rattle.std.proofs.Common.{◌≡◌, sym, ap, ◌∙◌, subst}
+use Rattle.std.specs.Prelude.{Result, Ok, Err, OnOk}
+use Rattle.sqlite.specs.declared.error.Error.{Error}
 use Rattle.sqlite.specs.State.{State, IsUnchanged}
 use Rattle.hq_store.specs.Tables.{Tables}
 use Rattle.hq_sql.specs.Tables.{IsDesk, Leaves, tables_in}
+
+-- ---- what is kept
+
+pub desk_after : (old new : State) → IsUnchanged old new → IsDesk old.now → IsDesk new.now
+desk_after old new same desk = subst IsDesk (sym same.0.now_is) desk
 
 -- ---- what is left
 
@@ -20,7 +27,18 @@ left_after old mid new t same p = record {
 pub made_after : (f : Tables → Tables) (old mid new : State) (u : Tables) → IsUnchanged old mid → Leaves mid new (f (tables_in mid.now)) → f (tables_in old.now) ≡ u → Leaves old new u
 made_after f old mid new u same p e = subst (Leaves old new) (ap (λ d. f (tables_in d)) same.0.now_is ∙ e) (left_after old mid new _ same p)
 
--- ---- what is kept
+-- a query leaves what it found
+pub unchanged_leaves : (old new : State) → IsDesk old.now → IsUnchanged old new → Leaves old new (tables_in old.now)
+unchanged_leaves old new desk same = record {
+  desk = desk_after old new same desk;
+  tables = ap tables_in same.0.now_is;
+  is_open = same.0.is_open;
+  was_open = same.0.was_open;
+  mode = same.0.mode;
+  committed = λ _. same.0.committed_is;
+}
 
-pub desk_after : (old new : State) → IsUnchanged old new → IsDesk old.now → IsDesk new.now
-desk_after old new same desk = subst IsDesk (sym same.0.now_is) desk
+-- what follows where a statement succeeds
+pub then_ok : {X : Type 0} (r : Result X Error) (P Q : Type 0) → (P → Q) → OnOk r P → OnOk r Q
+then_ok (Ok x) P Q f p = f p
+then_ok (Err e) P Q f p = p

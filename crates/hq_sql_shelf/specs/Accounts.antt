@@ -24,13 +24,16 @@ counted_line customer pattern t = record t { heads = given (counted with_line cu
 abbrev pub uncounted_line : List ℕ → Class × List ℕ → Tables → Tables
 uncounted_line customer pattern t = record t { heads = given t.heads (λ _. counted without_line customer t.heads) (get t.lines (customer, pattern)) }
 
--- a message counted with one size is counted with another
-abbrev pub resized_message : List ℕ → ℕ → ℕ → Tables → Tables
-resized_message customer before size t = record t { heads = counted (with_message size) customer (counted (without_message before) customer t.heads) }
+-- the heads once a message that was counted with one size is counted with another
+abbrev pub resized : List ℕ → ℕ → ℕ → FinMap text_cmp Account → FinMap text_cmp Account
+resized customer before size heads = counted (with_message size) customer (counted (without_message before) customer heads)
 
--- the head rows once the message of a serial is counted with this size: the same, where one of this size stands there
+abbrev pub resized_message : List ℕ → ℕ → ℕ → Tables → Tables
+resized_message customer before size t = record t { heads = resized customer before size t.heads }
+
+-- the heads once the message of a serial is counted with this size; the same, where one of this size stands there
 abbrev pub counted_at : List ℕ → ℕ → ℕ → Tables → FinMap text_cmp Account
-counted_at customer serial size t = given (counted (with_message size) customer t.heads) (λ (r : Row). cond (nat_eq r.size size) t.heads (counted (with_message size) customer (counted (without_message r.size) customer t.heads))) (get t.messages (customer, serial))
+counted_at customer serial size t = given (counted (with_message size) customer t.heads) (λ (r : Row). cond (nat_eq r.size size) t.heads (resized customer r.size size t.heads)) (get t.messages (customer, serial))
 
 abbrev pub recounted_message : List ℕ → ℕ → ℕ → Tables → Tables
 recounted_message customer serial size t = record t { heads = counted_at customer serial size t }

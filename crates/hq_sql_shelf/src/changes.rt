@@ -136,7 +136,8 @@ pub(crate) fn make_all<S: Alter>(
     }
 }
 
-/// Makes all changes in order, in one transaction, whatever the counts are.
+/// Makes all changes in order, in one transaction, whatever the counts are. Without changes none
+/// begins.
 fn transact<S: Alter>(
     alloc: Global,
     conn: &mut Connection<S>,
@@ -149,6 +150,9 @@ fn transact<S: Alter>(
     ensures kept { KeepsTransaction (state S.Store conn.old) (state S.Store conn.new) result
         (made_by_all customer.now changes.now (tables_in (state S.Store conn.old).committed)) }
 {
+    if changes.is_empty() {
+        return Ok(());
+    }
     begin(conn)?;
     make_all(alloc, conn, customer, changes)?;
     commit(conn)

@@ -22,7 +22,7 @@ use sqlite::{Alter, Connection, Error, ErrorCode, MemStore};
 use std::alloc::Global;
 
 /// The tables in a store of `sqlite`. Each call is one statement or a few, and each `apply` one
-/// transaction.
+/// transaction, or no statement at all where there are no changes.
 ///
 /// Its faults: 90 is the store's want of memory; 91 is any other failure of a statement, or a row
 /// that is no value of its type; 93 comes once the connection is gone, which only a failure of the

@@ -2,8 +2,8 @@ use Rattle.std.proofs.Common.{◌≡◌, Some, ap, sym, ◌∙◌, subst, rules}
 use Rattle.sqlite.specs.Held.{state}
 use Rattle.hq_store.specs.Tables.{Tables}
 use Rattle.hq_sql.specs.Tables.{Leaves, tables_in}
-use Rattle.hq_sql_shelf.proofs.Recounted.{size_same, size_none, size_other, unchanged_leaves, then_ok}
-use Rattle.hq_sql_shelf.proofs.Steps.{made_after, desk_after}
+use Rattle.hq_sql_shelf.proofs.Recounted.{size_same, size_none, size_other}
+use Rattle.hq_sql_shelf.proofs.Steps.{made_after, unchanged_leaves, then_ok, desk_after}
 use Rattle.hq_sql_shelf.specs.Accounts.{counted_message, resized_message}
 use Rattle.hq_keyed.proofs.Left.{clean_before}
 use Rattle.hq_sql_shelf.proofs.accounts.recount_message.Goals as goal

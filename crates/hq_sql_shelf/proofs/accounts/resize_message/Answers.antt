@@ -1,6 +1,6 @@
 use Rattle.std.proofs.Common.{ap, ◌∙◌}
 use Rattle.sqlite.specs.Held.{state}
-use Rattle.hq_store.specs.Tables.{Tables, recounted, with_message, without_message}
+use Rattle.hq_store.specs.Tables.{Tables, recounted, with_message}
 use Rattle.hq_sql.specs.Heads.{with_account}
 use Rattle.hq_sql.specs.Tables.{tables_in}
 use Rattle.hq_keyed.proofs.Left.{clean_before}
@@ -14,4 +14,4 @@ returns-clause-made g c clean desk =
     let same = c.in_ok-kept.ensures.kept.same was desk in
     let t : Tables = tables_in (state g.S.Store c.args.conn.now).now in
     made_after (with_account c.args.customer.now c.in-Some.more) _ _ _ _ same (c.in_ok-put.ensures.made clean (desk_after _ _ same desk))
-    (ap (λ h. record t { heads = h }) (is_resized (with_message c.args.size) (without_message c.args.before) c.args.customer.now t.heads c.in_ok-kept.kept c.in-Some.more (c.in_ok-kept.ensures.found was desk) (c.in-Some.ensures ∙ ap (recounted (with_message c.args.size)) c.without_message-fewer.ensures)))
+    (ap (λ h. record t { heads = h }) (is_resized c.args.customer.now c.args.before c.args.size t.heads c.in_ok-kept.kept c.in-Some.more (c.in_ok-kept.ensures.found was desk) (c.in-Some.ensures ∙ ap (recounted (with_message c.args.size)) c.without_message-fewer.ensures)))
