@@ -6,13 +6,13 @@ use Rattle.hq_store.specs.Shelves.{Sight}
 use Rattle.hq_desk.specs.declared.desk.Desk.{Desk}
 use Rattle.hq_wire.specs.Exchanges.{Exchanged}
 use Rattle.hq_wire.specs.Replies.{SeenReply}
-use Rattle.hq_wire.specs.declared.directory.Directory.{Directory}
+use Rattle.hq_requests.specs.declared.directory.Directory.{Directory}
 use Rattle.hq_wire.proofs.Serving.{served}
 use Rattle.hq_lines.specs.Ends.{Ends}
 use Rattle.hq_lines.specs.Fields.{Request}
 use Rattle.hq_lines.specs.Lines.{Streams}
-use Rattle.hq_lines.specs.declared.batch.EngineFault.TheVariants.{Read, Write, TooManyReads, WantOfMemory}
-use Rattle.hq_lines.specs.declared.batch.EngineFault.{EngineFault}
+use Rattle.hq_base.specs.declared.engine.EngineFault.TheVariants.{Read, Write, TooManyReads, WantOfMemory}
+use Rattle.hq_base.specs.declared.engine.EngineFault.{EngineFault}
 use Rattle.hq_batch.specs.Batches.{ask_in, reply_line, Replied}
 use Rattle.hq_batch.specs.Steps.{LineStep}
 use Rattle.hq_batch.specs.declared.front.Front.{Front}

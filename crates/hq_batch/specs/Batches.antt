@@ -3,11 +3,11 @@ use Rattle.std.specs.Prelude.{◌≡◌, ℕ, ◌+◌, ◌/◌, ◌%◌, List, [
 use Rattle.hq_base.specs.declared.failure.Refusal.TheVariants.{BadRequest}
 use Rattle.hq_store.specs.Shelves.{Sight}
 use Rattle.hq_desk.specs.declared.desk.Desk.{Desk}
-use Rattle.hq_wire.specs.Calls.{call_from}
+use Rattle.hq_requests.specs.Calls.{call_from}
 use Rattle.hq_wire.specs.Exchanges.{Ask}
 use Rattle.hq_wire.specs.Replies.{SeenReply}
 use Rattle.hq_wire.specs.Runs.{Served}
-use Rattle.hq_wire.specs.declared.directory.Directory.{Directory}
+use Rattle.hq_requests.specs.declared.directory.Directory.{Directory}
 use Rattle.hq_lines.specs.Fields.{Request}
 
 -- What a line asks: what its exchange asks; a line that cannot be read is refused as 1.

@@ -3,7 +3,7 @@ use Rattle.std.specs.Prelude.{◌≡◌, ℕ, List, Option, string_bytes, option
 use Rattle.hq_store.specs.Shelves.{Sight}
 use Rattle.hq_wire.specs.Exchanges.{Exchanged}
 use Rattle.hq_wire.specs.Replies.{SeenReply}
-use Rattle.hq_wire.specs.declared.asked.Exchange.{Exchange}
+use Rattle.hq_requests.specs.declared.asked.Exchange.{Exchange}
 use Rattle.hq_lines.specs.Fields.{Request}
 use Rattle.hq_batch.specs.Batches.{ask_in, reply_line}
 use Rattle.hq_batch.specs.declared.front.Front.{Front}

@@ -6,10 +6,10 @@ ghost use Rattle.std.specs.List.{list_all};
 ghost use Rattle.hq_envelope.specs.Words.{is_name};
 ghost use Rattle.hq_store.specs.Tables.{Tables};
 ghost use Rattle.hq_json.specs.OneLine.{is_one_line};
-ghost use Rattle.hq_wire.specs.Directories.{names_of};
+ghost use Rattle.hq_requests.specs.Directories.{names_of};
 ghost use Rattle.hq_wire.specs.Exchanges.{Ask, MayReply};
 ghost use Rattle.hq_wire.specs.Replies.{SeenReply};
-ghost use Rattle.hq_wire.specs.declared.directory.Directory.{Directory};
+ghost use Rattle.hq_requests.specs.declared.directory.Directory.{Directory};
 ghost use Rattle.hq_batch.specs.Batches.{reply_line};
 
 use hq_store::Shelf;

@@ -6,5 +6,5 @@ pub mod laws;
 mod serving;
 mod writing;
 
-pub use hq_lines::EngineFault;
+pub use hq_base::EngineFault;
 pub use serving::batch;

@@ -5,8 +5,9 @@ ghost use Rattle.hq_lines.specs.Ends.{Ends};
 ghost use Rattle.hq_batch.specs.Batches.{Replied};
 
 use crate::front::Front;
+use hq_base::EngineFault;
 use hq_desk::Desk;
-use hq_lines::{EngineFault, serve_lines};
+use hq_lines::serve_lines;
 use hq_store::Shelf;
 use hq_wire::Directory;
 use std::alloc::Global;

@@ -8,8 +8,8 @@
 use hq_batch::{EngineFault, batch};
 use hq_desk::Desk;
 use hq_envelope::{Fail, Host, Key, Name};
+use hq_lists::ListShelf;
 use hq_queue::{Customer, Entry, Quota};
-use hq_store::ListShelf;
 use hq_wire::{Directory, are_customers};
 use std::alloc::Global;
 

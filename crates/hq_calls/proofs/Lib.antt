@@ -1,17 +1,2 @@
-pub mod Attempted
-pub mod Imported
 pub mod Isolation
-pub mod Kept
-pub mod Marks
-pub mod Noted
-pub mod Numbers
-pub mod Queued
-pub mod Recipients
-pub mod Repeats
-pub mod Requeued
-pub mod SameAddresses
-pub mod Settled
-pub mod Soundness
-pub mod SweptRows
 pub mod Unchanged
-pub mod WholeQueues

@@ -49,9 +49,9 @@ use Rattle.hq_calls.specs.declared.call.Call.TheVariants as call
 use Rattle.hq_calls.specs.declared.answer.LinePut.TheVariants.{Added, Changed, Same}
 use Rattle.hq_calls.specs.declared.call.Submission.{Submission}
 use Rattle.hq_calls.specs.declared.decision.Decision.{Decision}
-use Rattle.hq_calls.specs.declared.notices.Plan.{Plan}
-use Rattle.hq_calls.specs.declared.queues.Move.{Move}
-use Rattle.hq_calls.specs.declared.queues.Move.TheVariants as move
+use Rattle.hq_calls.specs.declared.plan.Plan.{Plan}
+use Rattle.hq_calls.specs.declared.call.Move.{Move}
+use Rattle.hq_calls.specs.declared.call.Move.TheVariants as move
 
 -- what tells of no change has none
 abbrev Honest : Decision → Type 0

@@ -15,7 +15,7 @@ use Rattle.hq_calls.specs.Sweeps.{sweep}
 use Rattle.hq_calls.specs.declared.call.Call.{Call}
 use Rattle.hq_calls.specs.declared.call.Call.TheVariants as call
 use Rattle.hq_calls.specs.declared.decision.Decision.{Decision}
-use Rattle.hq_calls.specs.declared.queues.Move.TheVariants as move
+use Rattle.hq_calls.specs.declared.call.Move.TheVariants as move
 
 unfoldable pub decide : List ℕ → Entry → Readings → ℕ → Call → Decision
 decide host entry readings at (call.Submit sub) = submit entry readings at sub (readings.by_spool sub.spool)

@@ -9,15 +9,15 @@ use Rattle.hq_queue.specs.declared.account.Head.{Head}
 use Rattle.hq_queue.specs.declared.message.Message.{Message}
 use Rattle.hq_queue.specs.declared.outcome.Told.{Told}
 use Rattle.hq_text.specs.Notices.{human_text, status_text}
-use Rattle.hq_text.specs.declared.notices.Kind.{Kind}
+use Rattle.hq_queue.specs.declared.kind.Kind.{Kind}
 use Rattle.hq_store.specs.declared.change.Change.{Change}
 use Rattle.hq_store.specs.declared.change.Change.TheVariants.{PutHead, AddNotice, DropNoticesBelow}
 use Rattle.hq_store.specs.declared.notice.Notice.{Notice}
 use Rattle.hq_calls.specs.Answering.{tell, refuse}
 use Rattle.hq_calls.specs.declared.answer.Answer.TheVariants as answer
 use Rattle.hq_calls.specs.declared.decision.Decision.{Decision}
-use Rattle.hq_calls.specs.declared.notices.Draft.{Draft}
-use Rattle.hq_calls.specs.declared.notices.Plan.{Plan}
+use Rattle.hq_calls.specs.declared.plan.Draft.{Draft}
+use Rattle.hq_calls.specs.declared.plan.Plan.{Plan}
 
 -- ---- to whom it goes
 

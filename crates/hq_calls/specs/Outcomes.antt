@@ -10,7 +10,7 @@ use Rattle.hq_queue.specs.declared.message.Pending.{Pending}
 use Rattle.hq_queue.specs.declared.outcome.Reported.{Reported}
 use Rattle.hq_queue.specs.declared.outcome.Reported.TheVariants.{Repeat, Done}
 use Rattle.hq_queue.specs.declared.outcome.Told.{Told}
-use Rattle.hq_text.specs.declared.notices.Kind.TheVariants.{Failure}
+use Rattle.hq_queue.specs.declared.kind.Kind.TheVariants.{Failure}
 use Rattle.hq_store.specs.Readings.{saturated}
 use Rattle.hq_store.specs.declared.change.Change.{Change}
 use Rattle.hq_store.specs.declared.change.Change.TheVariants.{PutMessage, DropMessage}
@@ -19,7 +19,7 @@ use Rattle.hq_calls.specs.Notices.{drafted, carried_out}
 use Rattle.hq_calls.specs.declared.answer.Answer.TheVariants as answer
 use Rattle.hq_calls.specs.declared.call.AttemptReport.{AttemptReport}
 use Rattle.hq_calls.specs.declared.decision.Decision.{Decision}
-use Rattle.hq_calls.specs.declared.notices.Plan.{Plan}
+use Rattle.hq_calls.specs.declared.plan.Plan.{Plan}
 
 -- ---- the report of an attempt
 

@@ -15,8 +15,8 @@ use Rattle.hq_calls.specs.Answering.{tell}
 use Rattle.hq_calls.specs.Messages.{with_deleted}
 use Rattle.hq_calls.specs.declared.answer.Answer.TheVariants as answer
 use Rattle.hq_calls.specs.declared.decision.Decision.{Decision}
-use Rattle.hq_calls.specs.declared.queues.Move.{Move}
-use Rattle.hq_calls.specs.declared.queues.Move.TheVariants.{Hold, Release}
+use Rattle.hq_calls.specs.declared.call.Move.{Move}
+use Rattle.hq_calls.specs.declared.call.Move.TheVariants.{Hold, Release}
 
 -- ---- hold and release of all
 

@@ -10,8 +10,8 @@ use Rattle.hq_queue.specs.declared.message.Pending.{Pending}
 use Rattle.hq_queue.specs.declared.outcome.Told.{Told}
 use Rattle.hq_queue.specs.declared.sweep.Swept.{Swept}
 use Rattle.hq_queue.specs.declared.sweep.Swept.TheVariants.{Expired, Warned, Untouched}
-use Rattle.hq_text.specs.declared.notices.Kind.{Kind}
-use Rattle.hq_text.specs.declared.notices.Kind.TheVariants.{Failure, Delay}
+use Rattle.hq_queue.specs.declared.kind.Kind.{Kind}
+use Rattle.hq_queue.specs.declared.kind.Kind.TheVariants.{Failure, Delay}
 use Rattle.hq_store.specs.Readings.{saturated}
 use Rattle.hq_store.specs.declared.change.Change.{Change}
 use Rattle.hq_store.specs.declared.change.Change.TheVariants.{PutMessage, DropMessage}
@@ -19,8 +19,8 @@ use Rattle.hq_calls.specs.Answering.{tell}
 use Rattle.hq_calls.specs.Notices.{drafted, carried_out}
 use Rattle.hq_calls.specs.declared.answer.Answer.TheVariants as answer
 use Rattle.hq_calls.specs.declared.decision.Decision.{Decision}
-use Rattle.hq_calls.specs.declared.notices.Draft.{Draft}
-use Rattle.hq_calls.specs.declared.notices.Plan.{Plan}
+use Rattle.hq_calls.specs.declared.plan.Draft.{Draft}
+use Rattle.hq_calls.specs.declared.plan.Plan.{Plan}
 
 -- ---- one message
 

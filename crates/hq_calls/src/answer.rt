@@ -4,10 +4,9 @@ ghost use Rattle.std.specs.Prelude.{◌≡◌};
 ghost use Rattle.hq_calls.specs.Answers.{answer_number};
 
 use hq_access::{Action, Line, LookupKey, Refused};
-use hq_envelope::{Items, Refusal, Serial};
+use hq_envelope::{Items, Refusal, Serial, WrittenText};
 use hq_queue::{Counts, Message, Tally};
 use hq_store::Notice;
-use hq_text::WrittenText;
 
 /// What putting a line did.
 #[derive(Clone, Copy, Debug, PartialEq, Eq, Drop)]

@@ -4,7 +4,7 @@ ghost use Rattle.std.specs.Prelude.{IsTrue, length};
 ghost use Rattle.hq_calls.specs.Limits.{is_recipient_count, is_size};
 
 use hq_access::{Class, Line, Pattern};
-use hq_envelope::{Address, Items, Label, Sender, Serial, Spool};
+use hq_envelope::{Address, Items, Label, Moment, Sender, Serial, Spool};
 use hq_queue::{Attempt, Outcome};
 
 /// A message that a relay worker hands in.
@@ -82,4 +82,13 @@ pub enum Call {
     Usage,
     /// Writes the queue report.
     Report,
+}
+
+/// A move of every message (postsuper(1), `-h` and `-H`).
+#[derive(Clone, Copy, Debug, PartialEq, Eq, Drop)]
+pub enum Move {
+    /// What is incoming or deferred goes on hold.
+    Hold,
+    /// What is on hold is deferred, and may be tried from this moment on.
+    Release(Moment),
 }

@@ -29,22 +29,6 @@ pub fn isolated()
         → own other (shared host entry t at call).1 ≡ own other t }
 {}
 
-/// Sound tables stay sound by every call; so conservation holds for every customer afterwards.
-pub fn stays_sound()
-    ensures { (host : List ℕ) (entry : Entry) (t : Tables) (at : ℕ) (call : Call)
-        → Sound t → Sound (shared host entry t at call).1 }
-{}
-
-/// An import that was answered with counts is kept for good: after any calls of the customer, the
-/// same file under its label is answered with these counts and changes nothing.
-pub fn imports_are_kept()
-    ensures { (host : List ℕ) (entry : Entry) (s : State) (at : ℕ) (label file : List ℕ)
-        (counts : ImportCounts) (calls : List (ℕ × Call)) (later : ℕ)
-        → (step host entry s at (Import label file)).0 ≡ Imported counts
-        → (let after = state_after host entry (step host entry s at (Import label file)).1 calls in
-        step host entry after later (Import label file) ≡ (Imported counts, after)) }
-{}
-
 /// What leaves the state of the machine of one customer as it was: a call that is refused; one that
 /// only reads; one that is told to have changed nothing; and an import under a label that was used.
 pub fn state_is_left()

@@ -18,34 +18,15 @@ use crate::relay::{decide_due, decide_outcome, decide_sweep};
 use crate::report::decide_report;
 use crate::submit::decide_submit;
 use hq_access::{Class, Line, Pattern, keys_of};
+use hq_attempts::notices::{notice_page, show_notice};
 use hq_calls::decision::{Decision, PAGE, refuse, tell};
-use hq_calls::lines::{drop_line, line_page, put_new, put_over};
-use hq_calls::messages::{delete, hold_found, page, release_found, requeue_with, show};
-use hq_calls::notices::{notice_page, show_notice};
-use hq_calls::queues::Move;
-use hq_calls::{Answer, Call};
+use hq_calls::{Answer, Call, Move, Render};
+use hq_decisions::lines::{drop_line, line_page, put_new, put_over};
+use hq_decisions::messages::{delete, hold_found, page, release_found, requeue_with, show};
 use hq_envelope::{Fault, Host, Items, Moment, Refusal, Sender, Serial};
 use hq_queue::Entry;
 use hq_store::Shelf;
 use std::alloc::{AllocError, Global};
-
-/// How an answer is written.
-pub trait Render {
-    ghost use Rattle.std.specs.Prelude.{List, ℕ};
-    ghost use Rattle.hq_calls.specs.declared.answer.Answer.{Answer};
-
-    /// The one text of an answer.
-    ghost text: { Self → Answer → List ℕ };
-
-    /// The texts that there is room for.
-    ghost fits: { Self → List ℕ → Type 0 };
-
-    /// The text of an answer. The only error is want of memory, and that is answered too where the
-    /// text is one that there is no room for.
-    fn render(&self, alloc: Global, answer: &Answer) -> Result<Vec<u8>, AllocError>
-        ensures text { IfOk result (λ bytes. bytes.items ≡ text self.now answer.now) }
-        ensures fits { IfOk result (λ bytes. fits self.now bytes.items) };
-}
 
 /// An answer as it is written.
 #[derive(Drop)]

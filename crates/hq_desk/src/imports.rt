@@ -10,7 +10,7 @@ ghost use Rattle.hq_desk.specs.ShelfLines.{FindsOpen, KeepsOpen};
 use hq_access::Line;
 use hq_calls::LinePut;
 use hq_calls::decision::{Decision, refuse};
-use hq_calls::imports::{beside, digest, repeat, take_rows};
+use hq_decisions::imports::{beside, digest, repeat, take_rows};
 use hq_envelope::{Fail, Fault, Items, Label, Name};
 use hq_import::lines_of;
 use hq_queue::Entry;

@@ -11,8 +11,8 @@ mod relay;
 mod report;
 mod submit;
 
-pub use desk::{Desk, Render, Rendered};
+pub use desk::{Desk, Rendered};
 pub use hq_calls::{
-    Answer, AttemptCounts, AttemptReport, Call, Decision, ImportCounts, LinePut, Submission,
-    SweepCounts, Usage,
+    Answer, AttemptCounts, AttemptReport, Call, Decision, ImportCounts, LinePut, Render,
+    Submission, SweepCounts, Usage,
 };

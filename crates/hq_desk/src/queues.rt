@@ -6,8 +6,9 @@ ghost use Rattle.hq_calls.specs.Queues as queues;
 ghost use Rattle.hq_desk.specs.Desks.{with_memory};
 
 use crate::relay::MOST_MESSAGES;
+use hq_calls::Move;
 use hq_calls::decision::Decision;
-use hq_calls::queues::{Move, delete_all, move_all, usage};
+use hq_decisions::queues::{delete_all, move_all, usage};
 use hq_envelope::Fault;
 use hq_queue::Entry;
 use hq_store::Shelf;

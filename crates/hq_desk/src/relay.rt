@@ -9,10 +9,10 @@ ghost use Rattle.hq_calls.specs.Outcomes as outcomes;
 ghost use Rattle.hq_calls.specs.Sweeps as sweeps;
 ghost use Rattle.hq_desk.specs.Desks.{with_memory};
 
+use hq_attempts::outcomes::{due_page, take_report};
+use hq_attempts::sweeps::sweep;
 use hq_calls::AttemptReport;
 use hq_calls::decision::{Decision, refuse};
-use hq_calls::outcomes::{due_page, take_report};
-use hq_calls::sweeps::sweep;
 use hq_envelope::{Fault, Host, Moment, Refusal, Serial};
 use hq_queue::Entry;
 use hq_store::Shelf;

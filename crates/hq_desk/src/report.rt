@@ -13,10 +13,10 @@ ghost use Rattle.hq_desk.specs.Reports.{last_serial};
 use crate::relay::MOST_MESSAGES;
 use hq_calls::Answer;
 use hq_calls::decision::{Decision, PAGE, tell};
-use hq_envelope::{Fault, Serial};
+use hq_envelope::{Fault, Serial, WrittenText};
 use hq_queue::{Entry, Message};
 use hq_store::Shelf;
-use hq_text::{Report, WrittenText};
+use hq_text::Report;
 use std::alloc::Global;
 
 /// Pages behind the first, as many as a customer can have.

@@ -8,10 +8,11 @@
 use hq_batch::{EngineFault, batch};
 use hq_desk::Desk;
 use hq_envelope::Fault;
+use hq_lists::ListShelf;
 use hq_program::{Trouble, set_up, words};
 use hq_settings::Settings;
 use hq_sql_shelf::SqlShelf;
-use hq_store::{ListShelf, Shelf};
+use hq_store::Shelf;
 use hq_trial::{FailingShelf, Failure};
 use std::io::{self, BufWriter, Write};
 

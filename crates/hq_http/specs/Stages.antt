@@ -2,8 +2,8 @@
 use Rattle.std.specs.Prelude.{◌≡◌, ◌≢◌, ◌⊎◌, ◌≤◌, ◌<◌, ℕ, List, length, Option, option_map, string_bytes}
 use Rattle.std.specs.Io.KnownBytes.{Consumes}
 use Rattle.httparse.specs.Grammar.{RequestHead}
-use Rattle.hq_lines.specs.declared.batch.EngineFault.{EngineFault}
-use Rattle.hq_lines.specs.declared.batch.EngineFault.TheVariants as fault
+use Rattle.hq_base.specs.declared.engine.EngineFault.{EngineFault}
+use Rattle.hq_base.specs.declared.engine.EngineFault.TheVariants as fault
 use Rattle.hq_http.specs.Requests as requests
 use Rattle.hq_http.specs.Requests.{IsOpen, Reads, Settles, RequestOf, Received, HasNoRoom, nothing, refused, request}
 use Rattle.hq_http.specs.declared.ends.Place.TheVariants.{Ended}

@@ -6,8 +6,7 @@ ghost use Rattle.hq_http.specs.Stages.{StageIs, Going, InputIs, LeavesOpen, Turn
 
 use crate::begun::Begun;
 use crate::stages::{Message, Stage, Step, advance};
-use hq_base::Refusal;
-use hq_lines::EngineFault;
+use hq_base::{EngineFault, Refusal};
 use std::alloc::Global;
 use std::io::{ErrorKind, Read};
 

@@ -1,7 +1,7 @@
 //! What a reader's bytes ask for, in a line.
 
+use hq_base::EngineFault;
 use hq_http::{Input, Message, read_request};
-use hq_lines::EngineFault;
 use hq_pieces::Pieces;
 use std::alloc::{AllocError, Global};
 

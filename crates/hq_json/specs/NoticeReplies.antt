@@ -2,8 +2,8 @@
 use Rattle.std.specs.Prelude.{ℕ, Bool, List, [], ◌∷◌, map, codes}
 use Rattle.serde_json.specs.Data.{Data, boolean, string, array}
 use Rattle.serde_json.specs.View.{items_of}
-use Rattle.hq_text.specs.declared.notices.Kind.{Kind}
-use Rattle.hq_text.specs.declared.notices.Kind.TheVariants.{Failure, Delay}
+use Rattle.hq_queue.specs.declared.kind.Kind.{Kind}
+use Rattle.hq_queue.specs.declared.kind.Kind.TheVariants.{Failure, Delay}
 use Rattle.hq_store.specs.declared.notice.Notice.{Notice}
 use Rattle.hq_json.specs.Objects.{having, count, id}
 

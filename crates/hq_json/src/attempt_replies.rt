@@ -6,7 +6,7 @@ ghost use Rattle.serde_json.specs.View.{view, items_of};
 ghost use Rattle.hq_json.specs.AttemptReplies as replies;
 
 use crate::objects::{address_list, id_value};
-use hq_desk::{AttemptCounts, SweepCounts};
+use hq_calls::{AttemptCounts, SweepCounts};
 use hq_queue::Message;
 use serde_json::{Value, json};
 use std::alloc::{AllocError, Global};

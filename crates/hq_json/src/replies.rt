@@ -16,7 +16,7 @@ use crate::table_replies::{
     checked_value, imported_value, line_dropped_value, line_put_value, lines_value, refused_list,
 };
 use hq_access::Refused;
-use hq_desk::{Answer, Render};
+use hq_calls::{Answer, Render};
 use hq_envelope::{Refusal, Serial};
 use hq_queue::{Message, Pending, QueueState, Status};
 use serde_json::{Value, json};

@@ -7,7 +7,7 @@ ghost use Rattle.hq_json.specs.Submissions.{recipients_of, size_of, fields_of, a
 
 use crate::members::{MessageSize, RecipientTexts, SubmissionTexts};
 use hq_bodies::{has_only, json_value, number_member, text_member, texts_member};
-use hq_desk::Submission;
+use hq_calls::Submission;
 use hq_envelope::{Address, Fail, Items, Refusal, Sender, Spool};
 use serde_json::Value;
 use std::alloc::Global;

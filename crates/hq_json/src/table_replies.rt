@@ -8,7 +8,7 @@ ghost use Rattle.hq_json.specs.Objects as objects;
 ghost use Rattle.hq_json.specs.TableReplies as replies;
 
 use hq_access::{Action, Line, LookupKey, Refused};
-use hq_desk::{ImportCounts, LinePut};
+use hq_calls::{ImportCounts, LinePut};
 use serde_json::{Value, json};
 use std::alloc::{AllocError, Global};
 

@@ -7,8 +7,8 @@ use Rattle.std.proofs.KnownBytes.{Consumes-nil, Consumes-trans, Consumes-kept, A
 use Rattle.std.proofs.lemmas.Bool.{lt-ltb, eqb-false}
 use Rattle.std.proofs.lemmas.List.{map-append}
 use Rattle.std.proofs.lemmas.List.Folds.{concat-append}
-use Rattle.hq_lines.specs.declared.batch.EngineFault.{EngineFault}
-use Rattle.hq_lines.specs.declared.batch.EngineFault.TheVariants.{Read, Write, TooManyReads, WantOfMemory}
+use Rattle.hq_base.specs.declared.engine.EngineFault.{EngineFault}
+use Rattle.hq_base.specs.declared.engine.EngineFault.TheVariants.{Read, Write, TooManyReads, WantOfMemory}
 use Rattle.hq_lines.specs.Fields.{Request, request_in}
 use Rattle.hq_base.specs.Turns.{InTurn}
 use Rattle.hq_base.proofs.Turns.{turns_on}

@@ -10,6 +10,7 @@ ghost use Rattle.hq_lines.specs.Ends.{Ends};
 ghost use Rattle.hq_lines.specs.Progress.{Progress, Cut, Going};
 
 use crate::buffer::LineBuffer;
+use hq_base::EngineFault;
 use std::alloc::Global;
 use std::io::{self, ErrorKind, Read, Write};
 
@@ -18,19 +19,6 @@ const MOST_READS: u32 = 67_108_864;
 
 /// The bytes that one read may give.
 const CHUNK_BYTES: usize = 4096;
-
-/// Why a batch, or the exchange with one client, ended early.
-#[derive(Clone, Copy, Debug, PartialEq, Eq)]
-pub enum EngineFault {
-    /// A read failed, and was not just interrupted.
-    Read,
-    /// A reply could not be written.
-    Write,
-    /// The input had not ended after the most reads: 67,108,864 of a batch, 300,000 of one request.
-    TooManyReads,
-    /// There was no room for a line of a batch; nothing was read.
-    WantOfMemory,
-}
 
 /// What answers the requests of a batch.
 pub trait Answers {

@@ -6,5 +6,5 @@ mod batch;
 mod buffer;
 mod fields;
 
-pub use batch::{Answers, EngineFault, serve_lines};
+pub use batch::{Answers, serve_lines};
 pub use fields::{RequestLine, read_line};

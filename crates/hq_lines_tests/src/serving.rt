@@ -2,7 +2,8 @@
 //! Expected values are the rules of a batch.
 
 use crate::echo::Echo;
-use hq_lines::{EngineFault, serve_lines};
+use hq_base::EngineFault;
+use hq_lines::serve_lines;
 use hq_pieces::{Narrow, Pieces};
 use std::alloc::{AllocError, Global};
 use std::process::Abort;

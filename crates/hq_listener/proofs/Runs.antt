@@ -7,11 +7,11 @@ use Rattle.hq_desk.specs.declared.desk.Desk.{Desk}
 use Rattle.hq_base.proofs.Turns.{turns_on}
 use Rattle.hq_wire.specs.Exchanges.{Exchanged}
 use Rattle.hq_wire.specs.Replies.{SeenReply}
-use Rattle.hq_wire.specs.declared.directory.Directory.{Directory}
+use Rattle.hq_requests.specs.declared.directory.Directory.{Directory}
 use Rattle.hq_wire.proofs.Serving.{served}
 use Rattle.hq_lines.specs.Lines.{Streams}
-use Rattle.hq_lines.specs.declared.batch.EngineFault.{EngineFault}
-use Rattle.hq_lines.specs.declared.batch.EngineFault.TheVariants.{Read, Write, TooManyReads, WantOfMemory}
+use Rattle.hq_base.specs.declared.engine.EngineFault.{EngineFault}
+use Rattle.hq_base.specs.declared.engine.EngineFault.TheVariants.{Read, Write, TooManyReads, WantOfMemory}
 use Rattle.hq_http.specs.Requests.{Asked, nothing, refused, request}
 use Rattle.hq_serve.specs.Connections.{asks as asked_of, Answered, Ends}
 use Rattle.hq_listener.specs.Listening.{DoesSome, ServesComing}

@@ -5,7 +5,7 @@ use Rattle.hq_desk.specs.declared.desk.Desk.{Desk}
 use Rattle.hq_wire.specs.Exchanges.{Ask}
 use Rattle.hq_wire.specs.Replies.{SeenReply}
 use Rattle.hq_wire.specs.Runs.{Served}
-use Rattle.hq_wire.specs.declared.directory.Directory.{Directory}
+use Rattle.hq_requests.specs.declared.directory.Directory.{Directory}
 use Rattle.hq_listener.specs.declared.connections.Connections.{Connections}
 use Rattle.hq_listener.specs.declared.listening.End.{End}
 use Rattle.hq_listener.specs.declared.listening.End.TheVariants.{Done, Network, Clock}

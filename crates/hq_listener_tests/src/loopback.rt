@@ -4,8 +4,8 @@
 use hq_desk::Desk;
 use hq_envelope::Fail as Failure;
 use hq_listener::{Connections, End, Limits, serve_on};
+use hq_lists::ListShelf;
 use hq_settings::{Relay, Settings};
-use hq_store::ListShelf;
 use std::alloc::Global;
 use std::io::{self, Read, Write};
 use std::net::{Net, Shutdown, TcpListener, TcpStream};

@@ -3,11 +3,11 @@ use Rattle.std.proofs.Common.{◌≡◌, ℕ, false, List, Option, sym, ap, ◌�
 use Rattle.std.specs.Bool.{⊤}
 use Rattle.hq_base.specs.Refusals.{no_memory}
 use Rattle.hq_base.specs.declared.failure.Fault.TheVariants.{WantOfMemory}
-use Rattle.hq_store.specs.Listed.{tables_of}
+use Rattle.hq_lists.specs.Lists.{tables_of}
 use Rattle.hq_store.specs.Shelves.{Sight}
 use Rattle.hq_store.specs.Sound.{Sound}
 use Rattle.hq_store.specs.Tables.{no_tables}
-use Rattle.hq_store.specs.declared.list_rows.ListRows.{ListRows}
+use Rattle.hq_lists.specs.declared.list_rows.ListRows.{ListRows}
 use Rattle.hq_store.proofs.Empty.{empty_sound}
 use Rattle.hq_desk.specs.Desks.{host_of, shelf_of}
 use Rattle.hq_wire.specs.Runs.{AllReplied, Alone}

@@ -7,12 +7,13 @@ ghost use Rattle.hq_main.specs.Runs.{Serves, BatchEnds, DoesWord, Commands};
 
 use crate::sweeping::do_sweep;
 use hq_envelope::Fault;
+use hq_lists::ListShelf;
 use hq_program::{Trouble, builtin_settings, print, refuse, serve, set_up, show, tell};
 use hq_sql_admin::{import, migrate, queue};
 use hq_sql_file::FileShelf;
 use hq_sql_program::serve_stored;
 use hq_sql_server::serve_http;
-use hq_store::{ListShelf, Shelf};
+use hq_store::Shelf;
 use hq_words::{Asked, Batch, Words, read_words};
 use std::io::{Read, Write};
 

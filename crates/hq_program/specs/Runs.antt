@@ -8,8 +8,8 @@ use Rattle.hq_settings.specs.declared.settings.Settings.{Settings}
 use Rattle.hq_lines.specs.Ends.{Ends}
 use Rattle.hq_lines.specs.Fields.{Request}
 use Rattle.hq_lines.specs.Lines.{Streams}
-use Rattle.hq_lines.specs.declared.batch.EngineFault.{EngineFault}
-use Rattle.hq_lines.specs.declared.batch.EngineFault.TheVariants.{Read, Write, TooManyReads, WantOfMemory}
+use Rattle.hq_base.specs.declared.engine.EngineFault.{EngineFault}
+use Rattle.hq_base.specs.declared.engine.EngineFault.TheVariants.{Read, Write, TooManyReads, WantOfMemory}
 use Rattle.hq_batch.specs.Batches.{Replied}
 use Rattle.hq_program.specs.declared.trouble.Trouble.{Trouble}
 use Rattle.hq_program.specs.declared.trouble.Trouble.TheVariants.{File, Input, Output, Network, Clock, Desk as OfDesk}

@@ -1,9 +1,9 @@
 //! A batch over plain lists, and readers and writers in memory: how it ends, and what it writes.
 
+use hq_lists::ListShelf;
 use hq_pieces::Pieces;
 use hq_program::{Trouble, builtin_settings, serve};
 use hq_settings::{Relay, Settings};
-use hq_store::ListShelf;
 use std::alloc::{AllocError, Global};
 use std::io::{self, ErrorKind, Read, Write};
 use std::process::Abort;

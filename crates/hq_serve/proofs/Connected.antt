@@ -4,11 +4,11 @@ use Rattle.std.proofs.Common.{◌≡◌, ℕ, List, [], Option, None, Some, Resu
 use Rattle.hq_base.specs.declared.failure.Refusal.{Refusal}
 use Rattle.hq_store.specs.Shelves.{Sight}
 use Rattle.hq_desk.specs.declared.desk.Desk.{Desk}
-use Rattle.hq_wire.specs.Calls.{Asked, call_from}
+use Rattle.hq_requests.specs.Calls.{Asked, call_from}
 use Rattle.hq_wire.specs.Exchanges.{Exchanged, IsRefused, ask_of}
 use Rattle.hq_wire.specs.Replies.{SeenReply, seen, tells_store}
-use Rattle.hq_wire.specs.declared.asked.Exchange.{Exchange}
-use Rattle.hq_wire.specs.declared.directory.Directory.{Directory}
+use Rattle.hq_requests.specs.declared.asked.Exchange.{Exchange}
+use Rattle.hq_requests.specs.declared.directory.Directory.{Directory}
 use Rattle.hq_wire.proofs.Exchanging as exchanging
 use Rattle.hq_wire.proofs.Serving.{served, served_once}
 use Rattle.hq_http.specs.Requests as requests

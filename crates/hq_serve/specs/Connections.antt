@@ -4,14 +4,14 @@ use Rattle.std.specs.Io.KnownBytes.{Appends, Keeps}
 use Rattle.hq_base.specs.Refusals.{no_memory}
 use Rattle.hq_store.specs.Shelves.{Sight}
 use Rattle.hq_desk.specs.declared.desk.Desk.{Desk}
-use Rattle.hq_wire.specs.Calls.{call_from}
+use Rattle.hq_requests.specs.Calls.{call_from}
 use Rattle.hq_wire.specs.Exchanges.{Ask}
 use Rattle.hq_wire.specs.Replies.{SeenReply, reply_of_fault}
 use Rattle.hq_wire.specs.Runs.{Served}
-use Rattle.hq_wire.specs.declared.directory.Directory.{Directory}
+use Rattle.hq_requests.specs.declared.directory.Directory.{Directory}
 use Rattle.hq_lines.specs.Lines.{Streams}
-use Rattle.hq_lines.specs.declared.batch.EngineFault.{EngineFault}
-use Rattle.hq_lines.specs.declared.batch.EngineFault.TheVariants.{Read, Write, TooManyReads, WantOfMemory}
+use Rattle.hq_base.specs.declared.engine.EngineFault.{EngineFault}
+use Rattle.hq_base.specs.declared.engine.EngineFault.TheVariants.{Read, Write, TooManyReads, WantOfMemory}
 use Rattle.hq_http.specs.Requests.{Asked, nothing, refused, request, Received, HasNoRoom}
 use Rattle.hq_http.specs.Responses.{response_text}
 use Rattle.hq_http.specs.Stages.{StaysOpen}

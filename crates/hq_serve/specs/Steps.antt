@@ -4,8 +4,8 @@ use Rattle.hq_http.specs.Requests as requests
 use Rattle.hq_store.specs.Shelves.{Sight}
 use Rattle.hq_desk.specs.declared.desk.Desk.{Desk}
 use Rattle.hq_wire.specs.Replies.{IsSent, SeenReply}
-use Rattle.hq_wire.specs.declared.asked.Exchange.{Exchange}
-use Rattle.hq_wire.specs.declared.directory.Directory.{Directory}
+use Rattle.hq_requests.specs.declared.asked.Exchange.{Exchange}
+use Rattle.hq_requests.specs.declared.directory.Directory.{Directory}
 use Rattle.hq_wire.specs.declared.reply.Reply.{Reply}
 use Rattle.hq_serve.specs.Connections.{Answered}
 

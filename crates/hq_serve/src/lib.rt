@@ -3,5 +3,5 @@
 
 mod serving;
 
-pub use hq_lines::EngineFault;
+pub use hq_base::EngineFault;
 pub use serving::serve_one;

@@ -7,10 +7,10 @@ ghost use Rattle.hq_wire.specs.Replies.{seen};
 ghost use Rattle.hq_serve.specs.Connections.{response_of, Ends};
 ghost use Rattle.hq_serve.specs.Steps.{IsAsked, Sends};
 
+use hq_base::EngineFault;
 use hq_desk::Desk;
 use hq_envelope::{Fault, Moment};
 use hq_http::{Input, Message, read_request, write_response};
-use hq_lines::EngineFault;
 use hq_store::Shelf;
 use hq_wire::{Directory, Exchange, Reply, exchange, fault_reply, refusal_reply};
 use std::alloc::Global;

@@ -2,10 +2,10 @@
 
 use hq_desk::Desk;
 use hq_envelope::{Fail as Failure, Moment};
+use hq_lists::ListShelf;
 use hq_pieces::Pieces;
 use hq_serve::{EngineFault, serve_one};
 use hq_settings::{Relay, Settings};
-use hq_store::ListShelf;
 use hq_wire::Directory;
 use std::alloc::Global;
 use std::io::Write;

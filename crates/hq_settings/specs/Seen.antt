@@ -1,5 +1,5 @@
 -- What the types of this crate hold, as the definitions have it.
-use Rattle.hq_wire.specs.Directories.{relay_of, customers_of}
+use Rattle.hq_requests.specs.Directories.{relay_of, customers_of}
 use Rattle.hq_settings.specs.Settings.{Named, Set}
 use Rattle.hq_settings.specs.declared.relay.Relay.{Relay}
 use Rattle.hq_settings.specs.declared.settings.Settings.{Settings}

@@ -3,7 +3,7 @@
 use crate::relay::Relay;
 use hq_envelope::{Fail, Host};
 use hq_import::directory_of;
-use hq_wire::Directory;
+use hq_requests::Directory;
 use std::alloc::Global;
 
 /// What a desk is set up with.

@@ -11,8 +11,8 @@ use Rattle.hq_access.specs.declared.pattern.Class.{Class}
 use Rattle.hq_access.specs.declared.pattern.Class.TheVariants.{SenderSide, RecipientSide}
 use Rattle.hq_queue.specs.declared.message.QueueState.{QueueState}
 use Rattle.hq_queue.specs.declared.message.QueueState.TheVariants as state
-use Rattle.hq_store.specs.declared.rows.LineRow.{LineRow}
-use Rattle.hq_store.specs.declared.rows.MessageRow.{MessageRow}
+use Rattle.hq_rows.specs.declared.rows.LineRow.{LineRow}
+use Rattle.hq_rows.specs.declared.rows.MessageRow.{MessageRow}
 use Rattle.hq_envelope.specs.Senders.{sender_text}
 use Rattle.hq_sql.specs.Rows.{sender_of, state_of, state_code, truth, truth_in, class_of, action_of, line_stored, line_read, message_stored, message_read}
 

@@ -25,9 +25,9 @@ use Rattle.hq_keyed.proofs.Writes.{inserted, updated, cast_null, cast_int}
 use Rattle.hq_keyed.proofs.Keyed as keyed
 use Rattle.hq_keyed.proofs.Pages.{selected}
 use Rattle.hq_schema.specs.Schema.{desk_schema, heads}
-use Rattle.hq_store.specs.declared.rows.HeadRow.{HeadRow}
+use Rattle.hq_rows.specs.declared.rows.HeadRow.{HeadRow}
 use Rattle.hq_store.specs.Tables.{text_cmp}
-use Rattle.hq_store.specs.Listed.{head_key, head_value, heads_of}
+use Rattle.hq_rows.specs.Listed.{head_key, head_value, heads_of}
 use Rattle.hq_sql.specs.Rows.{head_columns, head_stored, head_read, head_shown}
 use Rattle.hq_sql.specs.Tables.{IsDesk, Leaves, tables_in}
 use Rattle.hq_sql.specs.Heads.{with_account}

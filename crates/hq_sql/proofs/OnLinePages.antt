@@ -23,13 +23,13 @@ use Rattle.hq_schema.specs.Schema.{desk_schema}
 use Rattle.hq_access.specs.Patterns.{class_name}
 use Rattle.hq_access.specs.declared.pattern.Class.{Class}
 use Rattle.hq_access.specs.declared.pattern.Line.{Line}
-use Rattle.hq_store.specs.declared.rows.LineRow.{LineRow}
+use Rattle.hq_rows.specs.declared.rows.LineRow.{LineRow}
 use Rattle.hq_store.specs.Tables.{text_cmp, class_cmp, lines_cmp}
-use Rattle.hq_store.specs.Listed.{line_row_key, line_row_value}
-use Rattle.hq_store.specs.Lookups.{is_after_pattern, AreUniqueLines, line_rows_with}
+use Rattle.hq_rows.specs.Listed.{line_row_key, line_row_value}
+use Rattle.hq_rows.specs.Lookups.{is_after_pattern, AreUniqueLines, line_rows_with}
 use Rattle.hq_store.specs.Readings.{read_tables, after_pattern}
-use Rattle.hq_store.proofs.Keys.{lines_total, lines_exact}
-use Rattle.hq_store.proofs.LinePages.{sorted_found, after_is}
+use Rattle.hq_store.proofs.Orders.{lines_total, lines_exact}
+use Rattle.hq_rows.proofs.LinePages.{sorted_found, after_is}
 use Rattle.hq_sql.specs.Rows.{line_stored, line_read, line_shown}
 use Rattle.hq_sql.specs.Tables.{IsDesk, tables_in}
 use Rattle.hq_sql.specs.LinePages.{lines_in, first_columns, after_columns}

@@ -24,10 +24,10 @@ use Rattle.hq_schema.specs.Schema.{desk_schema, lines}
 use Rattle.hq_access.specs.Patterns.{class_name}
 use Rattle.hq_access.specs.declared.pattern.Class.{Class}
 use Rattle.hq_tables.proofs.Lists.{remove_is}
-use Rattle.hq_store.specs.declared.rows.LineRow.{LineRow}
+use Rattle.hq_rows.specs.declared.rows.LineRow.{LineRow}
 use Rattle.hq_store.specs.Tables.{text_cmp, class_cmp, line_cmp, lines_cmp}
-use Rattle.hq_store.specs.Listed.{line_row_key, line_row_value, lines_of}
-use Rattle.hq_store.proofs.Keys.{lines_total, lines_exact}
+use Rattle.hq_rows.specs.Listed.{line_row_key, line_row_value, lines_of}
+use Rattle.hq_store.proofs.Orders.{lines_total, lines_exact}
 use Rattle.hq_sql.specs.Rows.{line_columns, line_stored, line_read, line_shown}
 use Rattle.hq_sql.specs.Tables.{IsDesk, Leaves, tables_in}
 use Rattle.hq_sql.specs.Lines.{with_line, without_line, key_columns}

@@ -12,7 +12,7 @@ use Rattle.sqlite_keyed.proofs.ListLemmas.{all_weaker, all_from_test}
 use Rattle.hq_keyed.specs.Changed.{Sets}
 use Rattle.hq_schema.specs.Schema.{desk_schema}
 use Rattle.hq_store.specs.Tables.{Tables}
-use Rattle.hq_store.specs.Listed.{heads_of, messages_of, recipients_of, holds_of, lines_of, marks_of, notices_of}
+use Rattle.hq_rows.specs.Listed.{heads_of, messages_of, recipients_of, holds_of, lines_of, marks_of, notices_of}
 use Rattle.hq_sql.specs.Rows.{head_read, message_read, recipient_read, hold_read, line_read, mark_read, notice_read}
 use Rattle.hq_sql.specs.Tables.{IsDesk, Leaves, AreHeads, AreMessages, AreRecipients, AreHolds, AreLines, AreMarks, AreNotices, tables_in}
 

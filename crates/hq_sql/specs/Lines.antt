@@ -6,8 +6,8 @@ use Rattle.sqlite.specs.Order.{Row}
 use Rattle.hq_access.specs.Patterns.{class_name}
 use Rattle.hq_access.specs.declared.pattern.Class.{Class}
 use Rattle.hq_access.specs.declared.pattern.Line.{Line}
-use Rattle.hq_store.specs.declared.rows.LineRow.{LineRow}
-use Rattle.hq_store.specs.Listed.{line_row_key, line_row_value}
+use Rattle.hq_rows.specs.declared.rows.LineRow.{LineRow}
+use Rattle.hq_rows.specs.Listed.{line_row_key, line_row_value}
 use Rattle.hq_store.specs.Tables.{Tables}
 
 abbrev pub line_row : List ℕ → Line → LineRow

@@ -17,15 +17,15 @@ use Rattle.hq_access.specs.declared.pattern.Class.{Class}
 use Rattle.hq_access.specs.declared.pattern.Class.TheVariants.{SenderSide, RecipientSide}
 use Rattle.hq_queue.specs.declared.message.QueueState.{QueueState}
 use Rattle.hq_queue.specs.declared.message.QueueState.TheVariants.{Incoming, Deferred, Hold}
-use Rattle.hq_store.specs.declared.rows.HeadRow.{HeadRow}
-use Rattle.hq_store.specs.declared.rows.HoldRow.{HoldRow}
-use Rattle.hq_store.specs.declared.rows.LineRow.{LineRow}
-use Rattle.hq_store.specs.declared.rows.MarkRow.{MarkRow}
-use Rattle.hq_store.specs.declared.rows.MessageRow.{MessageRow}
-use Rattle.hq_store.specs.declared.rows.NoticeRow.{NoticeRow}
-use Rattle.hq_store.specs.declared.rows.RecipientRow.{RecipientRow}
-use Rattle.hq_text.specs.declared.notices.Kind.{Kind}
-use Rattle.hq_text.specs.declared.notices.Kind.TheVariants.{Failure, Delay}
+use Rattle.hq_rows.specs.declared.rows.HeadRow.{HeadRow}
+use Rattle.hq_rows.specs.declared.rows.HoldRow.{HoldRow}
+use Rattle.hq_rows.specs.declared.rows.LineRow.{LineRow}
+use Rattle.hq_rows.specs.declared.rows.MarkRow.{MarkRow}
+use Rattle.hq_rows.specs.declared.rows.MessageRow.{MessageRow}
+use Rattle.hq_rows.specs.declared.rows.NoticeRow.{NoticeRow}
+use Rattle.hq_rows.specs.declared.rows.RecipientRow.{RecipientRow}
+use Rattle.hq_queue.specs.declared.kind.Kind.{Kind}
+use Rattle.hq_queue.specs.declared.kind.Kind.TheVariants.{Failure, Delay}
 use Rattle.hq_keyed.specs.Values.{number}
 
 -- ---- values

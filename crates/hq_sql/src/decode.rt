@@ -1,7 +1,7 @@
 //! Rows of answers as typed values.
 
 ghost use Rattle.std.specs.Prelude.{◌≡◌, IfOk, option_map, slice_get, is_some};
-ghost use Rattle.hq_store.specs.Listed.{head_value, line_row_value};
+ghost use Rattle.hq_rows.specs.Listed.{head_value, line_row_value};
 ghost use Rattle.hq_sql.specs.Rows.{head_shown, line_shown};
 ghost use Rattle.hq_sql.specs.LinePages.{line_in};
 

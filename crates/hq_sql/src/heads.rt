@@ -3,7 +3,7 @@
 ghost use Rattle.std.specs.Prelude.{option_map, slice_get};
 ghost use Rattle.std.specs.FinMap.{get};
 ghost use Rattle.sqlite.specs.Held.{state};
-ghost use Rattle.hq_store.specs.Listed.{head_value};
+ghost use Rattle.hq_rows.specs.Listed.{head_value};
 ghost use Rattle.hq_sql.specs.Rows.{head_shown};
 ghost use Rattle.hq_sql.specs.Heads.{with_account};
 ghost use Rattle.hq_sql.specs.Kept.{Shows, Finds, Makes, Inserts, Updates, Keeps, KeepsCommitted};

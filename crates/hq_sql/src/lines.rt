@@ -4,7 +4,7 @@ ghost use Rattle.std.specs.Prelude.{◌≡◌, IfOk, option_map, slice_get, is_s
 ghost use Rattle.std.specs.FinMap.{get};
 ghost use Rattle.sqlite.specs.Held.{state};
 ghost use Rattle.hq_access.specs.Actions.{action_text};
-ghost use Rattle.hq_store.specs.Listed.{line_row_value};
+ghost use Rattle.hq_rows.specs.Listed.{line_row_value};
 ghost use Rattle.hq_sql.specs.Kept.{Shows, Finds, Makes, Inserts, Updates, Keeps, KeepsCommitted};
 ghost use Rattle.hq_sql.specs.Lines.{line_row, with_line, without_line};
 ghost use Rattle.hq_sql.specs.Rows.{line_shown};

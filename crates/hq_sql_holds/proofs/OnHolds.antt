@@ -26,10 +26,10 @@ use Rattle.hq_schema.specs.Schema.{desk_schema}
 use Rattle.hq_schema.specs.Schema as schema
 use Rattle.hq_tables.proofs.Lists.{remove_is}
 use Rattle.hq_tables.proofs.Parts.{tied_true}
-use Rattle.hq_store.specs.declared.rows.HoldRow.{HoldRow}
+use Rattle.hq_rows.specs.declared.rows.HoldRow.{HoldRow}
 use Rattle.hq_store.specs.Tables.{text_cmp, message_cmp}
-use Rattle.hq_store.specs.Listed.{hold_key, hold_value}
-use Rattle.hq_store.proofs.Keys.{message_total, message_exact}
+use Rattle.hq_rows.specs.Listed.{hold_key, hold_value}
+use Rattle.hq_store.proofs.Orders.{message_total, message_exact}
 use Rattle.hq_sql.specs.Rows.{hold_columns, hold_stored, hold_read, hold_shown}
 use Rattle.hq_sql.specs.Tables.{IsDesk, Leaves, tables_in}
 use Rattle.hq_sql.proofs.Tables.{holds_left, write_keeps}

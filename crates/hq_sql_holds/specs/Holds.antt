@@ -4,8 +4,8 @@ use Rattle.std.specs.FinMap.{insert, remove}
 use Rattle.sqlite.specs.declared.types.Value.TheVariants.{Text}
 use Rattle.sqlite.specs.Order.{Row}
 use Rattle.hq_keyed.specs.Values.{number}
-use Rattle.hq_store.specs.declared.rows.HoldRow.{HoldRow}
-use Rattle.hq_store.specs.Listed.{hold_key, hold_value}
+use Rattle.hq_rows.specs.declared.rows.HoldRow.{HoldRow}
+use Rattle.hq_rows.specs.Listed.{hold_key, hold_value}
 use Rattle.hq_store.specs.Tables.{Tables, give_reason}
 
 abbrev pub hold_row : List ℕ → ℕ → List ℕ → HoldRow

@@ -2,7 +2,7 @@
 
 ghost use Rattle.std.specs.Prelude.{◌≡◌, [], IfOk, option_map, slice_get, unwrap_or};
 ghost use Rattle.sqlite.specs.Order.{column};
-ghost use Rattle.hq_store.specs.Listed.{hold_value};
+ghost use Rattle.hq_rows.specs.Listed.{hold_value};
 ghost use Rattle.hq_sql.specs.Rows.{text_in, hold_shown};
 
 use hq_envelope::Text;

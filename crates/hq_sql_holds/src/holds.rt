@@ -4,7 +4,7 @@ ghost use Rattle.std.specs.Prelude.{option_map, slice_get};
 ghost use Rattle.std.specs.FinMap.{get};
 ghost use Rattle.sqlite.specs.Held.{state};
 ghost use Rattle.hq_store.specs.Tables.{reason_of};
-ghost use Rattle.hq_store.specs.Listed.{hold_value};
+ghost use Rattle.hq_rows.specs.Listed.{hold_value};
 ghost use Rattle.hq_sql.specs.Kept.{Shows, Finds, Makes, Inserts, Keeps, KeepsCommitted};
 ghost use Rattle.hq_sql.specs.Rows.{hold_shown};
 ghost use Rattle.hq_sql_holds.specs.Holds.{hold_row, with_hold, without_hold, with_reason};

@@ -25,10 +25,10 @@ use Rattle.hq_schema.specs.Schema.{desk_schema, marks}
 use Rattle.hq_tables.proofs.Lists.{remove_is}
 use Rattle.hq_tables.proofs.Parts.{tied_true}
 use Rattle.hq_store.specs.declared.mark.Mark.{Mark}
-use Rattle.hq_store.specs.declared.rows.MarkRow.{MarkRow}
+use Rattle.hq_rows.specs.declared.rows.MarkRow.{MarkRow}
 use Rattle.hq_store.specs.Tables.{text_cmp, mark_cmp}
-use Rattle.hq_store.specs.Listed.{mark_key, mark_value}
-use Rattle.hq_store.proofs.Keys.{mark_total, mark_exact}
+use Rattle.hq_rows.specs.Listed.{mark_key, mark_value}
+use Rattle.hq_store.proofs.Orders.{mark_total, mark_exact}
 use Rattle.hq_sql.specs.Rows.{mark_columns, mark_stored, mark_read, mark_shown}
 use Rattle.hq_sql.specs.Tables.{IsDesk, Leaves, tables_in}
 use Rattle.hq_sql.proofs.Tables.{marks_left, write_keeps}

@@ -2,7 +2,7 @@
 
 ghost use Rattle.std.specs.Prelude.{◌≡◌, IfOk, option_map, slice_get};
 ghost use Rattle.sqlite.specs.Order.{column};
-ghost use Rattle.hq_store.specs.Listed.{mark_value};
+ghost use Rattle.hq_rows.specs.Listed.{mark_value};
 ghost use Rattle.hq_sql.specs.Rows.{blob_in, text_in, mark_shown};
 
 use hq_envelope::Label;

@@ -3,7 +3,7 @@
 ghost use Rattle.std.specs.Prelude.{option_map, slice_get};
 ghost use Rattle.std.specs.FinMap.{get};
 ghost use Rattle.sqlite.specs.Held.{state};
-ghost use Rattle.hq_store.specs.Listed.{mark_value};
+ghost use Rattle.hq_rows.specs.Listed.{mark_value};
 ghost use Rattle.hq_sql.specs.Kept.{Shows, Finds, Makes, Inserts, Keeps, KeepsCommitted};
 ghost use Rattle.hq_sql.specs.Rows.{mark_shown};
 ghost use Rattle.hq_sql_marks.specs.Marks.{mark_row, with_mark, without_mark};

@@ -26,14 +26,14 @@ use Rattle.hq_tables.specs.Rows.{table, pairs_of, HasUniqueKeys}
 use Rattle.hq_tables.proofs.Pages.{sorted_rows}
 use Rattle.hq_tables.proofs.Unique.{unique_filter}
 use Rattle.hq_schema.specs.Schema as schema
-use Rattle.hq_store.specs.declared.rows.HoldRow.{HoldRow}
-use Rattle.hq_store.specs.declared.rows.MessageRow.{MessageRow}
+use Rattle.hq_rows.specs.declared.rows.HoldRow.{HoldRow}
+use Rattle.hq_rows.specs.declared.rows.MessageRow.{MessageRow}
 use Rattle.hq_store.specs.Lifted.{on_hold, holds_for}
-use Rattle.hq_store.specs.Listed.{message_key, message_value, messages_of, hold_key, hold_value, holds_of}
+use Rattle.hq_rows.specs.Listed.{message_key, message_value, messages_of, hold_key, hold_value, holds_of}
 use Rattle.hq_store.specs.Tables as store
 use Rattle.hq_store.specs.Tables.{message_cmp}
-use Rattle.hq_store.proofs.Keys.{message_total, message_exact}
-use Rattle.hq_store.proofs.Serials.{ascending}
+use Rattle.hq_store.proofs.Orders.{message_total, message_exact}
+use Rattle.hq_store.proofs.Orders.{ascending}
 use Rattle.hq_sql.specs.Rows.{state_code, message_stored, message_read, hold_stored, hold_read}
 use Rattle.hq_sql.specs.Tables.{AreMessages}
 use Rattle.hq_sql_migrate.specs.Migration.{AreReasons}

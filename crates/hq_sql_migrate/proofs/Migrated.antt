@@ -9,7 +9,7 @@ use Rattle.hq_keyed.proofs.Left.{clean_before}
 use Rattle.hq_schema.specs.Schema.{holds, first_schema, desk_schema}
 use Rattle.hq_schema.proofs.Texts.{holds_made_last}
 use Rattle.hq_store.specs.Lifted.{holds_for}
-use Rattle.hq_store.specs.Listed.{holds_of, heads_of, messages_of, recipients_of, lines_of, marks_of, notices_of}
+use Rattle.hq_rows.specs.Listed.{holds_of, heads_of, messages_of, recipients_of, lines_of, marks_of, notices_of}
 use Rattle.hq_sql.specs.Rows.{hold_read, head_read, message_read, recipient_read, line_read, mark_read, notice_read}
 use Rattle.hq_sql.specs.Tables.{AreHolds, AreHeads, AreMessages, AreRecipients, AreLines, AreMarks, AreNotices}
 use Rattle.hq_sql_open.specs.Making.{GoesOn}

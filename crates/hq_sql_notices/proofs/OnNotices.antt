@@ -33,18 +33,19 @@ use Rattle.hq_keyed.proofs.Writes.{inserted, deleted, cast_null, cast_int}
 use Rattle.hq_keyed.proofs.Keyed as keyed
 use Rattle.hq_keyed.proofs.Pages.{selected, paged}
 use Rattle.hq_schema.specs.Schema.{desk_schema, notices}
-use Rattle.hq_text.specs.declared.notices.Kind.{Kind}
-use Rattle.hq_text.specs.declared.notices.Kind.TheVariants.{Failure, Delay}
+use Rattle.hq_queue.specs.declared.kind.Kind.{Kind}
+use Rattle.hq_queue.specs.declared.kind.Kind.TheVariants.{Failure, Delay}
 use Rattle.hq_tables.proofs.Lists.{remove_is}
 use Rattle.hq_tables.proofs.Parts.{tied_true}
 use Rattle.hq_store.specs.declared.notice.Notice.{Notice}
-use Rattle.hq_store.specs.declared.rows.NoticeRow.{NoticeRow}
+use Rattle.hq_rows.specs.declared.rows.NoticeRow.{NoticeRow}
 use Rattle.hq_store.specs.Tables.{Noted, text_cmp, notice_cmp, notice_of}
-use Rattle.hq_store.specs.Listed.{notice_key, notice_value}
-use Rattle.hq_store.specs.Lookups.{is_after, is_notice, AreUniqueNotices, notice_rows_with}
+use Rattle.hq_rows.specs.Listed.{notice_key, notice_value}
+use Rattle.hq_rows.specs.Lookups.{is_after, is_notice, AreUniqueNotices, notice_rows_with}
 use Rattle.hq_store.specs.Readings.{read_tables, after_number}
-use Rattle.hq_store.proofs.Keys.{message_total, message_exact, notice_found}
-use Rattle.hq_store.proofs.NoticePages.{sorted_found, after_is}
+use Rattle.hq_rows.proofs.Keys.{notice_found}
+use Rattle.hq_store.proofs.Orders.{message_total, message_exact}
+use Rattle.hq_rows.proofs.NoticePages.{sorted_found, after_is}
 use Rattle.hq_sql.specs.Rows.{kind_code, kind_of, notice_columns, notice_stored, notice_read, notice_shown}
 use Rattle.hq_sql.specs.Tables.{IsDesk, Leaves, tables_in}
 use Rattle.hq_sql.proofs.Tables.{notices_left, write_keeps}

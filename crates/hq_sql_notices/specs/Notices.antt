@@ -5,8 +5,8 @@ use Rattle.sqlite.specs.declared.types.Value.TheVariants.{Int, Text}
 use Rattle.sqlite.specs.Order.{Row}
 use Rattle.hq_keyed.specs.Values.{number}
 use Rattle.hq_store.specs.declared.notice.Notice.{Notice}
-use Rattle.hq_store.specs.declared.rows.NoticeRow.{NoticeRow}
-use Rattle.hq_store.specs.Listed.{notice_key, notice_value}
+use Rattle.hq_rows.specs.declared.rows.NoticeRow.{NoticeRow}
+use Rattle.hq_rows.specs.Listed.{notice_key, notice_value}
 use Rattle.hq_store.specs.Tables.{Tables, left_of}
 use Rattle.hq_sql.specs.Rows.{kind_code, notice_shown}
 use Rattle.hq_sql_notices.specs.declared.bind.NoticeNumbers.{NoticeNumbers}

@@ -6,9 +6,9 @@ ghost use Rattle.hq_sql.specs.Rows.{kind_code, notice_columns};
 ghost use Rattle.hq_sql_notices.specs.Notices.{from_number, key_columns, notice_numbers, notice_row, page_columns};
 
 use hq_envelope::Name;
+use hq_queue::Kind;
 use hq_sql::bind::{RowLimit, large};
 use hq_store::Notice;
-use hq_text::Kind;
 use sqlite::Error;
 use sqlite::types::ValueRef;
 

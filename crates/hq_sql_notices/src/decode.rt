@@ -4,10 +4,10 @@ ghost use Rattle.std.specs.Prelude.{◌≡◌, IfOk, option_map, slice_get};
 ghost use Rattle.sqlite.specs.Order.{column};
 ghost use Rattle.hq_sql.specs.Rows.{kind_of, number_in, text_in, notice_shown};
 
-use hq_envelope::{Address, Moment, Serial};
+use hq_envelope::{Address, Moment, Serial, WrittenText};
+use hq_queue::Kind;
 use hq_sql::read;
 use hq_store::Notice;
-use hq_text::{Kind, WrittenText};
 use sqlite::{Error, Row};
 use std::alloc::Global;
 

@@ -21,8 +21,8 @@ use Rattle.hq_keyed.proofs.Stops.{may_end, write_leaves_no_more, query_leaves_no
 use Rattle.hq_keyed.proofs.Writes.{inserted, cast_null, cast_int}
 use Rattle.hq_schema.specs.Schema.{desk_schema, version_alone, version}
 use Rattle.hq_store.specs.Tables.{no_tables, text_cmp, message_cmp, recipient_cmp, lines_cmp, mark_cmp, notice_cmp}
-use Rattle.hq_store.specs.Listed.{head_key, message_key, recipient_key, hold_key, line_row_key, mark_key, notice_key, heads_of, messages_of, recipients_of, holds_of, lines_of, marks_of, notices_of}
-use Rattle.hq_store.proofs.Empty.{no_rows}
+use Rattle.hq_rows.specs.Listed.{head_key, message_key, recipient_key, hold_key, line_row_key, mark_key, notice_key, heads_of, messages_of, recipients_of, holds_of, lines_of, marks_of, notices_of}
+use Rattle.hq_rows.proofs.NoRows.{no_rows}
 use Rattle.hq_tables.specs.Rows.{HasUniqueKeys}
 use Rattle.hq_sql.specs.Rows.{head_read, message_read, recipient_read, hold_read, line_read, mark_read, notice_read}
 use Rattle.hq_sql.specs.Tables.{Leaves, tables_in}

@@ -19,12 +19,12 @@ use Rattle.hq_tables.specs.Rows.{pairs_of}
 use Rattle.hq_tables.specs.Owned.{by_both, rows_of}
 use Rattle.hq_tables.proofs.OwnedPages.{owned}
 use Rattle.hq_tables.proofs.Parts.{rows_sorted}
-use Rattle.hq_store.specs.declared.rows.RecipientRow.{RecipientRow}
+use Rattle.hq_rows.specs.declared.rows.RecipientRow.{RecipientRow}
 use Rattle.hq_store.specs.Tables as store
 use Rattle.hq_store.specs.Tables.{Tables, text_cmp, pending_of}
-use Rattle.hq_store.specs.Listed.{recipient_key, recipient_value}
-use Rattle.hq_store.specs.Lookups.{is_after}
-use Rattle.hq_store.proofs.Serials.{ascending}
+use Rattle.hq_rows.specs.Listed.{recipient_key, recipient_value}
+use Rattle.hq_rows.specs.Lookups.{is_after}
+use Rattle.hq_store.proofs.Orders.{ascending}
 use Rattle.hq_sql.specs.Rows.{recipient_shown}
 use Rattle.hq_sql_queue.specs.Places.{is_of}
 use Rattle.hq_sql_queue.specs.Messages.{is_on_page, bare_entry}

@@ -14,9 +14,9 @@ use Rattle.hq_queue.specs.declared.message.Pending.{Pending}
 use Rattle.hq_tables.specs.Rows.{pairs_of}
 use Rattle.hq_tables.proofs.Cases.{first, second, less, equal}
 use Rattle.hq_tables.proofs.Parts.{tied_true}
-use Rattle.hq_store.specs.declared.rows.RecipientRow.{RecipientRow}
+use Rattle.hq_rows.specs.declared.rows.RecipientRow.{RecipientRow}
 use Rattle.hq_store.specs.Tables.{text_cmp, recipient_cmp}
-use Rattle.hq_store.specs.Listed.{recipient_key, recipient_value}
+use Rattle.hq_rows.specs.Listed.{recipient_key, recipient_value}
 use Rattle.hq_sql.specs.Rows.{recipient_shown}
 use Rattle.hq_sql_queue.specs.Places.{is_far, is_beside, is_of, placed, Stands}
 use Rattle.hq_sql_queue.proofs.InPlace.{Recipients, recipient_total, recipient_exact}

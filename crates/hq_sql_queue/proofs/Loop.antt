@@ -9,7 +9,7 @@ use Rattle.hq_keyed.proofs.Left.{clean_before, quiet_then, keeps_then, unchanged
 use Rattle.hq_queue.specs.declared.message.Pending.{Pending}
 use Rattle.hq_tables.specs.Rows.{pairs_of}
 use Rattle.hq_store.specs.Tables.{Tables, place_all}
-use Rattle.hq_store.specs.Listed.{recipient_key, recipient_value}
+use Rattle.hq_rows.specs.Listed.{recipient_key, recipient_value}
 use Rattle.hq_sql.specs.Rows.{recipient_shown}
 use Rattle.hq_sql.specs.Tables.{IsDesk, Leaves, tables_in}
 use Rattle.hq_sql.specs.Kept.{Keeps, KeepsCommitted}

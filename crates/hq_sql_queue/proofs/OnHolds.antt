@@ -21,11 +21,11 @@ use Rattle.hq_schema.specs.Schema.{desk_schema}
 use Rattle.hq_queue.specs.declared.message.Message.{Message}
 use Rattle.hq_tables.specs.Rows.{pairs_of}
 use Rattle.hq_tables.proofs.Pages.{sorted_rows}
-use Rattle.hq_store.specs.declared.rows.HoldRow.{HoldRow}
+use Rattle.hq_rows.specs.declared.rows.HoldRow.{HoldRow}
 use Rattle.hq_store.specs.Tables as store
 use Rattle.hq_store.specs.Tables.{Tables, text_cmp, message_cmp, joined, message_of, pending_of, reason_of}
-use Rattle.hq_store.specs.Listed.{hold_key, hold_value}
-use Rattle.hq_store.proofs.Keys.{message_total, message_exact}
+use Rattle.hq_rows.specs.Listed.{hold_key, hold_value}
+use Rattle.hq_store.proofs.Orders.{message_total, message_exact}
 use Rattle.hq_sql.specs.Rows.{hold_stored, hold_read, hold_shown}
 use Rattle.hq_sql.specs.Tables.{IsDesk, tables_in}
 use Rattle.hq_sql.proofs.Texts.{between_terms}

@@ -26,12 +26,12 @@ use Rattle.hq_schema.specs.Schema.{desk_schema, messages}
 use Rattle.hq_tables.specs.Rows.{pairs_of}
 use Rattle.hq_tables.proofs.Lists.{remove_is}
 use Rattle.hq_tables.proofs.Pages.{page_rows}
-use Rattle.hq_store.specs.declared.rows.MessageRow.{MessageRow}
+use Rattle.hq_rows.specs.declared.rows.MessageRow.{MessageRow}
 use Rattle.hq_store.specs.Tables as store
 use Rattle.hq_store.specs.Tables.{text_cmp, message_cmp}
-use Rattle.hq_store.specs.Listed.{message_key, message_value, messages_of}
-use Rattle.hq_store.specs.Lookups.{is_after}
-use Rattle.hq_store.proofs.Keys.{message_total, message_exact}
+use Rattle.hq_rows.specs.Listed.{message_key, message_value, messages_of}
+use Rattle.hq_rows.specs.Lookups.{is_after}
+use Rattle.hq_store.proofs.Orders.{message_total, message_exact}
 use Rattle.hq_sql.specs.Rows.{state_code, message_columns, message_stored, message_read, message_shown}
 use Rattle.hq_sql.specs.Tables.{IsDesk, Leaves, tables_in}
 use Rattle.hq_sql.proofs.Backs.{IsReadable, message_back}

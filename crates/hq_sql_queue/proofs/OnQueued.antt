@@ -15,10 +15,10 @@ use Rattle.hq_keyed.proofs.Select.{option_map-map, find-map}
 use Rattle.hq_queue.specs.declared.message.Message.{Message}
 use Rattle.hq_tables.specs.Owned.{rows_of}
 use Rattle.hq_tables.proofs.OwnedPages.{owned}
-use Rattle.hq_store.specs.declared.rows.MessageRow.{MessageRow}
+use Rattle.hq_rows.specs.declared.rows.MessageRow.{MessageRow}
 use Rattle.hq_store.specs.Tables.{Tables, Row, text_cmp, joined}
-use Rattle.hq_store.specs.Listed.{message_key, message_value}
-use Rattle.hq_store.specs.Lookups.{is_after}
+use Rattle.hq_rows.specs.Listed.{message_key, message_value}
+use Rattle.hq_rows.specs.Lookups.{is_after}
 use Rattle.hq_store.specs.Readings.{read_tables, page_of, after_serial}
 use Rattle.hq_sql.specs.Kept.{Keeps}
 use Rattle.hq_sql.specs.Rows.{message_shown}

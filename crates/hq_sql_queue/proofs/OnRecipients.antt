@@ -32,9 +32,9 @@ use Rattle.hq_tables.specs.Rows.{pairs_of}
 use Rattle.hq_tables.specs.Owned.{by_both, rows_of}
 use Rattle.hq_tables.proofs.Pages.{sorted_rows}
 use Rattle.hq_tables.proofs.Parts.{entries_part}
-use Rattle.hq_store.specs.declared.rows.RecipientRow.{RecipientRow}
+use Rattle.hq_rows.specs.declared.rows.RecipientRow.{RecipientRow}
 use Rattle.hq_store.specs.Tables.{text_cmp, recipient_cmp, pending_of}
-use Rattle.hq_store.specs.Listed.{recipient_key, recipient_value, recipients_of}
+use Rattle.hq_rows.specs.Listed.{recipient_key, recipient_value, recipients_of}
 use Rattle.hq_sql.specs.Rows.{status_of, status_text, recipient_columns, recipient_stored, recipient_read, recipient_shown}
 use Rattle.hq_sql.specs.Tables.{IsDesk, Leaves, tables_in}
 use Rattle.hq_sql.proofs.Texts as text

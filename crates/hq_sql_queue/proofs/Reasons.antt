@@ -19,7 +19,7 @@ use Rattle.hq_tables.specs.Owned.{rows_of, part_of}
 use Rattle.hq_tables.proofs.OwnedPages.{owned}
 use Rattle.hq_tables.proofs.Parts.{rows_sorted, entries_part, get_part}
 use Rattle.hq_store.specs.Tables.{text_cmp, message_cmp}
-use Rattle.hq_store.proofs.Serials.{ascending}
+use Rattle.hq_store.proofs.Orders.{ascending}
 use Rattle.hq_sql_queue.specs.Dealt.{is_within, serials_of, Rise, Spans}
 use Rattle.hq_sql_queue.specs.Giving.{Gives, first_given}
 use Rattle.hq_sql_queue.proofs.GivenRows.{gets, given_all, one_put, rises_at, same_some, all_from_get, map_same_on}

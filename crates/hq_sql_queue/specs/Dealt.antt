@@ -7,7 +7,7 @@ use Rattle.sqlite_trees.specs.Tree.{IsAscending}
 use Rattle.hq_keyed.specs.Values.{number}
 use Rattle.hq_queue.specs.declared.message.Message.{Message}
 use Rattle.hq_queue.specs.declared.message.Pending.{Pending}
-use Rattle.hq_store.specs.Listed.{recipient_value}
+use Rattle.hq_rows.specs.Listed.{recipient_value}
 use Rattle.hq_store.specs.Tables.{Tables, text_cmp, pending_of}
 use Rattle.hq_sql.specs.Rows.{recipient_shown}
 

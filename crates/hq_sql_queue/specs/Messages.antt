@@ -7,8 +7,8 @@ use Rattle.sqlite.specs.Order as sqlite
 use Rattle.hq_keyed.specs.Values.{number}
 use Rattle.hq_queue.specs.declared.message.Message.{Message}
 use Rattle.hq_store.specs.Tables.{Tables, Row, text_cmp, row_of, message_of, joined}
-use Rattle.hq_store.specs.Listed.{message_value}
-use Rattle.hq_store.specs.Lookups.{is_after}
+use Rattle.hq_rows.specs.Listed.{message_value}
+use Rattle.hq_rows.specs.Lookups.{is_after}
 use Rattle.hq_sql.specs.Rows.{message_shown}
 
 -- the row of the message stands at its key

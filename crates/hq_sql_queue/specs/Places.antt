@@ -3,7 +3,7 @@ use Rattle.std.specs.Prelude.{◌≡◌, ◌+◌, ℕ, Bool, ◌&&◌, ◌||◌,
 use Rattle.std.specs.Ordering.{nat_cmp, eq_by_cmp}
 use Rattle.hq_queue.specs.declared.message.Pending.{Pending}
 use Rattle.hq_store.specs.Tables.{text_cmp}
-use Rattle.hq_store.specs.Listed.{recipient_value}
+use Rattle.hq_rows.specs.Listed.{recipient_value}
 use Rattle.hq_sql.specs.Rows.{recipient_shown}
 use Rattle.sqlite.specs.Order.{Row}
 

@@ -5,8 +5,8 @@ use Rattle.sqlite.specs.declared.types.Value.TheVariants.{Text}
 use Rattle.sqlite.specs.Order.{Row}
 use Rattle.hq_keyed.specs.Values.{number}
 use Rattle.hq_queue.specs.declared.message.Pending.{Pending}
-use Rattle.hq_store.specs.declared.rows.RecipientRow.{RecipientRow}
-use Rattle.hq_store.specs.Listed.{recipient_key, recipient_value}
+use Rattle.hq_rows.specs.declared.rows.RecipientRow.{RecipientRow}
+use Rattle.hq_rows.specs.Listed.{recipient_key, recipient_value}
 use Rattle.hq_store.specs.Tables.{Tables, deal}
 use Rattle.hq_sql_queue.specs.Places.{is_beside}
 

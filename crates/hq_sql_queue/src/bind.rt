@@ -3,7 +3,7 @@
 ghost use Rattle.std.specs.Prelude.{◌≡◌, ℕ, pos, if◌then◌else◌};
 ghost use Rattle.sqlite.specs.Values.{bound};
 ghost use Rattle.hq_envelope.specs.Senders.{sender_text};
-ghost use Rattle.hq_store.specs.Lookups.{message_row};
+ghost use Rattle.hq_rows.specs.Lookups.{message_row};
 ghost use Rattle.hq_sql.specs.Rows.{sender_of, state_code, message_columns};
 ghost use Rattle.hq_sql_queue.specs.Messages.{after_number, message_key_columns};
 ghost use Rattle.hq_sql_queue.specs.Messages.{page_columns, spool_columns};

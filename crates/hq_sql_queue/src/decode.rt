@@ -3,7 +3,7 @@
 ghost use Rattle.std.specs.Prelude.{◌≡◌, IfOk, option_map, slice_get};
 ghost use Rattle.sqlite.specs.Order.{column};
 ghost use Rattle.hq_store.specs.Tables.{message_of};
-ghost use Rattle.hq_store.specs.Listed.{message_value};
+ghost use Rattle.hq_rows.specs.Listed.{message_value};
 ghost use Rattle.hq_sql.specs.Rows.{text_in, number_in, truth_in, sender_of, state_of};
 ghost use Rattle.hq_sql.specs.Rows.{message_shown};
 

@@ -5,7 +5,7 @@ ghost use Rattle.std.specs.Prelude.{map, option_map, slice_get, take, filter};
 ghost use Rattle.std.specs.FinMap.{get, entries};
 ghost use Rattle.sqlite.specs.Held.{state};
 ghost use Rattle.hq_tables.specs.Rows.{pairs_of};
-ghost use Rattle.hq_store.specs.Listed.{message_key, message_value};
+ghost use Rattle.hq_rows.specs.Listed.{message_key, message_value};
 ghost use Rattle.hq_sql.specs.Rows.{message_shown};
 ghost use Rattle.hq_sql.specs.Kept.{Shows, Finds, Makes, Inserts, Updates, Keeps, KeepsCommitted};
 ghost use Rattle.hq_sql_queue.specs.Messages.{with_row, without_row, is_on_page, has_spool_name};

@@ -4,7 +4,7 @@ ghost use Rattle.std.specs.Prelude.{◌≡◌, ◌↔◌, true, IfOk, length, ma
 ghost use Rattle.std.specs.List.{list_any};
 ghost use Rattle.sqlite.specs.Values.{bound};
 ghost use Rattle.sqlite.specs.Order.{column};
-ghost use Rattle.hq_store.specs.Listed.{recipient_value};
+ghost use Rattle.hq_rows.specs.Listed.{recipient_value};
 ghost use Rattle.hq_sql.specs.Rows.{text_in, status_of, status_text};
 ghost use Rattle.hq_sql.specs.Rows.{recipient_columns, recipient_shown};
 ghost use Rattle.hq_sql_queue.specs.Places.{is_far, Stands};

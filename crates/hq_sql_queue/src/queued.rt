@@ -3,7 +3,7 @@
 ghost use Rattle.sqlite.specs.Held.{state};
 ghost use Rattle.std.specs.Prelude.{map};
 ghost use Rattle.hq_store.specs.Tables.{joined, pending_of, reason_of};
-ghost use Rattle.hq_store.specs.Listed.{message_value};
+ghost use Rattle.hq_rows.specs.Listed.{message_value};
 ghost use Rattle.hq_store.specs.Readings.{read_tables, page_of};
 ghost use Rattle.hq_sql.specs.Rows.{message_shown};
 ghost use Rattle.hq_sql.specs.Kept.{Finds, Shows, Keeps};

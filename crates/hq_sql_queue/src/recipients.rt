@@ -5,7 +5,7 @@ ghost use Rattle.std.specs.FinMap.{get, entries};
 ghost use Rattle.sqlite.specs.Held.{state};
 ghost use Rattle.hq_tables.specs.Rows.{pairs_of};
 ghost use Rattle.hq_store.specs.Tables.{pending_of};
-ghost use Rattle.hq_store.specs.Listed.{recipient_key, recipient_value};
+ghost use Rattle.hq_rows.specs.Listed.{recipient_key, recipient_value};
 ghost use Rattle.hq_sql.specs.Rows.{recipient_shown};
 ghost use Rattle.hq_sql.specs.Kept.{Shows, Finds, Makes, Inserts, Updates, Keeps, KeepsCommitted};
 ghost use Rattle.hq_sql_queue.specs.Places.{is_of};

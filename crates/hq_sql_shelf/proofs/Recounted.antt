@@ -17,7 +17,7 @@ use Rattle.hq_store.specs.Sound.{AreCounted}
 use Rattle.hq_store.specs.Tables.{Tables, Row, text_cmp, account, recounted, counted, with_message, without_message, uncounted_message, message_of, write, write_all}
 use Rattle.hq_store.proofs.Accounts.{Heads, or_opening, counted_own}
 use Rattle.hq_store.proofs.Counted.{found_after, counts_stay}
-use Rattle.hq_store.proofs.Keys.{message_total, message_exact}
+use Rattle.hq_store.proofs.Orders.{message_total, message_exact}
 use Rattle.hq_tables.specs.Owned.{given}
 use Rattle.hq_sql.specs.Tables.{tables_in}
 use Rattle.hq_sql_queue.proofs.InPlace.{put_same}

@@ -1,10 +1,11 @@
 //! Notices that are added, read and dropped: over plain lists and over a store in memory, with the
 //! same expected texts.
 
-use hq_envelope::{Address, Moment, Name, Serial};
+use hq_envelope::{Address, Moment, Name, Serial, WrittenText};
+use hq_lists::ListShelf;
+use hq_queue::Kind;
 use hq_sql_shelf::SqlShelf;
-use hq_store::{Change, ListShelf, Notice, Shelf};
-use hq_text::{Kind, WrittenText};
+use hq_store::{Change, Notice, Shelf};
 use std::alloc::Global;
 use std::process::Abort;
 use std::test::Fail;

@@ -20,7 +20,7 @@ use Rattle.hq_access.specs.declared.pattern.Class.{Class}
 use Rattle.hq_store.specs.Sound.{AreCounted}
 use Rattle.hq_store.proofs.Customers.{cases_name, read_own, rows_own, put_own, put_other, drop_own, drop_other}
 use Rattle.hq_store.proofs.Accounts.{headed_own, counted_own, account_other}
-use Rattle.hq_store.proofs.LineOrder.{line_total, line_exact}
+use Rattle.hq_store.proofs.Orders.{line_total, line_exact}
 use Rattle.hq_store.proofs.Read.{same_sum}
 
 -- ---- counts as sums over a customer's part

@@ -1,9 +1,7 @@
 -- Empty tables are sound, and have the opening state of everybody.
-use Rattle.std.proofs.Common.{◌≡◌, ℕ, ◌+◌, ◌^◌, ◌<◌, ◌≤◌, List, [], map, sym, refl, ap, ◌∙◌, subst, Some, arith}
+use Rattle.std.proofs.Common.{◌≡◌, ℕ, ◌+◌, ◌^◌, ◌<◌, ◌≤◌, List, [], map, sym, ap, ◌∙◌, subst, Some, arith}
 use Rattle.std.specs.Prelude.{option_map, unwrap_or}
-use Rattle.std.specs.List.{IsDistinct}
 use Rattle.std.specs.Ordering.{nat_cmp}
-use Rattle.std.specs.declared.cmp.Ordering.{Ordering}
 use Rattle.std.specs.Cmp.{nat_cmp_total}
 use Rattle.std.specs.Cmp.Lexicographic.{nat_list_cmp_total}
 use Rattle.std.specs.FinMap.{empty, entries, get, len, values, get-empty, len-empty, same_map}
@@ -13,16 +11,13 @@ use Rattle.hq_store.specs.declared.account.Account.{Account}
 use Rattle.hq_queue.specs.declared.message.Message.{Message}
 use Rattle.hq_queue.specs.declared.message.Pending.{Pending}
 use Rattle.hq_tables.specs.Owned.{by_both, part_of, rows_of, map_values}
-use Rattle.hq_tables.specs.Rows.{table}
 use Rattle.hq_tables.proofs.Parts.{get_part, get-map_values, both_total, both_exact}
 use Rattle.hq_tables.proofs.Pages.{no_entries}
-use Rattle.hq_store.specs.Tables.{Row, text_cmp, line_cmp, lines_cmp, account, opening, opening_account, no_tables, own, joined, pending_of, message_cmp, recipient_cmp, mark_cmp, notice_cmp}
+use Rattle.hq_store.specs.Tables.{Row, text_cmp, line_cmp, lines_cmp, account, opening, opening_account, no_tables, own, joined, pending_of, message_cmp}
 use Rattle.hq_store.specs.Readings.{kept_of, kept_in}
 use Rattle.hq_store.proofs.Customers.{none_own}
-use Rattle.hq_store.proofs.LineOrder.{line_total, line_exact}
+use Rattle.hq_store.proofs.Orders.{line_total, line_exact}
 use Rattle.hq_store.specs.Sound.{IsNext, SoundState, Sound, AreCounted, numbered, pending_count}
-use Rattle.hq_store.specs.Listed.{head_key, head_value, message_key, message_value, recipient_key, recipient_value, recipients_of, hold_key, hold_value, holds_of, heads_of, messages_of, line_row_key, line_row_value, lines_of, mark_key, mark_value, marks_of, notice_key, notice_value, notices_of}
-use Rattle.hq_store.specs.Lookups.{AreUnique, AreDealt, AreUniqueLines, AreUniqueNotices}
 use Rattle.hq_store.proofs.States.{none_some}
 
 part_empty : (serial : ℕ) → part_of nat_cmp serial (empty {X = Pending} {R = by_both nat_cmp nat_cmp}) ≡ empty
@@ -73,7 +68,7 @@ no_recipients customer serial =
     ap (λ m. entries (part_of nat_cmp serial m)) (none_own (both_total nat_cmp_total nat_cmp_total) (both_exact exact_unsigned exact_unsigned) customer)
     ∙ ap entries (part_empty serial) ∙ no_entries nat_cmp
 
-no_pending : (customer : List ℕ) (serial : ℕ) → pending_of customer serial no_tables.recipients ≡ []
+pub no_pending : (customer : List ℕ) (serial : ℕ) → pending_of customer serial no_tables.recipients ≡ []
 unfolding pending_of
 no_pending customer serial = ap (map (λ e. e.1)) (no_recipients customer serial)
 
@@ -96,28 +91,3 @@ empty_sound = record {
   };
   counts = none_counted;
 }
-
--- ---- no rows at all
-
-table_nothing : {A K X : Type 0} (R : K → K → Ordering) (key : A → K) (val : A → X) → table R key val [] ≡ empty
-unfolding table
-table_nothing R key val = refl
-
-pub none_unique : AreUnique []
-unfolding AreUnique IsDistinct
-none_unique = tt
-
-pub none_dealt : AreDealt []
-unfolding AreDealt
-none_dealt customer serial = sym (ap (pending_of customer serial) (table_nothing recipient_cmp recipient_key recipient_value) ∙ no_pending customer serial)
-
-pub none_unique_notices : AreUniqueNotices []
-unfolding AreUniqueNotices IsDistinct
-none_unique_notices = tt
-
-pub none_unique_lines : AreUniqueLines []
-unfolding AreUniqueLines IsDistinct
-none_unique_lines = tt
-
-pub no_rows : record { heads = heads_of []; messages = messages_of []; recipients = recipients_of []; holds = holds_of []; lines = lines_of []; marks = marks_of []; notices = notices_of [] } ≡ no_tables
-no_rows = λ i. record { heads = table_nothing text_cmp head_key head_value i; messages = table_nothing message_cmp message_key message_value i; recipients = table_nothing recipient_cmp recipient_key recipient_value i; holds = table_nothing message_cmp hold_key hold_value i; lines = table_nothing lines_cmp line_row_key line_row_value i; marks = table_nothing mark_cmp mark_key mark_value i; notices = table_nothing notice_cmp notice_key notice_value i }

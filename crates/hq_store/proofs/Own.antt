@@ -17,7 +17,7 @@ use Rattle.hq_store.specs.Tables.{text_cmp, message_cmp, Tables, Row, with_line,
 use Rattle.hq_tables.proofs.Parts.{part_insert, part_remove, tied_true, get-map_values}
 use Rattle.hq_store.proofs.Customers.{put_own, put_other, drop_own, drop_other, sweep_own, sweep_other}
 use Rattle.hq_store.proofs.Accounts.{headed_own, message_head, uncounted_head, line_head, no_line_head, account_other}
-use Rattle.hq_store.proofs.LineOrder.{line_total, line_exact}
+use Rattle.hq_store.proofs.Orders.{line_total, line_exact}
 use Rattle.hq_store.proofs.Reasons.{Holds, reason_same, reason_other_message, reason_other_owner}
 use Rattle.hq_store.proofs.Dealt.{Recipients, pending_same, pending_other_message, pending_other_owner}
 

@@ -14,7 +14,7 @@ use Rattle.hq_tables.specs.Owned.{part_of, rows_of}
 use Rattle.std.specs.Cmp.{nat_cmp_total}
 use Rattle.hq_tables.proofs.Parts.{entries_part, get-map_values, entries-map_values}
 use Rattle.hq_store.proofs.Customers.{read_own, rows_own}
-use Rattle.hq_store.proofs.LineOrder.{line_total, line_exact}
+use Rattle.hq_store.proofs.Orders.{line_total, line_exact}
 use Rattle.hq_store.specs.Tables.{Tables, Row, Noted, text_cmp, line_cmp, own, joined, notice_of}
 use Rattle.hq_store.specs.Readings.{read_state, read_tables, messages_in, with_spool, kept_of, kept_in, told, line_of}
 

@@ -9,7 +9,7 @@ use Rattle.hq_store.specs.declared.change.Change.TheVariants.{PutMessage, DropMe
 use Rattle.hq_tables.proofs.Parts.{tied_true, tied_false}
 use Rattle.hq_store.specs.Tables.{Tables, message_cmp, row_of, reason_of, give_reason, write, write_all}
 use Rattle.hq_store.specs.Sound.{ShapedHolds}
-use Rattle.hq_store.proofs.Keys.{message_total, message_exact}
+use Rattle.hq_store.proofs.Orders.{message_total, message_exact}
 use Rattle.hq_store.proofs.States.{none_some, same_some}
 
 abbrev pub Holds : Type 0

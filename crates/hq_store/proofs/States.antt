@@ -15,7 +15,7 @@ use Rattle.hq_store.specs.declared.change.Change.TheVariants.{PutHead, PutMessag
 use Rattle.hq_store.specs.declared.mark.Mark.{Mark}
 use Rattle.hq_store.specs.Tables.{State, Noted, change, line_cmp, text_cmp, noted_of}
 use Rattle.hq_store.specs.Sound.{ShapedState, IsQueued}
-use Rattle.hq_store.proofs.LineOrder.{line_total}
+use Rattle.hq_store.proofs.Orders.{line_total}
 use Rattle.hq_store.specs.Fits.{Fits, HeadFits, MessageFits}
 
 pub same_some : {A : Type 0} (a b : A) → ◌≡◌ {A = Option A} (Some a) (Some b) → a ≡ b

@@ -3,6 +3,4 @@ pub mod Readings
 pub mod Sound
 pub mod Fits
 pub mod Shelves
-pub mod Listed
-pub mod Lookups
 pub mod Lifted

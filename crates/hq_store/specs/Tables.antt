@@ -18,7 +18,7 @@ use Rattle.hq_store.specs.declared.change.Change.{Change}
 use Rattle.hq_store.specs.declared.change.Change.TheVariants.{PutHead, PutMessage, DropMessage, PutLine, DropLine, PutMark, AddNotice, DropNoticesBelow}
 use Rattle.hq_store.specs.declared.mark.Mark.{Mark}
 use Rattle.hq_store.specs.declared.notice.Notice.{Notice}
-use Rattle.hq_text.specs.declared.notices.Kind.{Kind}
+use Rattle.hq_queue.specs.declared.kind.Kind.{Kind}
 use Rattle.hq_tables.specs.Owned.{by_both, part_of, map_values, given}
 
 -- names and texts in the order of their bytes

@@ -3,7 +3,8 @@
 
 use hq_access::{Action, Class, Line, Pattern};
 use hq_envelope::{Fault, Name};
-use hq_store::{Change, ListShelf, Shelf};
+use hq_lists::ListShelf;
+use hq_store::{Change, Shelf};
 use std::alloc::{AllocError, Global};
 use std::process::Abort;
 use std::test::Fail;

@@ -3,8 +3,9 @@
 
 use crate::left::{are_told, is_found, left, left_counts, left_page, left_with, word};
 use hq_envelope::{Address, Fault, Items, Moment, Name, Sender, Serial, Spool, Text};
+use hq_lists::ListShelf;
 use hq_queue::{Counts, Head, Message, Pending, QueueState, Tally};
-use hq_store::{Change, ListShelf, Shelf};
+use hq_store::{Change, Shelf};
 use std::alloc::Global;
 use std::process::Abort;
 use std::test::Fail;

@@ -15,8 +15,8 @@ use Rattle.hq_queue.specs.declared.outcome.Told.{Told}
 use Rattle.hq_text.specs.Dates.{date_text}
 use Rattle.hq_text.specs.Determined.{is_told, AreValues, AreAlike}
 use Rattle.hq_text.specs.Notices.{action, diagnostic_lines, retry_lines, retry_date, retry_until, recipient_lines, message_lines, status_lines, status_text}
-use Rattle.hq_text.specs.declared.notices.Kind.{Kind}
-use Rattle.hq_text.specs.declared.notices.Kind.TheVariants.{Failure, Delay}
+use Rattle.hq_queue.specs.declared.kind.Kind.{Kind}
+use Rattle.hq_queue.specs.declared.kind.Kind.TheVariants.{Failure, Delay}
 use Rattle.hq_text.proofs.DateTexts.{date_printed, date_determines}
 use Rattle.hq_text.proofs.Parted.{heads_same, parted}
 use Rattle.hq_text.proofs.Printed.{both, is_printed, printed-append, host_printed, address_printed, status_printed, text_printed, serial_printed}

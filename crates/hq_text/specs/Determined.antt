@@ -7,7 +7,7 @@ use Rattle.hq_envelope.specs.Words.{is_host, is_text, is_text_byte}
 use Rattle.hq_queue.specs.Statuses.{is_status}
 use Rattle.hq_queue.specs.declared.message.Message.{Message}
 use Rattle.hq_queue.specs.declared.outcome.Told.{Told}
-use Rattle.hq_text.specs.declared.notices.Kind.{Kind}
+use Rattle.hq_queue.specs.declared.kind.Kind.{Kind}
 
 -- all of it may stand in a line: printable ASCII and spaces
 abbrev pub stands_in_line : List ℕ → Bool

@@ -9,8 +9,8 @@ use Rattle.hq_queue.specs.declared.message.Message.{Message}
 use Rattle.hq_queue.specs.declared.outcome.Told.{Told}
 use Rattle.hq_text.specs.Dates.{date_text}
 use Rattle.hq_text.specs.Lines.{crlf, text_of, said}
-use Rattle.hq_text.specs.declared.notices.Kind.{Kind}
-use Rattle.hq_text.specs.declared.notices.Kind.TheVariants.{Failure, Delay}
+use Rattle.hq_queue.specs.declared.kind.Kind.{Kind}
+use Rattle.hq_queue.specs.declared.kind.Kind.TheVariants.{Failure, Delay}
 
 -- attempts go on until the message expires, which is no later than the last moment
 abbrev pub retry_until : ℕ → ℕ

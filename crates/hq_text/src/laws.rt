@@ -9,7 +9,7 @@ ghost use Rattle.hq_queue.specs.declared.message.Message.{Message};
 ghost use Rattle.hq_queue.specs.declared.outcome.Told.{Told};
 ghost use Rattle.hq_text.specs.Determined.{stands_in_line, AreValues, AreAlike};
 ghost use Rattle.hq_text.specs.Notices.{status_text};
-ghost use Rattle.hq_text.specs.declared.notices.Kind.{Kind};
+ghost use Rattle.hq_queue.specs.declared.kind.Kind.{Kind};
 
 /// No value of a notice ends a line: hosts, addresses, status codes and texts are printable ASCII
 /// and spaces.

@@ -7,9 +7,7 @@ mod dates;
 pub mod laws;
 mod notices;
 mod reports;
-mod written;
 
 pub use dates::date_text;
-pub use notices::{Kind, human_text, status_text};
+pub use notices::{human_text, status_text};
 pub use reports::{Report, report_text};
-pub use written::WrittenText;

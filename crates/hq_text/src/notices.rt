@@ -8,19 +8,10 @@ ghost use Rattle.hq_text.specs.Notices as notices;
 
 use crate::dates::date_text;
 use hq_envelope::{Host, Moment, Serial};
-use hq_queue::{EXPIRY_SECONDS, Message, Told};
+use hq_queue::{EXPIRY_SECONDS, Kind, Message, Told};
 use std::alloc::{AllocError, Global};
 use std::fmt::Write;
 use std::str;
-
-/// What a notice tells of.
-#[derive(Clone, Copy, Debug, PartialEq, Eq, Drop)]
-pub enum Kind {
-    /// No further attempt is made.
-    Failure,
-    /// Attempts go on.
-    Delay,
-}
 
 /// Until when attempts go on for those who are delayed, as a date.
 fn retry_date(alloc: Global, kind: Kind, arrival: Moment) -> Result<Option<String>, AllocError>

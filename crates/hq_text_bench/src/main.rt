@@ -6,8 +6,8 @@
 #![tactic(auto)]
 
 use hq_envelope::{Address, Fail, Host, Items, Moment, Sender, Serial, Spool, Text};
-use hq_queue::{Message, Pending, QueueState, Status, Told};
-use hq_text::{Kind, report_text, status_text};
+use hq_queue::{Kind, Message, Pending, QueueState, Status, Told};
+use hq_text::{report_text, status_text};
 use std::alloc::{AllocError, AllocFailed, Global};
 use std::{env, io};
 

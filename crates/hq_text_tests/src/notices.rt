@@ -3,7 +3,8 @@
 
 use crate::fixture::{ARRIVAL, Recipient, host, message, told};
 use hq_envelope::Moment;
-use hq_text::{Kind, human_text, status_text};
+use hq_queue::Kind;
+use hq_text::{human_text, status_text};
 use std::process::Abort;
 use std::test::Fail;
 

@@ -12,8 +12,8 @@ use Rattle.hq_queue.specs.declared.message.Message.{Message}
 use Rattle.hq_queue.specs.declared.message.Pending.{Pending}
 use Rattle.hq_queue.specs.declared.message.QueueState.{QueueState}
 use Rattle.hq_queue.specs.declared.message.QueueState.TheVariants.{Incoming, Deferred, Hold}
-use Rattle.hq_text.specs.declared.notices.Kind.{Kind}
-use Rattle.hq_text.specs.declared.notices.Kind.TheVariants.{Failure, Delay}
+use Rattle.hq_queue.specs.declared.kind.Kind.{Kind}
+use Rattle.hq_queue.specs.declared.kind.Kind.TheVariants.{Failure, Delay}
 use Rattle.hq_store.specs.declared.notice.Notice.{Notice}
 use Rattle.hq_calls.specs.declared.answer.Answer.{Answer}
 use Rattle.hq_calls.specs.declared.answer.AttemptCounts.{AttemptCounts}

@@ -5,9 +5,8 @@ ghost use Rattle.hq_trial.specs.Texts as texts;
 
 use crate::plain_text::{end_word, push_number, push_serials, push_word};
 use hq_desk::{AttemptCounts, SweepCounts, Usage};
-use hq_queue::{Message, Tally};
+use hq_queue::{Kind, Message, Tally};
 use hq_store::Notice;
-use hq_text::Kind;
 use std::alloc::{AllocError, Global};
 
 /// What became of the recipients in an attempt.

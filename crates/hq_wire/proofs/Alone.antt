@@ -17,13 +17,13 @@ use Rattle.hq_calls.specs.Answers.{answer_number}
 use Rattle.hq_calls.specs.Machine.{step, shared, answers, state_after}
 use Rattle.hq_calls.specs.declared.answer.Answer.{Answer}
 use Rattle.hq_calls.proofs.Isolation.{caller, others}
-use Rattle.hq_wire.specs.Calls.{Asked, CallOf, SweepOfAll}
-use Rattle.hq_wire.specs.Directories.{entry_of}
+use Rattle.hq_requests.specs.Calls.{Asked, CallOf, SweepOfAll}
+use Rattle.hq_requests.specs.Directories.{entry_of}
 use Rattle.hq_wire.specs.Exchanges.{Ask, Deed, Whole, AllDone, Sweeps, MayReplyTo, IsStruck, deeds_of, of_part, told_as}
 use Rattle.hq_wire.specs.Replies.{SeenReply, plain, reply_of, status_of, reply_of_fault, fault_text, is_missing, is_conflict, tells_store}
 use Rattle.hq_wire.specs.Runs.{AllReplied, deeds, deeds_for, in_share, told_of, calls_in, told_in, Alone}
-use Rattle.hq_wire.specs.declared.directory.Directory.{Directory}
-use Rattle.hq_wire.proofs.Entries.{named}
+use Rattle.hq_requests.specs.declared.directory.Directory.{Directory}
+use Rattle.hq_requests.proofs.Entries.{named}
 
 by_test : (b : Bool) (x y : ℕ) → eqb x 503 ≡ false → eqb y 503 ≡ false → eqb (cond b x y) 503 ≡ false
 by_test true x y h k = h

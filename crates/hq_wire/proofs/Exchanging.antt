@@ -10,10 +10,10 @@ use Rattle.hq_store.specs.Tables.{Tables}
 use Rattle.hq_desk.specs.Desks.{Stays, on}
 use Rattle.hq_desk.specs.declared.desk.Desk.{Desk}
 use Rattle.hq_desk.specs.declared.desk.Rendered.{Rendered}
-use Rattle.hq_wire.specs.Calls.{Asked, CallOf, SweepOfAll}
+use Rattle.hq_requests.specs.Calls.{Asked, CallOf, SweepOfAll}
 use Rattle.hq_wire.specs.Exchanges.{Ask, MayReplyTo, IsRefused, RepliesAnyway, StopsClosed, TellsClosed, Exchanged}
 use Rattle.hq_wire.specs.Replies.{Part, SeenReply, Stop, fault_text, reply_of_fault, stops_by_store, swept_reply, tells_store}
-use Rattle.hq_wire.specs.declared.directory.Directory.{Directory}
+use Rattle.hq_requests.specs.declared.directory.Directory.{Directory}
 
 -- no calls keep all
 pub stay_put : {S : Type 0} (sight : Sight (Desk S)) (desk : Desk S) → Stays sight desk desk

@@ -13,11 +13,11 @@ use Rattle.hq_calls.specs.declared.answer.Answer.{Answer}
 use Rattle.hq_calls.specs.declared.answer.Answer.TheVariants.{Refused}
 use Rattle.hq_calls.specs.declared.call.Call.{Call}
 use Rattle.hq_calls.proofs.Unchanged.{no_changes, reading_has_none}
-use Rattle.hq_wire.specs.Calls.{Asked, CallOf, SweepOfAll}
-use Rattle.hq_wire.specs.Directories.{entry_of}
+use Rattle.hq_requests.specs.Calls.{Asked, CallOf, SweepOfAll}
+use Rattle.hq_requests.specs.Directories.{entry_of}
 use Rattle.hq_wire.specs.Exchanges.{IsStruck, MayReplyTo, Sweeps}
 use Rattle.hq_wire.specs.Replies.{SeenReply, reply_of, status_of}
-use Rattle.hq_wire.specs.declared.directory.Directory.{Directory}
+use Rattle.hq_requests.specs.declared.directory.Directory.{Directory}
 
 -- an answer with another status than 200 is a refusal
 refusal_tells : (answer : Answer) → status_of (answer_number answer) ≢ 200 → tells_no_change answer ≡ true

@@ -1,5 +1,4 @@
 pub mod Alone
-pub mod Entries
 pub mod Exchanging
 pub mod Left
 pub mod OneLine

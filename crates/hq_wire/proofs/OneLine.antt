@@ -17,11 +17,11 @@ use Rattle.hq_calls.specs.declared.call.Call.TheVariants.{Sweep}
 use Rattle.hq_json.specs.OneLine.{is_in_line, is_one_line}
 use Rattle.hq_json.specs.Replies.{answer_text}
 use Rattle.hq_json.proofs.OneLine.{answer_one_line, both_one_line}
-use Rattle.hq_wire.specs.Calls.{Asked, CallOf, SweepOfAll}
-use Rattle.hq_wire.specs.Directories.{entry_of, names_of}
+use Rattle.hq_requests.specs.Calls.{Asked, CallOf, SweepOfAll}
+use Rattle.hq_requests.specs.Directories.{entry_of, names_of}
 use Rattle.hq_wire.specs.Exchanges.{AllDone, EndsAt, InPart, IsStruck, MayReplyTo, Sweeps, of_part}
 use Rattle.hq_wire.specs.Replies.{Part, SeenReply, Stop, closing, fault_text, for_customer, joined, part_of, reply_of, reply_of_fault, stopped_text}
-use Rattle.hq_wire.specs.declared.directory.Directory.{Directory}
+use Rattle.hq_requests.specs.declared.directory.Directory.{Directory}
 
 first : (a b : Bool) → (a && b) ≡ true → a ≡ true
 first true b h = refl

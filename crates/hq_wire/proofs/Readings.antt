@@ -9,10 +9,10 @@ use Rattle.hq_base.specs.declared.failure.Fault.TheVariants.{WantOfMemory, Disk,
 use Rattle.hq_base.specs.declared.failure.Refusal.{Refusal}
 use Rattle.hq_store.specs.Tables.{Tables}
 use Rattle.hq_calls.specs.declared.call.Call.{Call}
-use Rattle.hq_wire.specs.Calls.{Asked, CallOf, SweepOfAll}
+use Rattle.hq_requests.specs.Calls.{Asked, CallOf, SweepOfAll}
 use Rattle.hq_wire.specs.Exchanges.{EndsAt, IsRefused, MayReplyTo, Sweeps}
 use Rattle.hq_wire.specs.Replies.{AreObjects, Closes, Part, SeenReply, Stop, closing, fault_text, for_customer, is_inside, joined, opening, plain, reply_of_fault, stopped_text, swept_reply}
-use Rattle.hq_wire.specs.declared.directory.Directory.{Directory}
+use Rattle.hq_requests.specs.declared.directory.Directory.{Directory}
 use Rattle.hq_wire.proofs.Swept.{customer_of_part}
 
 cons : {X : Type 0} (a b : X) (xs ys : List X) → ◌≡◌ {A = List X} (a ∷ xs) (b ∷ ys) → (a ≡ b) × (xs ≡ ys)

@@ -12,7 +12,7 @@ use Rattle.hq_wire.specs.Exchanges.{Ask, Exchanged}
 use Rattle.hq_wire.specs.Replies.{SeenReply, IsSent, store_faults, tells_store}
 use Rattle.hq_wire.specs.Runs.{AllReplied, Served, RepliesSo}
 use Rattle.hq_wire.specs.declared.reply.Reply.{Reply}
-use Rattle.hq_wire.specs.declared.directory.Directory.{Directory}
+use Rattle.hq_requests.specs.declared.directory.Directory.{Directory}
 use Rattle.hq_wire.proofs.Alone.{alone}
 use Rattle.hq_wire.proofs.Exchanging.{stay_put, stay_on}
 

@@ -14,11 +14,11 @@ use Rattle.hq_calls.specs.declared.call.Call.TheVariants.{Sweep}
 use Rattle.hq_desk.specs.Desks.{Stays, IsRendered, host_of, on, stepped}
 use Rattle.hq_desk.specs.declared.desk.Desk.{Desk}
 use Rattle.hq_desk.specs.declared.desk.Rendered.{Rendered}
-use Rattle.hq_wire.specs.Calls.{SweepOfAll}
-use Rattle.hq_wire.specs.Directories.{entry_of, names_of}
+use Rattle.hq_requests.specs.Calls.{SweepOfAll}
+use Rattle.hq_requests.specs.Directories.{entry_of, names_of}
 use Rattle.hq_wire.specs.Exchanges.{AllDone, Exchanged, InPart, StopsClosed, of_part}
 use Rattle.hq_wire.specs.Replies.{AreObjects, IsObject, Part, is_memory, joined, opening, part_of, separated, swept_reply}
-use Rattle.hq_wire.specs.declared.directory.Directory.{Directory}
+use Rattle.hq_requests.specs.declared.directory.Directory.{Directory}
 use Rattle.hq_wire.proofs.Alone.{all_done_on}
 use Rattle.hq_wire.proofs.Exchanging.{stay_put, stay_on, stop_closes, tells_none}
 

@@ -14,11 +14,11 @@ use Rattle.hq_calls.specs.declared.answer.Answer.TheVariants.{Refused}
 use Rattle.hq_calls.specs.declared.call.Call.{Call}
 use Rattle.hq_calls.specs.declared.call.Call.TheVariants.{Sweep}
 use Rattle.hq_desk.specs.declared.desk.Desk.{Desk}
-use Rattle.hq_wire.specs.Calls.{Asked, CallOf, SweepOfAll, call_of}
-use Rattle.hq_wire.specs.Directories.{entry_of, names_of}
+use Rattle.hq_requests.specs.Calls.{Asked, CallOf, SweepOfAll, call_of}
+use Rattle.hq_requests.specs.Directories.{entry_of, names_of}
 use Rattle.hq_wire.specs.Replies.{SeenReply, Part, Stop, AreObjects, part_of, reply_of, reply_of_fault, swept_reply, tells_store}
-use Rattle.hq_wire.specs.declared.directory.Directory.{Directory}
-use Rattle.hq_wire.specs.declared.asked.Exchange.{Exchange}
+use Rattle.hq_requests.specs.declared.directory.Directory.{Directory}
+use Rattle.hq_requests.specs.declared.asked.Exchange.{Exchange}
 
 -- What was asked: when, and what, or the refusal that no call was made for.
 pub record Ask : Type 0 where

@@ -12,11 +12,11 @@ use Rattle.hq_calls.specs.Machine.{answers, state_after}
 use Rattle.hq_calls.specs.declared.answer.Answer.{Answer}
 use Rattle.hq_calls.specs.declared.call.Call.{Call}
 use Rattle.hq_desk.specs.declared.desk.Desk.{Desk}
-use Rattle.hq_wire.specs.Directories.{entry_of}
+use Rattle.hq_requests.specs.Directories.{entry_of}
 use Rattle.hq_wire.specs.Exchanges.{Ask, Deed, Told, deeds_of, told_as, MayReply, Exchanged}
 use Rattle.hq_wire.specs.Replies.{SeenReply, IsSent, store_faults}
 use Rattle.hq_wire.specs.declared.reply.Reply.{Reply}
-use Rattle.hq_wire.specs.declared.directory.Directory.{Directory}
+use Rattle.hq_requests.specs.declared.directory.Directory.{Directory}
 
 -- what was asked, the replies to it in order, and the tables before and after
 abbrev pub AllReplied : (Fault → Type 0) → List ℕ → Directory → Tables → List Ask → List SeenReply → Tables → Type 0

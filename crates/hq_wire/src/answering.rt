@@ -1,22 +1,20 @@
 //! How the desk replies to one exchange.
 
 ghost use Rattle.std.specs.Prelude.{◌≡◌, Ok, false};
-ghost use Rattle.hq_wire.specs.Calls.{CallOf};
-ghost use Rattle.hq_wire.specs.Directories.{entry_of};
+ghost use Rattle.hq_requests.specs.Calls.{CallOf};
+ghost use Rattle.hq_requests.specs.Directories.{entry_of};
 ghost use Rattle.hq_wire.specs.Exchanges.{Exchanged, IsRefused, ask_of};
 ghost use Rattle.hq_wire.specs.Replies.{seen, tells_store};
 ghost use Rattle.hq_wire.specs.Runs.{RepliesSo};
-ghost use Rattle.hq_wire.specs.declared.directory.Directory.{Directory};
+ghost use Rattle.hq_requests.specs.declared.directory.Directory.{Directory};
 
-use crate::asked::Exchange;
-use crate::directory::Directory;
 use crate::reply::{Body, Reply, fault_reply, status_of};
-use crate::request::{Asking, call_of};
 use crate::sweeping::sweep_all;
 use hq_desk::{Call, Desk};
 use hq_envelope::{Fail, Fault, Moment, Refusal};
 use hq_json::{Json, refusal_text};
 use hq_queue::Entry;
+use hq_requests::{Asking, Directory, Exchange, call_of};
 use hq_store::Shelf;
 use std::alloc::Global;
 

@@ -5,10 +5,9 @@ ghost use Rattle.hq_wire.specs.Exchanges.{ask_of};
 ghost use Rattle.hq_wire.specs.Runs.{RunsSo};
 
 use crate::answering::exchange;
-use crate::asked::Exchange;
-use crate::directory::Directory;
 use crate::reply::Reply;
 use hq_desk::Desk;
+use hq_requests::{Directory, Exchange};
 use hq_store::Shelf;
 use std::alloc::{AllocError, Allocator, Global};
 

@@ -8,12 +8,12 @@ ghost use Rattle.hq_store.specs.Tables.{Tables, own};
 ghost use Rattle.hq_calls.specs.Unchanged.{only_reads};
 ghost use Rattle.hq_calls.specs.declared.call.Call.{Call};
 ghost use Rattle.hq_json.specs.OneLine.{is_one_line};
-ghost use Rattle.hq_wire.specs.Calls.{CallOf};
-ghost use Rattle.hq_wire.specs.Directories.{names_of};
+ghost use Rattle.hq_requests.specs.Calls.{CallOf};
+ghost use Rattle.hq_requests.specs.Directories.{names_of};
 ghost use Rattle.hq_wire.specs.Exchanges.{Ask, MayReply};
 ghost use Rattle.hq_wire.specs.Replies.{SeenReply};
 ghost use Rattle.hq_wire.specs.Runs.{AllReplied, share, heard};
-ghost use Rattle.hq_wire.specs.declared.directory.Directory.{Directory};
+ghost use Rattle.hq_requests.specs.declared.directory.Directory.{Directory};
 
 use hq_store::Shelf;
 

@@ -1,19 +1,14 @@
-//! The wire: exchanges turned into calls, answers into replies, and the headline: to each customer
-//! the desk is its own, whatever the other customers do.
+//! The wire: exchanges done by the desk, answers turned into replies, and the headline: to each
+//! customer the desk is its own, whatever the other customers do.
 #![tactic(auto)]
 
 mod answering;
-mod asked;
-mod directory;
 mod headline;
 pub mod laws;
-mod number;
 mod reply;
-mod request;
 mod sweeping;
 
 pub use answering::{exchange, refusal_reply};
-pub use asked::Exchange;
-pub use directory::{Directory, are_customers};
 pub use headline::run;
+pub use hq_requests::{Directory, Exchange, are_customers};
 pub use reply::{Body, Reply, fault_reply};

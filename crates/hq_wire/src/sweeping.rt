@@ -2,15 +2,15 @@
 
 ghost use Rattle.std.specs.Prelude.{◌≡◌, ◌+◌, ◌*◌, ◌≤◌, ◌++◌, true, Ok, Some, None, length, drop, vec_len, vec_capacity, IfOk, IfSome};
 ghost use Rattle.std.specs.List.{list_all};
-ghost use Rattle.hq_wire.specs.Calls.{SweepOfAll};
+ghost use Rattle.hq_requests.specs.Calls.{SweepOfAll};
 ghost use Rattle.hq_wire.specs.Exchanges.{Exchanged};
 ghost use Rattle.hq_wire.specs.Replies.{SeenReply, IsSent, Closes, is_inside, for_customer, fault_text, separated, opening, closing};
 
-use crate::directory::Directory;
 use crate::reply::{Body, Reply, fault_reply, fault_text};
 use hq_desk::{Answer, Call, Desk, Render};
 use hq_envelope::{Fault, Moment, Name};
 use hq_json::Json;
+use hq_requests::Directory;
 use hq_store::Shelf;
 use std::alloc::{AllocError, Global};
 

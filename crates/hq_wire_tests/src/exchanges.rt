@@ -5,8 +5,9 @@ use crate::relay::{
 };
 use hq_desk::Desk;
 use hq_envelope::{Fail as Failure, Name};
+use hq_lists::ListShelf;
 use hq_queue::{Head, Tally};
-use hq_store::{Change, ListShelf, Shelf};
+use hq_store::{Change, Shelf};
 use std::alloc::Global;
 use std::test::Fail;
 

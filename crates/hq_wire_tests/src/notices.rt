@@ -1,7 +1,7 @@
 //! What the relay's workers do to a message, and the notices that come of it.
 
 use crate::relay::{asked, desk_over, expect_first_reply, expect_rows};
-use hq_store::ListShelf;
+use hq_lists::ListShelf;
 use std::test::Fail;
 
 const NO_MESSAGE: &str = "404 {\"error\":10,\"name\":\"NoMessage\"}";

@@ -2,8 +2,9 @@
 
 use hq_desk::Desk;
 use hq_envelope::{Fail as Failure, Host, Key, Moment, Name};
+use hq_lists::ListShelf;
 use hq_queue::{Customer, Entry, Quota};
-use hq_store::{ListShelf, Shelf};
+use hq_store::Shelf;
 use hq_wire::{Directory, Exchange, Reply, are_customers, exchange};
 use std::alloc::{AllocError, Global};
 use std::process::Abort;

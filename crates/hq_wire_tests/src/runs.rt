@@ -2,8 +2,9 @@
 
 use crate::relay::{asked, desk_over, directory, expect_rows, line_of};
 use hq_desk::Desk;
+use hq_lists::ListShelf;
 use hq_sql_shelf::SqlShelf;
-use hq_store::{ListShelf, Shelf};
+use hq_store::Shelf;
 use hq_wire::{Directory, Exchange, Reply, run};
 use linked_list_allocator::LocalHeap;
 use std::alloc::{AllocError, Allocator, Global};

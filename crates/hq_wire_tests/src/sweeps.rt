@@ -3,9 +3,10 @@
 use crate::relay::{asked, desk_over, directory, line_of};
 use hq_desk::Desk;
 use hq_envelope::{Moment, Name};
+use hq_lists::ListShelf;
 use hq_queue::{Head, Tally};
 use hq_sql_shelf::SqlShelf;
-use hq_store::{Change, ListShelf, Shelf};
+use hq_store::{Change, Shelf};
 use hq_trial::{FailingShelf, Failure as Plan};
 use hq_wire::exchange;
 use std::process::Abort;

@@ -2,8 +2,9 @@
 
 use super::{counted, kept, told, word};
 use hq_envelope::{Fault, Name};
+use hq_lists::ListShelf;
 use hq_queue::{Head, Tally};
-use hq_store::{Change, ListShelf, Shelf};
+use hq_store::{Change, Shelf};
 use hq_trial::{FailingShelf, Failure};
 use std::alloc::Global;
 use std::process::Abort;

@@ -1,7 +1,8 @@
 //! Each kind of call over a shelf that fails at each of its calls in turn.
 
 use super::{kept, told};
-use hq_store::{ListShelf, Shelf};
+use hq_lists::ListShelf;
+use hq_store::Shelf;
 use hq_trial::{FailingShelf, Failure};
 use std::alloc::Global;
 use std::process::Abort;

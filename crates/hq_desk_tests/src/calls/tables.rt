@@ -3,7 +3,7 @@
 
 use super::answers::expect_answers;
 use super::failures::expect_failures;
-use hq_store::ListShelf;
+use hq_lists::ListShelf;
 use std::test::Fail;
 
 /// What acme keeps after each step: lines put, the same again, with another action, dropped; a

@@ -1,7 +1,7 @@
 use Rattle.std.proofs.Common.{ℕ, Result, Some, refl, subst}
 use Rattle.hq_base.specs.declared.failure.Refusal.{Refusal}
 use Rattle.hq_lines.specs.Fields.{shown}
-use Rattle.hq_wire.specs.Calls.{Asked, call_from}
+use Rattle.hq_requests.specs.Calls.{Asked, call_from}
 use Rattle.hq_wire.specs.Replies.{seen}
 use Rattle.hq_wire.specs.Runs.{RepliesSo}
 use Rattle.hq_wire.proofs.Exchanging.{no_room}

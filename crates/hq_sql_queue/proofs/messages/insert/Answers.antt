@@ -1,7 +1,7 @@
 use Rattle.std.proofs.Common.{ap}
 use Rattle.sqlite.specs.Held.{state}
 use Rattle.hq_keyed.proofs.Stops.{may_end}
-use Rattle.hq_store.specs.Lookups.{message_row}
+use Rattle.hq_rows.specs.Lookups.{message_row}
 use Rattle.hq_sql.proofs.Keeping.{write_keeps, write_failed}
 use Rattle.hq_sql.proofs.Texts.{message_insert_text, message_insert_is}
 use Rattle.hq_sql_queue.proofs.OnMessages.{message_inserted, message_insert_keeps}

@@ -1,7 +1,7 @@
 use Rattle.std.proofs.Common.{ap}
 use Rattle.sqlite.specs.Held.{state}
 use Rattle.hq_keyed.proofs.Stops.{may_end}
-use Rattle.hq_store.specs.Lookups.{message_row}
+use Rattle.hq_rows.specs.Lookups.{message_row}
 use Rattle.hq_sql.proofs.Keeping.{write_keeps, write_failed, told_there}
 use Rattle.hq_sql.proofs.Texts.{message_update_text, message_update_is}
 use Rattle.hq_sql_queue.proofs.OnMessages.{message_updated, message_update_keeps}

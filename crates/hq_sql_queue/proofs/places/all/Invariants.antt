@@ -1,5 +1,5 @@
 use Rattle.std.proofs.Common.{◌≡◌, map, take}
-use Rattle.hq_store.specs.Listed.{recipient_value}
+use Rattle.hq_rows.specs.Listed.{recipient_value}
 use Rattle.hq_sql.specs.Rows.{recipient_shown}
 use Rattle.hq_sql_queue.proofs.places.all.Given as goal
 

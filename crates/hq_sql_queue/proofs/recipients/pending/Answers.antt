@@ -1,6 +1,6 @@
 use Rattle.std.proofs.Common.{map, ap, ◌∙◌}
 use Rattle.std.proofs.lemmas.Result.{IfOk-weaker}
-use Rattle.hq_store.specs.Listed.{recipient_value}
+use Rattle.hq_rows.specs.Listed.{recipient_value}
 use Rattle.hq_sql.specs.Rows.{recipient_shown}
 use Rattle.hq_sql_queue.proofs.OnRecipients.{pending_shown}
 use Rattle.hq_sql_queue.proofs.recipients.pending.Goals as goal

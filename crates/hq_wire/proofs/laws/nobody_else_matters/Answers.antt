@@ -1,5 +1,5 @@
 use Rattle.std.proofs.Common.{sym, ◌∙◌}
-use Rattle.hq_wire.specs.Directories.{entry_of}
+use Rattle.hq_requests.specs.Directories.{entry_of}
 use Rattle.hq_wire.specs.Runs.{calls_in, told_in}
 use Rattle.hq_calls.specs.Machine.{answers, state_after}
 use Rattle.hq_wire.proofs.Alone.{alone}

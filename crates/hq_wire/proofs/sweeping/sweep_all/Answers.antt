@@ -1,10 +1,10 @@
 use Rattle.std.proofs.Common.{◌≡◌, ◌≤◌, ◌+◌, ◌++◌, ◌∷◌, [], List, ℕ, suc, true, false, Ok, Some, None, length, map, take, drop, refl, sym, ap, ◌∙◌, subst, arith}
 use Rattle.std.proofs.lemmas.List.{take_all, take_more, map-append}
 use Rattle.hq_queue.specs.Customers.{are_customers}
-use Rattle.hq_wire.specs.Calls.{SweepOfAll}
-use Rattle.hq_wire.specs.Directories.{entry_in, entry_of, name_of, names_of}
+use Rattle.hq_requests.specs.Calls.{SweepOfAll}
+use Rattle.hq_requests.specs.Directories.{entry_in, entry_of, name_of, names_of}
 use Rattle.hq_wire.specs.Replies.{Stop, closing, seen, separated, swept_reply}
-use Rattle.hq_wire.proofs.Entries.{entry_at}
+use Rattle.hq_requests.proofs.Entries.{entry_at}
 use Rattle.hq_wire.proofs.Exchanging.{no_room}
 use Rattle.hq_wire.proofs.Swept.{SoFar, done_by_all, none_yet, one_more_done, split_at, stopped_at}
 use Rattle.hq_wire.proofs.sweeping.sweep_all.Goals as goal

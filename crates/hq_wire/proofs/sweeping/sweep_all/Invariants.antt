@@ -1,5 +1,5 @@
 use Rattle.std.proofs.Common.{◌+◌, ◌*◌, ◌≤◌, map, take, length, vec_len, vec_capacity}
-use Rattle.hq_wire.specs.Directories.{name_of}
+use Rattle.hq_requests.specs.Directories.{name_of}
 use Rattle.hq_wire.proofs.Swept.{SoFar}
 use Rattle.hq_wire.proofs.sweeping.sweep_all.Given as goal
 

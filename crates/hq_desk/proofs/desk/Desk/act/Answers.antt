@@ -3,7 +3,7 @@ use Rattle.std.proofs.lemmas.Result.{err_from_is_err_and}
 use Rattle.hq_store.specs.Sound.{Sound}
 use Rattle.hq_store.specs.Tables.{write_all}
 use Rattle.hq_desk.proofs.Reading.{changes_on, no_memory_on}
-use Rattle.hq_calls.proofs.Soundness.{shared_sound}
+use Rattle.hq_soundness.proofs.Soundness.{shared_sound}
 use Rattle.hq_desk.proofs.desk.Desk.act.Goals as goal
 
 pub returns-clause-sound : goal.returns-clause-sound

@@ -1,6 +1,0 @@
-use Rattle.std.proofs.Common.{◌≡◌}
-use Rattle.hq_calls.specs.Submissions.{distinct}
-use Rattle.hq_calls.proofs.distinct.distinct.Given as goal
-
-abbrev pub invariant-loop-address : goal.invariant-loop-address
-invariant-loop-address l = l.kept.items ≡ distinct l.yielded

@@ -1,7 +1,0 @@
-use Rattle.std.proofs.Common.{◌≡◌, map, take}
-use Rattle.hq_calls.specs.Queues.{drop}
-use Rattle.hq_calls.proofs.queues.drops_of.Given as goal
-
--- the messages so far are dropped
-abbrev pub invariant-loop-message : goal.invariant-loop-message
-invariant-loop-message l = l.changes.items ≡ map drop (take l.message-index l.messages)

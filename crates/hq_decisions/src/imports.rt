@@ -1,0 +1,132 @@
+//! Imports of lines of the access tables: what the rows of a file do to the customer's lines, and
+//! what was kept of a file that was taken. Nothing is read or written here.
+
+ghost use Rattle.std.specs.Prelude.{◌≡◌, ◌++◌, ◌∷◌, [], IfOk};
+ghost use Rattle.std.specs.List.{flat_map};
+ghost use Rattle.sha2.specs.Sha256.{sha256};
+ghost use Rattle.hq_store.specs.declared.change.Change.TheVariants.{PutMark};
+ghost use Rattle.hq_calls.specs.Imports as rules;
+
+use crate::lines::same_action;
+use hq_access::{Action, Line};
+use hq_calls::decision::{Decision, refuse, tell};
+use hq_calls::{Answer, ImportCounts, LinePut};
+use hq_envelope::{Items, Label, Refusal};
+use hq_store::{Change, Mark};
+use sha2::{Digest, Sha256};
+use std::alloc::{AllocError, Global};
+
+/// The digest of a file, by SHA-256.
+pub fn digest(file: &[u8]) -> [u8; 32]
+    ensures { result ≡ sha256 file.now }
+{
+    Sha256::digest(file)
+}
+
+/// What setting an action does, beside the one that its pattern has.
+pub fn beside(alloc: Global, action: &Action, known: Option<Action>) -> Result<LinePut, AllocError>
+    ensures { IfOk result (λ put. put ≡ rules.beside action.now known) }
+{
+    let Some(known) = known else {
+        return Ok(LinePut::Added);
+    };
+    if same_action(alloc, &known, action)? {
+        Ok(LinePut::Same)
+    } else {
+        Ok(LinePut::Changed)
+    }
+}
+
+/// Whether a row did this.
+fn is_put(put: LinePut, done: LinePut) -> bool
+    ensures { result ≡ rules.is_put put done }
+{
+    match (put, done) {
+        (LinePut::Added, LinePut::Added)
+        | (LinePut::Changed, LinePut::Changed)
+        | (LinePut::Same, LinePut::Same) => true,
+        _ => false,
+    }
+}
+
+/// How many rows did this.
+fn how_many(put: LinePut, rows: &[(Line, LinePut)]) -> u64
+    ensures { result ≡ rules.how_many put rows.now }
+{
+    rows.iter().filter(|row| is_put(put, row.1)).count() as u64
+}
+
+/// What the rows did.
+fn counts_of(rows: &[(Line, LinePut)]) -> ImportCounts
+    ensures { result ≡ rules.counts_of rows.now }
+{
+    ImportCounts {
+        added: how_many(LinePut::Added, rows),
+        changed: how_many(LinePut::Changed, rows),
+        same: how_many(LinePut::Same, rows),
+    }
+}
+
+/// The changes of an import: each row that changes a line, and its mark.
+fn changes_of(
+    alloc: Global,
+    mark: Mark,
+    rows: Vec<(Line, LinePut)>,
+) -> Result<Vec<Change>, AllocError>
+    ensures { IfOk result (λ changes. changes.items
+        ≡ flat_map rules.set_by rows.items ++ PutMark mark ∷ []) }
+{
+    let mut changes = Vec::with_capacity(alloc, rows.len())?;
+    for (line, put) in rows {
+        match put {
+            LinePut::Same => {}
+            _ => changes.push(Change::PutLine(line))?,
+        }
+    }
+    changes.push(Change::PutMark(mark))?;
+    Ok(changes)
+}
+
+/// Takes the rows beside the `count` lines that are there, at most `quota` in all.
+pub fn take_rows(
+    alloc: Global,
+    quota: u64,
+    count: u64,
+    label: Label,
+    digest: [u8; 32],
+    rows: Items<(Line, LinePut)>,
+) -> Result<Decision, AllocError>
+    ensures { IfOk result (λ decision. decision ≡ rules.taken quota count label digest rows) }
+{
+    let counts = counts_of(rows.as_slice());
+    if counts.added > quota.saturating_sub(count) || count > quota {
+        return Ok(refuse(alloc, Refusal::QuotaLines));
+    }
+    let mark = Mark {
+        label,
+        digest,
+        added: counts.added,
+        changed: counts.changed,
+        same: counts.same,
+    };
+    let changes = changes_of(alloc, mark, rows.into_vec())?;
+    Ok(Decision {
+        answer: Answer::Imported(counts),
+        changes: Items::from_vec(changes),
+    })
+}
+
+/// What a file is answered under a label that was used.
+pub fn repeat(alloc: Global, digest: [u8; 32], mark: &Mark) -> Decision
+    ensures { result ≡ rules.repeated digest mark.now }
+{
+    if digest != mark.digest {
+        return refuse(alloc, Refusal::LabelUsed);
+    }
+    let counts = ImportCounts {
+        added: mark.added,
+        changed: mark.changed,
+        same: mark.same,
+    };
+    tell(alloc, Answer::Imported(counts))
+}

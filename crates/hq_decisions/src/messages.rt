@@ -1,0 +1,115 @@
+//! What is answered and changed, by what was read of a message or of a page of messages. Nothing is
+//! read or written here.
+
+ghost use Rattle.std.specs.Prelude.{◌≡◌, ◌<◌, ◌≤◌, ◌^◌, IfOk, Some};
+ghost use Rattle.hq_calls.specs.Messages as rules;
+
+use hq_calls::Answer;
+use hq_calls::decision::{Decision, PAGE, refuse, tell};
+use hq_envelope::{Items, Moment, Refusal, Serial, Text};
+use hq_queue::{Head, Message, hold, release, requeue};
+use hq_store::Change;
+use std::alloc::{AllocError, Global};
+
+/// One message is changed to this.
+fn put(alloc: Global, message: Message) -> Result<Decision, AllocError>
+    ensures { IfOk result (λ decision. decision ≡ rules.moved (Some message)) }
+{
+    let changes = vec![in alloc; Change::PutMessage(message)]?;
+    Ok(Decision {
+        answer: Answer::Changed(1),
+        changes: Items::from_vec(changes),
+    })
+}
+
+/// Shows the message that was found.
+pub fn show(alloc: Global, found: Option<Message>) -> Decision
+    ensures { result ≡ rules.show found }
+{
+    match found {
+        None => refuse(alloc, Refusal::NoMessage),
+        Some(message) => tell(alloc, Answer::Shown(message)),
+    }
+}
+
+/// Puts the message that was found on hold.
+pub fn hold_found(alloc: Global, found: Option<Message>) -> Result<Decision, AllocError>
+    ensures { IfOk result (λ decision. decision ≡ rules.hold found) }
+{
+    let Some(mut message) = found else {
+        return Ok(refuse(alloc, Refusal::NoMessage));
+    };
+    if hold(&mut message, Text::customer_hold(alloc)?) {
+        put(alloc, message)
+    } else {
+        Ok(tell(alloc, Answer::Changed(0)))
+    }
+}
+
+/// Releases the message that was found.
+pub fn release_found(
+    alloc: Global,
+    at: Moment,
+    found: Option<Message>,
+) -> Result<Decision, AllocError>
+    ensures { IfOk result (λ decision. decision ≡ rules.release at found) }
+{
+    let Some(mut message) = found else {
+        return Ok(refuse(alloc, Refusal::NoMessage));
+    };
+    if release(&mut message, at) {
+        put(alloc, message)
+    } else {
+        Ok(tell(alloc, Answer::Changed(0)))
+    }
+}
+
+/// Queues a message anew under the head's next serial, or refuses it where none is left.
+pub fn requeue_with(
+    alloc: Global,
+    mut head: Head,
+    at: Moment,
+    mut message: Message,
+) -> Result<Decision, AllocError>
+    ensures { 0 < head.next_serial → head.next_serial ≤ 2 ^ 40
+        → IfOk result (λ decision. decision ≡ rules.requeue_with head at message) }
+{
+    let Some(serial) = Serial::new(head.next_serial) else {
+        return Ok(refuse(alloc, Refusal::SerialsSpent));
+    };
+    let old = message.serial;
+    requeue(&mut message, at, serial);
+    head.next_serial = serial.get() + 1;
+    let changes = vec![in alloc;
+        Change::DropMessage(old),
+        Change::PutHead(head),
+        Change::PutMessage(message),
+    ]?;
+    Ok(Decision {
+        answer: Answer::Requeued(serial),
+        changes: Items::from_vec(changes),
+    })
+}
+
+/// Deletes a message, and counts its recipients.
+pub fn delete(alloc: Global, mut head: Head, message: &Message) -> Result<Decision, AllocError>
+    ensures { IfOk result (λ decision. decision ≡ rules.delete head (Some message.now)) }
+{
+    let recipients = message.pending.len() as u64;
+    head.tally.deleted = head.tally.deleted.saturating_add(recipients);
+    let changes = vec![in alloc; Change::DropMessage(message.serial), Change::PutHead(head)]?;
+    Ok(Decision {
+        answer: Answer::Changed(1),
+        changes: Items::from_vec(changes),
+    })
+}
+
+/// The first hundred of the messages, of which one more than that was asked for.
+pub fn page(alloc: Global, messages: Items<Message>) -> Decision
+    ensures { result ≡ rules.page messages }
+{
+    let mut messages = messages.into_vec();
+    let more = messages.len() > PAGE;
+    messages.truncate(PAGE);
+    tell(alloc, Answer::Listed(Items::from_vec(messages), more))
+}

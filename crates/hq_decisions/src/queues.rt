@@ -1,0 +1,133 @@
+//! What is answered and changed on all messages of a customer, and what a customer is told of its
+//! use of the desk. Nothing is read or written here.
+
+ghost use Rattle.std.specs.Prelude.{◌≡◌, ◌++◌, IfOk, OnOk, List, map};
+ghost use Rattle.hq_queue.specs.Moves.{Makes};
+ghost use Rattle.hq_queue.specs.declared.message.Message.{Message};
+ghost use Rattle.hq_store.specs.Readings.{saturated};
+ghost use Rattle.hq_store.specs.Sound.{pending_count};
+ghost use Rattle.hq_calls.specs.Queues as rules;
+
+use hq_calls::decision::{Decision, tell};
+use hq_calls::{Answer, Move, Usage};
+use hq_envelope::{Items, Moment, Text};
+use hq_queue::{Counts, Head, Message, hold, release};
+use hq_store::Change;
+use std::alloc::{AllocError, Global};
+
+/// Moves a message, and tells whether the move applies to it; else it stays as it is.
+fn make(alloc: Global, by: &Move, message: &mut Message) -> Result<bool, AllocError>
+    ensures { IfOk result
+        (Makes (rules.moved_by by.now message.old) message.old message.new) }
+{
+    match by {
+        Move::Hold => {
+            let reason = Text::customer_hold(alloc)?;
+            Ok(hold(message, reason))
+        }
+        Move::Release(at) => Ok(release(message, *at)),
+    }
+}
+
+/// Adds the change of a message, where the move applies to it.
+fn push_moved(
+    alloc: Global,
+    changes: &mut Vec<Change>,
+    by: &Move,
+    mut message: Message,
+) -> Result<(), AllocError>
+    ensures { OnOk result (changes.new.items
+        ≡ changes.old.items ++ rules.put (rules.moved_by by.now message)) }
+{
+    if make(alloc, by, &mut message)? {
+        changes.push(Change::PutMessage(message))?;
+    }
+    Ok(())
+}
+
+/// The changes of the messages that the move applies to.
+fn moves_of(alloc: Global, by: &Move, messages: Vec<Message>) -> Result<Vec<Change>, AllocError>
+    ensures { IfOk result (λ changes. changes.items ≡ rules.moves_of by.now messages.items) }
+{
+    let mut changes = Vec::new(alloc);
+    for message in messages {
+        push_moved(alloc, &mut changes, by, message)?;
+    }
+    Ok(changes)
+}
+
+/// Moves all messages. Where the move applies to none, nothing is changed.
+pub fn move_all(alloc: Global, by: Move, messages: Items<Message>) -> Result<Decision, AllocError>
+    ensures { IfOk result (λ decision. decision ≡ rules.move_all by messages) }
+{
+    let changes = moves_of(alloc, &by, messages.into_vec())?;
+    Ok(Decision {
+        answer: Answer::Changed(changes.len() as u64),
+        changes: Items::from_vec(changes),
+    })
+}
+
+/// How many recipients are pending.
+fn all_pending(messages: &[Message]) -> u64
+    ensures { result ≡ saturated (pending_count messages.now) }
+{
+    let mut count: u64 = 0;
+    for message in messages {
+        count = count.saturating_add(message.pending.len() as u64);
+    }
+    count
+}
+
+/// Drops all messages.
+fn drops_of(alloc: Global, messages: &[Message]) -> Result<Vec<Change>, AllocError>
+    ensures { IfOk result (λ changes. changes.items ≡ map rules.drop messages.now) }
+{
+    let mut changes = Vec::with_capacity(alloc, messages.len())?;
+    for message in messages {
+        changes.push(Change::DropMessage(message.serial))?;
+    }
+    Ok(changes)
+}
+
+/// Deletes all messages, and counts their recipients.
+pub fn delete_all(
+    alloc: Global,
+    mut head: Head,
+    messages: &[Message],
+) -> Result<Decision, AllocError>
+    ensures { IfOk result (λ decision. decision ≡ rules.delete_all head messages.now) }
+{
+    if messages.is_empty() {
+        return Ok(tell(alloc, Answer::Changed(0)));
+    }
+    head.tally.deleted = head.tally.deleted.saturating_add(all_pending(messages));
+    let mut changes = drops_of(alloc, messages)?;
+    changes.push(Change::PutHead(head))?;
+    Ok(Decision {
+        answer: Answer::Changed(messages.len() as u64),
+        changes: Items::from_vec(changes),
+    })
+}
+
+/// What a customer has on the desk. No message is read for it: what is accepted and nowhere else in
+/// the tally is pending, and so it is on sound tables.
+pub fn usage(alloc: Global, head: &Head, counts: Counts) -> Decision
+    ensures { (messages : List Message) → rules.AreTold head.now messages
+        → result ≡ rules.usage head.now counts messages }
+{
+    let tally = head.tally;
+    let pending = tally
+        .accepted
+        .saturating_sub(tally.delivered)
+        .saturating_sub(tally.failed)
+        .saturating_sub(tally.deleted)
+        .saturating_sub(tally.expired);
+    tell(
+        alloc,
+        Answer::Used(Usage {
+            counts,
+            pending,
+            tally,
+        }),
+    )
+}

@@ -1,0 +1,182 @@
+//! What is answered and changed by a submission, by what was read. Nothing is read or written here.
+
+ghost use Rattle.std.specs.Prelude.{◌≡◌, IfOk, None, map, option_map};
+ghost use Rattle.hq_calls.specs.Submissions as rules;
+
+use hq_access::{Refused, Verdict};
+use hq_calls::decision::{Decision, refuse, tell};
+use hq_calls::{Answer, Submission};
+use hq_envelope::{Address, Items, Moment, Refusal, Serial, Text, TryCopy};
+use hq_queue::{Head, Message, Pending, QueueState};
+use hq_store::Change;
+use std::alloc::{AllocError, Global};
+
+/// What the verdict makes of a submission that it queues.
+#[derive(Drop)]
+struct Intake {
+    /// To whom it goes.
+    receivers: Items<Address>,
+    /// The reason for which it is put on hold.
+    held: Option<Text>,
+    /// The recipients that are refused.
+    refused: Items<Refused>,
+}
+
+/// Who gets it: the address of a redirect alone, or else all that are kept.
+fn receivers(
+    alloc: Global,
+    kept: Items<Address>,
+    redirect: Option<Address>,
+) -> Result<Items<Address>, AllocError>
+    ensures { IfOk result (λ receivers. receivers ≡ rules.receivers kept redirect) }
+{
+    match redirect {
+        Some(address) => Ok(Items::from_vec(vec![in alloc; address]?)),
+        None => Ok(kept),
+    }
+}
+
+/// On hold, where an action holds it.
+fn first_state(held: Option<&Text>) -> QueueState
+    ensures { result ≡ rules.first_state (option_map (λ t. t.now) held.entry) }
+{
+    match held {
+        Some(_) => QueueState::Hold,
+        None => QueueState::Incoming,
+    }
+}
+
+/// For the reason of that action.
+fn first_reason(alloc: Global, held: Option<Text>) -> Text
+    ensures { result ≡ rules.first_reason held }
+{
+    match held {
+        Some(reason) => reason,
+        None => Text::empty(alloc),
+    }
+}
+
+/// The recipients of a new message.
+fn not_tried(alloc: Global, addresses: Vec<Address>) -> Result<Vec<Pending>, AllocError>
+    ensures { IfOk result (λ pending. pending.items ≡ map rules.not_tried addresses.items) }
+{
+    let mut pending = Vec::with_capacity(alloc, addresses.len())?;
+    for address in addresses {
+        pending.push(Pending {
+            address,
+            status: None,
+            text: Text::empty(alloc),
+        })?;
+    }
+    Ok(pending)
+}
+
+/// The message that a submission becomes.
+fn new_message(
+    alloc: Global,
+    serial: Serial,
+    at: Moment,
+    submission: Submission,
+    receivers: Items<Address>,
+    held: Option<Text>,
+) -> Result<Message, AllocError>
+    ensures { IfOk result (λ message. message
+        ≡ rules.new_message serial at submission receivers held) }
+{
+    let pending = not_tried(alloc, receivers.into_vec())?;
+    let state = first_state(held.as_ref());
+    let reason = first_reason(alloc, held);
+    Ok(Message {
+        serial,
+        sender: submission.sender,
+        spool: submission.spool,
+        size: submission.size,
+        arrival: at,
+        state,
+        reason,
+        next_try: at,
+        attempts: 0,
+        warned: false,
+        pending: Items::from_vec(pending),
+    })
+}
+
+/// Takes a message into the queue.
+fn enqueue(
+    alloc: Global,
+    mut head: Head,
+    message: Message,
+    refused: Items<Refused>,
+) -> Result<Decision, AllocError>
+    requires { message.serial ≡ head.next_serial }
+    ensures { IfOk result (λ decision. decision ≡ rules.enqueued head message refused) }
+{
+    let recipients = message.pending.len() as u64;
+    head.next_serial = message.serial.get() + 1;
+    head.tally.accepted = head.tally.accepted.saturating_add(recipients);
+    let answer = Answer::Queued(message.copy(alloc)?, refused);
+    let changes = vec![in alloc; Change::PutHead(head), Change::PutMessage(message)]?;
+    Ok(Decision {
+        answer,
+        changes: Items::from_vec(changes),
+    })
+}
+
+/// Takes a submission in under its serial, or refuses it.
+fn admit(
+    alloc: Global,
+    head: Head,
+    at: Moment,
+    submission: Submission,
+    serial: Result<Serial, Refusal>,
+    intake: Intake,
+) -> Result<Decision, AllocError>
+    requires { IfOk serial (λ serial. serial ≡ head.next_serial) }
+    ensures { IfOk result (λ decision. decision
+        ≡ rules.admit head at submission intake.receivers intake.held intake.refused serial) }
+{
+    match serial {
+        Err(refusal) => Ok(refuse(alloc, refusal)),
+        Ok(serial) => {
+            let Intake {
+                receivers,
+                held,
+                refused,
+            } = intake;
+            let message = new_message(alloc, serial, at, submission, receivers, held)?;
+            enqueue(alloc, head, message, refused)
+        }
+    }
+}
+
+/// Does with a submission what its verdict says: it is taken in under its serial, or not at all.
+pub fn settle(
+    alloc: Global,
+    head: Head,
+    at: Moment,
+    submission: Submission,
+    serial: Result<Serial, Refusal>,
+    verdict: Verdict,
+) -> Result<Decision, AllocError>
+    requires { IfOk serial (λ serial. serial ≡ head.next_serial) }
+    ensures { IfOk result (λ decision. decision
+        ≡ rules.settled head at submission serial verdict) }
+{
+    match verdict {
+        Verdict::Rejected { refused } => Ok(tell(alloc, Answer::Rejected(refused))),
+        Verdict::Discarded { refused } => Ok(tell(alloc, Answer::Discarded(refused))),
+        Verdict::Queue {
+            kept,
+            refused,
+            redirect,
+            held,
+        } => {
+            let intake = Intake {
+                receivers: receivers(alloc, kept, redirect)?,
+                held,
+                refused,
+            };
+            admit(alloc, head, at, submission, serial, intake)
+        }
+    }
+}

@@ -1,0 +1,177 @@
+//! The shelf of plain lists.
+
+ghost use Rattle.std.specs.Prelude.{◌≡◌};
+ghost use Rattle.hq_store.specs.Tables.{no_tables};
+ghost use Rattle.hq_lists.specs.Lists.{tables_of};
+
+use crate::list_rows::ListRows;
+use crate::heads;
+use hq_list_tables::{lines, marks, messages, notices};
+use hq_access::{Action, Class, Line, LookupKey, Pattern};
+use hq_envelope::{Fault, Items, Label, Name, Serial, Spool};
+use hq_queue::{Counts, Head, Message};
+use hq_store::{Change, Mark, Notice, Shelf};
+use std::alloc::Global;
+use std::marker::Model;
+
+/// The tables in plain lists in memory: slow, and simple to look through. Its only fault is 90, and
+/// it never closes.
+#[derive(Drop)]
+pub struct ListShelf {
+    alloc: Global,
+    rows: ListRows,
+}
+
+/// Seen as its rows. They lie so that no message and no line stands twice, and recipients in the
+/// order of their places; the counts in the rows of heads are those of the rows.
+impl Model for ListShelf {
+    ghost use Rattle.hq_lists.specs.declared.list_rows.ListRows.{ListRows};
+    ghost use Rattle.hq_lists.specs.Lists.{tables_of};
+    ghost use Rattle.hq_lists.specs.Lists.{AreInOrder};
+    ghost use Rattle.hq_store.specs.Sound.{AreCounted};
+
+    ghost Value = { ListRows };
+
+    ghost view = { λ s. s.rows };
+
+    ghost invariant = { λ s. AreInOrder s.rows × AreCounted (tables_of s.rows) };
+}
+
+impl ListShelf {
+    /// A shelf of which nobody has anything yet. It keeps the allocator; this call takes no memory.
+    pub fn new(alloc: Global) -> ListShelf
+        ensures { tables_of result ≡ no_tables }
+    {
+        let rows = ListRows {
+            heads: Vec::new(alloc),
+            messages: Vec::new(alloc),
+            recipients: Vec::new(alloc),
+            holds: Vec::new(alloc),
+            lines: Vec::new(alloc),
+            marks: Vec::new(alloc),
+            notices: Vec::new(alloc),
+        };
+        ListShelf { alloc, rows }
+    }
+}
+
+impl Shelf for ListShelf {
+    ghost use Rattle.std.specs.Prelude.{◌≡◌, ⊤, false};
+    ghost use Rattle.hq_base.specs.declared.failure.Fault.TheVariants.{WantOfMemory};
+    ghost use Rattle.hq_lists.specs.Lists.{tables_of};
+
+    /// It is always clean and open.
+    ghost sight = { record {
+      tables = tables_of;
+      is_closed = λ _. false;
+      fault_count = λ _. 0;
+      is_clean = λ _. ⊤;
+      is_ours = λ _. ⊤;
+      may_answer = λ fault. fault ≡ WantOfMemory;
+    } };
+
+    fn head(&mut self, customer: &Name) -> Result<Head, Fault> {
+        Ok(heads::account_in(self.rows.heads.as_slice(), customer).head)
+    }
+
+    fn counts(&mut self, customer: &Name) -> Result<Counts, Fault> {
+        Ok(heads::account_in(self.rows.heads.as_slice(), customer).counts)
+    }
+
+    fn message(&mut self, customer: &Name, serial: Serial) -> Result<Option<Message>, Fault> {
+        Ok(messages::message_in(
+            self.alloc,
+            self.rows.messages.as_slice(),
+            self.rows.recipients.as_slice(),
+            self.rows.holds.as_slice(),
+            customer,
+            serial,
+        )?)
+    }
+
+    fn by_spool(&mut self, customer: &Name, spool: &Spool) -> Result<Option<Message>, Fault> {
+        Ok(messages::by_spool_in(
+            self.alloc,
+            self.rows.messages.as_slice(),
+            self.rows.recipients.as_slice(),
+            self.rows.holds.as_slice(),
+            customer,
+            spool,
+        )?)
+    }
+
+    fn messages(
+        &mut self,
+        customer: &Name,
+        after: Option<Serial>,
+        limit: usize,
+    ) -> Result<Items<Message>, Fault> {
+        Ok(messages::page_in(
+            self.alloc,
+            self.rows.messages.as_slice(),
+            self.rows.recipients.as_slice(),
+            self.rows.holds.as_slice(),
+            customer,
+            after,
+            limit,
+        )?)
+    }
+
+    fn line(
+        &mut self,
+        customer: &Name,
+        class: Class,
+        key: &LookupKey,
+    ) -> Result<Option<Action>, Fault> {
+        Ok(lines::line_in(self.alloc, self.rows.lines.as_slice(), customer, class, key)?)
+    }
+
+    fn lines(
+        &mut self,
+        customer: &Name,
+        after: Option<&Pattern>,
+        limit: usize,
+    ) -> Result<Items<Line>, Fault> {
+        Ok(lines::page_in(
+            self.alloc,
+            self.rows.lines.as_slice(),
+            customer,
+            after,
+            limit,
+        )?)
+    }
+
+    fn mark(&mut self, customer: &Name, label: &Label) -> Result<Option<Mark>, Fault> {
+        Ok(marks::mark_in(self.alloc, self.rows.marks.as_slice(), customer, label)?)
+    }
+
+    fn notice(&mut self, customer: &Name, number: u64) -> Result<Option<Notice>, Fault> {
+        Ok(notices::notice_in(self.alloc, self.rows.notices.as_slice(), customer, number)?)
+    }
+
+    fn notices(
+        &mut self,
+        customer: &Name,
+        after: Option<u64>,
+        limit: usize,
+    ) -> Result<Items<Notice>, Fault> {
+        Ok(notices::page_in(
+            self.alloc,
+            self.rows.notices.as_slice(),
+            customer,
+            after,
+            limit,
+        )?)
+    }
+
+    fn apply(&mut self, customer: &Name, changes: &[Change]) -> Result<(), Fault> {
+        let mut next = self.rows.copy(self.alloc)?;
+        next.change_all(self.alloc, customer, changes)?;
+        self.rows = next;
+        Ok(())
+    }
+
+    fn faults(&self) -> u64 {
+        0
+    }
+}

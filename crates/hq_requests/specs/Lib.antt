@@ -1,0 +1,4 @@
+pub mod Calls
+pub mod Customers
+pub mod Directories
+pub mod Numbers

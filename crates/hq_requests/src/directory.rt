@@ -1,0 +1,209 @@
+//! The directory: the relay's key, the customers with their keys, and whom an exchange is for.
+
+ghost use Rattle.std.specs.Prelude.{◌≡◌, ◌⊎◌, IsTrue, IfOk, MatchResult, option_map, true, false};
+ghost use Rattle.std.specs.List.{find, list_any};
+ghost use Rattle.hq_base.specs.Refusals.{no_memory_fail, refused};
+ghost use Rattle.hq_requests.specs.Customers.{are_customers, names_apart, keys_apart, has_key, has_name};
+
+use hq_envelope::{Fail, Fault, Items, Key, Refusal};
+use hq_queue::{Customer, Entry};
+use hq_routes::{Path, Paths};
+use std::alloc::Global;
+
+/// Whether a customer shows this key.
+fn has_key(customer: &Customer, key: &str) -> bool
+    ensures { result ≡ has_key key.now customer.now }
+{
+    key.cmp(customer.key.as_str()).is_eq()
+}
+
+/// Whether a customer has this name.
+fn has_name(customer: &Customer, name: &str) -> bool
+    ensures { result ≡ has_name name.now customer.now }
+{
+    name.cmp(customer.entry.name.as_str()).is_eq()
+}
+
+fn with_key<'c>(customers: &'c [Customer], key: &str) -> Option<&'c Customer>
+    ensures { option_map (λ c. c.now) result ≡ find (has_key key.now) customers.now }
+{
+    customers.iter().find(|customer| has_key(customer, key))
+}
+
+fn with_name<'c>(customers: &'c [Customer], name: &str) -> Option<&'c Customer>
+    ensures { option_map (λ c. c.now) result ≡ find (has_name name.now) customers.now }
+{
+    customers.iter().find(|customer| has_name(customer, name))
+}
+
+/// Whether one of these shows this key.
+fn is_taken(customers: &[Customer], key: &str) -> bool
+    ensures { result ≡ list_any (has_key key.now) customers.now }
+{
+    customers.iter().any(|customer| has_key(customer, key))
+}
+
+/// Whether one of these has this name.
+fn is_named(customers: &[Customer], name: &str) -> bool
+    ensures { result ≡ list_any (has_name name.now) customers.now }
+{
+    customers.iter().any(|customer| has_name(customer, name))
+}
+
+fn names_apart(customers: &[Customer]) -> bool
+    ensures { result ≡ names_apart customers.now }
+{
+    match customers {
+        [] => true,
+        [first, rest @ ..] => !is_named(rest, first.entry.name.as_str()) && names_apart(rest),
+    }
+}
+
+fn keys_apart(customers: &[Customer]) -> bool
+    ensures { result ≡ keys_apart customers.now }
+{
+    match customers {
+        [] => true,
+        [first, rest @ ..] => !is_taken(rest, first.key.as_str()) && keys_apart(rest),
+    }
+}
+
+/// Whether these may stand in a directory: names and keys are pairwise different.
+pub fn are_customers(customers: &[Customer]) -> bool
+    ensures { result ≡ are_customers customers.now }
+{
+    names_apart(customers) && keys_apart(customers)
+}
+
+/// The relay's key, the customers, and the paths of the desk. It does not change while a desk is
+/// open.
+#[derive(Drop)]
+pub struct Directory {
+    relay: Key,
+    customers: Items<Customer>,
+    paths: Paths,
+    ghost apart: { IsTrue (are_customers customers) },
+}
+
+impl Directory {
+    ghost use Rattle.hq_requests.specs.Directories.{relay_of, customers_of, entry_of, by_relay, by_customer, customer_of, relay_alone};
+    ghost use Rattle.std.specs.Ordering.{eq_by_cmp};
+    ghost use Rattle.hq_store.specs.Tables.{text_cmp};
+    ghost use Rattle.hq_routes.specs.Routes.{path_of};
+    ghost use Rattle.hq_base.specs.Readers.{seen_by};
+
+    /// A directory of customers whose names and keys are pairwise different. Refused as 57
+    /// `BadRelayKey` exactly where the relay's key is a customer's.
+    pub fn new(alloc: Global, relay: Key, customers: Vec<Customer>) -> Result<Directory, Fail>
+        requires { IsTrue (are_customers customers.items) }
+        ensures { MatchResult result
+            (λ d. (relay_of d ≡ relay) × (customers_of d ≡ customers.items)
+            × (list_any (has_key relay) customers.items ≡ false))
+            (λ e. ((e ≡ refused Refusal.BadRelayKey)
+            × (list_any (has_key relay) customers.items ≡ true)) ⊎ (e ≡ no_memory_fail)) }
+    {
+        if is_taken(customers.as_slice(), relay.as_str()) {
+            return Err(Fail::Refused(Refusal::BadRelayKey));
+        }
+        let Ok(paths) = Paths::new(alloc) else {
+            return Err(Fail::Fault(Fault::WantOfMemory));
+        };
+        Ok(Directory {
+            relay,
+            customers: Items::from_vec(customers),
+            paths,
+        })
+    }
+
+    /// Which path of the desk it is.
+    pub fn path(&self, text: &str) -> Option<Path>
+        ensures { result ≡ path_of text.now }
+    {
+        self.paths.find(text)
+    }
+
+    fn is_relay(&self, key: &str) -> bool
+        ensures { result ≡ eq_by_cmp text_cmp key.now (relay_of self.now) }
+    {
+        key.cmp(self.relay.as_str()).is_eq()
+    }
+
+    /// The customer that the relay's key serves on a route.
+    fn by_relay(&self, for_relay: bool, segment: &str) -> Result<&Entry, Refusal>
+        ensures name { seen_by (λ entry. entry.now.name) result
+            ≡ by_relay for_relay (find (has_name segment.now) (customers_of self.now)) }
+        ensures entry { IfOk result (λ entry. entry.now ≡ entry_of self.now entry.now.name) }
+    {
+        if !for_relay {
+            return Err(Refusal::WrongRole);
+        }
+        match with_name(self.customers.as_slice(), segment) {
+            None => Err(Refusal::NoCustomer),
+            Some(customer) => Ok(&customer.entry),
+        }
+    }
+
+    /// The customer that its own key serves on a route.
+    fn by_customer(&self, for_relay: bool, key: &str) -> Result<&Entry, Refusal>
+        ensures name { seen_by (λ entry. entry.now.name) result
+            ≡ by_customer for_relay (find (has_key key.now) (customers_of self.now)) }
+        ensures entry { IfOk result (λ entry. entry.now ≡ entry_of self.now entry.now.name) }
+    {
+        match with_key(self.customers.as_slice(), key) {
+            None => Err(Refusal::NoKey),
+            Some(customer) => {
+                if for_relay {
+                    Err(Refusal::WrongRole)
+                } else {
+                    Ok(&customer.entry)
+                }
+            }
+        }
+    }
+
+    /// Whom an exchange is for, that shows this key on a route of the relay's or of customers: 2
+    /// `NoKey`, 3 `WrongRole` or 13 `NoCustomer` where there is nobody.
+    pub fn customer(
+        &self,
+        for_relay: bool,
+        key: Option<&str>,
+        segment: &str,
+    ) -> Result<&Entry, Refusal>
+        ensures name { seen_by (λ entry. entry.now.name) result
+            ≡ customer_of self.now for_relay (option_map (λ k. k.now) key.entry) segment.now }
+        ensures entry { IfOk result (λ entry. entry.now ≡ entry_of self.now entry.now.name) }
+    {
+        match key {
+            None => Err(Refusal::NoKey),
+            Some(key) => {
+                if self.is_relay(key) {
+                    self.by_relay(for_relay, segment)
+                } else {
+                    self.by_customer(for_relay, key)
+                }
+            }
+        }
+    }
+    /// Nothing, where the relay's key is shown: else 2 `NoKey` or 3 `WrongRole`.
+    pub fn relay_alone(&self, key: Option<&str>) -> Result<(), Refusal>
+        ensures { result ≡ relay_alone self.now (option_map (λ k. k.now) key.entry) }
+    {
+        let Some(key) = key else {
+            return Err(Refusal::NoKey);
+        };
+        if self.is_relay(key) {
+            return Ok(());
+        }
+        let Some(_) = with_key(self.customers.as_slice(), key) else {
+            return Err(Refusal::NoKey);
+        };
+        Err(Refusal::WrongRole)
+    }
+
+    /// The customers, in the order in which they were given.
+    pub fn customers(&self) -> &[Customer]
+        ensures { result.now ≡ customers_of self.now }
+    {
+        self.customers.as_slice()
+    }
+}

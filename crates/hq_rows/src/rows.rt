@@ -1,0 +1,373 @@
+//! The rows of the plain lists, one type for each table, and the tests of their keys.
+
+ghost use Rattle.std.specs.Prelude.{◌≡◌, not, option_map};
+ghost use Rattle.std.specs.Ordering.{nat_cmp, eq_by_cmp};
+ghost use Rattle.hq_store.specs.Tables.{text_cmp, line_cmp};
+ghost use Rattle.hq_rows.specs.Lookups.{is_head, is_message, is_recipient, is_hold, is_past, has_spool, is_line, is_line_past, is_mark, is_notice, is_notice_past, is_kept_notice};
+
+use hq_access::{Class, Line, Pattern};
+use hq_envelope::{Label, Moment, Name, Sender, Serial, Spool, Text, TryCopy};
+use hq_queue::{Pending, QueueState};
+use hq_store::{Account, Mark, Notice};
+use std::alloc::{AllocError, Global};
+use std::cmp::Ordering;
+
+/// A row of heads.
+#[derive(Drop)]
+pub struct HeadRow {
+    pub customer: Name,
+    pub account: Account,
+}
+
+/// A row of messages.
+#[derive(Drop)]
+pub struct MessageRow {
+    pub customer: Name,
+    pub serial: Serial,
+    pub sender: Sender,
+    pub spool: Spool,
+    pub size: u32,
+    pub arrival: Moment,
+    pub state: QueueState,
+    pub next_try: Moment,
+    pub attempts: u32,
+    pub warned: bool,
+}
+
+/// A row of recipients. Places count from 1 in the order of the message's recipients.
+#[derive(Drop)]
+pub struct RecipientRow {
+    pub customer: Name,
+    pub serial: Serial,
+    pub place: u64,
+    pub pending: Pending,
+}
+
+/// A row of holds: the reason of a message on hold.
+#[derive(Drop)]
+pub struct HoldRow {
+    pub customer: Name,
+    pub serial: Serial,
+    pub reason: Text,
+}
+
+/// A row of lines.
+#[derive(Drop)]
+pub struct LineRow {
+    pub customer: Name,
+    pub line: Line,
+}
+
+/// A row of marks.
+#[derive(Drop)]
+pub struct MarkRow {
+    pub customer: Name,
+    pub mark: Mark,
+}
+
+/// A row of notices.
+#[derive(Drop)]
+pub struct NoticeRow {
+    pub customer: Name,
+    pub notice: Notice,
+}
+
+/// Whether two names are the same.
+fn is_name(a: &Name, b: &Name) -> bool
+    ensures { result ≡ eq_by_cmp text_cmp a.now b.now }
+{
+    a.as_str().cmp(b.as_str()).is_eq()
+}
+
+/// Whether two serials are the same.
+fn is_serial(a: Serial, b: Serial) -> bool
+    ensures { result ≡ eq_by_cmp nat_cmp a b }
+{
+    a.get().cmp(&b.get()).is_eq()
+}
+
+impl HeadRow {
+    /// Whether it is the customer's.
+    #[tactic(auto, unfolding(crate::specs::Lookups::is_head))]
+    pub fn is_of(&self, customer: &Name) -> bool
+        ensures { result ≡ is_head customer.now self.now }
+    {
+        is_name(customer, &self.customer)
+    }
+
+    /// Whether it is another customer's.
+    pub fn is_other(&self, customer: &Name) -> bool
+        ensures { result ≡ not (is_head customer.now self.now) }
+    {
+        !self.is_of(customer)
+    }
+}
+
+impl MessageRow {
+    /// Whether it is the customer's message of this serial.
+    #[tactic(auto, unfolding(crate::specs::Lookups::is_message))]
+    pub fn is_at(&self, customer: &Name, serial: Serial) -> bool
+        ensures { result ≡ is_message customer.now serial self.now }
+    {
+        customer
+            .as_str()
+            .cmp(self.customer.as_str())
+            .then(serial.get().cmp(&self.serial.get()))
+            .is_eq()
+    }
+
+    /// Whether it is another message.
+    pub fn is_other(&self, customer: &Name, serial: Serial) -> bool
+        ensures { result ≡ not (is_message customer.now serial self.now) }
+    {
+        !self.is_at(customer, serial)
+    }
+
+    /// Whether it is a message of the customer after a serial, or any of its messages where there
+    /// is none.
+    #[tactic(auto, unfolding(crate::specs::Lookups::is_past))]
+    pub fn is_past(&self, customer: &Name, after: Option<u64>) -> bool
+        ensures { result ≡ is_past customer.now after self.now }
+    {
+        is_name(customer, &self.customer)
+            && match after {
+                None => true,
+                Some(serial) => serial < self.serial.get(),
+            }
+    }
+
+    /// Whether it is a message of the customer with this spool name.
+    #[tactic(auto, unfolding(crate::specs::Lookups::has_spool))]
+    pub fn has_spool(&self, customer: &Name, spool: &Spool) -> bool
+        ensures { result ≡ has_spool customer.now spool.now self.now }
+    {
+        is_name(customer, &self.customer) && spool.as_str().cmp(self.spool.as_str()).is_eq()
+    }
+}
+
+impl RecipientRow {
+    /// Whether it is a recipient of the customer's message of this serial.
+    #[tactic(auto, unfolding(crate::specs::Lookups::is_recipient))]
+    pub fn is_at(&self, customer: &Name, serial: Serial) -> bool
+        ensures { result ≡ is_recipient customer.now serial self.now }
+    {
+        is_name(customer, &self.customer) && is_serial(serial, self.serial)
+    }
+
+    /// Whether it is a recipient of another message.
+    pub fn is_other(&self, customer: &Name, serial: Serial) -> bool
+        ensures { result ≡ not (is_recipient customer.now serial self.now) }
+    {
+        !self.is_at(customer, serial)
+    }
+}
+
+impl HoldRow {
+    /// Whether it is of the customer's message of this serial.
+    #[tactic(auto, unfolding(crate::specs::Lookups::is_hold))]
+    pub fn is_at(&self, customer: &Name, serial: Serial) -> bool
+        ensures { result ≡ is_hold customer.now serial self.now }
+    {
+        customer
+            .as_str()
+            .cmp(self.customer.as_str())
+            .then(serial.get().cmp(&self.serial.get()))
+            .is_eq()
+    }
+
+    /// Whether it is of another message.
+    pub fn is_other(&self, customer: &Name, serial: Serial) -> bool
+        ensures { result ≡ not (is_hold customer.now serial self.now) }
+    {
+        !self.is_at(customer, serial)
+    }
+}
+
+/// The order of a class and a text beside a pattern: by the name of the class, then by the text.
+pub fn order(class: Class, text: &str, other: &Pattern) -> Ordering
+    ensures { result ≡ line_cmp (class, text.now) other.now }
+{
+    class
+        .name()
+        .cmp(other.class().name())
+        .then(text.cmp(other.as_str()))
+}
+
+impl LineRow {
+    /// Whether it is the customer's line of this class, at this key.
+    #[tactic(auto, unfolding(crate::specs::Lookups::is_line))]
+    pub fn is_at(&self, customer: &Name, class: Class, key: &str) -> bool
+        ensures { result ≡ is_line customer.now (class, key.now) self.now }
+    {
+        customer
+            .as_str()
+            .cmp(self.customer.as_str())
+            .then(order(class, key, &self.line.pattern))
+            .is_eq()
+    }
+
+    /// Whether it is another line than that of the customer's pattern.
+    pub fn is_other(&self, customer: &Name, pattern: &Pattern) -> bool
+        ensures { result ≡ not (is_line customer.now pattern.now self.now) }
+    {
+        !self.is_at(customer, pattern.class(), pattern.as_str())
+    }
+
+    /// Whether it is a line of the customer after a pattern, or any of its lines where there is
+    /// none.
+    #[tactic(auto, unfolding(crate::specs::Lookups::is_line_past))]
+    pub fn is_past(&self, customer: &Name, after: Option<&Pattern>) -> bool
+        ensures { result
+            ≡ is_line_past customer.now (option_map (λ p. p.now) after.entry) self.now }
+    {
+        is_name(customer, &self.customer)
+            && match after {
+                None => true,
+                Some(pattern) => {
+                    order(pattern.class(), pattern.as_str(), &self.line.pattern).is_lt()
+                }
+            }
+    }
+}
+
+impl MarkRow {
+    /// Whether it is the customer's mark of this label.
+    #[tactic(auto, unfolding(crate::specs::Lookups::is_mark))]
+    pub fn is_at(&self, customer: &Name, label: &Label) -> bool
+        ensures { result ≡ is_mark customer.now label.now self.now }
+    {
+        customer
+            .as_str()
+            .cmp(self.customer.as_str())
+            .then(label.as_str().cmp(self.mark.label.as_str()))
+            .is_eq()
+    }
+
+    /// Whether it is another mark.
+    pub fn is_other(&self, customer: &Name, label: &Label) -> bool
+        ensures { result ≡ not (is_mark customer.now label.now self.now) }
+    {
+        !self.is_at(customer, label)
+    }
+}
+
+impl NoticeRow {
+    /// Whether it is the customer's notice of this number.
+    #[tactic(auto, unfolding(crate::specs::Lookups::is_notice))]
+    pub fn is_at(&self, customer: &Name, number: u64) -> bool
+        ensures { result ≡ is_notice customer.now number self.now }
+    {
+        customer
+            .as_str()
+            .cmp(self.customer.as_str())
+            .then(number.cmp(&self.notice.number))
+            .is_eq()
+    }
+
+    /// Whether it is another notice.
+    pub fn is_other(&self, customer: &Name, number: u64) -> bool
+        ensures { result ≡ not (is_notice customer.now number self.now) }
+    {
+        !self.is_at(customer, number)
+    }
+
+    /// Whether it is a notice of the customer after a number, or any of its notices where there is
+    /// none.
+    #[tactic(auto, unfolding(crate::specs::Lookups::is_notice_past))]
+    pub fn is_past(&self, customer: &Name, after: Option<u64>) -> bool
+        ensures { result ≡ is_notice_past customer.now after self.now }
+    {
+        is_name(customer, &self.customer)
+            && match after {
+                None => true,
+                Some(number) => number < self.notice.number,
+            }
+    }
+
+    /// Whether it is another customer's, or of a number that is not below this one.
+    #[tactic(auto, unfolding(crate::specs::Lookups::is_kept_notice))]
+    pub fn is_kept(&self, customer: &Name, number: u64) -> bool
+        ensures { result ≡ is_kept_notice customer.now number self.now }
+    {
+        !(is_name(customer, &self.customer) && !(number <= self.notice.number))
+    }
+}
+
+impl TryCopy for HeadRow {
+    fn copy(&self, alloc: Global) -> Result<HeadRow, AllocError> {
+        let customer = self.customer.copy(alloc)?;
+        Ok(HeadRow {
+            customer,
+            account: self.account,
+        })
+    }
+}
+
+impl TryCopy for MessageRow {
+    fn copy(&self, alloc: Global) -> Result<MessageRow, AllocError> {
+        let customer = self.customer.copy(alloc)?;
+        let sender = self.sender.copy(alloc)?;
+        let spool = self.spool.copy(alloc)?;
+        Ok(MessageRow {
+            customer,
+            serial: self.serial,
+            sender,
+            spool,
+            size: self.size,
+            arrival: self.arrival,
+            state: self.state,
+            next_try: self.next_try,
+            attempts: self.attempts,
+            warned: self.warned,
+        })
+    }
+}
+
+impl TryCopy for RecipientRow {
+    fn copy(&self, alloc: Global) -> Result<RecipientRow, AllocError> {
+        let customer = self.customer.copy(alloc)?;
+        let pending = self.pending.copy(alloc)?;
+        Ok(RecipientRow {
+            customer,
+            serial: self.serial,
+            place: self.place,
+            pending,
+        })
+    }
+}
+
+impl TryCopy for HoldRow {
+    fn copy(&self, alloc: Global) -> Result<HoldRow, AllocError> {
+        let customer = self.customer.copy(alloc)?;
+        let reason = self.reason.copy(alloc)?;
+        Ok(HoldRow {
+            customer,
+            serial: self.serial,
+            reason,
+        })
+    }
+}
+
+impl TryCopy for LineRow {
+    fn copy(&self, alloc: Global) -> Result<LineRow, AllocError> {
+        let customer = self.customer.copy(alloc)?;
+        let line = self.line.copy(alloc)?;
+        Ok(LineRow { customer, line })
+    }
+}
+
+impl TryCopy for MarkRow {
+    fn copy(&self, alloc: Global) -> Result<MarkRow, AllocError> {
+        let customer = self.customer.copy(alloc)?;
+        let mark = self.mark.copy(alloc)?;
+        Ok(MarkRow { customer, mark })
+    }
+}
+
+impl TryCopy for NoticeRow {
+    fn copy(&self, alloc: Global) -> Result<NoticeRow, AllocError> {
+        let customer = self.customer.copy(alloc)?;
+        let notice = self.notice.copy(alloc)?;
+        Ok(NoticeRow { customer, notice })
+    }
+}

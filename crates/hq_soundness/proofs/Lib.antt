@@ -1,0 +1,11 @@
+pub mod Attempted
+pub mod Imported
+pub mod Kept
+pub mod Noted
+pub mod Queued
+pub mod Recipients
+pub mod Requeued
+pub mod Settled
+pub mod Soundness
+pub mod SweptRows
+pub mod WholeQueues
