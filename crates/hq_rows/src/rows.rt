@@ -1,4 +1,4 @@
-//! The rows of the plain lists, one type for each table, and the tests of their keys.
+//! The rows of the tables, one type for each, and the tests of their keys.
 
 ghost use Rattle.std.specs.Prelude.{◌≡◌, not, option_map};
 ghost use Rattle.std.specs.Ordering.{nat_cmp, eq_by_cmp};
@@ -15,60 +15,85 @@ use std::cmp::Ordering;
 /// A row of heads.
 #[derive(Drop)]
 pub struct HeadRow {
+    /// Whose it is.
     pub customer: Name,
+    /// The head with its counts.
     pub account: Account,
 }
 
 /// A row of messages.
 #[derive(Drop)]
 pub struct MessageRow {
+    /// Whose it is.
     pub customer: Name,
+    /// Its number among the customer's.
     pub serial: Serial,
+    /// Who is told of failures.
     pub sender: Sender,
+    /// The name under which the relay keeps it.
     pub spool: Spool,
+    /// Its size in bytes.
     pub size: u32,
+    /// When it came.
     pub arrival: Moment,
+    /// Whether it may be tried, and was.
     pub state: QueueState,
+    /// When it may be tried next.
     pub next_try: Moment,
+    /// How often it was tried.
     pub attempts: u32,
+    /// Whether its sender was told of the delay.
     pub warned: bool,
 }
 
 /// A row of recipients. Places count from 1 in the order of the message's recipients.
 #[derive(Drop)]
 pub struct RecipientRow {
+    /// Whose message it is.
     pub customer: Name,
+    /// The message's number.
     pub serial: Serial,
+    /// Where it stands among the message's recipients.
     pub place: u64,
+    /// The recipient, and what was last said of it.
     pub pending: Pending,
 }
 
 /// A row of holds: the reason of a message on hold.
 #[derive(Drop)]
 pub struct HoldRow {
+    /// Whose message it is.
     pub customer: Name,
+    /// The message's number.
     pub serial: Serial,
+    /// Why it is on hold; never empty in sound tables.
     pub reason: Text,
 }
 
 /// A row of lines.
 #[derive(Drop)]
 pub struct LineRow {
+    /// Whose it is.
     pub customer: Name,
+    /// Its pattern and its action.
     pub line: Line,
 }
 
 /// A row of marks.
 #[derive(Drop)]
 pub struct MarkRow {
+    /// Whose it is.
     pub customer: Name,
+    /// What is kept of the import.
     pub mark: Mark,
 }
 
 /// A row of notices.
 #[derive(Drop)]
 pub struct NoticeRow {
+    /// Whose it is.
     pub customer: Name,
+    /// The notice with its number.
     pub notice: Notice,
 }
 
