@@ -33,7 +33,8 @@ use Rattle.hq_store.proofs.Keys.{message_total, message_exact}
 use Rattle.hq_sql.specs.Rows.{hold_columns, hold_stored, hold_read, hold_shown}
 use Rattle.hq_sql.specs.Tables.{IsDesk, Leaves, tables_in}
 use Rattle.hq_sql.proofs.Tables.{holds_left, write_keeps}
-use Rattle.hq_sql_holds.specs.Holds.{with_hold, without_hold, key_columns}
+use Rattle.hq_sql_holds.specs.Holds.{with_hold, without_hold}
+use Rattle.hq_sql.specs.Bound.{message_key_columns}
 use Rattle.hq_sql_holds.proofs.Texts as text
 
 abbrev holds_table : Table
@@ -49,10 +50,10 @@ key_tests q k more =
 
 -- ---- reading
 
-pub hold_got : (old new : State) (q : Key) (rows : List Row) → IsDesk old.now → Shown text.hold_read_text (key_columns q) old new rows
+pub hold_got : (old new : State) (q : Key) (rows : List Row) → IsDesk old.now → Shown text.hold_read_text (message_key_columns q) old new rows
     → option_map (λ r. hold_value (hold_shown r)) (slice_get rows 0) ≡ get (tables_in old.now).holds q
 hold_got old new q rows desk h =
-    let params = key_columns q in
+    let params = message_key_columns q in
     let query = query_of 14 text.hold_key text.hold_columns in
     let answers : Answers old.now (record { lets = []; body = query }) params rows = reads_as text.hold_read_text params old new desk_schema desk.schema_is _ text.hold_read_is text.hold_read_plain text.hold_read_listed rows h in
     let a : IsAnswer query (overlay old.now.trees []) params rows = answers.answer Null in
@@ -73,9 +74,9 @@ hold_inserted old new r count desk free h =
     subst (λ m. Leaves old new (record (tables_in old.now) { holds = m })) (keyed.table_insert hold_stored hold_read message_total message_exact hold_key hold_value rows desk.holds r (λ n. refl) free)
     (holds_left old new _ _ params count _ desk w sets are)
 
-pub hold_deleted : (old new : State) (q : Key) (count : ℕ) → IsDesk old.now → Executes text.hold_delete_text (key_columns q) old new (Ok count) → Leaves old new (without_hold q (tables_in old.now))
+pub hold_deleted : (old new : State) (q : Key) (count : ℕ) → IsDesk old.now → Executes text.hold_delete_text (message_key_columns q) old new (Ok count) → Leaves old new (without_hold q (tables_in old.now))
 hold_deleted old new q count desk h =
-    let params = key_columns q in
+    let params = message_key_columns q in
     let w = runs_as text.hold_delete_text params old new desk_schema desk.schema_is _ text.hold_delete_is text.hold_delete_plain count h in
     let is : ℤ × HoldRow → Bool = λ k. eq_by_cmp message_cmp q (hold_key k.1) in
     let sets = deleted desk_schema hold_stored (λ k. refl) 7 holds_table refl (λ db. refl) (λ olds news. refl) text.hold_key old new _ params count desk.holds.kept is (λ k. key_tests q k []) desk.schema_is desk.holds.rows_are desk.holds.rises w in

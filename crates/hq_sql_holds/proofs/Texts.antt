@@ -12,7 +12,7 @@ use Rattle.sqlite.specs.Listing.{understood, reads_listing}
 use Rattle.sqlite.proofs.Callers.{IsPlain, command_of}
 use Rattle.hq_keyed.proofs.Select.{query_of}
 use Rattle.hq_schema.specs.Schema.{desk_schema}
-use Rattle.hq_sql.proofs.Texts.{at, between_terms}
+use Rattle.hq_sql.proofs.Texts.{at}
 
 abbrev pub hold_key : List Term
 hold_key = at 1 0 ∷ at 2 1 ∷ []
@@ -23,6 +23,9 @@ hold_columns = col 1 1 ∷ col 1 2 ∷ col 1 3 ∷ []
 
 abbrev pub hold_names : List (List ℕ)
 hold_names = codes "customer" ∷ codes "serial" ∷ codes "hold_reason" ∷ []
+
+abbrev pub hold_order : Query → Query
+hold_order q = record q { order = (col 1 1, ascending Binary) ∷ (col 1 2, ascending Binary) ∷ [] }
 
 abbrev pub hold_read_text : List ℕ
 hold_read_text = codes "SELECT customer, serial, hold_reason FROM holds WHERE customer = ?1 AND serial = ?2"
@@ -63,23 +66,3 @@ hold_delete_is = refl
 pub hold_delete_plain : IsPlain (understood desk_schema hold_delete_text)
 unfolding understood everything
 hold_delete_plain = (refl, refl)
-
--- ---- those of the messages of a page
-
-abbrev pub hold_order : Query → Query
-hold_order q = record q { order = (col 1 1, ascending Binary) ∷ (col 1 2, ascending Binary) ∷ [] }
-
-abbrev pub holds_between_text : List ℕ
-holds_between_text = codes "SELECT customer, serial, hold_reason FROM holds WHERE customer = ?1 AND serial >= ?2 AND serial <= ?3 ORDER BY customer, serial"
-
-pub holds_between_is : command_of (understood desk_schema holds_between_text) ≡ Select (record { lets = []; body = hold_order (query_of 14 between_terms hold_columns) }) hold_names
-unfolding understood everything
-holds_between_is = refl
-
-pub holds_between_plain : IsPlain (understood desk_schema holds_between_text)
-unfolding understood everything
-holds_between_plain = (refl, refl)
-
-pub holds_between_listed : reads_listing desk_schema holds_between_text ≡ false
-unfolding understood everything
-holds_between_listed = refl

@@ -1,5 +1,5 @@
 -- What the walk over holds shows, and what it gives to the messages of a page.
-use Rattle.std.proofs.Common.{◌≡◌, ◌&&◌, ℕ, suc, ◌-◌, Bool, List, [], ◌∷◌, map, filter, length, Option, Some, None, slice_get, refl, sym, ap, ◌∙◌, subst}
+use Rattle.std.proofs.Common.{◌≡◌, ◌&&◌, ℕ, suc, ◌-◌, Bool, List, [], ◌∷◌, map, filter, length, Some, None, slice_get, refl, sym, ap, ◌∙◌}
 use Rattle.std.specs.Prelude.{unwrap_or}
 use Rattle.std.specs.Ordering.{eq_by_cmp}
 use Rattle.std.specs.List.{FoldsTo}
@@ -29,10 +29,12 @@ use Rattle.hq_store.proofs.Keys.{message_total, message_exact}
 use Rattle.hq_sql.specs.Rows.{hold_stored, hold_read, hold_shown}
 use Rattle.hq_sql.specs.Tables.{IsDesk, tables_in}
 use Rattle.hq_sql.proofs.Texts.{between_terms}
-use Rattle.hq_sql_holds.proofs.Texts as text
-use Rattle.hq_sql_queue.specs.Dealt.{is_within, between_columns, serials_of, Rise, Spans, with_dealt}
+use Rattle.hq_sql_holds.proofs.Texts.{hold_order, hold_columns}
+use Rattle.hq_sql_queue.proofs.Texts as text
+use Rattle.hq_sql_queue.specs.Dealt.{is_within, serials_of, Rise, Spans, with_dealt}
+use Rattle.hq_sql.specs.Bound.{between_columns}
 use Rattle.hq_sql_queue.specs.Giving.{Gives, put_reason, hold_serial, give_reason, with_held, with_parts, first_given}
-use Rattle.hq_sql_queue.specs.Messages.{bare_entry}
+use Rattle.hq_sql_messages.specs.Messages.{bare_entry}
 use Rattle.hq_sql_queue.proofs.Reasons.{page_given}
 
 abbrev Entry : Type 0
@@ -43,7 +45,7 @@ pub holds_shown : (old new : State) (c : List ℕ) (low high : ℕ) (rows : List
     → map (λ r. (((hold_shown r).customer, hold_serial r), hold_value (hold_shown r))) rows ≡ filter (λ (e : Entry). eq_by_cmp text_cmp c e.0.0 && is_within low high e.0.1) (entries (tables_in old.now).holds)
 holds_shown old new c low high rows desk h =
     let params = between_columns c low high in
-    let q = text.hold_order (query_of 14 between_terms text.hold_columns) in
+    let q = hold_order (query_of 14 between_terms hold_columns) in
     let db = overlay old.now.trees [] in
     let answers : Answers old.now (record { lets = []; body = q }) params rows = reads_as text.holds_between_text params old new desk_schema desk.schema_is _ text.holds_between_is text.holds_between_plain text.holds_between_listed rows h in
     let a : IsAnswer q db params rows = answers.answer Null in

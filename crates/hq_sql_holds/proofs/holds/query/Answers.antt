@@ -9,7 +9,7 @@ returns-in_err-rows-clause-kept g c = query_failed _ _ hold_read_text _ hold_rea
 
 pub returns-clause-found : goal.returns-clause-found
 returns-clause-found g c clean desk =
-    hold_got (state g.S.Store c.args.conn.now) (state g.S.Store c.query_all.new.self) (c.args.customer.now, c.args.key) c.in_ok-rows.rows.items desk (rw c.key-params.ensures at (c.in_ok-rows.ensures.ok clean))
+    hold_got (state g.S.Store c.args.conn.now) (state g.S.Store c.query_all.new.self) (c.args.customer.now, c.args.key) c.in_ok-rows.rows.items desk (rw c.message_key-params.ensures at (c.in_ok-rows.ensures.ok clean))
 
 pub returns-clause-kept : goal.returns-clause-kept
 returns-clause-kept g c = query_answered _ _ hold_read_text _ hold_read_plain c.in_ok-rows.ensures.survives c.in_ok-rows.rows.items _ c.in_ok-rows.ensures.ok

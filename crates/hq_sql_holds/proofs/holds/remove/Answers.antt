@@ -11,7 +11,7 @@ returns-in_err-execute-clause-kept g c = write_failed _ _ hold_delete_text _ (ap
 
 pub returns-clause-made : goal.returns-clause-made
 returns-clause-made g c clean desk =
-    hold_deleted (state g.S.Store c.args.conn.now) (state g.S.Store c.execute.new.self) (c.args.customer.now, c.args.key) _ desk (rw c.key-params.ensures at (c.in_ok-execute.ensures.runs clean))
+    hold_deleted (state g.S.Store c.args.conn.now) (state g.S.Store c.execute.new.self) (c.args.customer.now, c.args.key) _ desk (rw c.message_key-params.ensures at (c.in_ok-execute.ensures.runs clean))
 
 pub returns-clause-kept : goal.returns-clause-kept
 returns-clause-kept g c = write_keeps _ _ hold_delete_text _ (ap may_end hold_delete_is) c.in_ok-execute.ensures.survives (λ clean desk within. hold_delete_keeps _ _ _ _ desk within (c.in_ok-execute.ensures.runs clean))

@@ -2,9 +2,9 @@ use Rattle.std.proofs.Common.{refl}
 use Rattle.sqlite.specs.Held.{state}
 use Rattle.hq_sql.specs.Tables.{tables_in}
 use Rattle.hq_sql.proofs.Keeping.{keeps_ok, keeps_err}
-use Rattle.hq_sql.proofs.Texts.{recipients_between_plain}
+use Rattle.hq_sql_queue.proofs.Texts.{recipients_between_plain}
 use Rattle.hq_sql_queue.specs.declared.dealing.Dealing.{Dealing}
-use Rattle.hq_sql_queue.proofs.OnRecipients.{between_shown}
+use Rattle.hq_sql_queue.proofs.Between.{between_shown}
 use Rattle.hq_sql_queue.proofs.Dealt.{page_dealt}
 use Rattle.hq_sql_queue.proofs.dealing.all.Goals as goal
 

@@ -2,7 +2,7 @@ use Rattle.std.proofs.Common.{refl}
 use Rattle.sqlite.specs.Held.{state}
 use Rattle.hq_sql.specs.Tables.{tables_in}
 use Rattle.hq_sql.proofs.Keeping.{keeps_ok, keeps_err}
-use Rattle.hq_sql_holds.proofs.Texts.{holds_between_plain}
+use Rattle.hq_sql_queue.proofs.Texts.{holds_between_plain}
 use Rattle.hq_sql_queue.specs.declared.giving.Giving.{Giving}
 use Rattle.hq_sql_queue.proofs.OnHolds.{holds_shown, page_held}
 use Rattle.hq_sql_queue.proofs.giving.reasons.Goals as goal
