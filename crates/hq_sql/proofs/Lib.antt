@@ -1,5 +1,6 @@
 pub mod Tables
 pub mod Texts
-pub mod OnHeads
 pub mod Keeping
+pub mod Statements
+pub mod OnHeads
 pub mod Walking

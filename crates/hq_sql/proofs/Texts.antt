@@ -1,5 +1,5 @@
 -- What the texts mean, computed from the texts and the schema.
-use Rattle.std.proofs.Common.{◌≡◌, ℕ, List, [], ◌∷◌, codes, false, refl}
+use Rattle.std.proofs.Common.{ℕ, List, [], ◌∷◌, codes, refl}
 use Rattle.sqlite.specs.declared.types.Value.TheVariants.{Null}
 use Rattle.sqlite.specs.Collation.TheVariants.{Binary}
 use Rattle.sqlite_value.specs.Keys.{ascending}
@@ -7,11 +7,11 @@ use Rattle.sqlite.specs.Term.{Term, lit, col, op2}
 use Rattle.sqlite_sql.specs.declared.ops.BinaryOp.TheVariants.{Compare}
 use Rattle.sqlite_sql.specs.declared.ops.CompareOp.TheVariants.{Eq, Ge, Le}
 use Rattle.sqlite.specs.Query.{Query}
-use Rattle.sqlite.specs.Command.TheVariants.{Insert, Update, Select}
+use Rattle.sqlite.specs.Command.TheVariants.{Insert, Update}
 use Rattle.sqlite.specs.Source.TheVariants.{Values}
 use Rattle.sqlite_tied.specs.Compute.{everything}
-use Rattle.sqlite.specs.Listing.{understood, reads_listing}
-use Rattle.sqlite.proofs.Callers.{IsPlain, command_of}
+use Rattle.sqlite.specs.Listing.{understood}
+use Rattle.hq_keyed.proofs.Known.{Asks, Orders}
 use Rattle.hq_keyed.proofs.Select.{query_of}
 use Rattle.hq_schema.specs.Schema.{desk_schema}
 
@@ -41,17 +41,9 @@ head_order q = record q { order = (col 1 1, ascending Binary) ∷ [] }
 abbrev pub head_read_text : List ℕ
 head_read_text = codes "SELECT customer, next_serial, next_notice, accepted, delivered, failed, deleted, expired, messages, bytes, lines FROM heads WHERE customer = ?1"
 
-pub head_read_is : command_of (understood desk_schema head_read_text) ≡ Select (record { lets = []; body = query_of 1 head_key head_columns }) head_names
+pub head_read_known : Asks desk_schema head_read_text (query_of 1 head_key head_columns) head_names
 unfolding understood everything
-head_read_is = refl
-
-pub head_read_plain : IsPlain (understood desk_schema head_read_text)
-unfolding understood everything
-head_read_plain = (refl, refl)
-
-pub head_read_listed : reads_listing desk_schema head_read_text ≡ false
-unfolding understood everything
-head_read_listed = refl
+head_read_known = record { is = refl; plain = (refl, refl); unlisted = refl }
 
 -- the rowid, and then the row as it is to be: the columns of the key stay
 abbrev pub head_updated : List Term
@@ -60,13 +52,9 @@ head_updated = col 1 0 ∷ col 1 0 ∷ col 1 1 ∷ col 0 1 ∷ col 0 2 ∷ col 0
 abbrev pub head_update_text : List ℕ
 head_update_text = codes "UPDATE heads SET next_serial = ?2, next_notice = ?3, accepted = ?4, delivered = ?5, failed = ?6, deleted = ?7, expired = ?8, messages = ?9, bytes = ?10, lines = ?11 WHERE customer = ?1"
 
-pub head_update_is : command_of (understood desk_schema head_update_text) ≡ Update 1 (record { lets = []; body = query_of 1 head_key head_updated })
+pub head_update_known : Orders desk_schema head_update_text (Update 1 (record { lets = []; body = query_of 1 head_key head_updated }))
 unfolding understood everything
-head_update_is = refl
-
-pub head_update_plain : IsPlain (understood desk_schema head_update_text)
-unfolding understood everything
-head_update_plain = (refl, refl)
+head_update_known = record { is = refl; plain = (refl, refl) }
 
 abbrev pub head_inserted : List Term
 head_inserted = lit Null ∷ col 0 0 ∷ col 0 1 ∷ col 0 2 ∷ col 0 3 ∷ col 0 4 ∷ col 0 5 ∷ col 0 6 ∷ col 0 7 ∷ col 0 8 ∷ col 0 9 ∷ col 0 10 ∷ []
@@ -74,10 +62,6 @@ head_inserted = lit Null ∷ col 0 0 ∷ col 0 1 ∷ col 0 2 ∷ col 0 3 ∷ col
 abbrev pub head_insert_text : List ℕ
 head_insert_text = codes "INSERT INTO heads (customer, next_serial, next_notice, accepted, delivered, failed, deleted, expired, messages, bytes, lines) VALUES (?1, ?2, ?3, ?4, ?5, ?6, ?7, ?8, ?9, ?10, ?11)"
 
-pub head_insert_is : command_of (understood desk_schema head_insert_text) ≡ Insert 1 (Values head_inserted 12)
+pub head_insert_known : Orders desk_schema head_insert_text (Insert 1 (Values head_inserted 12))
 unfolding understood everything
-head_insert_is = refl
-
-pub head_insert_plain : IsPlain (understood desk_schema head_insert_text)
-unfolding understood everything
-head_insert_plain = (refl, refl)
+head_insert_known = record { is = refl; plain = (refl, refl) }

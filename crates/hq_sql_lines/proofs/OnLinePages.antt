@@ -3,37 +3,30 @@ use Rattle.std.proofs.Common.{◌≡◌, ◌&&◌, ◌||◌, ℕ, ℤ, Bool, fal
 use Rattle.std.specs.List.{list_all}
 use Rattle.std.specs.Ordering.{eq_by_cmp, ordering_then}
 use Rattle.std.proofs.lemmas.List.{take-map}
-use Rattle.sqlite.specs.declared.types.Value.TheVariants.{Null}
 use Rattle.sqlite.specs.Order.{Row}
-use Rattle.sqlite.specs.Term.{holds, col}
-use Rattle.sqlite.specs.Query.{Query, IsAnswer}
-use Rattle.sqlite.specs.Program.{overlay}
-use Rattle.sqlite.specs.Effect.{Answers}
+use Rattle.sqlite.specs.Term.{holds}
 use Rattle.sqlite.specs.State.{State, Shown}
-use Rattle.sqlite.proofs.Callers.{reads_as}
 use Rattle.sqlite_sql.specs.declared.ops.CompareOp.TheVariants.{Gt}
 use Rattle.sqlite_value.proofs.OrderLemmas.{value_cmp-Text}
 use Rattle.sqlite_typed.proofs.TestLemmas.{at_texts, at_or, at_and, then_term, last_term, then_key, last_key}
 use Rattle.sqlite_keyed.specs.Lists.{sort_by}
 use Rattle.sqlite_keyed.proofs.ListLemmas.{map-map}
-use Rattle.hq_keyed.proofs.Select.{query_of}
 use Rattle.hq_keyed.proofs.Terms.{text_is}
-use Rattle.hq_keyed.proofs.Pages.{paged}
-use Rattle.hq_schema.specs.Schema.{desk_schema}
 use Rattle.hq_access.specs.Patterns.{class_name}
 use Rattle.hq_access.specs.declared.pattern.Class.{Class}
 use Rattle.hq_access.specs.declared.pattern.Line.{Line}
 use Rattle.hq_store.specs.declared.rows.LineRow.{LineRow}
 use Rattle.hq_store.specs.Tables.{text_cmp, class_cmp, lines_cmp}
-use Rattle.hq_store.specs.Listed.{line_row_key, line_row_value}
+use Rattle.hq_store.specs.Listed.{line_row_key}
 use Rattle.hq_store.specs.Lookups.{is_after_pattern, AreUniqueLines, line_rows_with}
 use Rattle.hq_store.specs.Readings.{read_tables, after_pattern}
-use Rattle.hq_store.proofs.Keys.{lines_total, lines_exact}
 use Rattle.hq_store.proofs.LinePages.{sorted_found, after_is}
 use Rattle.hq_sql.specs.Rows.{line_stored, line_read, line_shown}
 use Rattle.hq_sql.specs.Tables.{IsDesk, tables_in}
 use Rattle.hq_sql_lines.specs.LinePages.{lines_in, first_columns, after_columns}
 use Rattle.hq_sql.proofs.Texts.{at}
+use Rattle.hq_sql.proofs.Statements.{pages}
+use Rattle.hq_sql_lines.proofs.OnLines.{lines}
 use Rattle.hq_sql_lines.proofs.Texts as text
 
 abbrev Key : Type 0
@@ -70,36 +63,20 @@ after_tests c last limit k =
 first_tests : (c : List ℕ) (limit : ℕ) (k : ℤ × LineRow) → list_all (holds (first_columns c limit ∷ line_stored k ∷ [])) (at 1 0 ∷ []) ≡ on_page c None k.1
 first_tests c limit k = then_term (text_is k.1.customer c) refl
 
-abbrev after_query : Query
-after_query = record (text.line_order (query_of 8 text.after_terms text.line_columns)) { limit = col 0 3 }
-
-abbrev first_query : Query
-first_query = record (text.line_order (query_of 8 (at 1 0 ∷ []) text.line_columns)) { limit = col 0 1 }
-
 -- the customer's first lines
 pub first_shown : (old new : State) (c : List ℕ) (limit : ℕ) (rows : List Row) → IsDesk old.now → Shown text.lines_from_start_text (first_columns c limit) old new rows
     → lines_in rows ≡ take limit (read_tables c (tables_in old.now)).lines
 unfolding AreUniqueLines
 first_shown old new c limit rows desk h =
-    let params = first_columns c limit in
-    let db = overlay old.now.trees [] in
-    let answers : Answers old.now (record { lets = []; body = first_query }) params rows = reads_as text.lines_from_start_text params old new desk_schema desk.schema_is _ text.lines_from_start_is text.lines_from_start_plain text.lines_from_start_listed rows h in
-    let a : IsAnswer first_query db params rows = answers.answer Null in
     rows_are c None limit rows (old.now.trees 8) desk.lines.unique
-    (paged line_stored line_read lines_total lines_exact line_row_key line_row_value first_query db 8 params desk.lines line_shown refl refl refl (λ k. refl) rows a
-    (on_page c None) (first_tests c limit)
-    (λ j k. then_key (value_cmp-Text j.1.customer k.1.customer) (then_key (value_cmp-Text (class_name j.1.line.pattern.0) (class_name k.1.line.pattern.0)) (last_key (value_cmp-Text j.1.line.pattern.1 k.1.line.pattern.1)))) limit (λ xs. refl))
+    (pages lines old new desk text.lines_from_start_text _ _ text.lines_from_start_known refl refl refl (first_columns c limit) line_shown (λ k. refl) (on_page c None) (first_tests c limit)
+    (λ j k. then_key (value_cmp-Text j.1.customer k.1.customer) (then_key (value_cmp-Text (class_name j.1.line.pattern.0) (class_name k.1.line.pattern.0)) (last_key (value_cmp-Text j.1.line.pattern.1 k.1.line.pattern.1)))) limit (λ xs. refl) rows h)
 
 -- the customer's first lines after a pattern
 pub after_shown : (old new : State) (c : List ℕ) (last : Key) (limit : ℕ) (rows : List Row) → IsDesk old.now → Shown text.lines_after_text (after_columns c last limit) old new rows
     → lines_in rows ≡ take limit (after_pattern (Some last) (read_tables c (tables_in old.now)).lines)
 unfolding AreUniqueLines
 after_shown old new c last limit rows desk h =
-    let params = after_columns c last limit in
-    let db = overlay old.now.trees [] in
-    let answers : Answers old.now (record { lets = []; body = after_query }) params rows = reads_as text.lines_after_text params old new desk_schema desk.schema_is _ text.lines_after_is text.lines_after_plain text.lines_after_listed rows h in
-    let a : IsAnswer after_query db params rows = answers.answer Null in
     rows_are c (Some last) limit rows (old.now.trees 8) desk.lines.unique
-    (paged line_stored line_read lines_total lines_exact line_row_key line_row_value after_query db 8 params desk.lines line_shown refl refl refl (λ k. refl) rows a
-    (on_page c (Some last)) (after_tests c last limit)
-    (λ j k. then_key (value_cmp-Text j.1.customer k.1.customer) (then_key (value_cmp-Text (class_name j.1.line.pattern.0) (class_name k.1.line.pattern.0)) (last_key (value_cmp-Text j.1.line.pattern.1 k.1.line.pattern.1)))) limit (λ xs. refl))
+    (pages lines old new desk text.lines_after_text _ _ text.lines_after_known refl refl refl (after_columns c last limit) line_shown (λ k. refl) (on_page c (Some last)) (after_tests c last limit)
+    (λ j k. then_key (value_cmp-Text j.1.customer k.1.customer) (then_key (value_cmp-Text (class_name j.1.line.pattern.0) (class_name k.1.line.pattern.0)) (last_key (value_cmp-Text j.1.line.pattern.1 k.1.line.pattern.1)))) limit (λ xs. refl) rows h)

@@ -1,5 +1,5 @@
 -- What the texts of the statements on messages mean, computed from the texts and the schema.
-use Rattle.std.proofs.Common.{◌≡◌, ℕ, pos, List, [], ◌∷◌, codes, false, refl}
+use Rattle.std.proofs.Common.{ℕ, pos, List, [], ◌∷◌, codes, refl}
 use Rattle.sqlite.specs.declared.types.Value.TheVariants.{Null, Int}
 use Rattle.sqlite.specs.Collation.TheVariants.{Binary}
 use Rattle.sqlite_value.specs.Keys.{ascending}
@@ -7,11 +7,11 @@ use Rattle.sqlite.specs.Term.{Term, lit, col, op2}
 use Rattle.sqlite_sql.specs.declared.ops.BinaryOp.TheVariants.{Compare}
 use Rattle.sqlite_sql.specs.declared.ops.CompareOp.TheVariants.{Gt}
 use Rattle.sqlite.specs.Query.{Query}
-use Rattle.sqlite.specs.Command.TheVariants.{Insert, Update, Select, Delete}
+use Rattle.sqlite.specs.Command.TheVariants.{Insert, Update, Delete}
 use Rattle.sqlite.specs.Source.TheVariants.{Values}
 use Rattle.sqlite_tied.specs.Compute.{everything}
-use Rattle.sqlite.specs.Listing.{understood, reads_listing}
-use Rattle.sqlite.proofs.Callers.{IsPlain, command_of}
+use Rattle.sqlite.specs.Listing.{understood}
+use Rattle.hq_keyed.proofs.Known.{Asks, Orders}
 use Rattle.hq_keyed.proofs.Select.{query_of}
 use Rattle.hq_schema.specs.Schema.{desk_schema}
 use Rattle.hq_sql.proofs.Texts.{at}
@@ -32,17 +32,9 @@ message_order q = record q { order = (col 1 1, ascending Binary) ∷ (col 1 2, a
 abbrev pub message_read_text : List ℕ
 message_read_text = codes "SELECT customer, serial, sender, spool, size, arrival, state, next_try, attempts, warned FROM messages WHERE customer = ?1 AND serial = ?2"
 
-pub message_read_is : command_of (understood desk_schema message_read_text) ≡ Select (record { lets = []; body = query_of 3 message_key message_columns }) message_names
+pub message_read_known : Asks desk_schema message_read_text (query_of 3 message_key message_columns) message_names
 unfolding understood everything
-message_read_is = refl
-
-pub message_read_plain : IsPlain (understood desk_schema message_read_text)
-unfolding understood everything
-message_read_plain = (refl, refl)
-
-pub message_read_listed : reads_listing desk_schema message_read_text ≡ false
-unfolding understood everything
-message_read_listed = refl
+message_read_known = record { is = refl; plain = (refl, refl); unlisted = refl }
 
 -- the rowid, and then the row as it is to be: the columns of the key stay
 abbrev pub message_updated : List Term
@@ -51,13 +43,9 @@ message_updated = col 1 0 ∷ col 1 0 ∷ col 1 1 ∷ col 1 2 ∷ col 0 2 ∷ co
 abbrev pub message_update_text : List ℕ
 message_update_text = codes "UPDATE messages SET sender = ?3, spool = ?4, size = ?5, arrival = ?6, state = ?7, next_try = ?8, attempts = ?9, warned = ?10 WHERE customer = ?1 AND serial = ?2"
 
-pub message_update_is : command_of (understood desk_schema message_update_text) ≡ Update 2 (record { lets = []; body = query_of 3 message_key message_updated })
+pub message_update_known : Orders desk_schema message_update_text (Update 2 (record { lets = []; body = query_of 3 message_key message_updated }))
 unfolding understood everything
-message_update_is = refl
-
-pub message_update_plain : IsPlain (understood desk_schema message_update_text)
-unfolding understood everything
-message_update_plain = (refl, refl)
+message_update_known = record { is = refl; plain = (refl, refl) }
 
 abbrev pub message_inserted : List Term
 message_inserted = lit Null ∷ col 0 0 ∷ col 0 1 ∷ col 0 2 ∷ col 0 3 ∷ col 0 4 ∷ col 0 5 ∷ col 0 6 ∷ col 0 7 ∷ col 0 8 ∷ col 0 9 ∷ []
@@ -65,24 +53,16 @@ message_inserted = lit Null ∷ col 0 0 ∷ col 0 1 ∷ col 0 2 ∷ col 0 3 ∷ 
 abbrev pub message_insert_text : List ℕ
 message_insert_text = codes "INSERT INTO messages (customer, serial, sender, spool, size, arrival, state, next_try, attempts, warned) VALUES (?1, ?2, ?3, ?4, ?5, ?6, ?7, ?8, ?9, ?10)"
 
-pub message_insert_is : command_of (understood desk_schema message_insert_text) ≡ Insert 2 (Values message_inserted 11)
+pub message_insert_known : Orders desk_schema message_insert_text (Insert 2 (Values message_inserted 11))
 unfolding understood everything
-message_insert_is = refl
-
-pub message_insert_plain : IsPlain (understood desk_schema message_insert_text)
-unfolding understood everything
-message_insert_plain = (refl, refl)
+message_insert_known = record { is = refl; plain = (refl, refl) }
 
 abbrev pub message_delete_text : List ℕ
 message_delete_text = codes "DELETE FROM messages WHERE customer = ?1 AND serial = ?2"
 
-pub message_delete_is : command_of (understood desk_schema message_delete_text) ≡ Delete 2 (record { lets = []; body = query_of 3 message_key (col 1 0 ∷ []) })
+pub message_delete_known : Orders desk_schema message_delete_text (Delete 2 (record { lets = []; body = query_of 3 message_key (col 1 0 ∷ []) }))
 unfolding understood everything
-message_delete_is = refl
-
-pub message_delete_plain : IsPlain (understood desk_schema message_delete_text)
-unfolding understood everything
-message_delete_plain = (refl, refl)
+message_delete_known = record { is = refl; plain = (refl, refl) }
 
 abbrev pub spool_terms : List Term
 spool_terms = at 1 0 ∷ at 4 1 ∷ []
@@ -90,17 +70,9 @@ spool_terms = at 1 0 ∷ at 4 1 ∷ []
 abbrev pub spool_read_text : List ℕ
 spool_read_text = codes "SELECT customer, serial, sender, spool, size, arrival, state, next_try, attempts, warned FROM messages WHERE customer = ?1 AND spool = ?2 ORDER BY customer, serial LIMIT 1"
 
-pub spool_read_is : command_of (understood desk_schema spool_read_text) ≡ Select (record { lets = []; body = record (message_order (query_of 3 spool_terms message_columns)) { limit = lit (Int (pos 1)) } }) message_names
+pub spool_read_known : Asks desk_schema spool_read_text (record (message_order (query_of 3 spool_terms message_columns)) { limit = lit (Int (pos 1)) }) message_names
 unfolding understood everything
-spool_read_is = refl
-
-pub spool_read_plain : IsPlain (understood desk_schema spool_read_text)
-unfolding understood everything
-spool_read_plain = (refl, refl)
-
-pub spool_read_listed : reads_listing desk_schema spool_read_text ≡ false
-unfolding understood everything
-spool_read_listed = refl
+spool_read_known = record { is = refl; plain = (refl, refl); unlisted = refl }
 
 abbrev pub page_terms : List Term
 page_terms = at 1 0 ∷ op2 (Compare Gt Binary) (col 1 2) (col 0 1) ∷ []
@@ -108,14 +80,6 @@ page_terms = at 1 0 ∷ op2 (Compare Gt Binary) (col 1 2) (col 0 1) ∷ []
 abbrev pub message_page_text : List ℕ
 message_page_text = codes "SELECT customer, serial, sender, spool, size, arrival, state, next_try, attempts, warned FROM messages WHERE customer = ?1 AND serial > ?2 ORDER BY customer, serial LIMIT ?3"
 
-pub message_page_is : command_of (understood desk_schema message_page_text) ≡ Select (record { lets = []; body = record (message_order (query_of 3 page_terms message_columns)) { limit = col 0 2 } }) message_names
+pub message_page_known : Asks desk_schema message_page_text (record (message_order (query_of 3 page_terms message_columns)) { limit = col 0 2 }) message_names
 unfolding understood everything
-message_page_is = refl
-
-pub message_page_plain : IsPlain (understood desk_schema message_page_text)
-unfolding understood everything
-message_page_plain = (refl, refl)
-
-pub message_page_listed : reads_listing desk_schema message_page_text ≡ false
-unfolding understood everything
-message_page_listed = refl
+message_page_known = record { is = refl; plain = (refl, refl); unlisted = refl }

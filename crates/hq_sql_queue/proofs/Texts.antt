@@ -1,9 +1,8 @@
 -- What the texts of the statements on the parts of a page of messages mean, computed from the texts and the schema.
-use Rattle.std.proofs.Common.{◌≡◌, ℕ, List, [], codes, false, refl}
-use Rattle.sqlite.specs.Command.TheVariants.{Select}
+use Rattle.std.proofs.Common.{ℕ, List, codes, refl}
 use Rattle.sqlite_tied.specs.Compute.{everything}
-use Rattle.sqlite.specs.Listing.{understood, reads_listing}
-use Rattle.sqlite.proofs.Callers.{IsPlain, command_of}
+use Rattle.sqlite.specs.Listing.{understood}
+use Rattle.hq_keyed.proofs.Known.{Asks}
 use Rattle.hq_keyed.proofs.Select.{query_of}
 use Rattle.hq_schema.specs.Schema.{desk_schema}
 use Rattle.hq_sql.proofs.Texts.{between_terms}
@@ -13,29 +12,13 @@ use Rattle.hq_sql_recipients.proofs.Texts.{recipient_columns, recipient_names, r
 abbrev pub recipients_between_text : List ℕ
 recipients_between_text = codes "SELECT customer, serial, place, address, status, reason FROM recipients WHERE customer = ?1 AND serial >= ?2 AND serial <= ?3 ORDER BY customer, serial, place"
 
-pub recipients_between_is : command_of (understood desk_schema recipients_between_text) ≡ Select (record { lets = []; body = recipient_order (query_of 6 between_terms recipient_columns) }) recipient_names
+pub recipients_between_known : Asks desk_schema recipients_between_text (recipient_order (query_of 6 between_terms recipient_columns)) recipient_names
 unfolding understood everything
-recipients_between_is = refl
-
-pub recipients_between_plain : IsPlain (understood desk_schema recipients_between_text)
-unfolding understood everything
-recipients_between_plain = (refl, refl)
-
-pub recipients_between_listed : reads_listing desk_schema recipients_between_text ≡ false
-unfolding understood everything
-recipients_between_listed = refl
+recipients_between_known = record { is = refl; plain = (refl, refl); unlisted = refl }
 
 abbrev pub holds_between_text : List ℕ
 holds_between_text = codes "SELECT customer, serial, hold_reason FROM holds WHERE customer = ?1 AND serial >= ?2 AND serial <= ?3 ORDER BY customer, serial"
 
-pub holds_between_is : command_of (understood desk_schema holds_between_text) ≡ Select (record { lets = []; body = hold_order (query_of 14 between_terms hold_columns) }) hold_names
+pub holds_between_known : Asks desk_schema holds_between_text (hold_order (query_of 14 between_terms hold_columns)) hold_names
 unfolding understood everything
-holds_between_is = refl
-
-pub holds_between_plain : IsPlain (understood desk_schema holds_between_text)
-unfolding understood everything
-holds_between_plain = (refl, refl)
-
-pub holds_between_listed : reads_listing desk_schema holds_between_text ≡ false
-unfolding understood everything
-holds_between_listed = refl
+holds_between_known = record { is = refl; plain = (refl, refl); unlisted = refl }

@@ -1,5 +1,5 @@
 -- What the texts of the statements on recipients mean, computed from the texts and the schema.
-use Rattle.std.proofs.Common.{◌≡◌, ℕ, pos, List, [], ◌∷◌, codes, false, refl}
+use Rattle.std.proofs.Common.{ℕ, pos, List, [], ◌∷◌, codes, refl}
 use Rattle.sqlite.specs.declared.types.Value.TheVariants.{Null, Int}
 use Rattle.sqlite.specs.Collation.TheVariants.{Binary}
 use Rattle.sqlite_value.specs.Keys.{ascending}
@@ -7,11 +7,11 @@ use Rattle.sqlite.specs.Term.{Term, lit, col, op2}
 use Rattle.sqlite_sql.specs.declared.ops.BinaryOp.TheVariants.{Compare, Or}
 use Rattle.sqlite_sql.specs.declared.ops.CompareOp.TheVariants.{Gt, Lt}
 use Rattle.sqlite.specs.Query.{Query}
-use Rattle.sqlite.specs.Command.TheVariants.{Insert, Update, Select, Delete}
+use Rattle.sqlite.specs.Command.TheVariants.{Insert, Update, Delete}
 use Rattle.sqlite.specs.Source.TheVariants.{Values}
 use Rattle.sqlite_tied.specs.Compute.{everything}
-use Rattle.sqlite.specs.Listing.{understood, reads_listing}
-use Rattle.sqlite.proofs.Callers.{IsPlain, command_of}
+use Rattle.sqlite.specs.Listing.{understood}
+use Rattle.hq_keyed.proofs.Known.{Asks, Orders}
 use Rattle.hq_keyed.proofs.Select.{query_of}
 use Rattle.hq_schema.specs.Schema.{desk_schema}
 use Rattle.hq_sql.proofs.Texts.{at}
@@ -36,13 +36,9 @@ recipient_updated = col 1 0 ∷ col 1 0 ∷ col 1 1 ∷ col 1 2 ∷ col 1 3 ∷ 
 abbrev pub recipient_update_text : List ℕ
 recipient_update_text = codes "UPDATE recipients SET address = ?4, status = ?5, reason = ?6 WHERE customer = ?1 AND serial = ?2 AND place = ?3"
 
-pub recipient_update_is : command_of (understood desk_schema recipient_update_text) ≡ Update 3 (record { lets = []; body = query_of 6 recipient_key recipient_updated })
+pub recipient_update_known : Orders desk_schema recipient_update_text (Update 3 (record { lets = []; body = query_of 6 recipient_key recipient_updated }))
 unfolding understood everything
-recipient_update_is = refl
-
-pub recipient_update_plain : IsPlain (understood desk_schema recipient_update_text)
-unfolding understood everything
-recipient_update_plain = (refl, refl)
+recipient_update_known = record { is = refl; plain = (refl, refl) }
 
 abbrev pub recipient_inserted : List Term
 recipient_inserted = lit Null ∷ col 0 0 ∷ col 0 1 ∷ col 0 2 ∷ col 0 3 ∷ col 0 4 ∷ col 0 5 ∷ []
@@ -50,28 +46,16 @@ recipient_inserted = lit Null ∷ col 0 0 ∷ col 0 1 ∷ col 0 2 ∷ col 0 3 �
 abbrev pub recipient_insert_text : List ℕ
 recipient_insert_text = codes "INSERT INTO recipients (customer, serial, place, address, status, reason) VALUES (?1, ?2, ?3, ?4, ?5, ?6)"
 
-pub recipient_insert_is : command_of (understood desk_schema recipient_insert_text) ≡ Insert 3 (Values recipient_inserted 7)
+pub recipient_insert_known : Orders desk_schema recipient_insert_text (Insert 3 (Values recipient_inserted 7))
 unfolding understood everything
-recipient_insert_is = refl
-
-pub recipient_insert_plain : IsPlain (understood desk_schema recipient_insert_text)
-unfolding understood everything
-recipient_insert_plain = (refl, refl)
+recipient_insert_known = record { is = refl; plain = (refl, refl) }
 
 abbrev pub recipients_read_text : List ℕ
 recipients_read_text = codes "SELECT customer, serial, place, address, status, reason FROM recipients WHERE customer = ?1 AND serial = ?2 ORDER BY customer, serial, place"
 
-pub recipients_read_is : command_of (understood desk_schema recipients_read_text) ≡ Select (record { lets = []; body = recipient_order (query_of 6 (at 1 0 ∷ at 2 1 ∷ []) recipient_columns) }) recipient_names
+pub recipients_read_known : Asks desk_schema recipients_read_text (recipient_order (query_of 6 (at 1 0 ∷ at 2 1 ∷ []) recipient_columns)) recipient_names
 unfolding understood everything
-recipients_read_is = refl
-
-pub recipients_read_plain : IsPlain (understood desk_schema recipients_read_text)
-unfolding understood everything
-recipients_read_plain = (refl, refl)
-
-pub recipients_read_listed : reads_listing desk_schema recipients_read_text ≡ false
-unfolding understood everything
-recipients_read_listed = refl
+recipients_read_known = record { is = refl; plain = (refl, refl); unlisted = refl }
 
 abbrev pub beside_terms : List Term
 beside_terms = at 1 0 ∷ at 2 1 ∷ op2 Or (op2 (Compare Lt Binary) (col 1 3) (lit (Int (pos 1)))) (op2 (Compare Gt Binary) (col 1 3) (col 0 2)) ∷ []
@@ -79,10 +63,6 @@ beside_terms = at 1 0 ∷ at 2 1 ∷ op2 Or (op2 (Compare Lt Binary) (col 1 3) (
 abbrev pub beside_text : List ℕ
 beside_text = codes "DELETE FROM recipients WHERE customer = ?1 AND serial = ?2 AND (place < 1 OR place > ?3)"
 
-pub beside_is : command_of (understood desk_schema beside_text) ≡ Delete 3 (record { lets = []; body = query_of 6 beside_terms (col 1 0 ∷ []) })
+pub beside_known : Orders desk_schema beside_text (Delete 3 (record { lets = []; body = query_of 6 beside_terms (col 1 0 ∷ []) }))
 unfolding understood everything
-beside_is = refl
-
-pub beside_plain : IsPlain (understood desk_schema beside_text)
-unfolding understood everything
-beside_plain = (refl, refl)
+beside_known = record { is = refl; plain = (refl, refl) }

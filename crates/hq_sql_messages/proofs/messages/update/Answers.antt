@@ -1,18 +1,17 @@
-use Rattle.std.proofs.Common.{ap}
+use Rattle.std.proofs.Common.{refl}
 use Rattle.sqlite.specs.Held.{state}
-use Rattle.hq_keyed.proofs.Stops.{may_end}
 use Rattle.hq_store.specs.Lookups.{message_row}
-use Rattle.hq_sql.proofs.Keeping.{write_keeps, write_failed, told_there}
-use Rattle.hq_sql_messages.proofs.Texts.{message_update_text, message_update_is}
-use Rattle.hq_sql_messages.proofs.OnMessages.{message_updated, message_update_keeps}
+use Rattle.hq_sql.proofs.Keeping.{write_done, write_failed}
+use Rattle.hq_sql_messages.proofs.Texts.{message_update_text, message_update_known}
+use Rattle.hq_sql_messages.proofs.OnMessages.{message_updated}
 use Rattle.hq_sql_messages.proofs.messages.update.Goals as goal
 
 pub returns-in_err-count-clause-kept : goal.returns-in_err-count-clause-kept
-returns-in_err-count-clause-kept g c = write_failed _ _ message_update_text _ (ap may_end message_update_is) c.in_err-count.ensures.survives _ c.in_err-count.ensures.runs
+returns-in_err-count-clause-kept g c = write_failed _ _ message_update_text _ _ message_update_known refl c.in_err-count.ensures.survives _ c.in_err-count.ensures.runs
 
 pub returns-clause-made : goal.returns-clause-made
 returns-clause-made g c clean desk =
-    told_there (message_updated (state g.S.Store c.args.conn.now) (state g.S.Store c.execute.new.self) (message_row c.args.customer.now c.args.message.now) c.message-params.ensures.back _ desk (rw c.message-params.ensures.columns at (c.in_ok-count.ensures.runs clean)))
+    message_updated (state g.S.Store c.args.conn.now) (state g.S.Store c.execute.new.self) (message_row c.args.customer.now c.args.message.now) c.message-params.ensures.back _ desk (rw c.message-params.ensures.columns at (c.in_ok-count.ensures.runs clean))
 
 pub returns-clause-kept : goal.returns-clause-kept
-returns-clause-kept g c = write_keeps _ _ message_update_text _ (ap may_end message_update_is) c.in_ok-count.ensures.survives (λ clean desk within. message_update_keeps _ _ _ _ desk within (c.in_ok-count.ensures.runs clean))
+returns-clause-kept g c = write_done _ _ message_update_text _ _ message_update_known refl c.in_ok-count.ensures.survives _ c.in_ok-count.ensures.runs
