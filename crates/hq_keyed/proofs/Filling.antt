@@ -1,6 +1,5 @@
 -- What INSERT .. SELECT does to a table with no row, no foreign key and no count.
-use Rattle.std.proofs.Common.{◌≡◌, ℕ, ℤ, pos, ◌+ℤ◌, Bool, true, false, cond, List, [], ◌∷◌, ◌++◌, map, append-nil, append_assoc, fold, slice_get, Some, None, Ok, Err, Result, Option, refl, sym, ap, ap₂, ◌∙◌, subst, length, drop, suc, MatchBool, is_lt, int_cmp, unwrap_or}
-use Rattle.std.specs.List.{AllByRecursion}
+use Rattle.std.proofs.Common.{◌≡◌, ℕ, ℤ, pos, ◌+ℤ◌, false, cond, List, [], ◌∷◌, ◌++◌, map, append-nil, append_assoc, fold, slice_get, Some, None, Ok, Result, Option, refl, sym, ap, ap₂, ◌∙◌, subst, length, drop, suc, MatchBool, is_lt, int_cmp, unwrap_or}
 use Rattle.std.proofs.lemmas.List.{length-map, map-append}
 use Rattle.std.proofs.lemmas.List.Folds.{fold-map}
 use Rattle.sqlite.specs.declared.error.Error.{Error}
@@ -11,11 +10,11 @@ use Rattle.sqlite.specs.Command.TheVariants.{Insert}
 use Rattle.sqlite.specs.Source.TheVariants as source
 use Rattle.sqlite.specs.Does.{Tally, Does, AtPlace, OnRows}
 use Rattle.sqlite.specs.Edit.{edit_of, edited, put_all, numbered, id_in, next_rowid, with_rowid}
-use Rattle.sqlite.specs.Effect.{Database, Answers}
+use Rattle.sqlite.specs.Effect.{Database}
 use Rattle.sqlite.specs.Ops.{is_null}
 use Rattle.sqlite.specs.Rowids.{Rowids}
 use Rattle.sqlite.specs.Rowids.TheVariants.{Chosen, Above}
-use Rattle.sqlite.specs.Rows.{Written, Task, stamped, rowids_for, count_of, CountsIn, sequence, higher}
+use Rattle.sqlite.specs.Rows.{Written, Task, rowids_for, count_of, CountsIn, sequence, higher}
 use Rattle.sqlite.specs.Schema.{Schema}
 use Rattle.sqlite.specs.State.{State, mode_of, Writes}
 use Rattle.sqlite.specs.Table.{Table}

@@ -9,3 +9,5 @@ pub mod Terms
 pub mod Left
 pub mod Making
 pub mod Stops
+pub mod Known
+pub mod Placed

@@ -1,5 +1,5 @@
 -- The rows of an answer over one table of typed rows, in the order of the key, whatever the query shows of each.
-use Rattle.std.proofs.Common.{◌≡◌, ℕ, ℤ, Bool, true, false, List, [], ◌∷◌, map, filter, None, refl, sym, ap, ◌∙◌, Ordering, is_eq}
+use Rattle.std.proofs.Common.{◌≡◌, ℕ, ℤ, Bool, false, List, [], ◌∷◌, map, filter, None, sym, ap, ◌∙◌, Ordering, is_eq}
 use Rattle.std.specs.List.{list_all}
 use Rattle.std.specs.Cmp.{IsTotalOrder}
 use Rattle.std.proofs.lemmas.Map.Lookups.{CmpEqualImpliesEq}

@@ -1,19 +1,27 @@
 -- A query commits nothing, and nor does a write inside a transaction: so a crash leaves no more than before.
-use Rattle.std.proofs.Common.{◌≡◌, ℕ, Bool, true, false, List, IsSome, IsTrue, inl, inr, true≢false, sym, ap, ◌∙◌, subst}
+use Rattle.std.proofs.Common.{◌≡◌, ℕ, Bool, true, false, List, IsSome, IsTrue, inl, inr, true≢false, refl, sym, ap, ◌∙◌, subst}
 use Rattle.sqlite.specs.Order.{Row}
 use Rattle.sqlite.specs.Tree.{Trees}
 use Rattle.sqlite.specs.Command.{Command}
-use Rattle.sqlite.specs.Command.TheVariants.{Commit, Release}
+use Rattle.sqlite.specs.Command.TheVariants.{Commit, Release, Insert, Update, Delete}
 use Rattle.sqlite.specs.Listing.{understood}
 use Rattle.sqlite.specs.State.{State, Survives, CommitsBy, CommitsShowing}
 use Rattle.sqlite.proofs.Callers.{IsPlain, command_of}
 use Rattle.hq_keyed.specs.Left.{LeavesNoMore}
+use Rattle.hq_keyed.proofs.Known.{changes_rows}
 
 -- whether a command may end a transaction by a commit
 abbrev pub may_end : Command → Bool
 may_end Commit = true
 may_end (Release name) = true
 may_end _ = false
+
+-- a write of rows ends none
+pub ends_none : (command : Command) → changes_rows command ≡ true → may_end command ≡ false
+ends_none (Insert at from) changes = refl
+ends_none (Update at q) changes = refl
+ends_none (Delete at q) changes = refl
+ends_none _ changes = absurd (let e = changes in cc)
 
 query_commits_nothing : (s : State) (text : List ℕ) (params : Row) (db : Trees) → IsPlain (understood s.now.schema text) → CommitsShowing text params s db → ⊥
 unfolding CommitsShowing

@@ -3,11 +3,13 @@ use Rattle.std.proofs.Common.{◌≡◌, ◌⊎◌, inl, inr, ℕ, true, false, 
 use Rattle.std.specs.Prelude.{nat_eq}
 use Rattle.sqlite.specs.Order.{Row}
 use Rattle.sqlite.specs.declared.error.Error.{Error}
+use Rattle.sqlite.specs.Command.{Command}
 use Rattle.sqlite.specs.Listing.{understood}
 use Rattle.sqlite.specs.State.{State, HasCleanDisk, KeepsCommit, Survives, CommitsBy, CommitsShowing, Shown, FailsToQuery, Executes}
 use Rattle.sqlite.proofs.Callers.{IsPlain, command_of}
+use Rattle.hq_keyed.proofs.Known.{Orders, changes_rows, keeps_commit}
 use Rattle.hq_keyed.proofs.Left.{shown_unchanged, query_left, execute_left, left_keeps}
-use Rattle.hq_keyed.proofs.Stops.{may_end, query_leaves_no_more, write_leaves_no_more}
+use Rattle.hq_keyed.proofs.Stops.{may_end, ends_none, query_leaves_no_more, write_leaves_no_more}
 use Rattle.hq_schema.specs.Schema.{desk_schema}
 use Rattle.hq_store.specs.Tables.{Tables}
 use Rattle.hq_sql.specs.Tables.{IsDesk, Leaves}
@@ -36,15 +38,19 @@ module _ (old new : State) (text : List ℕ) (params : Row) (plain : IsPlain (un
     stops = λ desk. query_leaves_no_more old new text params (plain_here desk) survives;
   }
 
-module _ (old new : State) (text : List ℕ) (params : Row) (goes_on : may_end (command_of (understood desk_schema text)) ≡ false) (survives : Survives old new (CommitsBy text params old)) where
-  -- a write that was made or failed
-  pub write_keeps : (HasCleanDisk new → IsDesk old.now → IsTrue old.in_transaction → KeepsCommit old new) → KeepsCommitted old new
+module _ (old new : State) (text : List ℕ) (params : Row) (command : Command) (known : Orders desk_schema text command) (changes : changes_rows command ≡ true) (survives : Survives old new (CommitsBy text params old)) where
+  write_keeps : (HasCleanDisk new → IsDesk old.now → IsTrue old.in_transaction → KeepsCommit old new) → KeepsCommitted old new
   write_keeps h = record {
     kept = h;
     quiet = survives.clean;
-    stops = λ desk within. write_leaves_no_more old new text params (subst (λ s. may_end (command_of (understood s text)) ≡ false) (sym desk.schema_is) goes_on) within survives;
+    stops = λ desk within. write_leaves_no_more old new text params (subst (λ s. may_end (command_of (understood s text)) ≡ false) (sym desk.schema_is) (ap may_end known.is ∙ ends_none command changes)) within survives;
   }
 
+  -- a write of rows that was made
+  pub write_done : (count : ℕ) → (HasCleanDisk new → Executes text params old new (Ok count)) → KeepsCommitted old new
+  write_done count h = write_keeps (λ clean desk within. keeps_commit desk_schema old new desk.schema_is text params command known changes count (h clean) within)
+
+  -- one that failed
   pub write_failed : (e : Error) → (HasCleanDisk new → Executes text params old new (Err e)) → KeepsCommitted old new
   write_failed e h = write_keeps (λ clean desk within. left_keeps old new (execute_left old new text params e (h clean)))
 

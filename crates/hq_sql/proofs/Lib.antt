@@ -1,8 +1,6 @@
 pub mod Tables
 pub mod Texts
-pub mod Backs
-pub mod OnHeads
-pub mod OnLines
-pub mod OnLinePages
 pub mod Keeping
+pub mod Statements
+pub mod OnHeads
 pub mod Walking

@@ -1,5 +1,8 @@
--- Numbers as columns take them.
-use Rattle.std.specs.Prelude.{pos}
+-- What statements are asked with: numbers as columns take them, and keys.
+use Rattle.std.specs.Prelude.{ℕ, pos, List, [], ◌∷◌}
+use Rattle.sqlite.specs.declared.types.Value.TheVariants.{Text}
+use Rattle.sqlite.specs.Order.{Row}
+use Rattle.hq_keyed.specs.Values.{number}
 use Rattle.hq_store.specs.declared.account.Account.{Account}
 use Rattle.hq_sql.specs.declared.bind.HeadNumbers.{HeadNumbers}
 
@@ -16,3 +19,11 @@ head_numbers account = record {
   bytes = pos account.counts.bytes;
   lines = pos account.counts.lines;
 }
+
+-- the columns of the key of a message
+abbrev pub message_key_columns : List ℕ × ℕ → Row
+message_key_columns key = Text key.0 ∷ number key.1 ∷ []
+
+-- what the rows of all messages from one serial to another are asked with
+abbrev pub between_columns : List ℕ → ℕ → ℕ → Row
+between_columns customer low high = Text customer ∷ number low ∷ number high ∷ []

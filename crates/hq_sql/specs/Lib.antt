@@ -5,5 +5,3 @@ pub mod Tables
 pub mod Kept
 pub mod Lent
 pub mod Heads
-pub mod Lines
-pub mod LinePages

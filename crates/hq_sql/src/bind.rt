@@ -1,16 +1,13 @@
 //! Typed values as the parameters of statements.
 
-ghost use Rattle.std.specs.Prelude.{◌≡◌, ℕ, pos, [], ◌∷◌, IfOk};
+ghost use Rattle.std.specs.Prelude.{◌≡◌, pos, [], ◌∷◌, IfOk};
 ghost use Rattle.sqlite.specs.Values.{bound};
 ghost use Rattle.sqlite.specs.declared.types.Value.TheVariants.{Text};
 ghost use Rattle.hq_store.specs.declared.account.Account.{Account};
-ghost use Rattle.hq_access.specs.Patterns.{class_name};
 ghost use Rattle.hq_sql.specs.Rows.{head_columns};
-ghost use Rattle.hq_sql.specs.Bound.{head_numbers};
-ghost use Rattle.hq_sql.specs.LinePages.{first_columns, after_columns};
+ghost use Rattle.hq_sql.specs.Bound.{head_numbers, message_key_columns, between_columns};
 
-use hq_access::{Class, Pattern};
-use hq_envelope::Name;
+use hq_envelope::{Name, Serial};
 use hq_queue::Head;
 use hq_store::Account;
 use sqlite::Error;
@@ -92,35 +89,6 @@ pub(crate) fn head<'a>(customer: &'a Name, numbers: &HeadNumbers) -> [ValueRef<'
     ]
 }
 
-/// The key of a line.
-pub(crate) fn line_key<'a>(customer: &'a Name, class: Class, key: &'a str) -> [ValueRef<'a>; 3]
-    ensures { bound result ≡ Text customer.now ∷ Text (class_name class) ∷ Text key.now ∷ [] }
-{
-    [
-        ValueRef::Text(customer.as_str().as_bytes()),
-        ValueRef::Text(class.name().as_bytes()),
-        ValueRef::Text(key.as_bytes()),
-    ]
-}
-
-/// The columns of a line, in the order of the table; its action is in its written form.
-pub(crate) fn line<'a>(
-    customer: &'a Name,
-    class: Class,
-    key: &'a str,
-    action: &'a str,
-) -> [ValueRef<'a>; 4]
-    ensures { bound result
-        ≡ Text customer.now ∷ Text (class_name class) ∷ Text key.now ∷ Text action.now ∷ [] }
-{
-    [
-        ValueRef::Text(customer.as_str().as_bytes()),
-        ValueRef::Text(class.name().as_bytes()),
-        ValueRef::Text(key.as_bytes()),
-        ValueRef::Text(action.as_bytes()),
-    ]
-}
-
 /// The most rows of a page, as a column takes it.
 #[derive(Clone, Copy, Debug, PartialEq, Eq, Drop)]
 pub struct RowLimit {
@@ -138,30 +106,37 @@ pub fn limit(limit: usize) -> Result<RowLimit, Error>
     }
 }
 
-/// What the first page of lines is asked with.
-pub(crate) fn first_lines<'a>(customer: &'a Name, most: &RowLimit) -> [ValueRef<'a>; 2]
-    ensures { (limit : ℕ) → most.now.rows ≡ pos limit
-        → bound result ≡ first_columns customer.now limit }
+/// A serial as a column takes it.
+pub fn serial(serial: Serial) -> i64
+    ensures { result ≡ pos serial }
+{
+    serial.get() as i64
+}
+
+/// A number of 32 bits as a column takes it.
+pub fn small(number: u32) -> i64
+    ensures { result ≡ pos number }
+{
+    i64::from(number)
+}
+
+/// The key of a message.
+pub fn message_key<'a>(customer: &'a Name, key: Serial) -> [ValueRef<'a>; 2]
+    ensures { bound result ≡ message_key_columns (customer.now, key) }
 {
     [
         ValueRef::Text(customer.as_str().as_bytes()),
-        ValueRef::Int(most.rows),
+        ValueRef::Int(serial(key)),
     ]
 }
 
-/// What the page of lines after a pattern is asked with.
-pub(crate) fn lines_after<'a>(
-    customer: &'a Name,
-    last: &'a Pattern,
-    most: &RowLimit,
-) -> [ValueRef<'a>; 4]
-    ensures { (limit : ℕ) → most.now.rows ≡ pos limit
-        → bound result ≡ after_columns customer.now last.now limit }
+/// What the rows of all messages from one serial to another are asked with.
+pub fn between<'a>(customer: &'a Name, low: Serial, high: Serial) -> [ValueRef<'a>; 3]
+    ensures { bound result ≡ between_columns customer.now low high }
 {
     [
         ValueRef::Text(customer.as_str().as_bytes()),
-        ValueRef::Text(last.class().name().as_bytes()),
-        ValueRef::Text(last.as_str().as_bytes()),
-        ValueRef::Int(most.rows),
+        ValueRef::Int(serial(low)),
+        ValueRef::Int(serial(high)),
     ]
 }

@@ -1,16 +1,13 @@
-//! Rows of answers as typed values.
+//! Rows of answers as heads.
 
-ghost use Rattle.std.specs.Prelude.{◌≡◌, IfOk, option_map, slice_get, is_some};
-ghost use Rattle.hq_rows.specs.Listed.{head_value, line_row_value};
-ghost use Rattle.hq_sql.specs.Rows.{head_shown, line_shown};
-ghost use Rattle.hq_sql.specs.LinePages.{line_in};
+ghost use Rattle.std.specs.Prelude.{◌≡◌, IfOk, option_map, slice_get};
+ghost use Rattle.hq_rows.specs.Listed.{head_value};
+ghost use Rattle.hq_sql.specs.Rows.{head_shown};
 
 use crate::read;
-use hq_access::{Action, Line};
 use hq_queue::{Counts, Head, Tally};
 use hq_store::Account;
 use sqlite::{Error, Row};
-use std::alloc::Global;
 
 fn tally(row: &Row) -> Result<Tally, Error>
     ensures { IfOk result (λ tally. tally ≡ (head_value (head_shown row.now)).head.tally) }
@@ -54,30 +51,4 @@ pub(crate) fn first_account(rows: &[Row]) -> Result<Option<Account>, Error>
         None => Ok(None),
         Some(row) => Ok(Some(account_of(row)?)),
     }
-}
-
-pub(crate) fn first_action(alloc: Global, rows: &[Row]) -> Result<Option<Action>, Error>
-    ensures { IfOk result (λ found. found
-        ≡ option_map (λ r. line_row_value (line_shown r)) (slice_get rows.now 0)) }
-{
-    match rows.first() {
-        None => Ok(None),
-        Some(row) => Ok(Some(read::action(alloc, row, 3)?)),
-    }
-}
-
-/// Whether there is a row.
-pub(crate) fn has_first(rows: &[Row]) -> bool
-    ensures { result ≡ is_some (slice_get rows.now 0) }
-{
-    rows.first().is_some()
-}
-
-/// The line of a row.
-pub(crate) fn line(alloc: Global, row: &Row) -> Result<Line, Error>
-    ensures { IfOk result (λ line. line ≡ line_in row.now) }
-{
-    let pattern = read::pattern(alloc, row, 1, 2)?;
-    let action = read::action(alloc, row, 3)?;
-    Ok(Line { pattern, action })
 }

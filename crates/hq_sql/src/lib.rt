@@ -1,11 +1,9 @@
-//! The statements of the store on `sqlite`, one function each: what a SELECT finds and what a write
-//! leaves, said of the tables of all customers as finite maps.
+//! What the statements of the store on `sqlite` share: rows and columns, the tables of a store,
+//! reading and binding, rows that are lent, what is kept; and the statements on heads.
 #![tactic(auto)]
 
 pub mod bind;
 mod decode;
 pub mod heads;
 pub mod lent;
-pub mod line_pages;
-pub mod lines;
 pub mod read;

@@ -2,15 +2,11 @@
 
 ghost use Rattle.std.specs.Prelude.{◌≡◌, IfOk, string_bytes};
 ghost use Rattle.sqlite.specs.Order.{column};
-ghost use Rattle.hq_access.specs.Actions.{is_space};
-ghost use Rattle.std.specs.List.{after_first, before_first};
 ghost use Rattle.hq_sql.specs.Errors.{unread_as};
-ghost use Rattle.hq_sql.specs.Rows.{text_in, number_in, class_of, action_of, action_of_verb};
+ghost use Rattle.hq_sql.specs.Rows.{text_in, number_in};
 
-use hq_access::{Action, Class, Pattern};
-use hq_envelope::{Address, Fail, Text};
+use hq_envelope::Fail;
 use sqlite::{Error, ErrorCode, Row};
-use std::alloc::Global;
 
 /// The error of a text that is no value of its type, or of want of memory.
 pub fn unread(fail: Fail) -> Error
@@ -34,85 +30,4 @@ pub fn text(row: &Row, at: usize) -> Result<String, Error>
     ensures { IfOk result (λ t. string_bytes t ≡ text_in (column row.now at)) }
 {
     row.get(at)
-}
-
-/// The verb and the argument of a written form, which the first space parts.
-fn parts(text: &str) -> (&str, &str)
-    ensures verb { result.0.now ≡ before_first is_space text.now }
-    ensures argument { result.1.now ≡ after_first is_space text.now }
-{
-    match text.split_once(' ') {
-        Some((verb, argument)) => (verb, argument),
-        None => (text, ""),
-    }
-}
-
-/// The action of a verb and an argument, as they stand.
-fn action_with(alloc: Global, verb: &str, argument: &str) -> Result<Action, Fail>
-    ensures { IfOk result (λ action. action ≡ action_of_verb verb.now argument.now) }
-{
-    match verb {
-        "OK" => Ok(Action::Okay(Text::parse(alloc, argument)?)),
-        "REJECT" => Ok(Action::Reject(Text::parse(alloc, argument)?)),
-        "DEFER" => Ok(Action::Defer(Text::parse(alloc, argument)?)),
-        "DUNNO" => Ok(Action::Dunno(Text::parse(alloc, argument)?)),
-        "DISCARD" => Ok(Action::Discard(Text::parse(alloc, argument)?)),
-        "HOLD" => Ok(Action::Hold(Text::parse(alloc, argument)?)),
-        _ => Ok(Action::Redirect(Address::parse(alloc, argument)?)),
-    }
-}
-
-/// An action, by its written form as it stands: an argument may begin or end with a space.
-pub(crate) fn action(alloc: Global, row: &Row, at: usize) -> Result<Action, Error>
-    ensures { IfOk result (λ action. action ≡ action_of (text_in (column row.now at))) }
-{
-    let text = text(row, at)?;
-    let (verb, argument) = parts(text.as_str());
-    match action_with(alloc, verb, argument) {
-        Ok(action) => Ok(action),
-        Err(fail) => Err(unread(fail)),
-    }
-}
-
-/// A class by its name; an error where no class has this name.
-fn class(row: &Row, at: usize) -> Result<Class, Error>
-    ensures { IfOk result (λ class. class ≡ class_of (text_in (column row.now at))) }
-{
-    let name = text(row, at)?;
-    match name.as_str() {
-        "recipient" => Ok(Class::RecipientSide),
-        "sender" => Ok(Class::SenderSide),
-        _ => Err(Error::InvalidQuery),
-    }
-}
-
-/// The pattern of a class with this text; an error where the text is none, or is not folded.
-fn pattern_with(alloc: Global, class: Class, text: &str) -> Result<Pattern, Error>
-    ensures { IfOk result (λ pattern. pattern ≡ (class, text.now)) }
-{
-    match Pattern::parse(alloc, class, text) {
-        Ok(pattern) => {
-            if pattern.as_str() == text {
-                Ok(pattern)
-            } else {
-                Err(Error::InvalidQuery)
-            }
-        }
-        Err(fail) => Err(unread(fail)),
-    }
-}
-
-/// A pattern, by the name of its class and its text.
-pub(crate) fn pattern(
-    alloc: Global,
-    row: &Row,
-    class_at: usize,
-    text_at: usize,
-) -> Result<Pattern, Error>
-    ensures { IfOk result (λ pattern. pattern
-        ≡ (class_of (text_in (column row.now class_at)), text_in (column row.now text_at))) }
-{
-    let class = class(row, class_at)?;
-    let text = text(row, text_at)?;
-    pattern_with(alloc, class, text.as_str())
 }

@@ -1,9 +1,6 @@
 -- What the statements on holds leave.
-use Rattle.std.specs.Prelude.{ℕ, List, [], ◌∷◌}
+use Rattle.std.specs.Prelude.{ℕ, List}
 use Rattle.std.specs.FinMap.{insert, remove}
-use Rattle.sqlite.specs.declared.types.Value.TheVariants.{Text}
-use Rattle.sqlite.specs.Order.{Row}
-use Rattle.hq_keyed.specs.Values.{number}
 use Rattle.hq_rows.specs.declared.rows.HoldRow.{HoldRow}
 use Rattle.hq_rows.specs.Listed.{hold_key, hold_value}
 use Rattle.hq_store.specs.Tables.{Tables, give_reason}
@@ -22,7 +19,3 @@ without_hold key t = record t { holds = remove t.holds key }
 -- the reason stands there, if it is not empty
 abbrev pub with_reason : List ℕ → ℕ → List ℕ → Tables → Tables
 with_reason customer serial reason t = record t { holds = give_reason customer serial reason t.holds }
-
--- the columns of a key
-abbrev pub key_columns : List ℕ × ℕ → Row
-key_columns key = Text key.0 ∷ number key.1 ∷ []

@@ -11,6 +11,7 @@ ghost use Rattle.hq_sql_holds.specs.Holds.{hold_row, with_hold, without_hold, wi
 
 use crate::{bind, decode};
 use hq_envelope::{Name, Serial, Text};
+use hq_sql::bind::message_key;
 use sqlite::{Alter, Connection, Error, Row};
 use std::alloc::Global;
 
@@ -24,7 +25,7 @@ fn query<S: Alter>(
         (λ t. get t.holds (customer.now, key)) }
     ensures kept { Keeps (state S.Store conn.old) (state S.Store conn.new) result }
 {
-    let params = bind::key(customer, key);
+    let params = message_key(customer, key);
     let rows = conn.query_all(
         "SELECT customer, serial, hold_reason FROM holds \
          WHERE customer = ?1 AND serial = ?2",
@@ -55,7 +56,7 @@ pub fn remove<S: Alter>(conn: &mut Connection<S>, customer: &Name, key: Serial) 
         (without_hold (customer.now, key)) }
     ensures kept { KeepsCommitted (state S.Store conn.old) (state S.Store conn.new) }
 {
-    let params = bind::key(customer, key);
+    let params = message_key(customer, key);
     conn.execute(
         "DELETE FROM holds WHERE customer = ?1 AND serial = ?2",
         &params,

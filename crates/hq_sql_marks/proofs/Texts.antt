@@ -1,12 +1,12 @@
 -- What the texts of the statements on marks mean, computed from the texts and the schema.
-use Rattle.std.proofs.Common.{◌≡◌, ℕ, List, [], ◌∷◌, codes, false, refl}
+use Rattle.std.proofs.Common.{ℕ, List, [], ◌∷◌, codes, refl}
 use Rattle.sqlite.specs.declared.types.Value.TheVariants.{Null}
 use Rattle.sqlite.specs.Term.{Term, lit, col}
-use Rattle.sqlite.specs.Command.TheVariants.{Insert, Select, Delete}
+use Rattle.sqlite.specs.Command.TheVariants.{Insert, Delete}
 use Rattle.sqlite.specs.Source.TheVariants.{Values}
 use Rattle.sqlite_tied.specs.Compute.{everything}
-use Rattle.sqlite.specs.Listing.{understood, reads_listing}
-use Rattle.sqlite.proofs.Callers.{IsPlain, command_of}
+use Rattle.sqlite.specs.Listing.{understood}
+use Rattle.hq_keyed.proofs.Known.{Asks, Orders}
 use Rattle.hq_keyed.proofs.Select.{query_of}
 use Rattle.hq_schema.specs.Schema.{desk_schema}
 use Rattle.hq_sql.proofs.Texts.{at}
@@ -24,17 +24,9 @@ mark_names = codes "customer" ∷ codes "label" ∷ codes "digest" ∷ codes "ad
 abbrev pub mark_read_text : List ℕ
 mark_read_text = codes "SELECT customer, label, digest, added, changed, same FROM marks WHERE customer = ?1 AND label = ?2"
 
-pub mark_read_is : command_of (understood desk_schema mark_read_text) ≡ Select (record { lets = []; body = query_of 12 mark_key mark_columns }) mark_names
+pub mark_read_known : Asks desk_schema mark_read_text (query_of 12 mark_key mark_columns) mark_names
 unfolding understood everything
-mark_read_is = refl
-
-pub mark_read_plain : IsPlain (understood desk_schema mark_read_text)
-unfolding understood everything
-mark_read_plain = (refl, refl)
-
-pub mark_read_listed : reads_listing desk_schema mark_read_text ≡ false
-unfolding understood everything
-mark_read_listed = refl
+mark_read_known = record { is = refl; plain = (refl, refl); unlisted = refl }
 
 abbrev pub mark_inserted : List Term
 mark_inserted = lit Null ∷ col 0 0 ∷ col 0 1 ∷ col 0 2 ∷ col 0 3 ∷ col 0 4 ∷ col 0 5 ∷ []
@@ -42,21 +34,13 @@ mark_inserted = lit Null ∷ col 0 0 ∷ col 0 1 ∷ col 0 2 ∷ col 0 3 ∷ col
 abbrev pub mark_insert_text : List ℕ
 mark_insert_text = codes "INSERT INTO marks (customer, label, digest, added, changed, same) VALUES (?1, ?2, ?3, ?4, ?5, ?6)"
 
-pub mark_insert_is : command_of (understood desk_schema mark_insert_text) ≡ Insert 6 (Values mark_inserted 7)
+pub mark_insert_known : Orders desk_schema mark_insert_text (Insert 6 (Values mark_inserted 7))
 unfolding understood everything
-mark_insert_is = refl
-
-pub mark_insert_plain : IsPlain (understood desk_schema mark_insert_text)
-unfolding understood everything
-mark_insert_plain = (refl, refl)
+mark_insert_known = record { is = refl; plain = (refl, refl) }
 
 abbrev pub mark_delete_text : List ℕ
 mark_delete_text = codes "DELETE FROM marks WHERE customer = ?1 AND label = ?2"
 
-pub mark_delete_is : command_of (understood desk_schema mark_delete_text) ≡ Delete 6 (record { lets = []; body = query_of 12 mark_key (col 1 0 ∷ []) })
+pub mark_delete_known : Orders desk_schema mark_delete_text (Delete 6 (record { lets = []; body = query_of 12 mark_key (col 1 0 ∷ []) }))
 unfolding understood everything
-mark_delete_is = refl
-
-pub mark_delete_plain : IsPlain (understood desk_schema mark_delete_text)
-unfolding understood everything
-mark_delete_plain = (refl, refl)
+mark_delete_known = record { is = refl; plain = (refl, refl) }

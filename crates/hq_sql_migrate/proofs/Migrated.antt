@@ -17,7 +17,7 @@ use Rattle.hq_sql_open.specs.Transactions.{IsBegun, IsDone, LeavesAlso, KeepsAll
 use Rattle.hq_sql_open.proofs.Making.{goes_then, keeps_next}
 use Rattle.hq_sql_migrate.specs.Stores.{first_tables_in, count_on_hold, HasVersion, IsFirst, IsLifted}
 use Rattle.hq_sql_migrate.specs.Migration.{HasEmptyHolds, Fills, Stamps, Lifts, Migrates, LeavesLifted}
-use Rattle.hq_sql_migrate.proofs.Statements.{no_index, apart}
+use Rattle.hq_sql.proofs.Tables.{no_index, apart}
 
 pub made_goes : (a b : State) → Makes a b first_schema holds → GoesOn a b
 made_goes a b m = record {

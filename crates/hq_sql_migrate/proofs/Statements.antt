@@ -1,7 +1,5 @@
 -- The statements of a migration, one by one.
-use Rattle.std.proofs.Common.{None, ◌≡◌, ◌≢◌, inr, ℕ, ℤ, pos, true, false, not, eqb, cond, List, [], ◌∷◌, Ok, Err, Result, IsTrue, refl, sym, ap, ◌∙◌, subst, arith}
-use Rattle.std.specs.List.{list_all}
-use Rattle.std.proofs.lemmas.Bool.Decides.{nat_tests}
+use Rattle.std.proofs.Common.{None, ◌≡◌, inr, ℕ, ℤ, pos, true, false, cond, List, [], ◌∷◌, Ok, Err, Result, IsTrue, refl, sym, ap, ◌∙◌, subst}
 use Rattle.sqlite.specs.declared.error.Error.{Error}
 use Rattle.sqlite.specs.declared.types.Value.TheVariants.{Null, Int, Text}
 use Rattle.sqlite.specs.Command.{Command}
@@ -12,16 +10,13 @@ use Rattle.sqlite.specs.Query.{IsAnswer}
 use Rattle.sqlite.specs.Schema.{Schema}
 use Rattle.sqlite.specs.State.{State, HasCleanDisk, Executes, Survives, CommitsBy, Writes, KeepsCommit}
 use Rattle.sqlite.proofs.Callers.{command_of, runs_as}
-use Rattle.sqlite_keyed.proofs.ListLemmas.{all_weaker, all_from_test}
-use Rattle.sqlite_rules.specs.Edit.{IsNoIndex}
-use Rattle.sqlite_schema.specs.declared.schema.Index.{Index}
 use Rattle.sqlite_typed.proofs.TestLemmas.{then_value}
 use Rattle.hq_keyed.specs.Values.{number}
 use Rattle.hq_keyed.proofs.Left.{execute_left, left_keeps}
+use Rattle.hq_keyed.proofs.Known.{keeps_commit}
 use Rattle.hq_keyed.proofs.Stops.{may_end, write_leaves_no_more}
 use Rattle.hq_keyed.proofs.Writes.{updated, cast_int}
 use Rattle.hq_schema.specs.Schema.{version, holds, desk_schema}
-use Rattle.hq_sql.proofs.Tables.{write_keeps}
 use Rattle.hq_sql_open.specs.Making.{GoesOn}
 use Rattle.hq_sql_open.specs.Transactions.{KeepsAll}
 use Rattle.hq_sql_migrate.specs.Stores.{HasVersion}
@@ -29,13 +24,6 @@ use Rattle.hq_sql_migrate.specs.Migration.{HasEmptyHolds, Fills, Stamps}
 use Rattle.hq_keyed.proofs.Filling.{filled, filled_schema}
 use Rattle.hq_sql_migrate.proofs.Held.{reasons}
 use Rattle.hq_sql_migrate.proofs.Texts.{fill_text, fill_query, fill_is, fill_plain, version_text, version_terms, version_is, version_plain}
-
--- a tree of a table is no index
-pub no_index : (t : ℕ) → list_all (λ (i : Index). not (eqb i.tree t)) desk_schema.indexes ≡ true → IsNoIndex desk_schema t
-no_index t h = all_weaker (λ (i : Index). not (eqb i.tree t) ≡ true) (λ (i : Index). i.tree ≢ t) (λ i e. λ same. grind (arith, nat_tests)) desk_schema.indexes (all_from_test (λ (i : Index). not (eqb i.tree t)) desk_schema.indexes h)
-
-pub apart : (m n : ℕ) → eqb m n ≡ false → m ≢ n
-apart m n h = λ same. grind (arith, nat_tests)
 
 pub goes_on : (old new : State) (command : Command) (text : List ℕ) (params : Row) (count : ℕ) → Writes old new None command text params count → GoesOn old new
 goes_on old new command text params count w = record {
@@ -66,7 +54,7 @@ module _ (old new : State) (reason : List ℕ) where
       → (HasCleanDisk new → Executes fill_text (Text reason ∷ []) old new r) → KeepsAll old new
   filled_keeps r has within survives h =
       step_keeps old new desk_schema fill_text (Text reason ∷ []) r has (ap may_end fill_is)
-      (λ count e. write_keeps old new _ _ _ count (runs_as fill_text (Text reason ∷ []) old new desk_schema has _ fill_is fill_plain count e) within) within survives h
+      (λ count e. keeps_commit desk_schema old new has fill_text (Text reason ∷ []) _ (record { is = fill_is; plain = fill_plain }) refl count e within) within survives h
 
   pub filled_goes : (count : ℕ) → old.now.schema ≡ desk_schema → Executes fill_text (Text reason ∷ []) old new (Ok count) → (new.now.schema ≡ desk_schema) × GoesOn old new
   filled_goes count has h =
@@ -111,4 +99,4 @@ module _ (old new : State) where
       → (HasCleanDisk new → Executes version_text [] old new r) → KeepsAll old new
   stamp_keeps r has within survives h =
       step_keeps old new desk_schema version_text [] r has (ap may_end version_is)
-      (λ count e. write_keeps old new _ _ _ count (runs_as version_text [] old new desk_schema has _ version_is version_plain count e) within) within survives h
+      (λ count e. keeps_commit desk_schema old new has version_text [] _ (record { is = version_is; plain = version_plain }) refl count e within) within survives h

@@ -1,7 +1,6 @@
 -- What the texts on the version table do.
-use Rattle.std.proofs.Common.{◌≡◌, ◌≢◌, inl, inr, ℕ, ℤ, pos, Bool, true, false, eqb, cond, List, [], ◌∷◌, map, filter, Ok, Err, Result, IsTrue, OnErr, refl, sym, ap, ◌∙◌, subst, subst₂, arith, IsPermutation}
+use Rattle.std.proofs.Common.{◌≡◌, inl, inr, ℕ, ℤ, pos, Bool, true, false, cond, List, [], ◌∷◌, map, filter, Ok, Err, Result, IsTrue, OnErr, refl, sym, ap, ◌∙◌, subst, subst₂, arith, IsPermutation}
 use Rattle.std.specs.List.{AllByRecursion, IsDistinct}
-use Rattle.std.proofs.lemmas.Bool.Decides.{nat_tests}
 use Rattle.std.proofs.lemmas.List.Sorted.{IsPermutation-map, IsPermutation-sym, length_permutation}
 use Rattle.sqlite.specs.declared.error.Error.{Error}
 use Rattle.sqlite.specs.declared.types.Value.{Value}
@@ -26,7 +25,7 @@ use Rattle.hq_rows.proofs.NoRows.{no_rows}
 use Rattle.hq_tables.specs.Rows.{HasUniqueKeys}
 use Rattle.hq_sql.specs.Rows.{head_read, message_read, recipient_read, hold_read, line_read, mark_read, notice_read}
 use Rattle.hq_sql.specs.Tables.{Leaves, tables_in}
-use Rattle.hq_sql.proofs.Tables.{no_index}
+use Rattle.hq_sql.proofs.Tables.{no_index, apart}
 use Rattle.hq_sql_open.specs.Making.{AreEmpty}
 use Rattle.hq_sql_open.specs.Opening.{versions_in, IsVersioned, ShowVersions, ShowsOne, HasVersions, Tells, KeepsReading}
 use Rattle.hq_sql_open.specs.Transactions.{KeepsAll}
@@ -41,9 +40,6 @@ no_rows_of : (trees : Trees) → trees 1 ≡ [] → trees 3 ≡ [] → trees 6 �
 no_rows_of trees h m r l k n o =
     (λ i. record { heads = heads_of (map head_read (h i)); messages = messages_of (map message_read (m i)); recipients = recipients_of (map recipient_read (r i)); holds = holds_of (map hold_read (o i)); lines = lines_of (map line_read (l i)); marks = marks_of (map mark_read (k i)); notices = notices_of (map notice_read (n i)) })
     ∙ no_rows
-
-apart : (m n : ℕ) → eqb m n ≡ false → m ≢ n
-apart m n h = λ same. grind (arith, nat_tests)
 
 pub stamped : (old new : State) (count : ℕ) → old.now.schema ≡ desk_schema → AreEmpty desk_schema.tables old.now.trees → Executes stamp_text [] old new (Ok count) → Leaves old new no_tables
 unfolding IsDistinct

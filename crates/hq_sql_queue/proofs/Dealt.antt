@@ -26,11 +26,11 @@ use Rattle.hq_rows.specs.Listed.{recipient_key, recipient_value}
 use Rattle.hq_rows.specs.Lookups.{is_after}
 use Rattle.hq_store.proofs.Orders.{ascending}
 use Rattle.hq_sql.specs.Rows.{recipient_shown}
-use Rattle.hq_sql_queue.specs.Places.{is_of}
-use Rattle.hq_sql_queue.specs.Messages.{is_on_page, bare_entry}
+use Rattle.hq_sql_recipients.specs.Places.{is_of}
+use Rattle.hq_sql_messages.specs.Messages.{is_on_page, bare_entry}
 use Rattle.hq_sql_queue.specs.Dealt.{is_within, is_between, serials_of, Rise, with_dealt, serial_in, recipient_in, dealt_one, at_place, IsPlaceFrom, Deals, Spans}
-use Rattle.hq_sql_queue.proofs.InPlace.{Recipients}
-use Rattle.hq_sql_queue.proofs.OnRecipients.{pending_is}
+use Rattle.hq_sql_recipients.proofs.InPlace.{Recipients}
+use Rattle.hq_sql_recipients.proofs.OnRecipients.{pending_is}
 
 -- ---- lists
 

@@ -1,8 +1,7 @@
 -- What is given to the messages of a page as its rows come, whatever a row gives: what all rows give to each.
-use Rattle.std.proofs.Common.{◌≡◌, ◌≢◌, inl, inr, ℕ, zero, suc, ◌+◌, ◌-◌, ◌<◌, ◌≤◌, Bool, true, false, cond, List, [], ◌∷◌, ◌++◌, map, filter, take, fold, length, get_or, set, append-nil, append_assoc, Option, Some, None, slice_get, option_map, refl, sym, ap, ◌∙◌, subst, arith, nat_cmp}
+use Rattle.std.proofs.Common.{◌≡◌, ◌≢◌, inl, inr, ℕ, zero, suc, ◌<◌, ◌≤◌, true, false, cond, List, [], ◌∷◌, map, take, fold, length, set, Option, Some, None, slice_get, option_map, refl, sym, ap, ◌∙◌, subst, arith}
 use Rattle.std.specs.Prelude.{◌==◌, unwrap_or}
 use Rattle.std.specs.List.{AllByRecursion, FoldsTo, find}
-use Rattle.std.specs.Ordering.{eq_by_cmp}
 use Rattle.std.proofs.lemmas.Bool.{cases_lt}
 use Rattle.std.proofs.lemmas.Bool.Decides.{nat_tests}
 use Rattle.std.proofs.lemmas.Option.{slice_get-map}
@@ -10,7 +9,7 @@ use Rattle.sqlite.specs.Order.{Row}
 use Rattle.sqlite_trees.specs.Tree.{IsAscending}
 use Rattle.sqlite_keyed.proofs.ListLemmas.{map-map, map_same, all_weaker, all-slice_get}
 use Rattle.hq_queue.specs.declared.message.Message.{Message}
-use Rattle.hq_sql_queue.specs.Dealt.{serials_of, Rise, at_place, IsPlaceFrom}
+use Rattle.hq_sql_queue.specs.Dealt.{serials_of, Rise, at_place}
 use Rattle.hq_sql_queue.specs.Giving.{given_one, Gives, first_given}
 
 -- ---- lists

@@ -1,8 +1,5 @@
-pub mod InPlace
-pub mod OnRecipients
-pub mod Found
-pub mod Loop
-pub mod OnMessages
+pub mod Texts
+pub mod Between
 pub mod Dealt
 pub mod GivenRows
 pub mod Reasons

@@ -1,59 +1,21 @@
--- What the walk over holds shows, and what it gives to the messages of a page.
-use Rattle.std.proofs.Common.{◌≡◌, ◌&&◌, ℕ, suc, ◌-◌, Bool, List, [], ◌∷◌, map, filter, length, Option, Some, None, slice_get, refl, sym, ap, ◌∙◌, subst}
+-- What the walk over holds gives to the messages of a page.
+use Rattle.std.proofs.Common.{◌≡◌, ◌&&◌, ℕ, suc, ◌-◌, List, [], ◌∷◌, map, filter, length, Some, None, slice_get, refl, sym, ap, ◌∙◌}
 use Rattle.std.specs.Prelude.{unwrap_or}
 use Rattle.std.specs.Ordering.{eq_by_cmp}
 use Rattle.std.specs.List.{FoldsTo}
 use Rattle.std.specs.FinMap.{entries, get}
-use Rattle.sqlite.specs.declared.types.Value.TheVariants.{Null}
 use Rattle.sqlite.specs.Order.{Row}
-use Rattle.sqlite.specs.Query.{IsAnswer}
-use Rattle.sqlite.specs.Program.{overlay}
-use Rattle.sqlite.specs.Effect.{Answers}
-use Rattle.sqlite.specs.State.{State, Shown}
-use Rattle.sqlite.proofs.Callers.{reads_as}
-use Rattle.sqlite_value.proofs.OrderLemmas.{value_cmp-Text}
-use Rattle.sqlite_typed.proofs.TestLemmas.{then_key, last_key, then_term, last_term}
 use Rattle.sqlite_keyed.proofs.ListLemmas.{map-map}
-use Rattle.hq_keyed.proofs.Select.{query_of}
-use Rattle.hq_keyed.proofs.Terms.{text_is, number_from, number_to, number_order}
-use Rattle.hq_keyed.proofs.Pages.{listed}
-use Rattle.hq_schema.specs.Schema.{desk_schema}
 use Rattle.hq_queue.specs.declared.message.Message.{Message}
-use Rattle.hq_tables.specs.Rows.{pairs_of}
-use Rattle.hq_tables.proofs.Pages.{sorted_rows}
-use Rattle.hq_rows.specs.declared.rows.HoldRow.{HoldRow}
 use Rattle.hq_store.specs.Tables as store
-use Rattle.hq_store.specs.Tables.{Tables, text_cmp, message_cmp, joined, message_of, pending_of, reason_of}
-use Rattle.hq_rows.specs.Listed.{hold_key, hold_value}
-use Rattle.hq_store.proofs.Orders.{message_total, message_exact}
-use Rattle.hq_sql.specs.Rows.{hold_stored, hold_read, hold_shown}
-use Rattle.hq_sql.specs.Tables.{IsDesk, tables_in}
-use Rattle.hq_sql.proofs.Texts.{between_terms}
-use Rattle.hq_sql_holds.proofs.Texts as text
-use Rattle.hq_sql_queue.specs.Dealt.{is_within, between_columns, serials_of, Rise, Spans, with_dealt}
+use Rattle.hq_store.specs.Tables.{Tables, text_cmp, joined, message_of, pending_of, reason_of}
+use Rattle.hq_rows.specs.Listed.{hold_value}
+use Rattle.hq_sql.specs.Rows.{hold_shown}
+use Rattle.hq_sql_queue.specs.Dealt.{is_within, serials_of, Rise, Spans, with_dealt}
 use Rattle.hq_sql_queue.specs.Giving.{Gives, put_reason, hold_serial, give_reason, with_held, with_parts, first_given}
-use Rattle.hq_sql_queue.specs.Messages.{bare_entry}
+use Rattle.hq_sql_messages.specs.Messages.{bare_entry}
+use Rattle.hq_sql_queue.proofs.Between.{Entry}
 use Rattle.hq_sql_queue.proofs.Reasons.{page_given}
-
-abbrev Entry : Type 0
-Entry = (List ℕ × ℕ) × List ℕ
-
--- the rows of the messages from one serial to another
-pub holds_shown : (old new : State) (c : List ℕ) (low high : ℕ) (rows : List Row) → IsDesk old.now → Shown text.holds_between_text (between_columns c low high) old new rows
-    → map (λ r. (((hold_shown r).customer, hold_serial r), hold_value (hold_shown r))) rows ≡ filter (λ (e : Entry). eq_by_cmp text_cmp c e.0.0 && is_within low high e.0.1) (entries (tables_in old.now).holds)
-holds_shown old new c low high rows desk h =
-    let params = between_columns c low high in
-    let q = text.hold_order (query_of 14 between_terms text.hold_columns) in
-    let db = overlay old.now.trees [] in
-    let answers : Answers old.now (record { lets = []; body = q }) params rows = reads_as text.holds_between_text params old new desk_schema desk.schema_is _ text.holds_between_is text.holds_between_plain text.holds_between_listed rows h in
-    let a : IsAnswer q db params rows = answers.answer Null in
-    let test : Entry → Bool = λ e. eq_by_cmp text_cmp c e.0.0 && is_within low high e.0.1 in
-    sym (map-map (λ (r : HoldRow). (hold_key r, hold_value r)) hold_shown rows)
-    ∙ ap (pairs_of hold_key hold_value)
-    (listed hold_stored hold_read message_total message_exact hold_key hold_value q db 14 params desk.holds hold_shown refl refl refl (λ k. refl) rows a
-    (λ r. test (hold_key r, hold_value r)) (λ k. then_term (text_is k.1.customer c) (then_term (number_from k.1.serial low) (last_term (number_to k.1.serial high))))
-    (λ j k. then_key (value_cmp-Text j.1.customer k.1.customer) (last_key (number_order j.1.serial k.1.serial))) (λ xs. refl))
-    ∙ sorted_rows message_total hold_key hold_value test (map hold_read (old.now.trees 14)) desk.holds.unique
 
 -- each message of the page has its reason
 pub page_held : {T : Type 0} (page : T → List Message) (place : T → ℕ) (c : List ℕ) (t : Tables) (low high : ℕ) (rows : List Row) (p q : T)

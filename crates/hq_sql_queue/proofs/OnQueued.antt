@@ -23,10 +23,11 @@ use Rattle.hq_store.specs.Readings.{read_tables, page_of, after_serial}
 use Rattle.hq_sql.specs.Kept.{Keeps}
 use Rattle.hq_sql.specs.Rows.{message_shown}
 use Rattle.hq_sql.specs.Tables.{IsDesk, tables_in}
-use Rattle.hq_sql_queue.specs.Messages.{is_on_page, has_spool_name, whole, bare, bare_entry}
+use Rattle.hq_sql_messages.specs.Messages.{is_on_page, has_spool_name, bare_entry}
+use Rattle.hq_sql_queue.specs.Queued.{whole}
 use Rattle.hq_sql_queue.specs.Giving.{with_parts}
 use Rattle.hq_sql_queue.proofs.OnHolds.{parts_joined}
-use Rattle.hq_sql_queue.proofs.OnMessages.{pairs}
+use Rattle.hq_sql_messages.proofs.OnMessages.{pairs}
 
 -- ---- messages of rows
 
@@ -62,13 +63,6 @@ page_whole c t after limit =
     ∙ sym (take-map (whole_entry c t) limit (filter (is_on_page c after) (entries t.messages)))
     ∙ ap (take limit) (sym (map-map (whole_own c t) own (filter (is_on_page c after) (entries t.messages))) ∙ ap (map (whole_own c t)) (owned text_cmp (λ (e : ℕ × Row). is_after after e.0) c (entries t.messages))
     ∙ sym (after_is c t after (rows_of text_cmp c (entries t.messages))))
-
--- the rows of a page, without their recipients
-pub page_bare : (after : Option ℕ) (limit : ℕ) (c : List ℕ) (t : Tables) (rows : List sqlite.Row) → pairs rows ≡ take limit (filter (is_on_page c after) (entries t.messages))
-    → map bare rows ≡ map bare_entry (take limit (filter (is_on_page c after) (entries t.messages)))
-page_bare after limit c t rows h =
-    sym (map-map bare_entry (λ r. (message_key (message_shown r), message_value (message_shown r))) rows)
-    ∙ ap (map bare_entry) (sym (map-map (λ (r : MessageRow). (message_key r, message_value r)) message_shown rows)) ∙ ap (map bare_entry) h
 
 -- the first row with a spool name, with its recipients
 pub spool_whole : (c : List ℕ) (t : Tables) (p : List ℕ) (rows : List sqlite.Row) → pairs rows ≡ take 1 (filter (has_spool_name c p) (entries t.messages))

@@ -1,7 +1,7 @@
 -- The reasons of the messages of a page: each row of a table that is keyed by customer and serial gives its value to the
 -- message that has its serial.
 use Rattle.std.proofs.Common.{◌≡◌, inl, inr, ℕ, zero, suc, ◌-◌, ◌<◌, ◌≤◌, Bool, true, false, cond, List, [], ◌∷◌, map, filter, length, Option, Some, None, slice_get, option_map, refl, sym, ap, ◌∙◌, subst, arith, nat_cmp, Less}
-use Rattle.std.specs.Prelude.{◌==◌, ◌&&◌, unwrap_or}
+use Rattle.std.specs.Prelude.{◌==◌, ◌&&◌}
 use Rattle.std.specs.List as list
 use Rattle.std.specs.List.{AllByRecursion, FoldsTo}
 use Rattle.std.specs.Ordering.{eq_by_cmp}

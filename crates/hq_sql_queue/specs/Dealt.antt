@@ -1,10 +1,8 @@
 -- Recipients dealt to the messages of a page as their rows come.
 use Rattle.std.specs.Prelude.{◌≡◌, ℕ, zero, suc, ◌-◌, ◌<◌, ◌≤◌, length, Bool, ◌==◌, ◌&&◌, nat_le, List, [], ◌∷◌, ◌++◌, map, Some, slice_get, if◌then◌else◌}
 use Rattle.std.specs.Ordering.{eq_by_cmp}
-use Rattle.sqlite.specs.declared.types.Value.TheVariants.{Text}
 use Rattle.sqlite.specs.Order.{Row}
 use Rattle.sqlite_trees.specs.Tree.{IsAscending}
-use Rattle.hq_keyed.specs.Values.{number}
 use Rattle.hq_queue.specs.declared.message.Message.{Message}
 use Rattle.hq_queue.specs.declared.message.Pending.{Pending}
 use Rattle.hq_rows.specs.Listed.{recipient_value}
@@ -19,10 +17,6 @@ is_within low high serial = nat_le low serial && nat_le serial high
 -- a recipient of the customer's messages from one serial to another
 abbrev pub is_between : List ℕ → ℕ → ℕ → (List ℕ × (ℕ × ℕ)) × Pending → Bool
 is_between customer low high e = eq_by_cmp text_cmp customer e.0.0 && is_within low high e.0.1.0
-
--- what these are asked with
-abbrev pub between_columns : List ℕ → ℕ → ℕ → Row
-between_columns customer low high = Text customer ∷ number low ∷ number high ∷ []
 
 -- ---- pages
 

@@ -1,5 +1,3 @@
-pub mod Places
-pub mod Recipients
-pub mod Messages
+pub mod Queued
 pub mod Dealt
 pub mod Giving

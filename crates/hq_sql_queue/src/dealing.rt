@@ -7,11 +7,11 @@ ghost use Rattle.hq_sql.specs.Kept.{Shows, Keeps};
 ghost use Rattle.hq_sql_queue.specs.Dealt.{serials_of, Rise, with_dealt, dealt_one, at_place};
 ghost use Rattle.hq_sql_queue.specs.Dealt.{IsPlaceFrom, Deals, Spans};
 
-use crate::places;
 use hq_envelope::{Items, Name, Serial};
 use hq_queue::{Message, Pending};
 use hq_sql::lent::Taker;
-use hq_sql::{lent, read};
+use hq_sql::{bind, lent, read};
+use hq_sql_recipients::places;
 use sqlite::{Alter, Connection, Error, Row};
 use std::alloc::Global;
 use std::mem;
@@ -112,7 +112,7 @@ pub(crate) fn all<S: Alter>(
         (λ dealt. dealt.items) (λ t. map (with_dealt customer.now t) page.items) }
     ensures kept { Keeps (state S.Store conn.old) (state S.Store conn.new) result }
 {
-    let params = places::between(customer, low, high);
+    let params = bind::between(customer, low, high);
     let dealing = Dealing {
         alloc,
         page,

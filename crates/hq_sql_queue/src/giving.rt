@@ -8,11 +8,10 @@ ghost use Rattle.hq_sql_queue.specs.Dealt.{serials_of, Rise, at_place, Spans};
 ghost use Rattle.hq_sql_queue.specs.Giving.{Gives, given_one, put_reason, hold_serial, give_reason, with_held};
 
 use crate::dealing::place_from;
-use crate::places;
 use hq_envelope::{Name, Serial, Text};
 use hq_queue::Message;
 use hq_sql::lent::Taker;
-use hq_sql::{lent, read};
+use hq_sql::{bind, lent, read};
 use hq_sql_holds::decode;
 use sqlite::{Alter, Connection, Error, Row};
 use std::alloc::Global;
@@ -73,7 +72,7 @@ pub(crate) fn reasons<S: Alter>(
         (λ given. given.items) (λ t. map (with_held customer.now t) page.items) }
     ensures kept { Keeps (state S.Store conn.old) (state S.Store conn.new) result }
 {
-    let params = places::between(customer, low, high);
+    let params = bind::between(customer, low, high);
     let giving = Giving {
         alloc,
         page,

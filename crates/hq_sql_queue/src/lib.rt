@@ -1,12 +1,7 @@
-//! The statements of the store on `sqlite` that speak of queued messages: their rows, their
-//! recipients, and whole messages.
+//! Whole messages of the store on `sqlite`: their rows with their recipients and their reasons, one
+//! or a page of them.
 #![tactic(auto)]
 
-mod bind;
 mod dealing;
-mod decode;
 mod giving;
-pub mod messages;
-mod places;
 pub mod queued;
-pub mod recipients;

@@ -7,14 +7,16 @@ ghost use Rattle.hq_rows.specs.Listed.{message_value};
 ghost use Rattle.hq_store.specs.Readings.{read_tables, page_of};
 ghost use Rattle.hq_sql.specs.Rows.{message_shown};
 ghost use Rattle.hq_sql.specs.Kept.{Finds, Shows, Keeps};
-ghost use Rattle.hq_sql_queue.specs.Messages.{whole};
+ghost use Rattle.hq_sql_queue.specs.Queued.{whole};
 ghost use Rattle.hq_sql_queue.specs.Dealt.{Spans, Rise, serials_of};
 ghost use Rattle.hq_sql_queue.specs.Giving.{with_parts};
 
-use crate::{dealing, decode, giving, messages, recipients};
+use crate::{dealing, giving};
 use hq_envelope::{Items, Name, Serial, Spool, Text};
 use hq_queue::{Message, Pending};
 use hq_sql_holds::holds;
+use hq_sql_messages::{decode, messages};
+use hq_sql_recipients::recipients;
 use sqlite::{Alter, Connection, Error, Row};
 use std::alloc::Global;
 

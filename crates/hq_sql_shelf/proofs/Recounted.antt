@@ -20,7 +20,7 @@ use Rattle.hq_store.proofs.Counted.{found_after, counts_stay}
 use Rattle.hq_store.proofs.Orders.{message_total, message_exact}
 use Rattle.hq_tables.specs.Owned.{given}
 use Rattle.hq_sql.specs.Tables.{tables_in}
-use Rattle.hq_sql_queue.proofs.InPlace.{put_same}
+use Rattle.hq_sql_recipients.proofs.InPlace.{put_same}
 use Rattle.hq_sql_open.specs.Transactions.{Commits}
 use Rattle.hq_sql_shelf.specs.Accounts.{resized, counted_at, made_by, made_by_all}
 use Rattle.hq_sql_shelf.specs.Stops.{KeepsTransaction, LeavesTables}

@@ -9,8 +9,9 @@ ghost use Rattle.hq_sql_shelf.specs.Accounts.{resized_message, recounted_message
 use hq_access::Pattern;
 use hq_envelope::{Name, Serial};
 use hq_queue::Head;
-use hq_sql::{heads, lines};
-use hq_sql_queue::messages;
+use hq_sql::heads;
+use hq_sql_lines::lines;
+use hq_sql_messages::messages;
 use hq_store::Account;
 use sqlite::{Alter, Connection, Error, ErrorCode};
 

@@ -5,7 +5,7 @@ use crate::shelf::SqlShelf;
 use hq_access::{Action, Class, Line, LookupKey, Pattern};
 use hq_envelope::{Fault, Items, Label, Name, Serial, Spool};
 use hq_queue::{Counts, Head, Message};
-use hq_sql::{line_pages, lines};
+use hq_sql_lines::{line_pages, lines};
 use hq_sql_marks::marks;
 use hq_sql_notices::{notices, pages};
 use hq_sql_queue::queued;

@@ -1,13 +1,12 @@
-use Rattle.std.proofs.Common.{ap}
+use Rattle.std.proofs.Common.{refl}
 use Rattle.sqlite.specs.Held.{state}
-use Rattle.hq_keyed.proofs.Stops.{may_end}
-use Rattle.hq_sql.proofs.Keeping.{write_keeps, write_failed}
-use Rattle.hq_sql.proofs.OnHeads.{head_inserted, head_insert_keeps}
-use Rattle.hq_sql.proofs.Texts.{head_insert_text, head_insert_is}
+use Rattle.hq_sql.proofs.Keeping.{write_done, write_failed}
+use Rattle.hq_sql.proofs.OnHeads.{head_inserted}
+use Rattle.hq_sql.proofs.Texts.{head_insert_text, head_insert_known}
 use Rattle.hq_sql.proofs.heads.insert.Goals as goal
 
 pub returns-in_err-execute-clause-kept : goal.returns-in_err-execute-clause-kept
-returns-in_err-execute-clause-kept g c = write_failed _ _ head_insert_text _ (ap may_end head_insert_is) c.in_err-execute.ensures.survives _ c.in_err-execute.ensures.runs
+returns-in_err-execute-clause-kept g c = write_failed _ _ head_insert_text _ _ head_insert_known refl c.in_err-execute.ensures.survives _ c.in_err-execute.ensures.runs
 
 pub returns-clause-made : goal.returns-clause-made
 returns-clause-made g c clean desk free =
@@ -15,4 +14,4 @@ returns-clause-made g c clean desk free =
     head_inserted (state g.S.Store c.args.conn.now) (state g.S.Store c.execute.new.self) (record { customer = c.args.customer.now; account = c.args.account.now }) _ desk free (rw bound at (c.in_ok-execute.ensures.runs clean))
 
 pub returns-clause-kept : goal.returns-clause-kept
-returns-clause-kept g c = write_keeps _ _ head_insert_text _ (ap may_end head_insert_is) c.in_ok-execute.ensures.survives (λ clean desk within. head_insert_keeps _ _ _ _ desk within (c.in_ok-execute.ensures.runs clean))
+returns-clause-kept g c = write_done _ _ head_insert_text _ _ head_insert_known refl c.in_ok-execute.ensures.survives _ c.in_ok-execute.ensures.runs

@@ -1,24 +1,12 @@
-use Rattle.std.proofs.Common.{◌≡◌, ℕ, List, None, ap, ◌∙◌, subst}
-use Rattle.std.specs.FinMap.{get}
 use Rattle.sqlite.specs.Held.{state}
 use Rattle.hq_keyed.proofs.Left.{clean_before}
-use Rattle.hq_store.specs.Tables.{Tables}
-use Rattle.hq_sql.specs.Tables.{Leaves, tables_in}
-use Rattle.hq_sql.proofs.Tables.{leaves_then}
-use Rattle.hq_sql_marks.specs.Marks.{mark_row, with_mark}
-use Rattle.hq_sql_marks.proofs.OnMarks.{removed_free, put_anew}
+use Rattle.hq_sql.proofs.Statements.{anew}
+use Rattle.hq_sql_marks.proofs.OnMarks.{marks_table}
 use Rattle.hq_sql_marks.proofs.marks.put.Goals as goal
 
 pub returns-clause-made : goal.returns-clause-made
 returns-clause-made g c clean desk =
-    let old = state g.S.Store c.args.conn.now in
     let mid = state g.S.Store c.remove.new.conn in
     let new = state g.S.Store c.insert.new.conn in
-    let t = tables_in old.now in
-    let mark = c.args.mark.now in
-    let key : List ℕ × List ℕ = (c.args.customer.now, mark.label) in
-    let row = mark_row c.args.customer.now mark in
     let gone = c.in_ok-remove.ensures.made (clean_before mid new c.in_ok-insert.ensures.kept.quiet clean) desk in
-    let free : get (tables_in mid.now).marks key ≡ None = ap (λ (u : Tables). get u.marks key) gone.tables ∙ removed_free t.marks key in
-    let put = c.in_ok-insert.ensures.made clean gone.desk free in
-    subst (Leaves old new) (ap (with_mark row) gone.tables ∙ (λ i. record t { marks = put_anew t.marks key mark i })) (leaves_then old mid new _ _ gone put)
+    anew marks_table (state g.S.Store c.args.conn.now) mid new (c.args.customer.now, c.args.mark.now.label) c.args.mark.now gone (c.in_ok-insert.ensures.made clean)

@@ -1,17 +1,16 @@
-use Rattle.std.proofs.Common.{ap}
+use Rattle.std.proofs.Common.{refl}
 use Rattle.sqlite.specs.Held.{state}
-use Rattle.hq_keyed.proofs.Stops.{may_end}
-use Rattle.hq_sql.proofs.Keeping.{write_keeps, write_failed}
-use Rattle.hq_sql_marks.proofs.OnMarks.{mark_deleted, mark_delete_keeps}
-use Rattle.hq_sql_marks.proofs.Texts.{mark_delete_text, mark_delete_is}
+use Rattle.hq_sql.proofs.Keeping.{write_done, write_failed}
+use Rattle.hq_sql_marks.proofs.OnMarks.{mark_deleted}
+use Rattle.hq_sql_marks.proofs.Texts.{mark_delete_text, mark_delete_known}
 use Rattle.hq_sql_marks.proofs.marks.remove.Goals as goal
 
 pub returns-in_err-execute-clause-kept : goal.returns-in_err-execute-clause-kept
-returns-in_err-execute-clause-kept g c = write_failed _ _ mark_delete_text _ (ap may_end mark_delete_is) c.in_err-execute.ensures.survives _ c.in_err-execute.ensures.runs
+returns-in_err-execute-clause-kept g c = write_failed _ _ mark_delete_text _ _ mark_delete_known refl c.in_err-execute.ensures.survives _ c.in_err-execute.ensures.runs
 
 pub returns-clause-made : goal.returns-clause-made
 returns-clause-made g c clean desk =
     mark_deleted (state g.S.Store c.args.conn.now) (state g.S.Store c.execute.new.self) (c.args.customer.now, c.args.label.now) _ desk (rw c.key-params.ensures at (c.in_ok-execute.ensures.runs clean))
 
 pub returns-clause-kept : goal.returns-clause-kept
-returns-clause-kept g c = write_keeps _ _ mark_delete_text _ (ap may_end mark_delete_is) c.in_ok-execute.ensures.survives (λ clean desk within. mark_delete_keeps _ _ _ _ desk within (c.in_ok-execute.ensures.runs clean))
+returns-clause-kept g c = write_done _ _ mark_delete_text _ _ mark_delete_known refl c.in_ok-execute.ensures.survives _ c.in_ok-execute.ensures.runs

@@ -1,14 +1,13 @@
-use Rattle.std.proofs.Common.{ap}
+use Rattle.std.proofs.Common.{refl}
 use Rattle.sqlite.specs.Held.{state}
-use Rattle.hq_keyed.proofs.Stops.{may_end}
-use Rattle.hq_sql.proofs.Keeping.{write_keeps, write_failed}
+use Rattle.hq_sql.proofs.Keeping.{write_done, write_failed}
 use Rattle.hq_sql_notices.specs.Notices.{notice_row}
-use Rattle.hq_sql_notices.proofs.OnNotices.{notice_inserted, notice_insert_keeps}
-use Rattle.hq_sql_notices.proofs.Texts.{notice_insert_text, notice_insert_is}
+use Rattle.hq_sql_notices.proofs.OnNotices.{notice_inserted}
+use Rattle.hq_sql_notices.proofs.Texts.{notice_insert_text, notice_insert_known}
 use Rattle.hq_sql_notices.proofs.notices.insert.Goals as goal
 
 pub returns-in_err-execute-clause-kept : goal.returns-in_err-execute-clause-kept
-returns-in_err-execute-clause-kept g c = write_failed _ _ notice_insert_text _ (ap may_end notice_insert_is) c.in_err-execute.ensures.survives _ c.in_err-execute.ensures.runs
+returns-in_err-execute-clause-kept g c = write_failed _ _ notice_insert_text _ _ notice_insert_known refl c.in_err-execute.ensures.survives _ c.in_err-execute.ensures.runs
 
 pub returns-clause-made : goal.returns-clause-made
 returns-clause-made g c clean desk free =
@@ -16,4 +15,4 @@ returns-clause-made g c clean desk free =
     notice_inserted (state g.S.Store c.args.conn.now) (state g.S.Store c.execute.new.self) (notice_row c.args.customer.now c.args.notice.now) _ desk free (rw bound at (c.in_ok-execute.ensures.runs clean))
 
 pub returns-clause-kept : goal.returns-clause-kept
-returns-clause-kept g c = write_keeps _ _ notice_insert_text _ (ap may_end notice_insert_is) c.in_ok-execute.ensures.survives (λ clean desk within. notice_insert_keeps _ _ _ _ desk within (c.in_ok-execute.ensures.runs clean))
+returns-clause-kept g c = write_done _ _ notice_insert_text _ _ notice_insert_known refl c.in_ok-execute.ensures.survives _ c.in_ok-execute.ensures.runs

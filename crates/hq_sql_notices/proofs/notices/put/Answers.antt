@@ -1,24 +1,13 @@
-use Rattle.std.proofs.Common.{◌≡◌, ℕ, List, None, ap, ◌∙◌, subst}
-use Rattle.std.specs.FinMap.{get}
 use Rattle.sqlite.specs.Held.{state}
 use Rattle.hq_keyed.proofs.Left.{clean_before}
-use Rattle.hq_store.specs.Tables.{Tables, noted_of}
-use Rattle.hq_sql.specs.Tables.{Leaves, tables_in}
-use Rattle.hq_sql.proofs.Tables.{leaves_then}
-use Rattle.hq_sql_notices.specs.Notices.{notice_row, with_notice}
-use Rattle.hq_sql_notices.proofs.OnNotices.{removed_free, put_anew}
+use Rattle.hq_store.specs.Tables.{noted_of}
+use Rattle.hq_sql.proofs.Statements.{anew}
+use Rattle.hq_sql_notices.proofs.OnNotices.{notices_table}
 use Rattle.hq_sql_notices.proofs.notices.put.Goals as goal
 
 pub returns-clause-made : goal.returns-clause-made
 returns-clause-made g c clean desk =
-    let old = state g.S.Store c.args.conn.now in
     let mid = state g.S.Store c.remove.new.conn in
     let new = state g.S.Store c.insert.new.conn in
-    let t = tables_in old.now in
-    let notice = c.args.notice.now in
-    let key : List ℕ × ℕ = (c.args.customer.now, notice.number) in
-    let row = notice_row c.args.customer.now notice in
     let gone = c.in_ok-remove.ensures.made (clean_before mid new c.in_ok-insert.ensures.kept.quiet clean) desk in
-    let free : get (tables_in mid.now).notices key ≡ None = ap (λ (u : Tables). get u.notices key) gone.tables ∙ removed_free t.notices key in
-    let put = c.in_ok-insert.ensures.made clean gone.desk free in
-    subst (Leaves old new) (ap (with_notice row) gone.tables ∙ (λ i. record t { notices = put_anew t.notices key (noted_of notice) i })) (leaves_then old mid new _ _ gone put)
+    anew notices_table (state g.S.Store c.args.conn.now) mid new (c.args.customer.now, c.args.notice.now.number) (noted_of c.args.notice.now) gone (c.in_ok-insert.ensures.made clean)

@@ -1,7 +1,7 @@
 use Rattle.std.proofs.Common.{Some, slice_get, option_map, ap, ◌∙◌}
 use Rattle.sqlite.specs.Held.{state}
 use Rattle.hq_sql.specs.Tables.{tables_in}
-use Rattle.hq_sql_queue.specs.Messages.{whole}
+use Rattle.hq_sql_queue.specs.Queued.{whole}
 use Rattle.hq_sql_queue.proofs.OnQueued.{spool_whole, finds_both, first_found}
 use Rattle.hq_sql_queue.proofs.queued.by_spool.Goals as goal
 

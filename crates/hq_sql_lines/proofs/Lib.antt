@@ -1,0 +1,4 @@
+pub mod Texts
+pub mod Backs
+pub mod OnLines
+pub mod OnLinePages

@@ -1,0 +1,69 @@
+//! Lines as the parameters of statements.
+
+ghost use Rattle.std.specs.Prelude.{◌≡◌, ℕ, pos, [], ◌∷◌};
+ghost use Rattle.sqlite.specs.Values.{bound};
+ghost use Rattle.sqlite.specs.declared.types.Value.TheVariants.{Text};
+ghost use Rattle.hq_access.specs.Patterns.{class_name};
+ghost use Rattle.hq_sql_lines.specs.LinePages.{first_columns, after_columns};
+
+use hq_access::{Class, Pattern};
+use hq_envelope::Name;
+use hq_sql::bind::RowLimit;
+use sqlite::types::ValueRef;
+
+/// The key of a line.
+pub(crate) fn line_key<'a>(customer: &'a Name, class: Class, key: &'a str) -> [ValueRef<'a>; 3]
+    ensures { bound result ≡ Text customer.now ∷ Text (class_name class) ∷ Text key.now ∷ [] }
+{
+    [
+        ValueRef::Text(customer.as_str().as_bytes()),
+        ValueRef::Text(class.name().as_bytes()),
+        ValueRef::Text(key.as_bytes()),
+    ]
+}
+
+/// The columns of a line, in the order of the table; its action is in its written form.
+pub(crate) fn line<'a>(
+    customer: &'a Name,
+    class: Class,
+    key: &'a str,
+    action: &'a str,
+) -> [ValueRef<'a>; 4]
+    ensures { bound result
+        ≡ Text customer.now ∷ Text (class_name class) ∷ Text key.now ∷ Text action.now ∷ [] }
+{
+    [
+        ValueRef::Text(customer.as_str().as_bytes()),
+        ValueRef::Text(class.name().as_bytes()),
+        ValueRef::Text(key.as_bytes()),
+        ValueRef::Text(action.as_bytes()),
+    ]
+}
+
+/// What the first page of lines is asked with.
+pub(crate) fn first_lines<'a>(customer: &'a Name, most: &RowLimit) -> [ValueRef<'a>; 2]
+    ensures { (limit : ℕ) → most.now.rows ≡ pos limit
+        → bound result ≡ first_columns customer.now limit }
+{
+    [
+        ValueRef::Text(customer.as_str().as_bytes()),
+        ValueRef::Int(most.rows),
+    ]
+}
+
+/// What the page of lines after a pattern is asked with.
+pub(crate) fn lines_after<'a>(
+    customer: &'a Name,
+    last: &'a Pattern,
+    most: &RowLimit,
+) -> [ValueRef<'a>; 4]
+    ensures { (limit : ℕ) → most.now.rows ≡ pos limit
+        → bound result ≡ after_columns customer.now last.now limit }
+{
+    [
+        ValueRef::Text(customer.as_str().as_bytes()),
+        ValueRef::Text(last.class().name().as_bytes()),
+        ValueRef::Text(last.as_str().as_bytes()),
+        ValueRef::Int(most.rows),
+    ]
+}

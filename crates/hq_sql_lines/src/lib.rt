@@ -1,0 +1,9 @@
+//! The statements of the store on `sqlite` on the lines of access tables, and their pages, said of
+//! the tables of all customers as finite maps.
+#![tactic(auto)]
+
+mod bind;
+mod decode;
+pub mod line_pages;
+pub mod lines;
+mod read;

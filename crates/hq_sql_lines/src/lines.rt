@@ -1,0 +1,163 @@
+//! The table of lines: the access tables of all customers.
+
+ghost use Rattle.std.specs.Prelude.{◌≡◌, IfOk, option_map, slice_get, is_some, string_bytes};
+ghost use Rattle.std.specs.FinMap.{get};
+ghost use Rattle.sqlite.specs.Held.{state};
+ghost use Rattle.hq_access.specs.Actions.{action_text};
+ghost use Rattle.hq_rows.specs.Listed.{line_row_value};
+ghost use Rattle.hq_sql.specs.Kept.{Shows, Finds, Makes, Inserts, Updates, Keeps, KeepsCommitted};
+ghost use Rattle.hq_sql_lines.specs.Lines.{line_row, with_line, without_line};
+ghost use Rattle.hq_sql.specs.Rows.{line_shown};
+
+use crate::{bind, decode};
+use hq_access::{Action, Class, Line, LookupKey, Pattern};
+use hq_envelope::Name;
+use sqlite::{Alter, Connection, Error, ErrorCode, Row};
+use std::alloc::Global;
+
+fn query<S: Alter>(
+    conn: &mut Connection<S>,
+    customer: &Name,
+    class: Class,
+    key: &str,
+) -> Result<Vec<Row>, Error>
+    ensures found { Shows (state S.Store conn.old) (state S.Store conn.new) result
+        (λ rows. option_map (λ r. line_row_value (line_shown r)) (slice_get rows.items 0))
+        (λ t. get t.lines (customer.now, (class, key.now))) }
+    ensures kept { Keeps (state S.Store conn.old) (state S.Store conn.new) result }
+{
+    let params = bind::line_key(customer, class, key);
+    let rows = conn.query_all(
+        "SELECT customer, class, pattern, action FROM lines \
+         WHERE customer = ?1 AND class = ?2 AND pattern = ?3",
+        &params,
+    )?;
+    Ok(rows)
+}
+
+/// The action of the customer's line of this class, at this key.
+pub fn line<S: Alter>(
+    alloc: Global,
+    conn: &mut Connection<S>,
+    customer: &Name,
+    class: Class,
+    key: &LookupKey,
+) -> Result<Option<Action>, Error>
+    ensures found { Finds (state S.Store conn.old) (state S.Store conn.new) result
+        (λ t. get t.lines (customer.now, (class, key.now))) }
+    ensures kept { Keeps (state S.Store conn.old) (state S.Store conn.new) result }
+{
+    let rows = query(conn, customer, class, key.as_str())?;
+    decode::first_action(alloc, rows.as_slice())
+}
+
+/// Whether the customer has a line of this pattern.
+pub fn has<S: Alter>(
+    conn: &mut Connection<S>,
+    customer: &Name,
+    pattern: &Pattern,
+) -> Result<bool, Error>
+    ensures found { Finds (state S.Store conn.old) (state S.Store conn.new) result
+        (λ t. is_some (get t.lines (customer.now, pattern.now))) }
+    ensures kept { Keeps (state S.Store conn.old) (state S.Store conn.new) result }
+{
+    let rows = query(conn, customer, pattern.class(), pattern.as_str())?;
+    Ok(decode::has_first(rows.as_slice()))
+}
+
+/// The written form of an action.
+fn written(alloc: Global, action: &Action) -> Result<String, Error>
+    ensures { IfOk result (λ text. string_bytes text ≡ action_text action.now) }
+{
+    match action.text(alloc) {
+        Ok(text) => Ok(text),
+        Err(_) => Err(Error::SqliteFailure(ErrorCode::OutOfMemory)),
+    }
+}
+
+/// Sets the action of the customer's line of this pattern; whether there is one is told.
+fn update<S: Alter>(
+    alloc: Global,
+    conn: &mut Connection<S>,
+    customer: &Name,
+    line: &Line,
+) -> Result<bool, Error>
+    ensures made { Updates (state S.Store conn.old) (state S.Store conn.new) result
+        (λ t. get t.lines (customer.now, line.now.pattern))
+        (with_line (line_row customer.now line.now)) }
+    ensures kept { KeepsCommitted (state S.Store conn.old) (state S.Store conn.new) }
+{
+    let action = written(alloc, &line.action)?;
+    let params = bind::line(
+        customer,
+        line.pattern.class(),
+        line.pattern.as_str(),
+        action.as_str(),
+    );
+    let count = conn.execute(
+        "UPDATE lines SET action = ?4 WHERE customer = ?1 AND class = ?2 AND pattern = ?3",
+        &params,
+    )?;
+    Ok(count != 0)
+}
+
+/// Adds a line of a new pattern.
+fn insert<S: Alter>(
+    alloc: Global,
+    conn: &mut Connection<S>,
+    customer: &Name,
+    line: &Line,
+) -> Result<(), Error>
+    ensures made { Inserts (state S.Store conn.old) (state S.Store conn.new) result
+        (λ t. get t.lines (customer.now, line.now.pattern))
+        (with_line (line_row customer.now line.now)) }
+    ensures kept { KeepsCommitted (state S.Store conn.old) (state S.Store conn.new) }
+{
+    let action = written(alloc, &line.action)?;
+    let params = bind::line(
+        customer,
+        line.pattern.class(),
+        line.pattern.as_str(),
+        action.as_str(),
+    );
+    conn.execute(
+        "INSERT INTO lines (customer, class, pattern, action) VALUES (?1, ?2, ?3, ?4)",
+        &params,
+    )?;
+    Ok(())
+}
+
+/// Sets the line of its pattern, in the row that is there or a new one.
+pub fn put<S: Alter>(
+    alloc: Global,
+    conn: &mut Connection<S>,
+    customer: &Name,
+    line: &Line,
+) -> Result<(), Error>
+    ensures made { Makes (state S.Store conn.old) (state S.Store conn.new) result
+        (with_line (line_row customer.now line.now)) }
+    ensures kept { KeepsCommitted (state S.Store conn.old) (state S.Store conn.new) }
+{
+    if !update(alloc, conn, customer, line)? {
+        insert(alloc, conn, customer, line)?;
+    }
+    Ok(())
+}
+
+/// Drops the line of a pattern; nothing where there is none.
+pub fn remove<S: Alter>(
+    conn: &mut Connection<S>,
+    customer: &Name,
+    pattern: &Pattern,
+) -> Result<(), Error>
+    ensures made { Makes (state S.Store conn.old) (state S.Store conn.new) result
+        (without_line (customer.now, pattern.now)) }
+    ensures kept { KeepsCommitted (state S.Store conn.old) (state S.Store conn.new) }
+{
+    let params = bind::line_key(customer, pattern.class(), pattern.as_str());
+    conn.execute(
+        "DELETE FROM lines WHERE customer = ?1 AND class = ?2 AND pattern = ?3",
+        &params,
+    )?;
+    Ok(())
+}

@@ -1,0 +1,49 @@
+-- What the statements on messages find and leave.
+use Rattle.std.specs.Prelude.{ℕ, ℤ, pos, negsuc, Bool, ◌&&◌, List, [], ◌∷◌, Option, None, Some}
+use Rattle.std.specs.Ordering.{eq_by_cmp}
+use Rattle.std.specs.FinMap.{insert, remove}
+use Rattle.sqlite.specs.declared.types.Value.TheVariants.{Text, Int}
+use Rattle.sqlite.specs.Order as sqlite
+use Rattle.hq_keyed.specs.Values.{number}
+use Rattle.hq_queue.specs.declared.message.Message.{Message}
+use Rattle.hq_store.specs.Tables.{Tables, Row, text_cmp, row_of, message_of}
+use Rattle.hq_rows.specs.Listed.{message_value}
+use Rattle.hq_rows.specs.Lookups.{is_after}
+use Rattle.hq_sql.specs.Rows.{message_shown}
+
+-- the row of the message stands at its key
+abbrev pub with_row : List ℕ → Message → Tables → Tables
+with_row customer m t = record t { messages = insert t.messages (customer, m.serial) (row_of m) }
+
+-- no row stands at the key
+abbrev pub without_row : List ℕ × ℕ → Tables → Tables
+without_row key t = record t { messages = remove t.messages key }
+
+-- the number that each serial of a page is above: -1 lets all pass
+abbrev pub after_number : Option ℕ → ℤ
+after_number None = negsuc 0
+after_number (Some n) = pos n
+
+-- what a page is asked with
+abbrev pub page_columns : List ℕ → Option ℕ → ℕ → sqlite.Row
+page_columns customer after limit = Text customer ∷ Int (after_number after) ∷ number limit ∷ []
+
+-- what a spool name is asked with
+abbrev pub spool_columns : List ℕ → List ℕ → sqlite.Row
+spool_columns customer spool = Text customer ∷ Text spool ∷ []
+
+-- a message of the customer after a serial, or any of its messages
+abbrev pub is_on_page : List ℕ → Option ℕ → (List ℕ × ℕ) × Row → Bool
+is_on_page customer after e = eq_by_cmp text_cmp customer e.0.0 && is_after after e.0.1
+
+-- a message of the customer with a spool name
+abbrev pub has_spool_name : List ℕ → List ℕ → (List ℕ × ℕ) × Row → Bool
+has_spool_name customer spool e = eq_by_cmp text_cmp customer e.0.0 && eq_by_cmp text_cmp spool e.1.spool
+
+-- the message of a row of an answer, without reason and recipients
+abbrev pub bare : sqlite.Row → Message
+bare r = message_of (message_shown r).serial (message_value (message_shown r)) [] []
+
+-- the message of an entry, without reason and recipients
+abbrev pub bare_entry : (List ℕ × ℕ) × Row → Message
+bare_entry e = message_of e.0.1 e.1 [] []

@@ -1,0 +1,121 @@
+//! Messages out of the rows of answers. A value that no row of the desk has is an error.
+
+ghost use Rattle.std.specs.Prelude.{◌≡◌, IfOk, option_map, slice_get};
+ghost use Rattle.sqlite.specs.Order.{column};
+ghost use Rattle.hq_store.specs.Tables.{message_of};
+ghost use Rattle.hq_rows.specs.Listed.{message_value};
+ghost use Rattle.hq_sql.specs.Rows.{text_in, number_in, truth_in, sender_of, state_of};
+ghost use Rattle.hq_sql.specs.Rows.{message_shown};
+
+use hq_envelope::{Items, Moment, Sender, Serial, Spool, Text};
+use hq_queue::{Message, Pending, QueueState};
+use hq_sql::read;
+use sqlite::{Error, Row};
+use std::alloc::Global;
+
+fn small(row: &Row, at: usize) -> Result<u32, Error>
+    ensures { IfOk result (λ n. n ≡ number_in (column row.now at)) }
+{
+    row.get(at)
+}
+
+fn truth(row: &Row, at: usize) -> Result<bool, Error>
+    ensures { IfOk result (λ b. b ≡ truth_in (column row.now at)) }
+{
+    row.get(at)
+}
+
+fn moment(row: &Row, at: usize) -> Result<Moment, Error>
+    ensures { IfOk result (λ moment. moment ≡ number_in (column row.now at)) }
+{
+    match Moment::new(read::number(row, at)?) {
+        Some(moment) => Ok(moment),
+        None => Err(Error::InvalidQuery),
+    }
+}
+
+fn state(row: &Row, at: usize) -> Result<QueueState, Error>
+    ensures { IfOk result (λ state. state ≡ state_of (number_in (column row.now at))) }
+{
+    match read::number(row, at)? {
+        0 => Ok(QueueState::Incoming),
+        1 => Ok(QueueState::Deferred),
+        2 => Ok(QueueState::Hold),
+        _ => Err(Error::InvalidQuery),
+    }
+}
+
+fn sender(alloc: Global, row: &Row, at: usize) -> Result<Sender, Error>
+    ensures { IfOk result (λ sender. sender ≡ sender_of (text_in (column row.now at))) }
+{
+    let text = read::text(row, at)?;
+    match Sender::parse(alloc, text.as_str()) {
+        Ok(sender) => Ok(sender),
+        Err(fail) => Err(read::unread(fail)),
+    }
+}
+
+fn spool(alloc: Global, row: &Row, at: usize) -> Result<Spool, Error>
+    ensures { IfOk result (λ spool. spool ≡ text_in (column row.now at)) }
+{
+    let text = read::text(row, at)?;
+    match Spool::parse(alloc, text.as_str()) {
+        Ok(spool) => Ok(spool),
+        Err(fail) => Err(read::unread(fail)),
+    }
+}
+
+/// The serial of a message's row.
+pub fn serial(row: &Row) -> Result<Serial, Error>
+    ensures { IfOk result (λ serial. serial ≡ (message_shown row.now).serial) }
+{
+    match Serial::new(read::number(row, 1)?) {
+        Some(serial) => Ok(serial),
+        None => Err(Error::InvalidQuery),
+    }
+}
+
+/// The message of a row, with a serial, reason and recipients that are not the row's.
+pub fn message(
+    alloc: Global,
+    row: &Row,
+    serial: Serial,
+    reason: Text,
+    pending: Items<Pending>,
+) -> Result<Message, Error>
+    ensures { IfOk result (λ message. message
+        ≡ message_of serial (message_value (message_shown row.now)) reason pending) }
+{
+    let sender = sender(alloc, row, 2)?;
+    let spool = spool(alloc, row, 3)?;
+    let size = small(row, 4)?;
+    let arrival = moment(row, 5)?;
+    let state = state(row, 6)?;
+    let next_try = moment(row, 7)?;
+    let attempts = small(row, 8)?;
+    let warned = truth(row, 9)?;
+    Ok(Message {
+        serial,
+        sender,
+        spool,
+        size,
+        arrival,
+        state,
+        reason,
+        next_try,
+        attempts,
+        warned,
+        pending,
+    })
+}
+
+/// The size of the message of the first row.
+pub(crate) fn first_size(rows: &[Row]) -> Result<Option<u32>, Error>
+    ensures { IfOk result (λ size. size
+        ≡ option_map (λ r. (message_value (message_shown r)).size) (slice_get rows.now 0)) }
+{
+    match rows.first() {
+        None => Ok(None),
+        Some(row) => Ok(Some(small(row, 4)?)),
+    }
+}

@@ -1,0 +1,197 @@
+//! The table of messages: their rows, without reasons and recipients.
+
+ghost use Rattle.std.specs.Prelude.{◌≡◌, [], ◌∷◌, ◌++◌};
+ghost use Rattle.std.specs.Prelude.{map, option_map, slice_get, take, filter};
+ghost use Rattle.std.specs.FinMap.{get, entries};
+ghost use Rattle.sqlite.specs.Held.{state};
+ghost use Rattle.hq_tables.specs.Rows.{pairs_of};
+ghost use Rattle.hq_rows.specs.Listed.{message_key, message_value};
+ghost use Rattle.hq_sql.specs.Rows.{message_shown};
+ghost use Rattle.hq_sql.specs.Kept.{Shows, Finds, Makes, Inserts, Updates, Keeps, KeepsCommitted};
+ghost use Rattle.hq_sql_messages.specs.Messages.{with_row, without_row, is_on_page, has_spool_name};
+ghost use Rattle.hq_sql_messages.specs.Messages.{bare, bare_entry};
+
+use crate::{bind, decode};
+use hq_envelope::{Items, Name, Serial, Spool, Text};
+use hq_queue::Message;
+use hq_sql::lent;
+use hq_sql::lent::Taker;
+use sqlite::{Alter, Connection, Error, Row};
+use std::alloc::Global;
+
+/// The row of the customer's message of a serial: one, or none.
+pub fn query<S: Alter>(
+    conn: &mut Connection<S>,
+    customer: &Name,
+    serial: Serial,
+) -> Result<Vec<Row>, Error>
+    ensures found { Shows (state S.Store conn.old) (state S.Store conn.new) result
+        (λ rows. option_map (λ r. message_value (message_shown r)) (slice_get rows.items 0))
+        (λ t. get t.messages (customer.now, serial)) }
+    ensures kept { Keeps (state S.Store conn.old) (state S.Store conn.new) result }
+{
+    let params = hq_sql::bind::message_key(customer, serial);
+    let rows = conn.query_all(
+        "SELECT customer, serial, sender, spool, size, arrival, state, next_try, attempts, warned \
+         FROM messages WHERE customer = ?1 AND serial = ?2",
+        &params,
+    )?;
+    Ok(rows)
+}
+
+/// The row of the customer's message with a spool name: of several that of the smallest serial.
+pub fn query_by_spool<S: Alter>(
+    conn: &mut Connection<S>,
+    customer: &Name,
+    spool: &Spool,
+) -> Result<Vec<Row>, Error>
+    ensures found { Shows (state S.Store conn.old) (state S.Store conn.new) result
+        (λ rows. pairs_of message_key message_value (map message_shown rows.items))
+        (λ t. take 1 (filter (has_spool_name customer.now spool.now) (entries t.messages))) }
+    ensures kept { Keeps (state S.Store conn.old) (state S.Store conn.new) result }
+{
+    let params = bind::spool(customer, spool);
+    let rows = conn.query_all(
+        "SELECT customer, serial, sender, spool, size, arrival, state, next_try, attempts, warned \
+         FROM messages WHERE customer = ?1 AND spool = ?2 ORDER BY customer, serial LIMIT 1",
+        &params,
+    )?;
+    Ok(rows)
+}
+
+/// The messages of the rows so far, without reasons and recipients.
+#[derive(Drop)]
+struct TakenMessages {
+    alloc: Global,
+    page: Vec<Message>,
+}
+
+impl Taker for TakenMessages {
+    ghost takes = { λ before row after. after.page.items ≡ before.page.items ++ bare row ∷ [] };
+
+    fn take(&mut self, row: &Row) -> Result<(), Error> {
+        let serial = decode::serial(row)?;
+        let none = Items::from_vec(Vec::new(self.alloc));
+        let message = decode::message(self.alloc, row, serial, Text::empty(self.alloc), none)?;
+        self.page.push(message)?;
+        Ok(())
+    }
+}
+
+/// The customer's messages after a serial, or all, without reasons and recipients, in order of
+/// serial: at most `limit` of them. Their rows are lent one after another. A limit of 2^63 or more
+/// is an error.
+pub fn page<S: Alter>(
+    alloc: Global,
+    conn: &mut Connection<S>,
+    customer: &Name,
+    after: Option<Serial>,
+    limit: usize,
+) -> Result<Vec<Message>, Error>
+    ensures found { Shows (state S.Store conn.old) (state S.Store conn.new) result
+        (λ page. page.items)
+        (λ t. map bare_entry
+        (take limit (filter (is_on_page customer.now after) (entries t.messages)))) }
+    ensures kept { Keeps (state S.Store conn.old) (state S.Store conn.new) result }
+{
+    let most = hq_sql::bind::limit(limit)?;
+    let params = bind::page(customer, after, &most);
+    let page = Vec::new(alloc);
+    let taken = lent::walk(
+        conn,
+        "SELECT customer, serial, sender, spool, size, arrival, state, next_try, attempts, warned \
+         FROM messages WHERE customer = ?1 AND serial > ?2 ORDER BY customer, serial LIMIT ?3",
+        &params,
+        TakenMessages { alloc, page },
+    )?;
+    Ok(taken.page)
+}
+
+/// The size of the customer's message of a serial, in bytes.
+pub fn size<S: Alter>(
+    conn: &mut Connection<S>,
+    customer: &Name,
+    serial: Serial,
+) -> Result<Option<u32>, Error>
+    ensures found { Finds (state S.Store conn.old) (state S.Store conn.new) result
+        (λ t. option_map (λ r. r.size) (get t.messages (customer.now, serial))) }
+    ensures kept { Keeps (state S.Store conn.old) (state S.Store conn.new) result }
+{
+    let rows = query(conn, customer, serial)?;
+    decode::first_size(rows.as_slice())
+}
+
+/// Sets all columns of the message's row; whether it has one is told.
+fn update<S: Alter>(
+    conn: &mut Connection<S>,
+    customer: &Name,
+    message: &Message,
+) -> Result<bool, Error>
+    ensures made { Updates (state S.Store conn.old) (state S.Store conn.new) result
+        (λ t. get t.messages (customer.now, message.now.serial))
+        (with_row customer.now message.now) }
+    ensures kept { KeepsCommitted (state S.Store conn.old) (state S.Store conn.new) }
+{
+    let params = bind::message(customer, message);
+    let count = conn.execute(
+        "UPDATE messages SET sender = ?3, spool = ?4, size = ?5, arrival = ?6, state = ?7, \
+         next_try = ?8, attempts = ?9, warned = ?10 WHERE customer = ?1 AND serial = ?2",
+        &params,
+    )?;
+    Ok(count != 0)
+}
+
+/// Adds the row of a new message.
+fn insert<S: Alter>(
+    conn: &mut Connection<S>,
+    customer: &Name,
+    message: &Message,
+) -> Result<(), Error>
+    ensures made { Inserts (state S.Store conn.old) (state S.Store conn.new) result
+        (λ t. get t.messages (customer.now, message.now.serial))
+        (with_row customer.now message.now) }
+    ensures kept { KeepsCommitted (state S.Store conn.old) (state S.Store conn.new) }
+{
+    let params = bind::message(customer, message);
+    conn.execute(
+        "INSERT INTO messages (customer, serial, sender, spool, size, arrival, state, next_try, \
+         attempts, warned) VALUES (?1, ?2, ?3, ?4, ?5, ?6, ?7, ?8, ?9, ?10)",
+        &params,
+    )?;
+    Ok(())
+}
+
+/// Sets the message, without its recipients, in the row that it has or a new one. A spool name
+/// that another message of the customer has is an error.
+pub fn put<S: Alter>(
+    conn: &mut Connection<S>,
+    customer: &Name,
+    message: &Message,
+) -> Result<(), Error>
+    ensures made { Makes (state S.Store conn.old) (state S.Store conn.new) result
+        (with_row customer.now message.now) }
+    ensures kept { KeepsCommitted (state S.Store conn.old) (state S.Store conn.new) }
+{
+    if !update(conn, customer, message)? {
+        insert(conn, customer, message)?;
+    }
+    Ok(())
+}
+
+/// Drops the message of a serial, without its recipients; nothing where there is none.
+pub fn remove<S: Alter>(
+    conn: &mut Connection<S>,
+    customer: &Name,
+    serial: Serial,
+) -> Result<(), Error>
+    ensures made { Makes (state S.Store conn.old) (state S.Store conn.new) result
+        (without_row (customer.now, serial)) }
+    ensures kept { KeepsCommitted (state S.Store conn.old) (state S.Store conn.new) }
+{
+    let params = hq_sql::bind::message_key(customer, serial);
+    conn.execute(
+        "DELETE FROM messages WHERE customer = ?1 AND serial = ?2",
+        &params,
+    )?;
+    Ok(())
+}

@@ -1,0 +1,5 @@
+pub mod Texts
+pub mod InPlace
+pub mod OnRecipients
+pub mod Found
+pub mod Loop

@@ -1,0 +1,177 @@
+//! Recipients as the parameters of statements, and out of the rows of answers.
+
+ghost use Rattle.std.specs.Prelude.{◌≡◌, ◌↔◌, true, IfOk, length, map};
+ghost use Rattle.std.specs.List.{list_any};
+ghost use Rattle.sqlite.specs.Values.{bound};
+ghost use Rattle.sqlite.specs.Order.{column};
+ghost use Rattle.hq_rows.specs.Listed.{recipient_value};
+ghost use Rattle.hq_sql.specs.Rows.{text_in, status_of, status_text};
+ghost use Rattle.hq_sql.specs.Rows.{recipient_columns, recipient_shown};
+ghost use Rattle.hq_sql_recipients.specs.Places.{is_far, Stands};
+ghost use Rattle.hq_sql_recipients.specs.Recipients.{recipient_row, range_columns};
+
+use hq_envelope::{Address, Items, Name, Serial, Text};
+use hq_queue::{Pending, Status};
+use hq_sql::{bind, read};
+use sqlite::types::ValueRef;
+use sqlite::{Error, Row};
+use std::alloc::Global;
+
+/// The text of a status, which reads back as the status; the empty text of none.
+fn status_str(status: &Option<Status>) -> &str
+    ensures text { result.now ≡ status_text status.now }
+    ensures back { status_of (status_text status.now) ≡ status.now }
+{
+    match status {
+        None => "",
+        Some(status) => {
+            status.reads_back();
+            status.as_str()
+        }
+    }
+}
+
+/// How many places a list takes; an error for more than 2^32 - 1.
+pub(crate) fn count(pending: &[Pending]) -> Result<u32, Error>
+    ensures { IfOk result (λ count. count ≡ length pending.now) }
+{
+    match u32::try_from(pending.len()) {
+        Ok(count) => Ok(count),
+        Err(_) => Err(Error::InvalidQuery),
+    }
+}
+
+/// The columns of a recipient at a place, in the order of the table.
+pub(crate) fn columns<'a>(
+    customer: &'a Name,
+    serial: Serial,
+    place: u32,
+    recipient: &'a Pending,
+) -> [ValueRef<'a>; 6]
+    ensures columns { bound result
+        ≡ recipient_columns (recipient_row customer.now serial place recipient.now) }
+    ensures back { status_of (status_text recipient.now.status) ≡ recipient.now.status }
+{
+    [
+        ValueRef::Text(customer.as_str().as_bytes()),
+        ValueRef::Int(bind::serial(serial)),
+        ValueRef::Int(bind::small(place)),
+        ValueRef::Text(recipient.address.as_str().as_bytes()),
+        ValueRef::Text(status_str(&recipient.status).as_bytes()),
+        ValueRef::Text(recipient.text.as_str().as_bytes()),
+    ]
+}
+
+/// A message, and the last place of its list.
+pub(crate) fn range<'a>(customer: &'a Name, serial: Serial, last: u32) -> [ValueRef<'a>; 3]
+    ensures { bound result ≡ range_columns customer.now serial last }
+{
+    [
+        ValueRef::Text(customer.as_str().as_bytes()),
+        ValueRef::Int(bind::serial(serial)),
+        ValueRef::Int(bind::small(last)),
+    ]
+}
+
+fn address(alloc: Global, row: &Row, at: usize) -> Result<Address, Error>
+    ensures { IfOk result (λ address. address ≡ text_in (column row.now at)) }
+{
+    let text = read::text(row, at)?;
+    match Address::parse(alloc, text.as_str()) {
+        Ok(address) => Ok(address),
+        Err(fail) => Err(read::unread(fail)),
+    }
+}
+
+/// The status of a column: none, where its text is empty.
+fn status(row: &Row, at: usize) -> Result<Option<Status>, Error>
+    ensures { IfOk result (λ status. status ≡ status_of (text_in (column row.now at))) }
+{
+    let text = read::text(row, at)?;
+    if text.as_str().is_empty() {
+        return Ok(None);
+    }
+    match Status::parse(text.as_str()) {
+        Ok(status) => Ok(Some(status)),
+        Err(_) => Err(Error::InvalidQuery),
+    }
+}
+
+fn reason(alloc: Global, row: &Row, at: usize) -> Result<Text, Error>
+    ensures { IfOk result (λ reason. reason ≡ text_in (column row.now at)) }
+{
+    let text = read::text(row, at)?;
+    match Text::parse(alloc, text.as_str()) {
+        Ok(reason) => Ok(reason),
+        Err(fail) => Err(read::unread(fail)),
+    }
+}
+
+/// The recipient of a row.
+pub fn recipient(alloc: Global, row: &Row) -> Result<Pending, Error>
+    ensures { IfOk result (λ pending. pending ≡ recipient_value (recipient_shown row.now)) }
+{
+    let address = address(alloc, row, 3)?;
+    let status = status(row, 4)?;
+    let text = reason(alloc, row, 5)?;
+    Ok(Pending {
+        address,
+        status,
+        text,
+    })
+}
+
+/// The recipients of rows, in the order of the rows.
+pub(crate) fn all(alloc: Global, rows: &[Row]) -> Result<Items<Pending>, Error>
+    ensures { IfOk result (λ all. all ≡ map (λ r. recipient_value (recipient_shown r)) rows.now) }
+{
+    let mut all = Vec::new(alloc);
+    for row in rows {
+        all.push(recipient(alloc, row)?)?;
+    }
+    Ok(Items::from_vec(all))
+}
+
+/// Whether a text is that of the column.
+fn is_text(row: &Row, at: usize, text: &str) -> Result<bool, Error>
+    ensures { IfOk result (λ is. (is ≡ true) ↔ (text_in (column row.now at) ≡ text.now)) }
+{
+    let found = read::text(row, at)?;
+    Ok(found.as_str() == text)
+}
+
+/// Whether a row has this recipient.
+fn has(row: &Row, recipient: &Pending) -> Result<bool, Error>
+    ensures { IfOk result (λ has. (has ≡ true)
+        ↔ (recipient_value (recipient_shown row.now) ≡ recipient.now)) }
+{
+    let address = is_text(row, 3, recipient.address.as_str())?;
+    let status = is_text(row, 4, status_str(&recipient.status))?;
+    let text = is_text(row, 5, recipient.text.as_str())?;
+    Ok(address && status && text)
+}
+
+/// Whether the recipient stands already at the place after `last`. The rows are those of all places
+/// of the message, in order.
+pub(crate) fn stands(rows: &[Row], last: u32, recipient: &Pending) -> Result<bool, Error>
+    ensures { IfOk result (λ stands. (stands ≡ true) ↔ Stands rows.now last recipient.now) }
+{
+    match rows.get(last as usize) {
+        None => Ok(false),
+        Some(row) => Ok(read::number(row, 2)? == u64::from(last) + 1 && has(row, recipient)?),
+    }
+}
+
+/// Whether a row is of a place that is none of 1 to `count`.
+pub(crate) fn are_beside(rows: &[Row], count: u32) -> Result<bool, Error>
+    ensures { IfOk result (λ beside. beside
+        ≡ list_any (λ r. is_far count (recipient_shown r).place) rows.now) }
+{
+    for row in rows {
+        let place = read::number(row, 2)?;
+        if place < 1 || u64::from(count) < place {
+            return Ok(true);
+        }
+    }
+    Ok(false)
+}

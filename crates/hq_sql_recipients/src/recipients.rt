@@ -1,0 +1,178 @@
+//! The table of recipients: those of one message read, put in their places, and dropped.
+
+ghost use Rattle.std.specs.Prelude.{[], map, filter};
+ghost use Rattle.std.specs.FinMap.{get, entries};
+ghost use Rattle.sqlite.specs.Held.{state};
+ghost use Rattle.hq_tables.specs.Rows.{pairs_of};
+ghost use Rattle.hq_store.specs.Tables.{pending_of};
+ghost use Rattle.hq_rows.specs.Listed.{recipient_key, recipient_value};
+ghost use Rattle.hq_sql.specs.Rows.{recipient_shown};
+ghost use Rattle.hq_sql.specs.Kept.{Shows, Finds, Makes, Inserts, Updates, Keeps, KeepsCommitted};
+ghost use Rattle.hq_sql_recipients.specs.Places.{is_of};
+ghost use Rattle.hq_sql_recipients.specs.Recipients.{recipient_row, with_recipient};
+ghost use Rattle.hq_sql_recipients.specs.Recipients.{without_beside, with_pending};
+
+use crate::places;
+use hq_envelope::{Items, Name, Serial};
+use hq_queue::Pending;
+use hq_sql::bind;
+use sqlite::{Alter, Connection, Error, Row};
+use std::alloc::Global;
+
+/// The rows of a message's recipients, in the order of their places.
+fn query<S: Alter>(
+    conn: &mut Connection<S>,
+    customer: &Name,
+    serial: Serial,
+) -> Result<Vec<Row>, Error>
+    ensures found { Shows (state S.Store conn.old) (state S.Store conn.new) result
+        (λ rows. pairs_of recipient_key recipient_value (map recipient_shown rows.items))
+        (λ t. filter (is_of customer.now serial) (entries t.recipients)) }
+    ensures kept { Keeps (state S.Store conn.old) (state S.Store conn.new) result }
+{
+    let params = bind::message_key(customer, serial);
+    let rows = conn.query_all(
+        "SELECT customer, serial, place, address, status, reason FROM recipients \
+         WHERE customer = ?1 AND serial = ?2 ORDER BY customer, serial, place",
+        &params,
+    )?;
+    Ok(rows)
+}
+
+/// The recipients of a message, in the order of their places; none, where it has none.
+pub fn pending<S: Alter>(
+    alloc: Global,
+    conn: &mut Connection<S>,
+    customer: &Name,
+    serial: Serial,
+) -> Result<Items<Pending>, Error>
+    ensures found { Finds (state S.Store conn.old) (state S.Store conn.new) result
+        (λ t. pending_of customer.now serial t.recipients) }
+    ensures kept { Keeps (state S.Store conn.old) (state S.Store conn.new) result }
+{
+    let rows = query(conn, customer, serial)?;
+    places::all(alloc, rows.as_slice())
+}
+
+/// Sets the recipient at a place of the message; whether one stands there is told.
+fn update<S: Alter>(
+    conn: &mut Connection<S>,
+    customer: &Name,
+    serial: Serial,
+    place: u32,
+    recipient: &Pending,
+) -> Result<bool, Error>
+    ensures made { Updates (state S.Store conn.old) (state S.Store conn.new) result
+        (λ t. get t.recipients (customer.now, (serial, place)))
+        (with_recipient (recipient_row customer.now serial place recipient.now)) }
+    ensures kept { KeepsCommitted (state S.Store conn.old) (state S.Store conn.new) }
+{
+    let params = places::columns(customer, serial, place, recipient);
+    let count = conn.execute(
+        "UPDATE recipients SET address = ?4, status = ?5, reason = ?6 \
+         WHERE customer = ?1 AND serial = ?2 AND place = ?3",
+        &params,
+    )?;
+    Ok(count != 0)
+}
+
+/// Adds a recipient at a new place of the message.
+fn insert<S: Alter>(
+    conn: &mut Connection<S>,
+    customer: &Name,
+    serial: Serial,
+    place: u32,
+    recipient: &Pending,
+) -> Result<(), Error>
+    ensures made { Inserts (state S.Store conn.old) (state S.Store conn.new) result
+        (λ t. get t.recipients (customer.now, (serial, place)))
+        (with_recipient (recipient_row customer.now serial place recipient.now)) }
+    ensures kept { KeepsCommitted (state S.Store conn.old) (state S.Store conn.new) }
+{
+    let params = places::columns(customer, serial, place, recipient);
+    conn.execute(
+        "INSERT INTO recipients (customer, serial, place, address, status, reason) \
+         VALUES (?1, ?2, ?3, ?4, ?5, ?6)",
+        &params,
+    )?;
+    Ok(())
+}
+
+/// Sets the recipient at a place of the message, in the row that is there or a new one.
+fn put_at<S: Alter>(
+    conn: &mut Connection<S>,
+    customer: &Name,
+    serial: Serial,
+    place: u32,
+    recipient: &Pending,
+) -> Result<(), Error>
+    ensures made { Makes (state S.Store conn.old) (state S.Store conn.new) result
+        (with_recipient (recipient_row customer.now serial place recipient.now)) }
+    ensures kept { KeepsCommitted (state S.Store conn.old) (state S.Store conn.new) }
+{
+    if !update(conn, customer, serial, place, recipient)? {
+        insert(conn, customer, serial, place, recipient)?;
+    }
+    Ok(())
+}
+
+/// Drops the recipients of the message that stand at no place of 1 to `count`.
+fn drop_beside<S: Alter>(
+    conn: &mut Connection<S>,
+    customer: &Name,
+    serial: Serial,
+    count: u32,
+) -> Result<(), Error>
+    ensures made { Makes (state S.Store conn.old) (state S.Store conn.new) result
+        (without_beside customer.now serial count) }
+    ensures kept { KeepsCommitted (state S.Store conn.old) (state S.Store conn.new) }
+{
+    let params = places::range(customer, serial, count);
+    conn.execute(
+        "DELETE FROM recipients WHERE customer = ?1 AND serial = ?2 AND (place < 1 OR place > ?3)",
+        &params,
+    )?;
+    Ok(())
+}
+
+/// Puts the recipients of a message at the places 1, 2, .. instead of all that it had. A row that
+/// has its recipient already is not written, and none is dropped where the list did not get
+/// shorter. More than 2^32 - 1 recipients are an error.
+pub fn put<S: Alter>(
+    conn: &mut Connection<S>,
+    customer: &Name,
+    serial: Serial,
+    pending: &[Pending],
+) -> Result<(), Error>
+    ensures made { Makes (state S.Store conn.old) (state S.Store conn.new) result
+        (with_pending customer.now serial pending.now) }
+    ensures kept { KeepsCommitted (state S.Store conn.old) (state S.Store conn.new) }
+{
+    let count = places::count(pending)?;
+    let rows = query(conn, customer, serial)?;
+    let mut last = 0;
+    for recipient in pending {
+        let is_there = places::stands(rows.as_slice(), last, recipient)?;
+        last += 1;
+        if !is_there {
+            put_at(conn, customer, serial, last, recipient)?;
+        }
+    }
+    if places::are_beside(rows.as_slice(), count)? {
+        drop_beside(conn, customer, serial, count)?;
+    }
+    Ok(())
+}
+
+/// Drops all recipients of a message; nothing where it has none.
+pub fn remove<S: Alter>(
+    conn: &mut Connection<S>,
+    customer: &Name,
+    serial: Serial,
+) -> Result<(), Error>
+    ensures made { Makes (state S.Store conn.old) (state S.Store conn.new) result
+        (with_pending customer.now serial []) }
+    ensures kept { KeepsCommitted (state S.Store conn.old) (state S.Store conn.new) }
+{
+    drop_beside(conn, customer, serial, 0)
+}
