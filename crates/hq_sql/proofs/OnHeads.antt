@@ -28,8 +28,8 @@ use Rattle.hq_sql.proofs.Statements.{got, puts, sets}
 use Rattle.hq_sql.proofs.Tables.{DeskTable}
 use Rattle.hq_sql.proofs.Texts as text
 
-abbrev heads : DeskTable HeadRow (List ℕ) Account
-heads = record {
+abbrev heads_table : DeskTable HeadRow (List ℕ) Account
+heads_table = record {
   kind = record { encode = head_stored; decode = head_read; order = text_cmp; total = nat_list_cmp_total; exact = exact_bytes; key = head_key; val = head_value; numbered = λ k. refl };
   place = record { at = 1; table = record schema.heads { tree = 1 }; listed = refl; plain = λ db. refl; unlinked = λ olds news. refl; uncounted = refl };
   stored = λ db desk. desk.heads;
@@ -46,7 +46,7 @@ key_tests c k more = last_term (text_is k.1.customer c)
 
 pub account_got : (old new : State) (c : List ℕ) (rows : List Row) → IsDesk old.now → Shown text.head_read_text (Text c ∷ []) old new rows
     → option_map (λ r. head_value (head_shown r)) (slice_get rows 0) ≡ get (tables_in old.now).heads c
-account_got old new c rows desk h = got heads old new desk text.head_read_text text.head_key text.head_columns _ text.head_read_known (Text c ∷ []) head_shown (λ k. refl) (λ xs. refl) c (λ k. key_tests c k []) rows h
+account_got old new c rows desk h = got heads_table old new desk text.head_read_text text.head_key text.head_columns _ text.head_read_known (Text c ∷ []) head_shown (λ k. refl) (λ xs. refl) c (λ k. key_tests c k []) rows h
 
 -- the row with the other columns of r
 abbrev set_to : HeadRow → HeadRow → HeadRow
@@ -68,9 +68,9 @@ module _ (old new : State) (r : HeadRow) (count : ℕ) (desk : IsDesk old.now) w
   pub head_updated : Executes text.head_update_text (head_columns r) old new (Ok count)
       → Updated (not (nat_eq count 0)) old new (get (tables_in old.now).heads r.customer) (tables_in old.now) (with_account r.customer r.account (tables_in old.now))
   head_updated h =
-      sets heads old new desk text.head_update_text text.head_key text.head_updated text.head_update_known (head_columns r) count r.customer (set_to r) r.account (λ x. refl) (λ x. refl) (λ k. refl)
+      sets heads_table old new desk text.head_update_text text.head_key text.head_updated text.head_update_known (head_columns r) count r.customer (set_to r) r.account (λ x. refl) (λ x. refl) (λ k. refl)
       (λ k. key_tests r.customer k (drop 1 (head_columns r))) (λ k. refl) (set_row r) h
 
   pub head_inserted : get (tables_in old.now).heads r.customer ≡ None → Executes text.head_insert_text (head_columns r) old new (Ok count) → Leaves old new (with_account r.customer r.account (tables_in old.now))
   head_inserted free h =
-      puts heads old new desk text.head_insert_text text.head_inserted 12 text.head_insert_known (head_columns r) (Null ∷ head_columns r) count r refl cast_null (new_row r) (λ n. refl) free h
+      puts heads_table old new desk text.head_insert_text text.head_inserted 12 text.head_insert_known (head_columns r) (Null ∷ head_columns r) count r refl cast_null (new_row r) (λ n. refl) free h

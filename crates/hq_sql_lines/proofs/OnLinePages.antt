@@ -26,7 +26,7 @@ use Rattle.hq_sql.specs.Tables.{IsDesk, tables_in}
 use Rattle.hq_sql_lines.specs.LinePages.{lines_in, first_columns, after_columns}
 use Rattle.hq_sql.proofs.Texts.{at}
 use Rattle.hq_sql.proofs.Statements.{pages}
-use Rattle.hq_sql_lines.proofs.OnLines.{lines}
+use Rattle.hq_sql_lines.proofs.OnLines.{lines_table}
 use Rattle.hq_sql_lines.proofs.Texts as text
 
 abbrev Key : Type 0
@@ -69,7 +69,7 @@ pub first_shown : (old new : State) (c : List ℕ) (limit : ℕ) (rows : List Ro
 unfolding AreUniqueLines
 first_shown old new c limit rows desk h =
     rows_are c None limit rows (old.now.trees 8) desk.lines.unique
-    (pages lines old new desk text.lines_from_start_text _ _ text.lines_from_start_known refl refl refl (first_columns c limit) line_shown (λ k. refl) (on_page c None) (first_tests c limit)
+    (pages lines_table old new desk text.lines_from_start_text _ _ text.lines_from_start_known refl refl refl (first_columns c limit) line_shown (λ k. refl) (on_page c None) (first_tests c limit)
     (λ j k. then_key (value_cmp-Text j.1.customer k.1.customer) (then_key (value_cmp-Text (class_name j.1.line.pattern.0) (class_name k.1.line.pattern.0)) (last_key (value_cmp-Text j.1.line.pattern.1 k.1.line.pattern.1)))) limit (λ xs. refl) rows h)
 
 -- the customer's first lines after a pattern
@@ -78,5 +78,5 @@ pub after_shown : (old new : State) (c : List ℕ) (last : Key) (limit : ℕ) (r
 unfolding AreUniqueLines
 after_shown old new c last limit rows desk h =
     rows_are c (Some last) limit rows (old.now.trees 8) desk.lines.unique
-    (pages lines old new desk text.lines_after_text _ _ text.lines_after_known refl refl refl (after_columns c last limit) line_shown (λ k. refl) (on_page c (Some last)) (after_tests c last limit)
+    (pages lines_table old new desk text.lines_after_text _ _ text.lines_after_known refl refl refl (after_columns c last limit) line_shown (λ k. refl) (on_page c (Some last)) (after_tests c last limit)
     (λ j k. then_key (value_cmp-Text j.1.customer k.1.customer) (then_key (value_cmp-Text (class_name j.1.line.pattern.0) (class_name k.1.line.pattern.0)) (last_key (value_cmp-Text j.1.line.pattern.1 k.1.line.pattern.1)))) limit (λ xs. refl) rows h)

@@ -40,8 +40,8 @@ use Rattle.hq_sql_messages.proofs.Texts as text
 abbrev Key : Type 0
 Key = List ℕ × ℕ
 
-abbrev messages : DeskTable MessageRow Key store.Row
-messages = record {
+abbrev messages_table : DeskTable MessageRow Key store.Row
+messages_table = record {
   kind = record { encode = message_stored; decode = message_read; order = message_cmp; total = message_total; exact = message_exact; key = message_key; val = message_value; numbered = λ k. refl };
   place = record { at = 2; table = record schema.messages { tree = 3 }; listed = refl; plain = λ db. refl; unlinked = λ olds news. refl; uncounted = refl };
   stored = λ db desk. desk.messages;
@@ -60,7 +60,7 @@ key_tests q k more = then_term (text_is k.1.customer q.0) (last_term (number_is 
 
 pub message_got : (old new : State) (q : Key) (rows : List Row) → IsDesk old.now → Shown text.message_read_text (message_key_columns q) old new rows
     → option_map (λ r. message_value (message_shown r)) (slice_get rows 0) ≡ get (tables_in old.now).messages q
-message_got old new q rows desk h = got messages old new desk text.message_read_text text.message_key text.message_columns _ text.message_read_known (message_key_columns q) message_shown (λ k. refl) (λ xs. refl) q (λ k. key_tests q k []) rows h
+message_got old new q rows desk h = got messages_table old new desk text.message_read_text text.message_key text.message_columns _ text.message_read_known (message_key_columns q) message_shown (λ k. refl) (λ xs. refl) q (λ k. key_tests q k []) rows h
 
 abbrev pub pairs : List Row → List ((List ℕ × ℕ) × store.Row)
 pairs rows = pairs_of message_key message_value (map message_shown rows)
@@ -74,7 +74,7 @@ page_tests c (Some n) limit k = then_term (text_is k.1.customer c) (last_term (n
 pub page_shown : (old new : State) (c : List ℕ) (after : Option ℕ) (limit : ℕ) (rows : List Row) → IsDesk old.now → Shown text.message_page_text (page_columns c after limit) old new rows
     → pairs rows ≡ take limit (filter (is_on_page c after) (entries (tables_in old.now).messages))
 page_shown old new c after limit rows desk h =
-    pages_entries messages old new desk text.message_page_text _ _ text.message_page_known refl refl refl (page_columns c after limit) message_shown (λ k. refl) (is_on_page c after) (page_tests c after limit)
+    pages_entries messages_table old new desk text.message_page_text _ _ text.message_page_known refl refl refl (page_columns c after limit) message_shown (λ k. refl) (is_on_page c after) (page_tests c after limit)
     (λ j k. then_key (value_cmp-Text j.1.customer k.1.customer) (last_key (number_order j.1.serial k.1.serial))) limit (λ xs. refl) rows h
 
 -- the rows of a page, without their recipients
@@ -88,7 +88,7 @@ page_bare after limit c t rows h =
 pub spool_shown : (old new : State) (c p : List ℕ) (rows : List Row) → IsDesk old.now → Shown text.spool_read_text (spool_columns c p) old new rows
     → pairs rows ≡ take 1 (filter (has_spool_name c p) (entries (tables_in old.now).messages))
 spool_shown old new c p rows desk h =
-    pages_entries messages old new desk text.spool_read_text _ _ text.spool_read_known refl refl refl (spool_columns c p) message_shown (λ k. refl) (has_spool_name c p)
+    pages_entries messages_table old new desk text.spool_read_text _ _ text.spool_read_known refl refl refl (spool_columns c p) message_shown (λ k. refl) (has_spool_name c p)
     (λ k. then_term (text_is k.1.customer c) (last_term (text_is k.1.spool p))) (λ j k. then_key (value_cmp-Text j.1.customer k.1.customer) (last_key (number_order j.1.serial k.1.serial))) 1 (λ xs. refl) rows h
 
 -- ---- writing
@@ -114,12 +114,12 @@ module _ (old new : State) (r : MessageRow) (readable : IsReadable r) (count : �
   pub message_updated : Executes text.message_update_text (message_columns r) old new (Ok count)
       → Updated (not (nat_eq count 0)) old new (get (tables_in old.now).messages (message_key r)) (tables_in old.now) (with_message r (tables_in old.now))
   message_updated h =
-      sets messages old new desk text.message_update_text text.message_key text.message_updated text.message_update_known (message_columns r) count (message_key r) (set_to r) (message_value r) (λ x. refl) (λ x. refl)
+      sets messages_table old new desk text.message_update_text text.message_key text.message_updated text.message_update_known (message_columns r) count (message_key r) (set_to r) (message_value r) (λ x. refl) (λ x. refl)
       (λ k. message_back (set_to r k.1) k.0 readable) (λ k. key_tests (message_key r) k (drop 2 (message_columns r))) (λ k. refl) (set_row r) h
 
   pub message_inserted : get (tables_in old.now).messages (message_key r) ≡ None → Executes text.message_insert_text (message_columns r) old new (Ok count) → Leaves old new (with_message r (tables_in old.now))
   message_inserted free h =
-      puts messages old new desk text.message_insert_text text.message_inserted 11 text.message_insert_known (message_columns r) (Null ∷ message_columns r) count r refl cast_null (new_row r) (λ n. message_back r n readable) free h
+      puts messages_table old new desk text.message_insert_text text.message_inserted 11 text.message_insert_known (message_columns r) (Null ∷ message_columns r) count r refl cast_null (new_row r) (λ n. message_back r n readable) free h
 
 pub message_deleted : (old new : State) (q : Key) (count : ℕ) → IsDesk old.now → Executes text.message_delete_text (message_key_columns q) old new (Ok count) → Leaves old new (without_row q (tables_in old.now))
-message_deleted old new q count desk h = drops_at messages old new desk text.message_delete_text text.message_key text.message_delete_known (message_key_columns q) count q (λ k. key_tests q k []) h
+message_deleted old new q count desk h = drops_at messages_table old new desk text.message_delete_text text.message_key text.message_delete_known (message_key_columns q) count q (λ k. key_tests q k []) h

@@ -17,7 +17,7 @@ use Rattle.hq_sql.specs.Rows.{recipient_shown, hold_shown}
 use Rattle.hq_sql.specs.Tables.{IsDesk, tables_in}
 use Rattle.hq_sql.proofs.Statements.{lists_entries}
 use Rattle.hq_sql_holds.proofs.OnHolds.{holds_table}
-use Rattle.hq_sql_recipients.proofs.OnRecipients.{recipients}
+use Rattle.hq_sql_recipients.proofs.OnRecipients.{recipients_table}
 use Rattle.hq_sql_queue.specs.Dealt.{is_within, is_between}
 use Rattle.hq_sql_queue.specs.Giving.{hold_serial}
 use Rattle.hq_sql_queue.proofs.Texts as text
@@ -26,7 +26,7 @@ use Rattle.hq_sql_queue.proofs.Texts as text
 pub between_shown : (old new : State) (c : List ℕ) (low high : ℕ) (rows : List Row) → IsDesk old.now → Shown text.recipients_between_text (between_columns c low high) old new rows
     → pairs_of recipient_key recipient_value (map recipient_shown rows) ≡ filter (is_between c low high) (entries (tables_in old.now).recipients)
 between_shown old new c low high rows desk h =
-    lists_entries recipients old new desk text.recipients_between_text _ _ text.recipients_between_known refl refl refl (between_columns c low high) recipient_shown (λ k. refl) (is_between c low high)
+    lists_entries recipients_table old new desk text.recipients_between_text _ _ text.recipients_between_known refl refl refl (between_columns c low high) recipient_shown (λ k. refl) (is_between c low high)
     (λ k. then_term (text_is k.1.customer c) (then_term (number_from k.1.serial low) (last_term (number_to k.1.serial high))))
     (λ j k. then_key (value_cmp-Text j.1.customer k.1.customer) (then_key (number_order j.1.serial k.1.serial) (last_key (number_order j.1.place k.1.place)))) (λ xs. refl) rows h
 

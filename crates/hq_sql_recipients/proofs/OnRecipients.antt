@@ -43,8 +43,8 @@ use Rattle.hq_sql_recipients.proofs.Texts as text
 abbrev Key : Type 0
 Key = List ℕ × (ℕ × ℕ)
 
-abbrev pub recipients : DeskTable RecipientRow Key Pending
-recipients = record {
+abbrev pub recipients_table : DeskTable RecipientRow Key Pending
+recipients_table = record {
   kind = record { encode = recipient_stored; decode = recipient_read; order = recipient_cmp; total = recipient_total; exact = recipient_exact; key = recipient_key; val = recipient_value; numbered = λ k. refl };
   place = record { at = 3; table = record schema.recipients { tree = 6 }; listed = refl; plain = λ db. refl; unlinked = λ olds news. refl; uncounted = refl };
   stored = λ db desk. desk.recipients;
@@ -62,7 +62,7 @@ recipients = record {
 pub recipients_shown : (old new : State) (c : List ℕ) (serial : ℕ) (rows : List Row) → IsDesk old.now → Shown text.recipients_read_text (Text c ∷ number serial ∷ []) old new rows
     → pairs_of recipient_key recipient_value (map recipient_shown rows) ≡ filter (is_of c serial) (entries (tables_in old.now).recipients)
 recipients_shown old new c serial rows desk h =
-    lists_entries recipients old new desk text.recipients_read_text _ _ text.recipients_read_known refl refl refl (Text c ∷ number serial ∷ []) recipient_shown (λ k. refl) (is_of c serial)
+    lists_entries recipients_table old new desk text.recipients_read_text _ _ text.recipients_read_known refl refl refl (Text c ∷ number serial ∷ []) recipient_shown (λ k. refl) (is_of c serial)
     (λ k. then_term (text_is k.1.customer c) (last_term (number_is k.1.serial serial)))
     (λ j k. then_key (value_cmp-Text j.1.customer k.1.customer) (then_key (number_order j.1.serial k.1.serial) (last_key (number_order j.1.place k.1.place)))) (λ xs. refl) rows h
 
@@ -127,12 +127,12 @@ module _ (old new : State) (r : RecipientRow) (count : ℕ) (desk : IsDesk old.n
   pub recipient_updated : Executes text.recipient_update_text (recipient_columns r) old new (Ok count)
       → Updated (not (nat_eq count 0)) old new (get (tables_in old.now).recipients (recipient_key r)) (tables_in old.now) (with_recipient r (tables_in old.now))
   recipient_updated h =
-      sets recipients old new desk text.recipient_update_text text.recipient_key text.recipient_updated text.recipient_update_known (recipient_columns r) count (recipient_key r) (set_to r) r.pending (λ x. refl) (λ x. refl)
+      sets recipients_table old new desk text.recipient_update_text text.recipient_key text.recipient_updated text.recipient_update_known (recipient_columns r) count (recipient_key r) (set_to r) r.pending (λ x. refl) (λ x. refl)
       (λ k. recipient_back (set_to r k.1) k.0 status) (λ k. key_tests (recipient_key r) k (drop 3 (recipient_columns r))) (λ k. refl) (set_row r) h
 
   pub recipient_inserted : get (tables_in old.now).recipients (recipient_key r) ≡ None → Executes text.recipient_insert_text (recipient_columns r) old new (Ok count) → Leaves old new (with_recipient r (tables_in old.now))
   recipient_inserted free h =
-      puts recipients old new desk text.recipient_insert_text text.recipient_inserted 7 text.recipient_insert_known (recipient_columns r) (Null ∷ recipient_columns r) count r refl cast_null
+      puts recipients_table old new desk text.recipient_insert_text text.recipient_inserted 7 text.recipient_insert_known (recipient_columns r) (Null ∷ recipient_columns r) count r refl cast_null
       (λ n. then_value refl (then_value refl (then_value (cast_int (pos r.serial)) (then_value (cast_int (pos r.place)) refl)))) (λ n. recipient_back r n status) free h
 
 and_assoc : (a b c : Bool) → (a && (b && c)) ≡ ((a && b) && c)
@@ -143,4 +143,4 @@ beside_tests : (c : List ℕ) (serial n : ℕ) (k : ℤ × RecipientRow) → lis
 beside_tests c serial n k = then_term (text_is k.1.customer c) (then_term (number_is k.1.serial serial) (last_term (number_beside k.1.place n))) ∙ and_assoc (eq_by_cmp text_cmp c k.1.customer) _ _
 
 pub beside_dropped : (old new : State) (c : List ℕ) (serial n count : ℕ) → IsDesk old.now → Executes text.beside_text (range_columns c serial n) old new (Ok count) → Leaves old new (without_beside c serial n (tables_in old.now))
-beside_dropped old new c serial n count desk h = drops recipients old new desk text.beside_text text.beside_terms text.beside_known (range_columns c serial n) count (is_beside c serial n) (beside_tests c serial n) h
+beside_dropped old new c serial n count desk h = drops recipients_table old new desk text.beside_text text.beside_terms text.beside_known (range_columns c serial n) count (is_beside c serial n) (beside_tests c serial n) h
