@@ -1,5 +1,4 @@
 -- The tables that plain lists stand for, and the order in which their rows lie.
-use Rattle.std.specs.Prelude.{}
 use Rattle.hq_lists.specs.declared.list_rows.ListRows.{ListRows}
 use Rattle.hq_store.specs.Tables.{Tables}
 use Rattle.hq_rows.specs.Listed.{heads_of, messages_of, recipients_of, holds_of, lines_of, marks_of, notices_of}
