@@ -141,8 +141,9 @@ fn update<S: Alter>(
     Ok(count != 0)
 }
 
-/// Adds the row of a new message.
-fn insert<S: Alter>(
+/// Adds the row of a new message, without its recipients. A spool name that another message of the
+/// customer has is an error.
+pub fn insert<S: Alter>(
     conn: &mut Connection<S>,
     customer: &Name,
     message: &Message,

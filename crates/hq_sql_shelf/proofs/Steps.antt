@@ -1,7 +1,5 @@
 -- One statement after another, inside a transaction.
 use Rattle.std.proofs.Common.{◌≡◌, sym, ap, ◌∙◌, subst}
-use Rattle.std.specs.Prelude.{Result, Ok, Err, OnOk}
-use Rattle.sqlite.specs.declared.error.Error.{Error}
 use Rattle.sqlite.specs.State.{State, IsUnchanged}
 use Rattle.hq_store.specs.Tables.{Tables}
 use Rattle.hq_sql.specs.Tables.{IsDesk, Leaves, tables_in}
@@ -37,8 +35,3 @@ unchanged_leaves old new desk same = record {
   mode = same.0.mode;
   committed = λ _. same.0.committed_is;
 }
-
--- what follows where a statement succeeds
-pub then_ok : {X : Type 0} (r : Result X Error) (P Q : Type 0) → (P → Q) → OnOk r P → OnOk r Q
-then_ok (Ok x) P Q f p = f p
-then_ok (Err e) P Q f p = p

@@ -1,12 +1,16 @@
 -- What a change makes of the head rows alone.
-use Rattle.std.specs.Prelude.{ℕ, List, [], ◌∷◌, cond, nat_eq}
-use Rattle.std.specs.FinMap.{FinMap, get}
+use Rattle.std.specs.Prelude.{◌≡◌, ℕ, Bool, false, List, [], ◌∷◌, Option, None, Result, IfOk, cond, nat_eq}
+use Rattle.std.specs.FinMap.{FinMap, get, insert}
+use Rattle.sqlite.specs.declared.error.Error.{Error}
+use Rattle.sqlite.specs.State.{State, HasCleanDisk}
 use Rattle.hq_access.specs.declared.pattern.Class.{Class}
 use Rattle.hq_queue.specs.declared.account.Head.{Head}
+use Rattle.hq_queue.specs.declared.message.Message.{Message}
 use Rattle.hq_store.specs.declared.account.Account.{Account}
 use Rattle.hq_store.specs.declared.change.Change.{Change}
 use Rattle.hq_store.specs.declared.change.Change.TheVariants.{PutMessage}
-use Rattle.hq_store.specs.Tables.{Tables, Row, text_cmp, write, headed, counted, with_message, without_message, with_line, without_line, uncounted_message}
+use Rattle.hq_store.specs.Tables.{Tables, Row, text_cmp, row_of, write, headed, counted, with_message, without_message, with_line, without_line, uncounted_message}
+use Rattle.hq_sql.specs.Tables.{IsDesk, tables_in}
 use Rattle.hq_tables.specs.Owned.{given}
 
 abbrev pub with_head : List ℕ → Head → Tables → Tables
@@ -37,6 +41,14 @@ counted_at customer serial size t = given (counted (with_message size) customer 
 
 abbrev pub recounted_message : List ℕ → ℕ → ℕ → Tables → Tables
 recounted_message customer serial size t = record t { heads = counted_at customer serial size t }
+
+-- false tells that nothing stands there
+abbrev pub TellsFree : {V : Type 0} → State → State → Result Bool Error → (Tables → Option V) → Type 0
+TellsFree old new result at = HasCleanDisk new → IsDesk old.now → IfOk result (λ there. there ≡ false → at (tables_in old.now) ≡ None)
+
+-- the row of the message stands at its key, and is counted
+abbrev pub with_counted_row : List ℕ → Message → Tables → Tables
+with_counted_row customer m t = record t { heads = counted_at customer m.serial m.size t; messages = insert t.messages (customer, m.serial) (row_of m) }
 
 -- What a change is made as: where the counts in the head rows are those of the rows, it is `write`.
 abbrev pub made_by : List ℕ → Change → Tables → Tables

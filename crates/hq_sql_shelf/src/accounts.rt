@@ -1,10 +1,11 @@
 //! Head rows: read with what stands for one that is missing, and counted up and down.
 
+ghost use Rattle.std.specs.FinMap.{get};
 ghost use Rattle.hq_store.specs.Tables.{account};
 ghost use Rattle.sqlite.specs.Held.{state};
 ghost use Rattle.hq_sql.specs.Kept.{Finds, Makes, Keeps, KeepsCommitted};
 ghost use Rattle.hq_sql_shelf.specs.Accounts.{with_head, counted_message, not_counted, counted_line, uncounted_line};
-ghost use Rattle.hq_sql_shelf.specs.Accounts.{resized_message, recounted_message};
+ghost use Rattle.hq_sql_shelf.specs.Accounts.{resized_message, recounted_message, TellsFree};
 
 use hq_access::Pattern;
 use hq_envelope::{Name, Serial};
@@ -83,25 +84,29 @@ fn resize_message<S: Alter>(
     Ok(())
 }
 
-/// Counts the message of this serial as one of this size, before it is put. Where one of this size
-/// is there already, nothing is written.
+/// Counts the message of this serial as one of this size, before it is put, and tells whether it has
+/// a row. Where it has one of this size already, nothing is written.
 pub(crate) fn recount_message<S: Alter>(
     conn: &mut Connection<S>,
     customer: &Name,
     serial: Serial,
     size: u32,
-) -> Result<(), Error>
+) -> Result<bool, Error>
     ensures made { Makes (state S.Store conn.old) (state S.Store conn.new) result
         (recounted_message customer.now serial size) }
+    ensures told { TellsFree (state S.Store conn.old) (state S.Store conn.new) result
+        (λ t. get t.messages (customer.now, serial)) }
     ensures kept { KeepsCommitted (state S.Store conn.old) (state S.Store conn.new) }
 {
     let Some(before) = messages::size(conn, customer, serial)? else {
-        return count_message(conn, customer, size);
+        count_message(conn, customer, size)?;
+        return Ok(false);
     };
     if before == size {
-        return Ok(());
+        return Ok(true);
     }
-    resize_message(conn, customer, before, size)
+    resize_message(conn, customer, before, size)?;
+    Ok(true)
 }
 
 /// Counts the message of this serial no more, where there is one.

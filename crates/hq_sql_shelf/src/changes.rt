@@ -9,7 +9,7 @@ ghost use Rattle.hq_sql.specs.Kept.{Makes, KeepsCommitted};
 ghost use Rattle.hq_sql.specs.Tables.{tables_in};
 ghost use Rattle.hq_sql_open.specs.Transactions.{IsAtRest, Commits};
 ghost use Rattle.hq_store.specs.Sound.{AreCounted};
-ghost use Rattle.hq_sql_shelf.specs.Accounts.{made_by, made_by_all};
+ghost use Rattle.hq_sql_shelf.specs.Accounts.{with_counted_row, made_by, made_by_all};
 ghost use Rattle.hq_sql_shelf.specs.Stops.{KeepsTransaction};
 
 use crate::accounts;
@@ -27,6 +27,23 @@ use hq_store::Change;
 use sqlite::{Alter, Connection, Error};
 use std::alloc::Global;
 
+/// Puts the row of a message, and counts it. Where none is there, it is added at once.
+fn put_row<S: Alter>(
+    conn: &mut Connection<S>,
+    customer: &Name,
+    message: &Message,
+) -> Result<(), Error>
+    ensures made { Makes (state S.Store conn.old) (state S.Store conn.new) result
+        (with_counted_row customer.now message.now) }
+    ensures kept { KeepsCommitted (state S.Store conn.old) (state S.Store conn.new) }
+{
+    if accounts::recount_message(conn, customer, message.serial, message.size)? {
+        messages::put(conn, customer, message)
+    } else {
+        messages::insert(conn, customer, message)
+    }
+}
+
 /// Puts a message, and counts it.
 fn put_message<S: Alter>(
     conn: &mut Connection<S>,
@@ -37,8 +54,7 @@ fn put_message<S: Alter>(
         (made_by customer.now (PutMessage message.now)) }
     ensures kept { KeepsCommitted (state S.Store conn.old) (state S.Store conn.new) }
 {
-    accounts::recount_message(conn, customer, message.serial, message.size)?;
-    messages::put(conn, customer, message)?;
+    put_row(conn, customer, message)?;
     recipients::put(conn, customer, message.serial, message.pending.as_slice())?;
     holds::put(conn, customer, message.serial, &message.reason)?;
     Ok(())
