@@ -6,8 +6,8 @@ ghost use Rattle.hq_queue.specs.Admission.{spent};
 ghost use Rattle.hq_calls.specs.Notices as rules;
 ghost use Rattle.hq_store.specs.declared.change.Change.TheVariants.{PutHead};
 
-use hq_calls::{Answer, Draft, Plan};
 use hq_calls::decision::{Decision, PAGE, refuse, tell};
+use hq_calls::{Answer, Draft, Plan};
 use hq_envelope::{Address, Host, Items, Moment, Refusal, Sender, TryCopy, WrittenText};
 use hq_queue::{Entry, Head, Kind, Message, Told};
 use hq_store::{Change, Notice};

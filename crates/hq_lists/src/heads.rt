@@ -8,10 +8,10 @@ ghost use Rattle.hq_store.specs.Tables.{Row, account, headed, counted, with_mess
 ghost use Rattle.hq_rows.specs.Listed.{heads_of, messages_of, lines_of};
 ghost use Rattle.hq_rows.specs.Lookups.{is_head};
 
-use hq_list_tables::lines::has_line;
-use hq_list_tables::messages::size_in;
 use hq_access::Pattern;
 use hq_envelope::{Name, Serial, TryCopy};
+use hq_list_tables::lines::has_line;
+use hq_list_tables::messages::size_in;
 use hq_queue::Head;
 use hq_rows::{HeadRow, LineRow, MessageRow};
 use hq_store::Account;

@@ -7,9 +7,9 @@ ghost use Rattle.hq_lists.specs.Lists.{AreInOrder};
 ghost use Rattle.hq_store.specs.declared.change.Change.TheVariants.{PutMessage, DropMessage, PutLine, DropLine};
 
 use crate::heads;
-use hq_list_tables::{holds, lines, marks, messages, notices, recipients};
 use hq_access::{Line, Pattern};
 use hq_envelope::{Name, Serial, TryCopy, copy_all};
+use hq_list_tables::{holds, lines, marks, messages, notices, recipients};
 use hq_queue::Message;
 use hq_rows::{HeadRow, HoldRow, LineRow, MarkRow, MessageRow, NoticeRow, RecipientRow};
 use hq_store::Change;

@@ -4,11 +4,11 @@ ghost use Rattle.std.specs.Prelude.{◌≡◌};
 ghost use Rattle.hq_store.specs.Tables.{no_tables};
 ghost use Rattle.hq_lists.specs.Lists.{tables_of};
 
-use crate::list_rows::ListRows;
 use crate::heads;
-use hq_list_tables::{lines, marks, messages, notices};
+use crate::list_rows::ListRows;
 use hq_access::{Action, Class, Line, LookupKey, Pattern};
 use hq_envelope::{Fault, Items, Label, Name, Serial, Spool};
+use hq_list_tables::{lines, marks, messages, notices};
 use hq_queue::{Counts, Head, Message};
 use hq_store::{Change, Mark, Notice, Shelf};
 use std::alloc::Global;
