@@ -1,6 +1,6 @@
 //! The tests of the wire that lines of a batch cannot say: bodies at their longest, a desk whose
 //! serials are nearly spent, directories that are refused, and runs; and the edges of the bodies of
-//! attempts. What else lines can say stands in `examples/`. The tests stand apart so that the wire
+//! attempts. What else lines can say stands in `tests/examples/`. The tests stand apart so that the wire
 //! is proved once, and not again with them.
 #![tactic(auto)]
 

@@ -1,4 +1,4 @@
-//! What words ask for. What is told of them is compared by `tools/words`, over the program.
+//! What words ask for. What is told of them is compared by `tests/words`, over the program.
 
 use hq_words::{Asked, Words, read_words};
 use std::alloc::{AllocError, Global};

@@ -1,4 +1,4 @@
-"""What `--help` shows, of the program and of each of its words: tools/words compares it whole."""
+"""What `--help` shows, of the program and of each of its words: tests/words compares it whole."""
 
 HELP = b"""\
 A customer desk of a mail relay: each customer sees and steers its own queued mail, and keeps its

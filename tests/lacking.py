@@ -6,7 +6,7 @@ import sys
 
 
 def tell(lacking, part=None):
-    tool = f"tools/{os.path.basename(sys.argv[0])}"
+    tool = f"tests/{os.path.basename(sys.argv[0])}"
     print(f"not tried: {tool}{f', {part}' if part else ''} (no {lacking})", flush=True)
 
 
