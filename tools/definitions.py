@@ -10,6 +10,9 @@ from pathlib import Path
 
 CRATES = Path(__file__).resolve().parent.parent / "crates"
 
+# How a file begins that serves proofs alone.
+INNER = "-- Inner: it serves proofs alone, and no promise rests on it."
+
 # where: a Path below crates/, from the crate's name on; comment, text: lists of lines; named: the keys of what it names
 Definition = namedtuple("Definition", "name where comment text named")
 
@@ -51,7 +54,8 @@ class SpecFile:
         self.where = path.relative_to(CRATES)
         lines = path.read_text(encoding="utf-8").split("\n")
         head = next(it for it, line in enumerate(lines) if not line.startswith("--"))
-        self.purpose = " ".join(line[3:] for line in lines[:head])
+        self.is_marked = INNER in lines[:head]
+        self.purpose = " ".join(line[3:] for line in lines[:head] if line != INNER)
         self.brought, self.found = brought_by(lines), []
         comment, text = [], None
         for line in lines:

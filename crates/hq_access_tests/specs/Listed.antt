@@ -1,4 +1,5 @@
 -- The lines of an access table in a list, and what asking them tells.
+-- Inner: it serves proofs alone, and no promise rests on it.
 use Rattle.std.specs.Prelude.{◌≡◌, ℕ, Bool, true, false, ◌&&◌, bytes_eq, List, Option, option_map, IfOk}
 use Rattle.std.specs.List.{find}
 use Rattle.hq_access.specs.Lookups.{Gets}

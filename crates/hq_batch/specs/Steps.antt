@@ -1,4 +1,5 @@
 -- The step of one line, as the loop over lines sees it: words of the crate's own functions. No claim rests on them.
+-- Inner: it serves proofs alone, and no promise rests on it.
 use Rattle.std.specs.Prelude.{◌≡◌, ℕ, List, Option, string_bytes, option_map}
 use Rattle.hq_store.specs.Shelves.{Sight}
 use Rattle.hq_wire.specs.Exchanges.{Exchanged}

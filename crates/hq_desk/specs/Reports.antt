@@ -1,4 +1,5 @@
 -- The last of a page of messages. No claim rests on it.
+-- Inner: it serves proofs alone, and no promise rests on it.
 use Rattle.std.specs.Prelude.{ℕ, List, [], ◌∷◌, Option, None, Some}
 use Rattle.hq_queue.specs.declared.message.Message.{Message}
 

@@ -1,4 +1,5 @@
 -- The words of the functions that look addresses up among one customer's lines on a shelf. No claim rests on them.
+-- Inner: it serves proofs alone, and no promise rests on it.
 use Rattle.std.specs.Prelude.{ℕ, ◌≡◌, false, List, Option, Result}
 use Rattle.hq_base.specs.declared.failure.Fault.{Fault}
 use Rattle.hq_access.specs.declared.action.Action.{Action}

@@ -1,4 +1,5 @@
 -- What an INSERT .. SELECT makes of a table with no row.
+-- Inner: it serves proofs alone, and no promise rests on it.
 use Rattle.std.specs.Prelude.{◌≡◌, ℕ, ℤ, List, [], ◌∷◌, ◌++◌, map, length}
 use Rattle.sqlite.specs.Cast.{cast_row}
 use Rattle.sqlite.specs.Edit.{put_all, numbered}

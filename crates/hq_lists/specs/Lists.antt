@@ -1,4 +1,5 @@
 -- The tables that plain lists stand for, and the order in which their rows lie.
+-- Inner: it serves proofs alone, and no promise rests on it.
 use Rattle.hq_lists.specs.declared.list_rows.ListRows.{ListRows}
 use Rattle.hq_store.specs.Tables.{Tables}
 use Rattle.hq_rows.specs.Listed.{heads_of, messages_of, recipients_of, holds_of, lines_of, marks_of, notices_of}

@@ -1,6 +1,14 @@
 //! Queued messages of one customer: what they are, how they move, when a new one is admitted, what
 //! the report of an attempt makes of one, and what its age does, in the words of postsuper(1) and
 //! qmgr(8). The crate is pure: it knows no store, no clock and no wire.
+//!
+//! ```
+//! // what a worker reports of an attempt; a refusal, as want of memory, leaves the message as it was
+//! if let Reported::Done { failed, .. } = report(alloc, &mut message, at, attempt, outcomes)? {
+//!     // a notice is owed to the sender: of those who failed
+//! }
+//! let swept = sweep_one(&mut message, at, delay); // expired, warned or untouched
+//! ```
 #![tactic(auto)]
 
 mod account;

@@ -1,4 +1,5 @@
 -- The words of the functions of the plain lists: tests of rows, rows made, their order, pages. No claim rests on them.
+-- Inner: it serves proofs alone, and no promise rests on it.
 use Rattle.std.specs.Prelude.{◌≡◌, ℕ, suc, Bool, true, nat_le, nat_lt, None, Some, ◌&&◌, List, [], ◌∷◌, map, filter, Option, option_map}
 use Rattle.std.specs.Ordering.{nat_cmp, eq_by_cmp, is_lt}
 use Rattle.std.specs.FinMap.{entries, get}

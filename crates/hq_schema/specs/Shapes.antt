@@ -1,4 +1,5 @@
 -- The tables and the indexes that shapes stand for.
+-- Inner: it serves proofs alone, and no promise rests on it.
 use Rattle.std.specs.Prelude.{map}
 use Rattle.sqlite_schema.specs.declared.schema.Index.{Index}
 use Rattle.sqlite_schema.specs.declared.schema.Table.{Table}

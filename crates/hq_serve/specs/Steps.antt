@@ -1,4 +1,5 @@
 -- Words of the crate's own functions. No claim rests on them.
+-- Inner: it serves proofs alone, and no promise rests on it.
 use Rattle.std.specs.Prelude.{◌≡◌, ⊤, ℕ, List, Option, None, Some, string_bytes, option_map}
 use Rattle.hq_http.specs.Requests as requests
 use Rattle.hq_store.specs.Shelves.{Sight}

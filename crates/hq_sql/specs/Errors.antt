@@ -1,4 +1,5 @@
 -- The error of a row that is not read.
+-- Inner: it serves proofs alone, and no promise rests on it.
 use Rattle.sqlite.specs.declared.error.Error.{Error}
 use Rattle.sqlite.specs.declared.error.Error.TheVariants.{SqliteFailure, InvalidQuery}
 use Rattle.sqlite.specs.declared.error.ErrorCode.TheVariants.{OutOfMemory}

@@ -1,4 +1,5 @@
 -- What the statements on heads leave.
+-- Inner: it serves proofs alone, and no promise rests on it.
 use Rattle.std.specs.Prelude.{ℕ, List}
 use Rattle.std.specs.FinMap.{insert}
 use Rattle.hq_store.specs.declared.account.Account.{Account}

@@ -1,4 +1,5 @@
 -- What a statement finds, makes and keeps. `old` and `new` are what is seen of its connection before and after.
+-- Inner: it serves proofs alone, and no promise rests on it.
 use Rattle.std.specs.Prelude.{◌≡◌, Bool, true, false, Option, None, Result, IfOk, OnOk, OnErr, IsTrue}
 use Rattle.sqlite.specs.declared.error.Error.{Error}
 use Rattle.sqlite.specs.State.{State, HasCleanDisk, IsUnchanged, KeepsCommit}

@@ -1,4 +1,5 @@
 -- What is taken of the rows of an answer, which are lent one after another.
+-- Inner: it serves proofs alone, and no promise rests on it.
 use Rattle.std.specs.Prelude.{ℕ, List}
 use Rattle.std.specs.List.{FoldsTo}
 use Rattle.sqlite.specs.Order.{Row}

@@ -1,4 +1,5 @@
 -- What the statements on holds leave.
+-- Inner: it serves proofs alone, and no promise rests on it.
 use Rattle.std.specs.Prelude.{ℕ, List}
 use Rattle.std.specs.FinMap.{insert, remove}
 use Rattle.hq_rows.specs.declared.rows.HoldRow.{HoldRow}

@@ -1,4 +1,5 @@
 -- What the statements on lines leave.
+-- Inner: it serves proofs alone, and no promise rests on it.
 use Rattle.std.specs.Prelude.{ℕ, List, [], ◌∷◌}
 use Rattle.std.specs.FinMap.{insert, remove}
 use Rattle.sqlite.specs.declared.types.Value.TheVariants.{Text}

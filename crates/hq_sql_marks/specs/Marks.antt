@@ -1,4 +1,5 @@
 -- What the statements on marks leave.
+-- Inner: it serves proofs alone, and no promise rests on it.
 use Rattle.std.specs.Prelude.{ℕ, pos, List, [], ◌∷◌}
 use Rattle.std.specs.FinMap.{insert, remove}
 use Rattle.sqlite.specs.declared.types.Value.TheVariants.{Text}

@@ -1,4 +1,5 @@
 -- What the statements on notices find and leave.
+-- Inner: it serves proofs alone, and no promise rests on it.
 use Rattle.std.specs.Prelude.{ℕ, ℤ, pos, negsuc, nat_le, List, [], ◌∷◌, map, Option, Some, None}
 use Rattle.std.specs.FinMap.{insert, remove, retain_keys}
 use Rattle.sqlite.specs.declared.types.Value.TheVariants.{Int, Text}

@@ -1,4 +1,5 @@
 -- Tables made in turn, inside a transaction. `old` and `new` are what is seen of a connection before and after.
+-- Inner: it serves proofs alone, and no promise rests on it.
 use Rattle.std.specs.Prelude.{◌≡◌, ⊤, ℕ, List, [], ◌∷◌, fold, None, Result, Ok, Err, false, IsTrue}
 use Rattle.std.specs.List.{AllByRecursion}
 use Rattle.sqlite.specs.Change.{created}

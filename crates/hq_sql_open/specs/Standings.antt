@@ -1,4 +1,5 @@
 -- What is known of a connection after a statement failed. `old` and `new` are what is seen of it before and after.
+-- Inner: it serves proofs alone, and no promise rests on it.
 use Rattle.std.specs.Prelude.{◌≡◌, false}
 use Rattle.sqlite.specs.State.{State, HasCleanDisk}
 use Rattle.hq_keyed.specs.Left.{IsQuiet, LeavesNoMore}

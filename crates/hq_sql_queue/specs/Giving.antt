@@ -1,4 +1,5 @@
 -- What a row gives to the message of a page that has its serial.
+-- Inner: it serves proofs alone, and no promise rests on it.
 use Rattle.std.specs.Prelude.{◌≡◌, ℕ, ◌==◌, List, Option, Some, None, if◌then◌else◌}
 use Rattle.std.specs.FinMap.{get}
 use Rattle.sqlite.specs.Order.{Row}

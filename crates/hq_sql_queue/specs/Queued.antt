@@ -1,4 +1,5 @@
 -- Whole messages.
+-- Inner: it serves proofs alone, and no promise rests on it.
 use Rattle.std.specs.Prelude.{ℕ, List}
 use Rattle.sqlite.specs.Order.{Row}
 use Rattle.hq_queue.specs.declared.message.Message.{Message}

@@ -1,4 +1,5 @@
 -- Places of recipients.
+-- Inner: it serves proofs alone, and no promise rests on it.
 use Rattle.std.specs.Prelude.{◌≡◌, ◌+◌, ℕ, Bool, ◌&&◌, ◌||◌, nat_lt, List, Some, option_map, slice_get}
 use Rattle.std.specs.Ordering.{nat_cmp, eq_by_cmp}
 use Rattle.hq_queue.specs.declared.message.Pending.{Pending}

@@ -1,4 +1,5 @@
 -- What the statements on recipients leave.
+-- Inner: it serves proofs alone, and no promise rests on it.
 use Rattle.std.specs.Prelude.{ℕ, not, List, [], ◌∷◌}
 use Rattle.std.specs.FinMap.{insert, retain_keys}
 use Rattle.sqlite.specs.declared.types.Value.TheVariants.{Text}

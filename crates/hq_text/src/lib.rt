@@ -1,6 +1,11 @@
 //! The texts that the desk writes for people and for mail: dates, the two texts of a notice, and
 //! the queue report, each exactly by its definition. The crate is pure: it sends nothing, and knows
 //! no store and no clock.
+//!
+//! ```
+//! let notice = status_text(alloc, &host, &message, Kind::Failure, failed.as_slice())?;
+//! let queue = report_text(alloc, messages.as_slice())?;
+//! ```
 #![tactic(auto)]
 
 mod dates;

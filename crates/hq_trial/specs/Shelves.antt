@@ -1,4 +1,5 @@
 -- What is said of a shelf that fails as told.
+-- Inner: it serves proofs alone, and no promise rests on it.
 use Rattle.std.specs.Prelude.{ℕ}
 use Rattle.hq_trial.specs.declared.failing_shelf.FailingShelf.{FailingShelf}
 use Rattle.hq_trial.specs.declared.failure.Trial.{Trial}

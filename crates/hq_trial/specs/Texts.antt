@@ -1,4 +1,5 @@
 -- Answers as one line of plain text.
+-- Inner: it serves proofs alone, and no promise rests on it.
 use Rattle.std.specs.Prelude.{ℕ, ◌==◌, Bool, true, false, List, [], ◌++◌, length, codes, decimal, flat_map, Option, Some, None, if◌then◌else◌}
 use Rattle.hq_base.specs.Refusals.{refusal_shown}
 use Rattle.hq_envelope.specs.Senders.{sender_text}
