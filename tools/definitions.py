@@ -1,7 +1,8 @@
 """The definitions of the crates, as their sources have them: what each says, and which others it names.
 
 A definition stands in crates/NAME/specs, with the comment above it, up to the next empty line. It reaches each name in
-its text that its file brings in or has. A type of the code, with what its model and its ghost fields say, reaches so too.
+its text that its file brings in or has. A type of the code reaches what its ghost fields say, the types of its fields, and
+what its values are seen as; the invariant of a model, which is the form of a text or a number, it does not reach.
 """
 import re
 from collections import namedtuple
@@ -21,9 +22,12 @@ BROUGHT_WHOLE = re.compile(r"^(?:pub |ghost )*use Rattle\.([\w.]+) as (\w+);?$")
 HEAD = re.compile(r"^\s*(?:pub )?(?:abbrev|unfoldable)?(?: ?pub)? ?(?:record|data)? ?(\S+)")
 BEGINS = re.compile(r"^\s*(?:abbrev|unfoldable|pub record|pub data) ")
 WORD = re.compile(r"[^\s(){}\[\],;∷λ→×⊎∀]+")
-TYPE = re.compile(r"(?:pub(?:\(crate\))? )?(?:struct|enum) (\w+)|impl(?:<[^>]*>)? Model for (\w+)")
+MODEL = re.compile(r"impl(?:<[^>]*>)? Model for (\w+)")
+VIEW = re.compile(r"ghost view = \{(.*?)\};\n", re.S)
+SIGHT = re.compile(r"ghost sight = \{(.*?)\};\n\n", re.S)
+TYPE = re.compile(r"(?:pub(?:\(crate\))? )?(?:struct|enum) (\w+)")
 ENDS_TYPE = re.compile(r"^[})]|;$")
-GHOST = re.compile(r"ghost \w+[^{]*\{(.*?)\}[,;]?$", re.M)
+GHOST = re.compile(r"ghost \w+[^{;\n]*\{(.*?)\}[,;]?$", re.M | re.S)
 
 
 def brought_by(lines):
@@ -71,7 +75,7 @@ class SpecFile:
                 text.append(line)
 
     def module(self):
-        return f"{self.where.parts[0]}.specs.{self.where.stem}"
+        return ".".join(self.where.with_suffix("").parts)
 
     def says(self):
         """The first sentence of the file."""
@@ -82,22 +86,30 @@ class Source:
     """A source file: its types, with what their ghost fields and models say, and the clauses of its functions."""
 
     def __init__(self, path):
-        self.where, self.found = path.relative_to(CRATES), {}
+        self.where, self.found, self.views = path.relative_to(CRATES), {}, {}
         self.lines = path.read_text(encoding="utf-8").split("\n")
         self.brought = brought_by(self.lines)
         for number, line in enumerate(self.lines):
-            head = TYPE.match(line)
+            head, model = TYPE.match(line), MODEL.match(line)
+            ends = (it for it in range(number, len(self.lines)) if ENDS_TYPE.search(self.lines[it]))
+            closes = (it for it in range(number, len(self.lines)) if self.lines[it] == "}")
             if head:
-                ends = (it for it in range(number, len(self.lines)) if ENDS_TYPE.search(self.lines[it]))
-                self.found.setdefault(head[1] or head[2], []).extend(self.lines[number : next(ends) + 1])
+                self.found.setdefault(head[1], []).extend(self.lines[number : next(ends) + 1])
+            elif model:
+                self.views[model[1]] = "\n".join(self.lines[number : next(closes) + 1])
 
     def named_by_type(self, name):
         """The keys of what a type's ghost parts name, and of the types of its fields."""
-        text = "\n".join(self.found[name])
-        ghost = GHOST.findall(text)
+        text, seen = "\n".join(self.found[name]), self.views.get(name, "")
+        ghost = [*GHOST.findall(text), *VIEW.findall(seen)]
         plain = re.sub(r"//.*|^ +[A-Z]\w*\b", "", GHOST.sub("", text), flags=re.M)  # (variants are no types)
         types = (type_key(it, self.where.parts[0]) for it in re.findall(r"\b[A-Z]\w*", plain) if it != name)
-        return [*named_in(self.like(text), tuple(ghost)), *filter(None, types)]
+        return [*named_in(self.like(text + seen), tuple(ghost)), *filter(None, types)]
+
+    def named_by_sight(self):
+        """The keys of what a shelf of this file is seen by."""
+        text = "\n".join(self.lines)
+        return named_in(self.like(text), tuple(SIGHT.findall(text)))
 
     def like(self, text):
         """A file that brings in what this one does, and what the text does."""
@@ -109,13 +121,13 @@ class Source:
         """The keys of what the clauses of a function name."""
         begin = next(it for it, line in enumerate(self.lines) if re.search(rf"\bfn {name}\b", line))
         end = next(it for it in range(begin, len(self.lines)) if self.lines[it].strip() in ("{", "{}"))
-        clauses = "\n".join(self.lines[begin:end]).partition("ensures")[2]
+        clauses = re.split(r"\b(?:requires|ensures)\b", "\n".join(self.lines[begin:end]), maxsplit=1)[-1]
         return named_in(self, tuple(clauses.split("\n")))
 
 
 @lru_cache(None)
 def spec_files():
-    paths = (it for it in sorted(CRATES.glob("*/specs/*.antt")) if it.name != "Lib.antt")
+    paths = (it for it in sorted(CRATES.glob("*/specs/**/*.antt")) if it.name != "Lib.antt")
     return {it.module(): it for it in map(SpecFile, paths)}
 
 
@@ -153,6 +165,8 @@ def key_of(module, name):
         return ("type", crate, "/".join(file) or "lib", name) if (CRATES / crate).is_dir() else None
     file = spec_files().get(module)
     if file is None:
+        if (CRATES / module.partition(".")[0]).is_dir():
+            raise LookupError(f"there is no file of definitions {module}")
         return None
     names = [it[0] for it in file.found]
     for wanted in (name, f"◌{name}◌"):

@@ -6,4 +6,5 @@ use Rattle.hq_envelope.specs.Addresses.{folded}
 
 pub folded_twice : (bytes : List ℕ) → folded (folded bytes) ≡ folded bytes
 folded_twice [] = refl
-folded_twice (b ∷ bytes) = ap (λ x. x ∷ folded (folded bytes)) (lowercase-lowercase b) ∙ ap (λ t. to_ascii_lowercase b ∷ t) (folded_twice bytes)
+folded_twice (b ∷ bytes) = ap (λ x. x ∷ folded (folded bytes)) (lowercase-lowercase b)
+    ∙ ap (λ t. to_ascii_lowercase b ∷ t) (folded_twice bytes)

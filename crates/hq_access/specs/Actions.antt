@@ -1,5 +1,7 @@
--- Actions: what a line of an access table does (access(5), ACCEPT ACTIONS, REJECT ACTIONS, OTHER ACTIONS).
-use Rattle.std.specs.Prelude.{ℕ, Bool, ◌==◌, List, [], ◌∷◌, ◌++◌, codes, reverse, if◌then◌else◌, Result, Err}
+-- Actions: what a line of an access table does (access(5), ACCEPT ACTIONS, REJECT ACTIONS, OTHER
+-- ACTIONS).
+use Rattle.std.specs.Prelude.{ℕ, Bool, ◌==◌, List, [], ◌∷◌, ◌++◌, codes, reverse, if◌then◌else◌}
+use Rattle.std.specs.Prelude.{Result, Err}
 use Rattle.std.specs.List.{after_first, before_first}
 use Rattle.std.specs.Str.{str_eq_ignore_ascii_case}
 use Rattle.hq_base.specs.Readers.{checked, seen_by}
@@ -8,7 +10,8 @@ use Rattle.hq_base.specs.declared.failure.Refusal.TheVariants.{BadAction}
 use Rattle.hq_envelope.specs.Addresses.{is_address}
 use Rattle.hq_envelope.specs.Words.{is_text}
 use Rattle.hq_access.specs.declared.action.Action.{Action}
-use Rattle.hq_access.specs.declared.action.Action.TheVariants.{Okay, Reject, Defer, Dunno, Discard, Hold, Redirect}
+use Rattle.hq_access.specs.declared.action.Action.TheVariants.{Okay, Reject, Defer, Dunno, Discard}
+use Rattle.hq_access.specs.declared.action.Action.TheVariants.{Hold, Redirect}
 
 abbrev pub is_space : ℕ → Bool
 is_space b = b == 32
@@ -54,7 +57,8 @@ action_with verb argument =
     else if is_verb verb (codes "DUNNO") then seen_by (λ text. Dunno text) (text_in argument)
     else if is_verb verb (codes "DISCARD") then seen_by (λ text. Discard text) (text_in argument)
     else if is_verb verb (codes "HOLD") then seen_by (λ text. Hold text) (text_in argument)
-    else if is_verb verb (codes "REDIRECT") then seen_by (λ address. Redirect address) (address_in argument)
+    else if is_verb verb (codes "REDIRECT") then
+    seen_by (λ address. Redirect address) (address_in argument)
     else Err BadAction
 
 -- the action that a text is

@@ -1,6 +1,7 @@
--- The keys under which an address is looked up, in the order in which they are tried. All are folded.
--- (access(5), EMAIL ADDRESS PATTERNS and EMAIL ADDRESS EXTENSION, under the delimiter +)
-use Rattle.std.specs.Prelude.{ℕ, Bool, ◌&&◌, ◌==◌, nat_lt, List, [], ◌∷◌, ◌++◌, length, map, if◌then◌else◌, Option, Some, None}
+-- The keys under which an address is looked up, in the order in which they are tried. All are
+-- folded. (access(5), EMAIL ADDRESS PATTERNS and EMAIL ADDRESS EXTENSION, under the delimiter +)
+use Rattle.std.specs.Prelude.{ℕ, Bool, ◌&&◌, ◌==◌, nat_lt, List, [], ◌∷◌, ◌++◌, length, map}
+use Rattle.std.specs.Prelude.{if◌then◌else◌, Option, Some, None}
 use Rattle.std.specs.List.{before_first, cons_option, join_with_byte, position_or_len, slice_split}
 use Rattle.hq_envelope.specs.Addresses.{is_dot, local_of, domain_of, folded}
 use Rattle.hq_envelope.specs.declared.address.Sender.{Sender}
@@ -15,7 +16,8 @@ plus_at local = position_or_len is_plus local
 
 -- the base of a local part: what stands before its first +, where at least one byte does
 abbrev pub base_of : List ℕ → Option (List ℕ)
-base_of local = if nat_lt 0 (plus_at local) && nat_lt (plus_at local) (length local) then Some (before_first is_plus local) else None
+base_of local = if nat_lt 0 (plus_at local) && nat_lt (plus_at local) (length local) then
+    Some (before_first is_plus local) else None
 
 -- the local part, and its base where it has one
 abbrev pub names_of : List ℕ → List (List ℕ)
@@ -37,7 +39,8 @@ domain_keys domain = domain ∷ parents (slice_split is_dot domain)
 
 -- the address, its base at the domain, the domain keys, user@, and its base with @
 abbrev pub address_keys : List ℕ → List ℕ → List (List ℕ)
-address_keys local domain = map (at domain) (names_of local) ++ domain_keys domain ++ map (at []) (names_of local)
+address_keys local domain = map (at domain) (names_of local) ++ domain_keys domain
+    ++ map (at []) (names_of local)
 
 -- the null sender has the one key <>
 abbrev pub null_key : List ℕ

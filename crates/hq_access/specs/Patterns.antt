@@ -1,5 +1,6 @@
 -- Patterns: what a line of an access table is for (access(5), EMAIL ADDRESS PATTERNS).
-use Rattle.std.specs.Prelude.{ℕ, Bool, false, ◌&&◌, ◌||◌, ◌==◌, nat_le, List, [], ◌∷◌, codes, length, Option, Some, None, Result}
+use Rattle.std.specs.Prelude.{ℕ, Bool, false, ◌&&◌, ◌||◌, ◌==◌, nat_le, List, [], ◌∷◌, codes}
+use Rattle.std.specs.Prelude.{length, Option, Some, None, Result}
 use Rattle.std.specs.Str.{bytes_eq}
 use Rattle.hq_base.specs.Readers.{checked}
 use Rattle.hq_base.specs.declared.failure.Refusal.{Refusal}
@@ -35,7 +36,9 @@ is_null RecipientSide text = false
 
 -- user@domain, domain, .domain, user@, or <> for senders; at most 254 bytes
 abbrev pub is_pattern : Class → List ℕ → Bool
-is_pattern class text = nat_le (length text) 254 && (is_address text || is_domain text || is_subdomains text || is_user text || is_null class text)
+is_pattern class text = nat_le (length text) 254
+    && (is_address text || is_domain text || is_subdomains text || is_user text
+    || is_null class text)
 
 -- the pattern that a text is, of a class: the text is folded
 abbrev pub pattern_in : Class → List ℕ → Result (Class × List ℕ) Refusal

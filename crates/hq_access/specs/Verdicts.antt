@@ -1,11 +1,14 @@
--- The verdict on a submission (access(5), ACCEPT ACTIONS, REJECT ACTIONS, OTHER ACTIONS; which of several actions counts is this product's own).
-use Rattle.std.specs.Prelude.{ℕ, Bool, true, false, not, List, [], ◌∷◌, codes, map, filter, if◌then◌else◌, Option, Some, None, option_map, is_some}
+-- The verdict on a submission (access(5), ACCEPT ACTIONS, REJECT ACTIONS, OTHER ACTIONS; which of
+-- several actions counts is this product's own).
+use Rattle.std.specs.Prelude.{ℕ, Bool, true, false, not, List, [], ◌∷◌, codes, map, filter}
+use Rattle.std.specs.Prelude.{if◌then◌else◌, Option, Some, None, option_map, is_some}
 use Rattle.std.specs.List.{filter_map, last_or, list_any}
 use Rattle.hq_envelope.specs.Words.{table_hold, try_later}
 use Rattle.hq_envelope.specs.declared.address.Sender.{Sender}
 use Rattle.hq_envelope.specs.declared.address.Sender.TheVariants.{From}
 use Rattle.hq_access.specs.declared.action.Action.{Action}
-use Rattle.hq_access.specs.declared.action.Action.TheVariants.{Reject, Defer, Discard, Hold, Redirect}
+use Rattle.hq_access.specs.declared.action.Action.TheVariants.{Reject, Defer, Discard, Hold}
+use Rattle.hq_access.specs.declared.action.Action.TheVariants.{Redirect}
 use Rattle.hq_access.specs.declared.verdicts.Refused.{Refused}
 use Rattle.hq_access.specs.declared.verdicts.Verdict.{Verdict}
 use Rattle.hq_access.specs.declared.verdicts.Verdict.TheVariants.{Rejected, Discarded, Queue}
@@ -83,16 +86,20 @@ redirect_of found = last_or None (filter_map redirection found)
 abbrev pub held_by : List (Option Action) → Option (List ℕ)
 held_by found = first_of (filter_map holding found)
 
--- With no recipient kept the submission is rejected; else any DISCARD discards it; else it is queued.
+-- With no recipient kept the submission is rejected; else any DISCARD discards it; else it is
+-- queued.
 abbrev pub judged : List (List ℕ) → List Refused → List (Option Action) → Verdict
 judged [] refused found = Rejected refused
-judged (k ∷ kept) refused found = if list_any discards found then Discarded refused else Queue (k ∷ kept) refused (redirect_of found) (option_map or_table (held_by found))
+judged (k ∷ kept) refused found = if list_any discards found then Discarded refused else
+    Queue (k ∷ kept) refused (redirect_of found) (option_map or_table (held_by found))
 
 -- A rejected sender is refused alone, whatever its recipients are.
 abbrev pub after_sender : Option Refused → Option Action → List (List ℕ × Option Action) → Verdict
 after_sender (Some refused) found recipients = Rejected (refused ∷ [])
-after_sender None found recipients = judged (map (λ r. r.0) (kept_in recipients)) (refused_in recipients) (found_in found recipients)
+after_sender None found recipients = judged (map (λ r. r.0) (kept_in recipients))
+    (refused_in recipients) (found_in found recipients)
 
 -- by what was found for the sender, the sender, and its recipients with what was found for each
 abbrev pub verdict : Option Action → Sender → List (List ℕ × Option Action) → Verdict
-verdict found sender recipients = after_sender (option_map (told sender) (refusal found)) found recipients
+verdict found sender recipients = after_sender (option_map (told sender) (refusal found)) found
+    recipients

@@ -2,7 +2,8 @@
 
 ghost use Rattle.std.specs.Prelude.{◌≡◌, IfOk};
 ghost use Rattle.hq_base.specs.Readers.{Reads};
-ghost use Rattle.hq_access.specs.Patterns.{class_name, is_subdomains, is_user, is_null, is_pattern, pattern_in};
+ghost use Rattle.hq_access.specs.Patterns.{class_name, is_subdomains, is_user, is_null, is_pattern};
+ghost use Rattle.hq_access.specs.Patterns.{pattern_in};
 
 use crate::action::Action;
 use crate::keys::{LookupKey, NULL_KEY};

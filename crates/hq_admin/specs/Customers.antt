@@ -14,7 +14,8 @@ abbrev pub found : Option Customer → Result Entry Refusal
 found (Some customer) = Ok customer.entry
 found None = Err NoCustomer
 
--- the first customer of a directory that has this name, byte for byte: the first fault of the file, or else 13 where none has
+-- the first customer of a directory that has this name, byte for byte: the first fault of the file,
+-- or else 13 where none has
 abbrev pub entry_in : List ℕ → List ℕ → Result Entry Refusal
 entry_in file name = do
   customers ← customers_in file

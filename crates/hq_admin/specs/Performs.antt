@@ -8,13 +8,18 @@ use Rattle.hq_desk.specs.declared.desk.Rendered.{Rendered}
 use Rattle.hq_admin.specs.Printed.{printed}
 use Rattle.hq_admin.specs.declared.performing.Request.{Request}
 
--- The call is done by a desk over this shelf: it answers what the shared step does, as it is printed, and leaves its tables;
--- or it ends in a fault, and the tables are as before, unless the store is closed then.
-pub record Performs {S : Type 0} (sight : Sight S) (shelf : S) (asked : Request) (result : Result Rendered Fault) : Type 0 where
+-- The call is done by a desk over this shelf: it answers what the shared step does, as it is
+-- printed, and leaves its tables; or it ends in a fault, and the tables are as before, unless the
+-- store is closed then.
+pub record Performs {S : Type 0} (sight : Sight S) (shelf : S) (asked : Request)
+    (result : Result Rendered Fault) : Type 0 where
   pub old : Desk S
   pub host_is : host_of old ≡ asked.host
   pub shelf_is : shelf_of old ≡ shelf
   pub new : Desk S
-  pub answer : OnSound (on sight) old new (IfOk result (IsRendered printed (stepped (on sight) old asked.entry asked.at asked.call).0))
-  pub tables : OnSound (on sight) old new (OnOk result ((on sight).tables new ≡ (stepped (on sight) old asked.entry asked.at asked.call).1))
+  pub answer : OnSound (on sight) old new
+      (IfOk result (IsRendered printed (stepped (on sight) old asked.entry asked.at asked.call).0))
+  pub tables : OnSound (on sight) old new
+      (OnOk result ((on sight).tables new ≡
+      (stepped (on sight) old asked.entry asked.at asked.call).1))
   pub kept : KeepsOnErr (on sight) old new result

@@ -8,13 +8,16 @@ use Rattle.hq_calls.specs.declared.answer.SweepCounts.{SweepCounts}
 
 -- what an import set, on a line
 unfoldable pub imported : ImportCounts → List ℕ
-imported counts = codes "added " ++ decimal counts.added ++ codes ", changed " ++ decimal counts.changed ++ codes ", same " ++ decimal counts.same ++ codes "\n"
+imported counts = codes "added " ++ decimal counts.added ++ codes ", changed "
+    ++ decimal counts.changed ++ codes ", same " ++ decimal counts.same ++ codes "\n"
 
 -- what a sweep did, on a line
 unfoldable pub swept : SweepCounts → List ℕ
-swept counts = codes "expired " ++ decimal counts.expired ++ codes ", warned " ++ decimal counts.warned ++ codes ", notices " ++ decimal counts.notices ++ codes "\n"
+swept counts = codes "expired " ++ decimal counts.expired ++ codes ", warned "
+    ++ decimal counts.warned ++ codes ", notices " ++ decimal counts.notices ++ codes "\n"
 
--- the queue report as it is, the counts of an import and of a sweep, a refusal as it is shown, and nothing of all else
+-- the queue report as it is, the counts of an import and of a sweep, a refusal as it is shown, and
+-- nothing of all else
 abbrev pub printed : Answer → List ℕ
 printed (Refused refusal) = refusal_shown refusal
 printed (Reported report) = report

@@ -25,7 +25,8 @@ printed_of name answer = name ++ codes ": " ++ printed answer
 -- one customer is swept by the shared step, and its answer is printed
 abbrev pub IsSwept : List ℕ → ℕ → Tables → Entry → Rendered → Tables → Type 0
 IsSwept host at t entry rendered t' =
-    IsRendered (printed_of entry.name) (shared host entry t at Sweep).0 rendered × (t' ≡ (shared host entry t at Sweep).1)
+    IsRendered (printed_of entry.name) (shared host entry t at Sweep).0 rendered
+    × (t' ≡ (shared host entry t at Sweep).1)
 
 abbrev pub entry_of : Customer → Entry
 entry_of customer = customer.entry
@@ -33,11 +34,13 @@ entry_of customer = customer.entry
 -- all are swept; or the first of them are, and the next one stopped it by a fault
 abbrev pub EndsAt : (Fault → Type 0) → List Entry → Option Fault → Type 0
 EndsAt may left None = left ≡ []
-EndsAt may left (Some fault) = may fault × ((next : Entry) × (more : List Entry) × (left ≡ next ∷ more))
+EndsAt may left (Some fault) = may fault × ((next : Entry) × (more : List Entry)
+    × (left ≡ next ∷ more))
 
--- The customers are swept in their order by a desk over this shelf, until a fault; each that is swept is told of, whatever
--- becomes of the store.
-pub record SweepsAll {S : Type 0} (sight : Sight S) (shelf : S) (host : List ℕ) (at : ℕ) (customers : List Customer) (done : SweptAll) : Type 0 where
+-- The customers are swept in their order by a desk over this shelf, until a fault; each that is
+-- swept is told of, whatever becomes of the store.
+pub record SweepsAll {S : Type 0} (sight : Sight S) (shelf : S) (host : List ℕ) (at : ℕ)
+    (customers : List Customer) (done : SweptAll) : Type 0 where
   pub old : Desk S
   pub host_is : host_of old ≡ host
   pub shelf_is : shelf_of old ≡ shelf
@@ -46,5 +49,7 @@ pub record SweepsAll {S : Type 0} (sight : Sight S) (shelf : S) (host : List ℕ
   pub left : List Entry
   pub order : map entry_of customers ≡ swept ++ left
   pub counted : length done.told.items ≡ length swept
-  pub each : OnOpenSound (on sight) old new (InTurn (IsSwept host at) ((on sight).tables old) swept done.told.items ((on sight).tables new))
+  pub each : OnOpenSound (on sight) old new
+      (InTurn (IsSwept host at) ((on sight).tables old) swept done.told.items
+      ((on sight).tables new))
   pub ends : EndsAt (on sight).may_answer left done.stopped

@@ -5,8 +5,11 @@ use Rattle.hq_calls.specs.Notices.{noticed, added_from}
 use Rattle.hq_calls.specs.declared.plan.Draft.{Draft}
 
 -- one more notice gets the number behind the last
-pub added_more : (host : List ℕ) (at number : ℕ) (ds : List Draft) (d : Draft) → added_from host at number (ds ++ d ∷ []) ≡ added_from host at number ds ++ AddNotice (noticed host at (number + length ds) d) ∷ []
+pub added_more : (host : List ℕ) (at number : ℕ) (ds : List Draft) (d : Draft) →
+    added_from host at number (ds ++ d ∷ []) ≡ added_from host at number ds
+    ++ AddNotice (noticed host at (number + length ds) d) ∷ []
 added_more host at number [] d = ap (λ n. AddNotice (noticed host at n d) ∷ []) (omega arith)
 added_more host at number (x ∷ ds) d =
     ap (λ rest. AddNotice (noticed host at number x) ∷ rest) (added_more host at (suc number) ds d)
-    ∙ ap (λ n. AddNotice (noticed host at number x) ∷ added_from host at (suc number) ds ++ AddNotice (noticed host at n d) ∷ []) (omega arith)
+    ∙ ap (λ n. AddNotice (noticed host at number x) ∷ added_from host at (suc number) ds
+    ++ AddNotice (noticed host at n d) ∷ []) (omega arith)

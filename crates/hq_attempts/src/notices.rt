@@ -1,7 +1,8 @@
 //! Notices that calls make: who gets one, under which number, and which of all are kept; and
 //! notices told. Nothing is read or written here.
 
-ghost use Rattle.std.specs.Prelude.{◌≡◌, ◌∷◌, ◌++◌, ◌+◌, ◌≤◌, ◌^◌, IfOk, OnErr, OnOk, length, nat_lt};
+ghost use Rattle.std.specs.Prelude.{◌≡◌, ◌∷◌, ◌++◌, ◌+◌, ◌≤◌, ◌^◌, IfOk, OnErr, OnOk, length};
+ghost use Rattle.std.specs.Prelude.{nat_lt};
 ghost use Rattle.hq_queue.specs.Admission.{spent};
 ghost use Rattle.hq_calls.specs.Notices as rules;
 ghost use Rattle.hq_store.specs.declared.change.Change.TheVariants.{PutHead};

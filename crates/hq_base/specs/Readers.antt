@@ -1,5 +1,6 @@
 -- What the readers of texts and bodies answer: the value, or the first refusal that applies.
-use Rattle.std.specs.Prelude.{◌≡◌, ⊤, Bool, true, false, IsTrue, Option, Some, None, Result, Ok, Err, if◌then◌else◌}
+use Rattle.std.specs.Prelude.{◌≡◌, ⊤, Bool, true, false, IsTrue, Option, Some, None, Result, Ok}
+use Rattle.std.specs.Prelude.{Err, if◌then◌else◌}
 use Rattle.hq_base.specs.declared.failure.Fail.{Fail}
 use Rattle.hq_base.specs.declared.failure.Fail.TheVariants as fail
 use Rattle.hq_base.specs.declared.failure.Refusal.{Refusal}

@@ -1,7 +1,19 @@
 -- The numbers and names of refusals and faults: part of every reply, so they never change.
 use Rattle.std.specs.Prelude.{ℕ, List, ◌++◌, codes, decimal, Option, Some, None}
 use Rattle.hq_base.specs.declared.failure.Refusal.{Refusal}
-use Rattle.hq_base.specs.declared.failure.Refusal.TheVariants.{BadRequest, NoKey, WrongRole, NoRoute, WrongMethod, BodyTooLong, BadJson, BadField, NoMessage, NoLine, NoNotice, NoCustomer, BadAddress, BadSpool, BadPattern, BadAction, BadStatus, BadLabel, BadText, AttemptAhead, UnknownRecipient, DoubledRecipient, NoOutcome, QuotaMessages, QuotaBytes, QuotaLines, SerialsSpent, NoticesSpent, BadCsv, DoubledPattern, LabelUsed, BadDirectory, DoubledName, DoubledKey, BadHost, BadRelayKey}
+use Rattle.hq_base.specs.declared.failure.Refusal.TheVariants.{BadRequest, NoKey, WrongRole}
+use Rattle.hq_base.specs.declared.failure.Refusal.TheVariants.{NoRoute, WrongMethod, BodyTooLong}
+use Rattle.hq_base.specs.declared.failure.Refusal.TheVariants.{BadJson, BadField, NoMessage, NoLine}
+use Rattle.hq_base.specs.declared.failure.Refusal.TheVariants.{NoNotice, NoCustomer, BadAddress}
+use Rattle.hq_base.specs.declared.failure.Refusal.TheVariants.{BadSpool, BadPattern, BadAction}
+use Rattle.hq_base.specs.declared.failure.Refusal.TheVariants.{BadStatus, BadLabel, BadText}
+use Rattle.hq_base.specs.declared.failure.Refusal.TheVariants.{AttemptAhead, UnknownRecipient}
+use Rattle.hq_base.specs.declared.failure.Refusal.TheVariants.{DoubledRecipient, NoOutcome}
+use Rattle.hq_base.specs.declared.failure.Refusal.TheVariants.{QuotaMessages, QuotaBytes}
+use Rattle.hq_base.specs.declared.failure.Refusal.TheVariants.{QuotaLines, SerialsSpent}
+use Rattle.hq_base.specs.declared.failure.Refusal.TheVariants.{NoticesSpent, BadCsv, DoubledPattern}
+use Rattle.hq_base.specs.declared.failure.Refusal.TheVariants.{LabelUsed, BadDirectory, DoubledName}
+use Rattle.hq_base.specs.declared.failure.Refusal.TheVariants.{DoubledKey, BadHost, BadRelayKey}
 use Rattle.hq_base.specs.declared.failure.Fault.{Fault}
 use Rattle.hq_base.specs.declared.failure.Fault.TheVariants.{WantOfMemory, Disk, BadSchema, Closed}
 use Rattle.hq_base.specs.declared.failure.Fail.{Fail}
@@ -110,11 +122,13 @@ shown number name = decimal number ++ codes " " ++ name
 
 abbrev pub shown_with : ℕ → List ℕ → Option (List ℕ × ℕ) → List ℕ
 shown_with number name None = shown number name
-shown_with number name (Some detail) = shown number name ++ codes " " ++ detail.0 ++ codes " " ++ decimal detail.1
+shown_with number name (Some detail) = shown number name ++ codes " " ++ detail.0 ++ codes " "
+    ++ decimal detail.1
 
 -- as a person reads it: the number, the name, and the row or the attempts where it has them
 abbrev pub refusal_shown : Refusal → List ℕ
-refusal_shown refusal = shown_with (refusal_number refusal) (refusal_name refusal) (refusal_detail refusal)
+refusal_shown refusal = shown_with (refusal_number refusal) (refusal_name refusal)
+    (refusal_detail refusal)
 
 abbrev pub fault_shown : Fault → List ℕ
 fault_shown fault = shown (fault_number fault) (fault_name fault)

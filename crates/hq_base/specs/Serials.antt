@@ -1,5 +1,7 @@
 -- The written form of serials, which is the queue ID.
-use Rattle.std.specs.Prelude.{ℕ, zero, suc, ◌+◌, ◌-◌, ◌*◌, ◌^◌, ◌/◌, ◌%◌, ◌==◌, nat_lt, nat_le, ◌&&◌, Option, Some, None, option_and_then, List, [], ◌∷◌, ◌++◌, length, if◌then◌else◌}
+use Rattle.std.specs.Prelude.{ℕ, zero, suc, ◌+◌, ◌-◌, ◌*◌, ◌^◌, ◌/◌, ◌%◌, ◌==◌, nat_lt, nat_le}
+use Rattle.std.specs.Prelude.{◌&&◌, Option, Some, None, option_and_then, List, [], ◌∷◌, ◌++◌}
+use Rattle.std.specs.Prelude.{length, if◌then◌else◌}
 
 -- 0 to 15 as an upper-case hexadecimal digit
 abbrev pub hex_digit : ℕ → ℕ
@@ -16,7 +18,8 @@ serial_text n = hex_text 10 n
 
 -- what an upper-case hexadecimal digit stands for
 abbrev pub hex_value : ℕ → Option ℕ
-hex_value b = if nat_le 48 b && nat_le b 57 then Some (b - 48) else (if nat_le 65 b && nat_le b 70 then Some (b - 55) else None)
+hex_value b = if nat_le 48 b && nat_le b 57 then Some (b - 48) else
+    (if nat_le 65 b && nat_le b 70 then Some (b - 55) else None)
 
 -- the number that upper-case hexadecimal digits stand for, behind those that stand for n
 abbrev pub hex_number : ℕ → List ℕ → Option ℕ

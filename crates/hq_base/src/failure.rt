@@ -2,7 +2,9 @@
 //! refusal means for HTTP is not said here.
 
 ghost use Rattle.std.specs.Prelude.{◌≡◌, Some, option_map};
-ghost use Rattle.hq_base.specs.Refusals.{refusal_number, refusal_name, fault_number, fault_name, refusal_detail, refusal_shown, fault_shown, fail_shown, no_memory, no_memory_fail, refused, faulted};
+ghost use Rattle.hq_base.specs.Refusals.{refusal_number, refusal_name, fault_number, fault_name};
+ghost use Rattle.hq_base.specs.Refusals.{refusal_detail, refusal_shown, fault_shown, fail_shown};
+ghost use Rattle.hq_base.specs.Refusals.{no_memory, no_memory_fail, refused, faulted};
 
 use std::alloc::{AllocError, AllocFailed};
 use std::error::Error;

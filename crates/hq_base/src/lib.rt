@@ -1,6 +1,6 @@
 //! What every crate speaks of: the refusals and faults that a call may end in, why answering an
-//! input ends early, queue IDs, moments, and lists and copies of values that own memory. The values that the outside names are for
-//! `hq_envelope`, which shows these too.
+//! input ends early, queue IDs, moments, and lists and copies of values that own memory. The values
+//! that the outside names are for `hq_envelope`, which shows these too.
 #![tactic(auto)]
 
 mod copies;

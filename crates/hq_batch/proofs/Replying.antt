@@ -1,5 +1,6 @@
 -- The steps of the lines together are the replies to all of them.
-use Rattle.std.proofs.Common.{◌≡◌, ℕ, List, [], ◌∷◌, map, Option, Result, Ok, Err, refl, ap, ◌∙◌, subst}
+use Rattle.std.proofs.Common.{◌≡◌, ℕ, List, [], ◌∷◌, map, Option, Result, Ok, Err, refl, ap, ◌∙◌}
+use Rattle.std.proofs.Common.{subst}
 use Rattle.std.specs.Bool.{⊤}
 use Rattle.hq_base.specs.Turns.{InTurn}
 use Rattle.hq_store.specs.Shelves.{Sight}
@@ -11,7 +12,8 @@ use Rattle.hq_wire.proofs.Serving.{served}
 use Rattle.hq_lines.specs.Ends.{Ends}
 use Rattle.hq_lines.specs.Fields.{Request}
 use Rattle.hq_lines.specs.Lines.{Streams}
-use Rattle.hq_base.specs.declared.engine.EngineFault.TheVariants.{Read, Write, TooManyReads, WantOfMemory}
+use Rattle.hq_base.specs.declared.engine.EngineFault.TheVariants.{Read, Write, TooManyReads}
+use Rattle.hq_base.specs.declared.engine.EngineFault.TheVariants.{WantOfMemory}
 use Rattle.hq_base.specs.declared.engine.EngineFault.{EngineFault}
 use Rattle.hq_batch.specs.Batches.{ask_in, reply_line, Replied}
 use Rattle.hq_batch.specs.Steps.{LineStep}
@@ -20,31 +22,45 @@ use Rattle.hq_batch.specs.declared.front.Front.{Front}
 module _ {S : Type 0} (sight : Sight S) where
   -- what the lines got one after the other, as the replies of exchanges
   abbrev Turns : Directory → Desk S → List (Option Request) → List (List ℕ) → Desk S → Type 0
-  Turns d old asked lines new = (rs : List SeenReply) × (lines ≡ map reply_line rs) × InTurn (Exchanged sight d) old (map (ask_in d) asked) rs new
+  Turns d old asked lines new = (rs : List SeenReply) × (lines ≡ map reply_line rs)
+      × InTurn (Exchanged sight d) old (map (ask_in d) asked) rs new
 
-  turns : (old new : Front S) (asked : List (Option Request)) (lines : List (List ℕ)) → InTurn (LineStep sight) old asked lines new → Turns old.directory.now old.desk.now asked lines new.desk.now
+  turns : (old new : Front S) (asked : List (Option Request)) (lines : List (List ℕ)) →
+      InTurn (LineStep sight) old asked lines new →
+      Turns old.directory.now old.desk.now asked lines new.desk.now
   turns old new [] [] p = ([], refl, ap (λ f. f.desk.now) p)
   turns old new [] (line ∷ lines) p = absurd p
   turns old new (q ∷ asked) [] p = absurd p
   turns old new (q ∷ asked) (line ∷ lines) p =
       let rest = turns p.0 new asked lines p.2 in
-      let later = subst (λ d. InTurn (Exchanged sight d.now) p.0.desk.now (map (ask_in d.now) asked) rest.0 new.desk.now) p.1.directory rest.2 in
+      let later = subst (λ d. InTurn (Exchanged sight d.now) p.0.desk.now (map (ask_in d.now) asked)
+      rest.0 new.desk.now) p.1.directory rest.2 in
       (p.1.reply ∷ rest.0, (λ i. p.1.line_is i ∷ rest.1 i), (p.0.desk.now, p.1.done, later))
 
   -- they are served together
-  pub replied : (old new : Front S) (asked : List (Option Request)) (lines : List (List ℕ)) → InTurn (LineStep sight) old asked lines new → Replied sight old.directory.now old.desk.now asked lines new.desk.now
+  pub replied : (old new : Front S) (asked : List (Option Request)) (lines : List (List ℕ)) →
+      InTurn (LineStep sight) old asked lines new →
+      Replied sight old.directory.now old.desk.now asked lines new.desk.now
   replied old new asked lines p =
-      let all = turns old new asked lines p in
-      (all.0, all.1, served sight old.directory.now old.desk.now new.desk.now (map (ask_in old.directory.now) asked) all.0 all.2)
+      let all = turns old new asked lines p in (
+        all.0,
+        all.1,
+        served sight old.directory.now old.desk.now new.desk.now
+            (map (ask_in old.directory.now) asked) all.0 all.2,
+      )
 
-  same_desk : (old new : Front S) (asked : List (Option Request)) (lines : List (List ℕ)) → InTurn (LineStep sight) old asked lines new → new.desk.ghost_name ≡ old.desk.ghost_name
+  same_desk : (old new : Front S) (asked : List (Option Request)) (lines : List (List ℕ)) →
+      InTurn (LineStep sight) old asked lines new → new.desk.ghost_name ≡ old.desk.ghost_name
   same_desk old new [] [] p = ap (λ f. f.desk.ghost_name) p
   same_desk old new [] (line ∷ lines) p = absurd p
   same_desk old new (q ∷ asked) [] p = absurd p
   same_desk old new (q ∷ asked) (line ∷ lines) p = same_desk p.0 new asked lines p.2 ∙ p.1.same_desk
 
   -- however the loop ends, the desk is the one that was lent
-  pub lent_desk : {X : Type 0} (old new : Front S) → (X → new ≡ old) → (start end : Streams) (result : Result ⊤ EngineFault) → Ends (λ asked lines. InTurn (LineStep sight) old asked lines new) X start end result → new.desk.ghost_name ≡ old.desk.ghost_name
+  pub lent_desk : {X : Type 0} (old new : Front S) → (X → new ≡ old) →
+      (start end : Streams) (result : Result ⊤ EngineFault) →
+      Ends (λ asked lines. InTurn (LineStep sight) old asked lines new) X start end result →
+      new.desk.ghost_name ≡ old.desk.ghost_name
   lent_desk old new same start end (Ok x) p = same_desk old new _ p.0.replies p.0.done_all
   lent_desk old new same start end (Err Read) p = same_desk old new _ p.replies p.done_all
   lent_desk old new same start end (Err TooManyReads) p = same_desk old new _ p.replies p.done_all

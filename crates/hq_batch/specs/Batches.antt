@@ -1,5 +1,6 @@
 -- A batch: each line is replied to as an exchange, in order.
-use Rattle.std.specs.Prelude.{◌≡◌, ℕ, ◌+◌, ◌/◌, ◌%◌, List, [], ◌∷◌, ◌++◌, map, Option, None, Some, Err}
+use Rattle.std.specs.Prelude.{◌≡◌, ℕ, ◌+◌, ◌/◌, ◌%◌, List, [], ◌∷◌, ◌++◌, map, Option, None, Some}
+use Rattle.std.specs.Prelude.{Err}
 use Rattle.hq_base.specs.declared.failure.Refusal.TheVariants.{BadRequest}
 use Rattle.hq_store.specs.Shelves.{Sight}
 use Rattle.hq_desk.specs.declared.desk.Desk.{Desk}
@@ -23,6 +24,9 @@ three_digits n = (48 + n / 100 % 10) ∷ (48 + n / 10 % 10) ∷ (48 + n % 10) �
 abbrev pub reply_line : SeenReply → List ℕ
 reply_line r = three_digits r.status ++ 32 ∷ r.body ++ 10 ∷ []
 
--- What a batch does with what lines ask for: each is served as an exchange, and the replies are written as lines.
-abbrev pub Replied : {S : Type 0} → Sight S → Directory → Desk S → List (Option Request) → List (List ℕ) → Desk S → Type 0
-Replied sight d old asked lines new = (replies : List SeenReply) × (lines ≡ map reply_line replies) × Served sight d old (map (ask_in d) asked) replies new
+-- What a batch does with what lines ask for: each is served as an exchange, and the replies are
+-- written as lines.
+abbrev pub Replied : {S : Type 0} → Sight S → Directory → Desk S → List (Option Request) →
+    List (List ℕ) → Desk S → Type 0
+Replied sight d old asked lines new = (replies : List SeenReply) × (lines ≡ map reply_line replies)
+    × Served sight d old (map (ask_in d) asked) replies new

@@ -41,8 +41,8 @@ fn serve_front<R: Read, W: Write, S: Shelf + Drop>(
 ///
 /// To every customer the replies to the lines of its calls, and what is kept of it afterwards, are
 /// those of the machine of one customer, started from its own state and given its share of the
-/// calls alone, whatever other lines come between. Calls that are replied to with 503 are struck
-/// out.
+/// calls alone, whatever other lines come between. A call that is replied to with 503 does not
+/// count.
 ///
 /// Room for a line is taken before the first read; where it is refused, nothing is read. At most
 /// 67,108,864 reads are made, an interrupted one counted. After a fault of reading the whole lines

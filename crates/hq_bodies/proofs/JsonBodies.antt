@@ -6,7 +6,8 @@ use Rattle.serde_json.specs.Data.{Data}
 use Rattle.serde_json.specs.Read.{read}
 use Rattle.hq_bodies.specs.Reading.{json_of}
 
-pub json_of_read : (bytes : List ℕ) (d : Data) → IsUtf8 bytes → read bytes ≡ Some d → json_of bytes ≡ Some d
+pub json_of_read : (bytes : List ℕ) (d : Data) → IsUtf8 bytes → read bytes ≡ Some d →
+    json_of bytes ≡ Some d
 json_of_read bytes d u e = rw (is_utf8-from_IsUtf8 bytes u) e
 
 chosen : (b : Bool) (x : Option Data) → (b ≡ true → x ≡ None) → cond b x None ≡ None

@@ -1,1 +1,2 @@
 pub mod JsonBodies
+pub mod Submitted

@@ -2,3 +2,4 @@ pub mod Due
 pub mod Outcomes
 pub mod Reading
 pub mod Tables
+pub mod Submissions

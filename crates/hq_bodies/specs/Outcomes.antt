@@ -1,6 +1,8 @@
--- The body of the report of an attempt: {"id", "attempt", "outcomes"}, and each outcome {"recipient", "result",
--- "status", "text"}. Every member of every outcome is looked at before any value is read.
-use Rattle.std.specs.Prelude.{ℕ, ◌==◌, nat_le, List, [], ◌∷◌, length, codes, bytes_eq, Option, option_and_then, Result, Ok, Err, if◌then◌else◌}
+-- The body of the report of an attempt: {"id", "attempt", "outcomes"}, and each outcome
+-- {"recipient", "result", "status", "text"}. Every member of every outcome is looked at before any
+-- value is read.
+use Rattle.std.specs.Prelude.{ℕ, ◌==◌, nat_le, List, [], ◌∷◌, length, codes, bytes_eq, Option}
+use Rattle.std.specs.Prelude.{option_and_then, Result, Ok, Err, if◌then◌else◌}
 use Rattle.serde_json.specs.Data.{Data, Items, no_items, item}
 use Rattle.serde_json.specs.Find.{get, as_array, as_object}
 use Rattle.hq_base.specs.Readers.{◌>>=◌, guard, or_refuse, seen_by}
@@ -13,6 +15,7 @@ use Rattle.hq_queue.specs.Statuses.{status_in, first_digit}
 use Rattle.hq_queue.specs.declared.outcome.Delivery.{Delivery}
 use Rattle.hq_queue.specs.declared.outcome.Delivery.TheVariants as delivery
 use Rattle.hq_queue.specs.declared.outcome.Outcome.{Outcome}
+use Rattle.hq_calls.specs.declared.call.AttemptReport.{AttemptReport}
 use Rattle.hq_bodies.specs.Reading.{json_of, has_only_members, text_at, number_at}
 use Rattle.hq_bodies.specs.declared.outcomes.AttemptTexts.{AttemptTexts}
 use Rattle.hq_bodies.specs.declared.outcomes.DeliveryTexts.{DeliveryTexts}
@@ -114,10 +117,10 @@ outcomes_in (entry ∷ entries) = do
   rest ← outcomes_in entries
   Ok (first ∷ rest)
 
--- JSON, then the members, then their values: the serial, the attempt and the outcomes
-unfoldable pub read_outcome : List ℕ → Result (ℕ × ℕ × List Outcome) Refusal
-read_outcome bytes = do
+-- JSON, then the members, then their values
+unfoldable pub read_report : List ℕ → Result AttemptReport Refusal
+read_report bytes = do
   d ← or_refuse BadJson (json_of bytes)
   report ← report_of d
   outcomes ← outcomes_in report.outcomes
-  Ok (report.serial, report.attempt, outcomes)
+  Ok (record { serial = report.serial; attempt = report.attempt; outcomes = outcomes })

@@ -1,5 +1,6 @@
 -- The members of a JSON body. JSON is what `serde_json` reads as its `Value`.
-use Rattle.std.specs.Prelude.{ℕ, List, [], ◌∷◌, ◌&&◌, Bool, true, false, Option, Some, None, if◌then◌else◌, option_map, option_and_then, bytes_eq}
+use Rattle.std.specs.Prelude.{ℕ, List, [], ◌∷◌, ◌&&◌, Bool, true, false, Option, Some, None}
+use Rattle.std.specs.Prelude.{if◌then◌else◌, option_map, option_and_then, bytes_eq}
 use Rattle.std.specs.Str.{is_utf8}
 use Rattle.std.specs.List.{list_any}
 use Rattle.serde_json.specs.Data.{Data, Items, no_items, item, Members, no_members, member}
@@ -30,7 +31,8 @@ within low high n = if is_within low high n then Some n else None
 
 -- a member that is a number of digits alone, in a range
 abbrev pub number_at : List ℕ → ℕ → ℕ → Data → Option ℕ
-number_at k low high d = option_and_then (within low high) (option_and_then as_u64 (option_and_then as_number (get k d)))
+number_at k low high d =
+    option_and_then (within low high) (option_and_then as_u64 (option_and_then as_number (get k d)))
 
 -- the texts of a list that has texts alone
 abbrev pub texts_of : Items → Option (List (List ℕ))

@@ -1,6 +1,8 @@
--- The bodies that speak of lines of an access table: of a pattern {"class", "pattern"}, of a line {"class", "pattern",
--- "action"}, of an address to look up {"class", "address"}, and of a file of lines {"label", "csv"}.
-use Rattle.std.specs.Prelude.{ℕ, List, [], ◌∷◌, codes, bytes_eq, Option, Some, None, option_and_then, Result, Ok, if◌then◌else◌}
+-- The bodies that speak of lines of an access table: of a pattern {"class", "pattern"}, of a line
+-- {"class", "pattern", "action"}, of an address to look up {"class", "address"}, and of a file of
+-- lines {"label", "csv"}.
+use Rattle.std.specs.Prelude.{ℕ, List, [], ◌∷◌, codes, bytes_eq, Option, Some, None}
+use Rattle.std.specs.Prelude.{option_and_then, Result, Ok, if◌then◌else◌}
 use Rattle.serde_json.specs.Data.{Data}
 use Rattle.serde_json.specs.Find.{as_object}
 use Rattle.hq_base.specs.Readers.{◌>>=◌, guard, or_refuse, seen_by}
@@ -20,7 +22,8 @@ use Rattle.hq_bodies.specs.Reading.{json_of, has_only_members, text_at}
 
 -- the class of a name
 abbrev pub class_in : List ℕ → Option Class
-class_in name = if bytes_eq name (class_name SenderSide) then Some SenderSide else if bytes_eq name (class_name RecipientSide) then Some RecipientSide else None
+class_in name = if bytes_eq name (class_name SenderSide) then Some SenderSide else
+    if bytes_eq name (class_name RecipientSide) then Some RecipientSide else None
 
 -- a member that is the name of a class
 abbrev pub class_at : Data → Option Class
@@ -31,7 +34,8 @@ abbrev pub party_in : Class → List ℕ → Result Sender Refusal
 party_in SenderSide text = sender_in text
 party_in RecipientSide text = seen_by (λ address. From address) (address_in text)
 
--- each reading: JSON, then every member of its kind and no other, then the values in the order of the members
+-- each reading: JSON, then every member of its kind and no other, then the values in the order of
+-- the members
 unfoldable pub read_pattern : List ℕ → Result (Class × List ℕ) Refusal
 read_pattern bytes = do
   d ← or_refuse BadJson (json_of bytes)
@@ -43,7 +47,8 @@ read_pattern bytes = do
 unfoldable pub read_line : List ℕ → Result Line Refusal
 read_line bytes = do
   d ← or_refuse BadJson (json_of bytes)
-  known ← guard (has_only_members (codes "class" ∷ codes "pattern" ∷ codes "action" ∷ []) (as_object d)) BadField
+  known ← guard (has_only_members (codes "class" ∷ codes "pattern" ∷ codes "action" ∷ [])
+      (as_object d)) BadField
   class ← or_refuse BadField (class_at d)
   pattern ← or_refuse BadField (text_at (codes "pattern") d)
   action ← or_refuse BadField (text_at (codes "action") d)

@@ -8,6 +8,7 @@ ghost use Rattle.hq_bodies.specs.Reading.{within, text_at};
 ghost use Rattle.hq_bodies.specs.Outcomes as bodies;
 
 use crate::reading::{has_only_members, json_value, text_member};
+use hq_calls::AttemptReport;
 use hq_envelope::{Address, Fail, Items, Refusal, Serial, Text};
 use hq_queue::{Attempt, Delivery, Outcome, Status};
 use serde_json::Value;
@@ -253,12 +254,16 @@ fn outcomes_from(alloc: Global, entries: &[OutcomeTexts<'_>]) -> Result<Vec<Outc
 /// unknown, of the wrong kind or out of range; then, outcome by outcome, 20 for the recipient, 26
 /// for the status, which is of the class 4 where the recipient is deferred and 5 where it failed,
 /// and 28 for the text. Of a recipient that was delivered neither status nor text is looked at.
-#[tactic(auto, unfolding(crate::specs::Outcomes::read_outcome))]
-pub fn read_outcome(alloc: Global, body: &[u8]) -> Result<(Serial, Attempt, Items<Outcome>), Fail>
-    ensures { Reads result (bodies.read_outcome body.now) }
+#[tactic(auto, unfolding(crate::specs::Outcomes::read_report))]
+pub fn read_report(alloc: Global, body: &[u8]) -> Result<AttemptReport, Fail>
+    ensures { Reads result (bodies.read_report body.now) }
 {
     let value = json_value(alloc, body)?;
     let report = report_of(alloc, &value)?;
     let outcomes = outcomes_from(alloc, report.outcomes.as_slice())?;
-    Ok((report.serial, report.attempt, Items::from_vec(outcomes)))
+    Ok(AttemptReport {
+        serial: report.serial,
+        attempt: report.attempt,
+        outcomes: Items::from_vec(outcomes),
+    })
 }

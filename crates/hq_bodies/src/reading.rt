@@ -1,12 +1,14 @@
 //! The members of a JSON body.
 
-ghost use Rattle.std.specs.Prelude.{◌≡◌, ◌≤◌, List, ℕ, IfOk, length, bytes_eq, option_map, option_and_then, map as map_list, string_bytes};
+ghost use Rattle.std.specs.Prelude.{◌≡◌, ◌≤◌, List, ℕ, IfOk, length, bytes_eq, option_map};
+ghost use Rattle.std.specs.Prelude.{option_and_then, map as map_list, string_bytes};
 ghost use Rattle.std.specs.List.{list_any};
 ghost use Rattle.serde_json.specs.Find.{as_object};
 ghost use Rattle.serde_json.specs.View.{view, members_view, items_view};
 ghost use Rattle.hq_base.specs.declared.failure.Refusal.TheVariants.{BadJson, BadField};
 ghost use Rattle.hq_base.specs.Readers.{Reads, seen_by, or_refuse};
-ghost use Rattle.hq_bodies.specs.Reading.{json_of, has_only, has_only_members, text_at, number_at, texts_of, texts_at};
+ghost use Rattle.hq_bodies.specs.Reading.{json_of, has_only, has_only_members, text_at, number_at};
+ghost use Rattle.hq_bodies.specs.Reading.{texts_of, texts_at};
 
 use hq_envelope::{Fail, Fault, Refusal};
 use serde_json::{Map, Value};

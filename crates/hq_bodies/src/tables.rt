@@ -4,7 +4,8 @@ ghost use Rattle.std.specs.Prelude.{◌≡◌, IfOk};
 ghost use Rattle.serde_json.specs.View.{view};
 ghost use Rattle.hq_base.specs.Readers.{Reads, or_refuse};
 ghost use Rattle.hq_base.specs.declared.failure.Refusal.TheVariants.{BadField};
-ghost use Rattle.hq_bodies.specs.Tables.{class_in, class_at, party_in, read_pattern, read_line, read_check, read_import};
+ghost use Rattle.hq_bodies.specs.Tables.{class_in, class_at, party_in, read_pattern, read_line};
+ghost use Rattle.hq_bodies.specs.Tables.{read_check, read_import};
 
 use crate::reading::{has_only_members, json_value, text_member};
 use hq_access::{Action, Class, Line, Pattern};

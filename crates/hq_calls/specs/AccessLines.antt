@@ -1,5 +1,7 @@
--- What the desk answers and changes on the lines of a customer's access tables, and what it finds in them.
-use Rattle.std.specs.Prelude.{ℕ, Bool, nat_le, nat_lt, List, [], ◌∷◌, length, take, if◌then◌else◌, Option, None, Some, option_map}
+-- What the desk answers and changes on the lines of a customer's access tables, and what it finds
+-- in them.
+use Rattle.std.specs.Prelude.{ℕ, Bool, nat_le, nat_lt, List, [], ◌∷◌, length, take, if◌then◌else◌}
+use Rattle.std.specs.Prelude.{Option, None, Some, option_map}
 use Rattle.std.specs.Str.{bytes_eq}
 use Rattle.hq_base.specs.declared.failure.Refusal.TheVariants.{NoLine, QuotaLines}
 use Rattle.hq_envelope.specs.declared.address.Sender.{Sender}
@@ -42,7 +44,8 @@ set done line = record { answer = answer.LinePut done; changes = PutLine line �
 
 -- a line whose pattern has a line already, with that one's action
 abbrev pub put_over : Action → Line → Decision
-put_over known line = if same_action known line.action then tell (answer.LinePut Same) else set Changed line
+put_over known line = if same_action known line.action then tell (answer.LinePut Same) else
+    set Changed line
 
 -- a line of a new pattern: refused where the customer has as many lines as its quota
 abbrev pub put_new : ℕ → ℕ → Line → Decision
@@ -54,7 +57,11 @@ put_line quota count line None = put_new quota count line
 
 abbrev pub drop_line : Class × List ℕ → Option Action → Decision
 drop_line pattern None = refuse NoLine
-drop_line pattern (Some action) = record { answer = answer.LineDropped; changes = DropLine pattern ∷ [] }
+drop_line pattern (Some action) = record {
+  answer = answer.LineDropped;
+  changes = DropLine pattern
+      ∷ [];
+}
 
 -- the keys of an address, and what is found for it
 abbrev pub check : Readings → Class → Sender → Decision

@@ -1,5 +1,6 @@
--- What the desk answers to each kind of call, and what it changes: by what can be read of the customer.
--- A decision reads and writes nothing. Refusals come in the order in which they are tested here.
+-- What the desk answers to each kind of call, and what it changes: by what can be read of the
+-- customer. A decision reads and writes nothing. Refusals come in the order in which they are
+-- tested here.
 use Rattle.std.specs.Prelude.{ℕ, List, filter}
 use Rattle.hq_queue.specs.Moves.{is_due}
 use Rattle.hq_queue.specs.declared.account.Entry.{Entry}
@@ -18,25 +19,34 @@ use Rattle.hq_calls.specs.declared.decision.Decision.{Decision}
 use Rattle.hq_calls.specs.declared.call.Move.TheVariants as move
 
 unfoldable pub decide : List ℕ → Entry → Readings → ℕ → Call → Decision
-decide host entry readings at (call.Submit sub) = submit entry readings at sub (readings.by_spool sub.spool)
+decide host entry readings at (call.Submit sub) =
+    submit entry readings at sub (readings.by_spool sub.spool)
 decide host entry readings at (call.List after) = page (after_serial after readings.messages)
 decide host entry readings at (call.Show serial) = show (readings.message serial)
 decide host entry readings at (call.Hold serial) = hold (readings.message serial)
 decide host entry readings at (call.Release serial) = release at (readings.message serial)
-decide host entry readings at (call.Requeue serial) = requeue readings.head at (readings.message serial)
+decide host entry readings at (call.Requeue serial) =
+    requeue readings.head at (readings.message serial)
 decide host entry readings at (call.Delete serial) = delete readings.head (readings.message serial)
 decide host entry readings at call.HoldAll = move_all move.Hold readings.messages
 decide host entry readings at call.ReleaseAll = move_all (move.Release at) readings.messages
 decide host entry readings at call.DeleteAll = delete_all readings.head readings.messages
 decide host entry readings at (call.Lines after) = line_page (after_pattern after readings.lines)
-decide host entry readings at (call.PutLine line) = put_line entry.quota.lines readings.counts.lines line (readings.line line.pattern.0 line.pattern.1)
-decide host entry readings at (call.DropLine pattern) = drop_line pattern (readings.line pattern.0 pattern.1)
+decide host entry readings at (call.PutLine line) =
+    put_line entry.quota.lines readings.counts.lines line
+    (readings.line line.pattern.0 line.pattern.1)
+decide host entry readings at (call.DropLine pattern) =
+    drop_line pattern (readings.line pattern.0 pattern.1)
 decide host entry readings at (call.Check class who) = check readings class who
-decide host entry readings at (call.Import label file) = import entry.quota.lines readings label file (readings.mark label)
-decide host entry readings at (call.Outcome report) = outcome host entry at readings.head report (readings.message report.serial)
-decide host entry readings at (call.Due after) = due_page (filter (is_due at) (after_serial after readings.messages))
+decide host entry readings at (call.Import label file) =
+    import entry.quota.lines readings label file (readings.mark label)
+decide host entry readings at (call.Outcome report) =
+    outcome host entry at readings.head report (readings.message report.serial)
+decide host entry readings at (call.Due after) =
+    due_page (filter (is_due at) (after_serial after readings.messages))
 decide host entry readings at call.Sweep = sweep host entry at readings.head readings.messages
-decide host entry readings at (call.Notices after) = notice_page (after_number after readings.notices)
+decide host entry readings at (call.Notices after) =
+    notice_page (after_number after readings.notices)
 decide host entry readings at (call.Notice number) = show_notice (readings.notice number)
 decide host entry readings at call.Usage = usage readings.head readings.counts readings.messages
 decide host entry readings at call.Report = report readings.messages

@@ -1,6 +1,7 @@
--- What the desk answers and changes on an import of lines of the access tables: a file is taken once for its label, whole or
--- not at all. It is this product's own.
-use Rattle.std.specs.Prelude.{ℕ, ◌+◌, Bool, true, false, nat_lt, List, [], ◌∷◌, ◌++◌, map, if◌then◌else◌, Option, None, Some, Result, Ok, Err}
+-- What the desk answers and changes on an import of lines of the access tables: a file is taken
+-- once for its label, whole or not at all. It is this product's own.
+use Rattle.std.specs.Prelude.{ℕ, ◌+◌, Bool, true, false, nat_lt, List, [], ◌∷◌, ◌++◌, map}
+use Rattle.std.specs.Prelude.{if◌then◌else◌, Option, None, Some, Result, Ok, Err}
 use Rattle.std.specs.List.{count_by, flat_map}
 use Rattle.std.specs.Str.{bytes_eq}
 use Rattle.sha2.specs.Sha256.{sha256}
@@ -48,10 +49,20 @@ abbrev pub how_many : LinePut → List (Line × LinePut) → ℕ
 how_many put rows = count_by (λ (row : Line × LinePut). is_put put row.1) rows
 
 abbrev pub counts_of : List (Line × LinePut) → ImportCounts
-counts_of rows = record { added = how_many Added rows; changed = how_many Changed rows; same = how_many Same rows }
+counts_of rows = record {
+  added = how_many Added rows;
+  changed = how_many Changed rows;
+  same = how_many Same rows;
+}
 
 abbrev pub mark_of : List ℕ → List ℕ → ImportCounts → Mark
-mark_of label digest counts = record { label = label; digest = digest; added = counts.added; changed = counts.changed; same = counts.same }
+mark_of label digest counts = record {
+  label = label;
+  digest = digest;
+  added = counts.added;
+  changed = counts.changed;
+  same = counts.same;
+}
 
 -- the lines that a row changes are set; then the mark is put
 abbrev pub set_by : Line × LinePut → List Change
@@ -59,27 +70,38 @@ set_by (line, Same) = []
 set_by (line, _) = PutLine line ∷ []
 
 abbrev pub changes_of : List ℕ → List ℕ → List (Line × LinePut) → List Change
-changes_of label digest rows = flat_map set_by rows ++ PutMark (mark_of label digest (counts_of rows)) ∷ []
+changes_of label digest rows = flat_map set_by rows
+    ++ PutMark (mark_of label digest (counts_of rows)) ∷ []
 
 -- ---- the import
 
 -- a label that was used: the same file again is told its counts, and any other is refused
 abbrev pub repeated : List ℕ → Mark → Decision
 repeated digest mark = if bytes_eq digest mark.digest
-    then tell (answer.Imported (record { added = mark.added; changed = mark.changed; same = mark.same }))
+    then tell (answer.Imported (record {
+      added = mark.added;
+      changed = mark.changed;
+      same = mark.same;
+    }))
     else refuse LabelUsed
 
 -- rows that are taken, where the customer then has as many lines as its quota or fewer
 abbrev pub taken : ℕ → ℕ → List ℕ → List ℕ → List (Line × LinePut) → Decision
-taken quota count label digest rows = if nat_lt quota (count + how_many Added rows) then refuse QuotaLines
-    else record { answer = answer.Imported (counts_of rows); changes = changes_of label digest rows }
+taken quota count label digest rows = if nat_lt quota (count + how_many Added rows) then
+    refuse QuotaLines
+    else record {
+      answer = answer.Imported (counts_of rows);
+      changes = changes_of label digest rows;
+    }
 
 -- a label that is new: the first bad row of the file is refused before the quota is looked at
 abbrev pub first_import : ℕ → Readings → List ℕ → List ℕ → Result (List Line) Refusal → Decision
 first_import quota readings label digest (Err refusal) = refuse refusal
-first_import quota readings label digest (Ok lines) = taken quota readings.counts.lines label digest (map (met readings) lines)
+first_import quota readings label digest (Ok lines) =
+    taken quota readings.counts.lines label digest (map (met readings) lines)
 
 -- two files of one SHA-256 digest count as one
 abbrev pub import : ℕ → Readings → List ℕ → List ℕ → Option Mark → Decision
 import quota readings label file (Some mark) = repeated (sha256 file) mark
-import quota readings label file None = first_import quota readings label (sha256 file) (lines_in file)
+import quota readings label file None =
+    first_import quota readings label (sha256 file) (lines_in file)

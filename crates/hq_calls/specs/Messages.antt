@@ -1,5 +1,7 @@
--- What the desk answers and changes on one message, as it was found (postsuper(1)), and on a page of messages.
-use Rattle.std.specs.Prelude.{ℕ, ◌+◌, ◌==◌, if◌then◌else◌, nat_lt, List, [], ◌∷◌, length, take, Option, None, Some}
+-- What the desk answers and changes on one message, as it was found (postsuper(1)), and on a page
+-- of messages.
+use Rattle.std.specs.Prelude.{ℕ, ◌+◌, ◌==◌, if◌then◌else◌, nat_lt, List, [], ◌∷◌, length, take}
+use Rattle.std.specs.Prelude.{Option, None, Some}
 use Rattle.hq_base.specs.declared.failure.Refusal.TheVariants.{NoMessage, SerialsSpent}
 use Rattle.hq_envelope.specs.Words.{customer_hold}
 use Rattle.hq_queue.specs.Admission.{spent}
@@ -37,7 +39,8 @@ next_head head = record head { next_serial = head.next_serial + 1 }
 abbrev pub requeue_with : Head → ℕ → Message → Decision
 requeue_with head at m = if head.next_serial == spent then refuse SerialsSpent else record {
   answer = answer.Requeued head.next_serial;
-  changes = DropMessage m.serial ∷ PutHead (next_head head) ∷ PutMessage (requeued at head.next_serial m) ∷ [];
+  changes = DropMessage m.serial ∷ PutHead (next_head head)
+      ∷ PutMessage (requeued at head.next_serial m) ∷ [];
 }
 
 abbrev pub requeue : Head → ℕ → Option Message → Decision
@@ -46,11 +49,17 @@ requeue head at (Some m) = requeue_with head at m
 
 -- the tally after so many recipients were deleted
 abbrev pub with_deleted : ℕ → Head → Head
-with_deleted count head = record head { tally = record head.tally { deleted = saturated (head.tally.deleted + count) } }
+with_deleted count head = record head {
+  tally = record head.tally { deleted = saturated (head.tally.deleted + count) };
+}
 
 abbrev pub delete : Head → Option Message → Decision
 delete head None = refuse NoMessage
-delete head (Some m) = record { answer = answer.Changed 1; changes = DropMessage m.serial ∷ PutHead (with_deleted (length m.pending) head) ∷ [] }
+delete head (Some m) = record {
+  answer = answer.Changed 1;
+  changes = DropMessage m.serial
+      ∷ PutHead (with_deleted (length m.pending) head) ∷ [];
+}
 
 -- the first hundred, and whether there are more
 abbrev pub page : List Message → Decision

@@ -1,5 +1,7 @@
--- Notices that calls make (bounce(5)): to whom, of what, under which numbers, and which of all are kept. And notices told.
-use Rattle.std.specs.Prelude.{ℕ, suc, ◌+◌, ◌-◌, nat_lt, List, [], ◌∷◌, ◌++◌, length, take, if◌then◌else◌, Option, None, Some}
+-- Notices that calls make (bounce(5)): to whom, of what, under which numbers, and which of all are
+-- kept. And notices told.
+use Rattle.std.specs.Prelude.{ℕ, suc, ◌+◌, ◌-◌, nat_lt, List, [], ◌∷◌, ◌++◌, length, take}
+use Rattle.std.specs.Prelude.{if◌then◌else◌, Option, None, Some}
 use Rattle.hq_base.specs.declared.failure.Refusal.TheVariants.{NoNotice, NoticesSpent}
 use Rattle.hq_envelope.specs.declared.address.Sender.{Sender}
 use Rattle.hq_envelope.specs.declared.address.Sender.TheVariants.{Null, From}
@@ -47,7 +49,8 @@ noticed host at number d = record {
 -- added in order, under the numbers from this one on
 abbrev pub added_from : List ℕ → ℕ → ℕ → List Draft → List Change
 added_from host at number [] = []
-added_from host at number (d ∷ ds) = AddNotice (noticed host at number d) ∷ added_from host at (suc number) ds
+added_from host at number (d ∷ ds) = AddNotice (noticed host at number d)
+    ∷ added_from host at (suc number) ds
 
 -- where notices are added, the newest so many are kept of all; `next` is the number after the last
 abbrev pub kept_below : ℕ → ℕ → List Draft → List Change
@@ -63,10 +66,12 @@ with_notices count head = record head { next_notice = head.next_notice + count }
 abbrev pub planned : List ℕ → Entry → ℕ → Plan → List Change
 planned host entry at plan =
     let head = with_notices (length plan.drafts) plan.head in
-    plan.changes ++ PutHead head ∷ (added_from host at plan.head.next_notice plan.drafts ++ kept_below entry.quota.notices head.next_notice plan.drafts)
+    plan.changes ++ PutHead head ∷ (added_from host at plan.head.next_notice plan.drafts
+    ++ kept_below entry.quota.notices head.next_notice plan.drafts)
 
 abbrev pub carried_out : List ℕ → Entry → ℕ → Plan → Decision
-carried_out host entry at plan = if nat_lt spent (plan.head.next_notice + length plan.drafts) then refuse NoticesSpent else
+carried_out host entry at plan = if nat_lt spent (plan.head.next_notice + length plan.drafts) then
+    refuse NoticesSpent else
     record { answer = plan.answer; changes = planned host entry at plan }
 
 -- ---- notices told

@@ -1,5 +1,7 @@
--- What the desk answers and changes on the report of a delivery attempt; and which messages may be tried (qmgr(8)).
-use Rattle.std.specs.Prelude.{ℕ, ◌+◌, nat_lt, List, [], ◌∷◌, length, take, Option, None, Some, Result, Ok, Err}
+-- What the desk answers and changes on the report of a delivery attempt; and which messages may be
+-- tried (qmgr(8)).
+use Rattle.std.specs.Prelude.{ℕ, ◌+◌, nat_lt, List, [], ◌∷◌, length, take, Option, None, Some}
+use Rattle.std.specs.Prelude.{Result, Ok, Err}
 use Rattle.hq_base.specs.declared.failure.Refusal.{Refusal}
 use Rattle.hq_base.specs.declared.failure.Refusal.TheVariants.{NoMessage}
 use Rattle.hq_queue.specs.Attempts.{reported}
@@ -30,26 +32,41 @@ put_or_dropped m (p ∷ ps) = PutMessage m
 
 -- the tally after so many recipients were delivered, and so many failed
 abbrev pub with_attempted : ℕ → ℕ → Head → Head
-with_attempted delivered failed head = record head { tally = record head.tally { delivered = saturated (head.tally.delivered + delivered); failed = saturated (head.tally.failed + failed) } }
+with_attempted delivered failed head = record head {
+  tally =
+      record head.tally {
+        delivered = saturated (head.tally.delivered + delivered);
+        failed = saturated (head.tally.failed + failed);
+      };
+}
 
--- what is answered and changed where the message is `m` after the attempt; the sender is told of those who failed
+-- what is answered and changed where the message is `m` after the attempt; the sender is told of
+-- those who failed
 abbrev pub attempted : Head → Message → ℕ → ℕ → List Told → Plan
 attempted head m delivered deferred failed = record {
-  answer = answer.Attempted (record { deferred = deferred; delivered = delivered; failed = length failed; left = length m.pending });
+  answer = answer.Attempted (record {
+    deferred = deferred;
+    delivered = delivered;
+    failed = length failed;
+    left = length m.pending;
+  });
   changes = put_or_dropped m m.pending ∷ [];
   head = with_attempted delivered (length failed) head;
   drafts = drafted m Failure failed;
 }
 
 -- `m` is the message before the attempt
-abbrev pub outcome_with : List ℕ → Entry → ℕ → Head → Message → Result (Reported × Message) Refusal → Decision
+abbrev pub outcome_with : List ℕ → Entry → ℕ → Head → Message → Result (Reported × Message) Refusal
+    → Decision
 outcome_with host entry at head m (Err refusal) = refuse refusal
 outcome_with host entry at head m (Ok (Repeat, after)) = tell (answer.AttemptRepeated m.attempts)
-outcome_with host entry at head m (Ok (Done delivered deferred failed, after)) = carried_out host entry at (attempted head after delivered deferred failed)
+outcome_with host entry at head m (Ok (Done delivered deferred failed, after)) =
+    carried_out host entry at (attempted head after delivered deferred failed)
 
 abbrev pub outcome : List ℕ → Entry → ℕ → Head → AttemptReport → Option Message → Decision
 outcome host entry at head report None = refuse NoMessage
-outcome host entry at head report (Some m) = outcome_with host entry at head m (reported m at report.attempt report.outcomes)
+outcome host entry at head report (Some m) =
+    outcome_with host entry at head m (reported m at report.attempt report.outcomes)
 
 -- ---- what may be tried
 

@@ -1,6 +1,7 @@
--- What the desk answers and changes on all messages of a customer (postsuper(1), `ALL`), what it tells of its use, and the
--- queue report (postqueue(1), -p).
-use Rattle.std.specs.Prelude.{◌≡◌, ◌+◌, ◌==◌, List, [], ◌∷◌, ◌++◌, map, length, if◌then◌else◌, Option, None, Some}
+-- What the desk answers and changes on all messages of a customer (postsuper(1), `ALL`), what it
+-- tells of its use, and the queue report (postqueue(1), -p).
+use Rattle.std.specs.Prelude.{◌≡◌, ◌+◌, ◌==◌, List, [], ◌∷◌, ◌++◌, map, length, if◌then◌else◌}
+use Rattle.std.specs.Prelude.{Option, None, Some}
 use Rattle.std.specs.List.{flat_map}
 use Rattle.hq_envelope.specs.Words.{customer_hold}
 use Rattle.hq_queue.specs.Moves.{held, released}
@@ -36,7 +37,10 @@ moves_of move ms = flat_map (λ m. put (moved_by move m)) ms
 
 -- told is how many messages the move changes
 abbrev pub move_all : Move → List Message → Decision
-move_all move ms = record { answer = answer.Changed (length (moves_of move ms)); changes = moves_of move ms }
+move_all move ms = record {
+  answer = answer.Changed (length (moves_of move ms));
+  changes = moves_of move ms;
+}
 
 -- ---- the deletion of all
 
@@ -46,16 +50,25 @@ drop m = DropMessage m.serial
 -- where there is no message, nothing is changed
 abbrev pub delete_all : Head → List Message → Decision
 delete_all head ms = if length ms == 0 then tell (answer.Changed 0) else
-    record { answer = answer.Changed (length ms); changes = map drop ms ++ PutHead (with_deleted (pending_count ms) head) ∷ [] }
+    record {
+      answer = answer.Changed (length ms);
+      changes = map drop ms
+          ++ PutHead (with_deleted (pending_count ms) head) ∷ [];
+    }
 
 -- ---- what a customer has on the desk
 
 abbrev pub usage : Head → Counts → List Message → Decision
-usage head counts ms = tell (answer.Used (record { counts = counts; pending = pending_count ms; tally = head.tally }))
+usage head counts ms = tell (answer.Used (record {
+  counts = counts;
+  pending = pending_count ms;
+  tally = head.tally;
+}))
 
 -- each accepted recipient is pending, or what became of it is tallied
 abbrev pub AreTold : Head → List Message → Type 0
-AreTold head ms = head.tally.accepted ≡ pending_count ms + head.tally.delivered + head.tally.failed + head.tally.deleted + head.tally.expired
+AreTold head ms = head.tally.accepted ≡ pending_count ms + head.tally.delivered + head.tally.failed
+    + head.tally.deleted + head.tally.expired
 
 -- ---- the queue report
 

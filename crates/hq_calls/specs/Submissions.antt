@@ -1,5 +1,6 @@
 -- What the desk answers and changes on a submission.
-use Rattle.std.specs.Prelude.{ℕ, ◌+◌, false, not, List, [], ◌∷◌, length, map, filter, Option, None, Some, Result, Ok, Err}
+use Rattle.std.specs.Prelude.{ℕ, ◌+◌, false, not, List, [], ◌∷◌, length, map, filter, Option, None}
+use Rattle.std.specs.Prelude.{Some, Result, Ok, Err}
 use Rattle.hq_base.specs.declared.failure.Refusal.{Refusal}
 use Rattle.hq_envelope.specs.declared.address.Sender.{Sender}
 use Rattle.hq_envelope.specs.declared.address.Sender.TheVariants.{From}
@@ -38,7 +39,8 @@ with_action readings recipient = (recipient, action_for readings RecipientSide (
 
 -- the verdict on a submission whose recipients are these, by the customer's access tables
 abbrev pub judged : Readings → Sender → List (List ℕ) → Verdict
-judged readings sender recipients = verdict (action_for readings SenderSide sender) sender (map (with_action readings) recipients)
+judged readings sender recipients = verdict (action_for readings SenderSide sender) sender
+    (map (with_action readings) recipients)
 
 -- ---- a message taken in
 
@@ -77,24 +79,35 @@ new_message serial at sub addresses held = record {
 
 -- the head after a message of so many recipients was queued
 abbrev pub with_message : ℕ → Head → Head
-with_message count head = record head { next_serial = head.next_serial + 1; tally = record head.tally { accepted = saturated (head.tally.accepted + count) } }
+with_message count head = record head {
+  next_serial = head.next_serial + 1;
+  tally = record head.tally { accepted = saturated (head.tally.accepted + count) };
+}
 
 abbrev pub enqueued : Head → Message → List Refused → Decision
-enqueued head m refused = record { answer = answer.Queued m refused; changes = PutHead (with_message (length m.pending) head) ∷ PutMessage m ∷ [] }
+enqueued head m refused = record {
+  answer = answer.Queued m refused;
+  changes = PutHead (with_message (length m.pending) head) ∷ PutMessage m ∷ [];
+}
 
 -- ---- submit
 
-abbrev pub admit : Head → ℕ → Submission → List (List ℕ) → Option (List ℕ) → List Refused → Result ℕ Refusal → Decision
+abbrev pub admit : Head → ℕ → Submission → List (List ℕ) → Option (List ℕ) → List Refused →
+    Result ℕ Refusal → Decision
 admit head at sub addresses held refused (Err refusal) = refuse refusal
-admit head at sub addresses held refused (Ok serial) = enqueued head (new_message serial at sub addresses held) refused
+admit head at sub addresses held refused (Ok serial) =
+    enqueued head (new_message serial at sub addresses held) refused
 
 -- a rejected or discarded submission uses no serial
 abbrev pub settled : Head → ℕ → Submission → Result ℕ Refusal → Verdict → Decision
 settled head at sub serial (verdict.Rejected refused) = tell (answer.Rejected refused)
 settled head at sub serial (verdict.Discarded refused) = tell (answer.Discarded refused)
-settled head at sub serial (verdict.Queue kept refused redirect held) = admit head at sub (receivers kept redirect) held refused serial
+settled head at sub serial (verdict.Queue kept refused redirect held) =
+    admit head at sub (receivers kept redirect) held refused serial
 
 -- a spool name that is queued already is a repeat, whatever the access tables say
 abbrev pub submit : Entry → Readings → ℕ → Submission → Option Message → Decision
 submit entry readings at sub (Some m) = tell (answer.Repeated m.serial)
-submit entry readings at sub None = settled readings.head at sub (admitted readings.head entry.quota readings.counts sub.size) (judged readings sub.sender (distinct sub.recipients))
+submit entry readings at sub None =
+    settled readings.head at sub (admitted readings.head entry.quota readings.counts sub.size)
+    (judged readings sub.sender (distinct sub.recipients))

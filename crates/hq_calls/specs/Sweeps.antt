@@ -1,5 +1,7 @@
--- What the desk answers and changes on a sweep of one customer's queue: each message by itself, in order of serial.
-use Rattle.std.specs.Prelude.{ℕ, ◌+◌, ◌==◌, Bool, true, false, List, [], ◌∷◌, map, length, if◌then◌else◌, ◌&&◌, Option, unwrap_or}
+-- What the desk answers and changes on a sweep of one customer's queue: each message by itself, in
+-- order of serial.
+use Rattle.std.specs.Prelude.{ℕ, ◌+◌, ◌==◌, Bool, true, false, List, [], ◌∷◌, map, length}
+use Rattle.std.specs.Prelude.{if◌then◌else◌, ◌&&◌, Option, unwrap_or}
 use Rattle.std.specs.List.{sum_by, count_by, flat_map}
 use Rattle.hq_queue.specs.Statuses.{unknown_status, expired_status}
 use Rattle.hq_queue.specs.Sweeps.{swept, after_sweep}
@@ -67,11 +69,17 @@ how_many made rows = count_by (λ (row : Message × Swept). is_made made row.1) 
 
 -- the tally after so many recipients were given up
 abbrev pub with_expired : ℕ → Head → Head
-with_expired count head = record head { tally = record head.tally { expired = saturated (head.tally.expired + count) } }
+with_expired count head = record head {
+  tally = record head.tally { expired = saturated (head.tally.expired + count) };
+}
 
 abbrev pub swept_all : Head → List (Message × Swept) → ℕ → ℕ → Plan
 swept_all head rows expired warned = record {
-  answer = answer.Swept (record { expired = expired; notices = length (flat_map told_by rows); warned = warned });
+  answer = answer.Swept (record {
+    expired = expired;
+    notices = length (flat_map told_by rows);
+    warned = warned;
+  });
   changes = flat_map changed_by rows;
   head = with_expired (sum_by given_up rows) head;
   drafts = flat_map told_by rows;
@@ -83,11 +91,13 @@ is_none_changed expired warned = expired == 0 && warned == 0
 -- where no message is changed, nothing is
 abbrev pub sweep_with : List ℕ → Entry → ℕ → Head → List (Message × Swept) → ℕ → ℕ → Decision
 sweep_with host entry at head rows expired warned =
-    if is_none_changed expired warned then tell (answer.Swept (record { expired = 0; notices = 0; warned = 0 })) else
+    if is_none_changed expired warned then tell (answer.Swept
+    (record { expired = 0; notices = 0; warned = 0 })) else
     carried_out host entry at (swept_all head rows expired warned)
 
 abbrev pub sweep_rows : List ℕ → Entry → ℕ → Head → List (Message × Swept) → Decision
-sweep_rows host entry at head rows = sweep_with host entry at head rows (how_many Expired rows) (how_many Warned rows)
+sweep_rows host entry at head rows = sweep_with host entry at head rows (how_many Expired rows)
+    (how_many Warned rows)
 
 abbrev pub sweep : List ℕ → Entry → ℕ → Head → List Message → Decision
 sweep host entry at head ms = sweep_rows host entry at head (map (met at entry.delay) ms)

@@ -1,5 +1,5 @@
-//! The calls of the desk and what is answered to them: their types, their definitions, the machine of
-//! one customer, and the laws that hold one customer's records apart from all others'. What is
+//! The calls of the desk and what is answered to them: their types, their definitions, the machine
+//! of one customer, and the laws that hold one customer's records apart from all others'. What is
 //! decided is for the crates above; nothing is read or written here.
 #![tactic(auto)]
 

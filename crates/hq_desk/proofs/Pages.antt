@@ -16,17 +16,30 @@ more_is : (l n : ℕ) → nat_lt l (min (l + 1) n) ≡ nat_lt l n
 more_is l n = grind (arith, nat_tests)
 
 -- the first l, and whether one follows
-page_is : {X A : Type 0} (f : List X → Bool → A) (l : ℕ) (xs ys : List X) → ys ≡ take (l + 1) xs → f (take l ys) (nat_lt l (length ys)) ≡ f (take l xs) (nat_lt l (length xs))
+page_is : {X A : Type 0} (f : List X → Bool → A) (l : ℕ) (xs ys : List X) → ys ≡ take (l + 1) xs →
+    f (take l ys) (nat_lt l (length ys)) ≡ f (take l xs) (nat_lt l (length xs))
 page_is f l xs ys e =
     ap (λ zs. f (take l zs) (nat_lt l (length zs))) e
-    ∙ (λ i. f (take-take l (l + 1) xs (omega arith) i) ((ap (nat_lt l) (length-take (l + 1) xs) ∙ more_is l (length xs)) i))
+    ∙ (λ i. f (take-take l (l + 1) xs (omega arith) i)
+    ((ap (nat_lt l) (length-take (l + 1) xs) ∙ more_is l (length xs)) i))
 
 -- the page of all is that of the first hundred and one
 pub page_of_more : (ms found : List Message) → found ≡ take 101 ms → page found ≡ page ms
-page_of_more ms found e = page_is (λ shown more. record { answer = answer.Listed shown more; changes = [] }) 100 ms found e
+page_of_more ms found e = page_is (λ shown more. record {
+  answer = answer.Listed shown more;
+  changes = [];
+}) 100 ms found e
 
-pub line_page_of_more : (ls found : List Line) → found ≡ take 101 ls → line_page found ≡ line_page ls
-line_page_of_more ls found e = page_is (λ shown more. record { answer = answer.LinesListed shown more; changes = [] }) 100 ls found e
+pub line_page_of_more : (ls found : List Line) → found ≡ take 101 ls →
+    line_page found ≡ line_page ls
+line_page_of_more ls found e = page_is (λ shown more. record {
+  answer = answer.LinesListed shown more;
+  changes = [];
+}) 100 ls found e
 
-pub notice_page_of_more : (ns found : List Notice) → found ≡ take 101 ns → notice_page found ≡ notice_page ns
-notice_page_of_more ns found e = page_is (λ shown more. record { answer = answer.NoticesListed shown more; changes = [] }) 100 ns found e
+pub notice_page_of_more : (ns found : List Notice) → found ≡ take 101 ns →
+    notice_page found ≡ notice_page ns
+notice_page_of_more ns found e = page_is (λ shown more. record {
+  answer = answer.NoticesListed shown more;
+  changes = [];
+}) 100 ns found e

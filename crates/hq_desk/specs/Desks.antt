@@ -21,9 +21,13 @@ host_of desk = desk.host
 
 -- what is seen of a shelf, by a call that may want memory whichever the shelf
 abbrev pub with_memory : {S : Type 0} → Sight S → Sight S
-with_memory sight = record sight { may_answer = λ fault. (fault ≡ no_memory) ⊎ sight.may_answer fault }
+with_memory sight = record sight {
+  may_answer = λ fault. (fault ≡ no_memory)
+      ⊎ sight.may_answer fault;
+}
 
--- What is seen of a desk: what is seen of its shelf; but its calls may want memory, whichever the shelf.
+-- What is seen of a desk: what is seen of its shelf; but its calls may want memory, whichever the
+-- shelf.
 abbrev pub on : {S : Type 0} → Sight S → Sight (Desk S)
 on sight = record {
   tables = λ desk. sight.tables (shelf_of desk);
@@ -37,7 +41,8 @@ on sight = record {
 -- What calls keep of a desk, whatever they answered. `sight` is what is seen of it.
 pub record Stays {S : Type 0} (sight : Sight (Desk S)) (old new : Desk S) : Type 0 where
   -- the rows stay those of the tables; after Closed nothing is said of them
-  pub ours : sight.is_clean new → sight.is_ours old → sight.is_closed new ≡ false → sight.is_ours new
+  pub ours : sight.is_clean new → sight.is_ours old → sight.is_closed new ≡ false →
+      sight.is_ours new
   -- what is clean now was clean
   pub quiet : sight.is_clean new → sight.is_clean old
   -- what is open now was open
@@ -50,4 +55,5 @@ stepped sight desk entry at call = shared (host_of desk) entry (sight.tables des
 
 -- an answer with its number and its one text
 abbrev pub IsRendered : (Answer → List ℕ) → Answer → Rendered → Type 0
-IsRendered text answer rendered = (rendered.number ≡ answer_number answer) × (rendered.bytes.items ≡ text answer)
+IsRendered text answer rendered = (rendered.number ≡ answer_number answer)
+    × (rendered.bytes.items ≡ text answer)

@@ -3,7 +3,8 @@
 
 ghost use Rattle.std.specs.Prelude.{◌≡◌, IfOk, OnOk, option_map};
 ghost use Rattle.hq_store.specs.Readings.{after_number, after_pattern, after_serial};
-ghost use Rattle.hq_store.specs.Shelves.{Finds, FindsSound, Keeps, KeepsOnErr, OnSound, OnOpenSound};
+ghost use Rattle.hq_store.specs.Shelves.{Finds, FindsSound, Keeps, KeepsOnErr, OnSound};
+ghost use Rattle.hq_store.specs.Shelves.{OnOpenSound};
 ghost use Rattle.hq_store.specs.Sound.{Sound};
 ghost use Rattle.hq_calls.specs.AccessLines as lines;
 ghost use Rattle.hq_calls.specs.Decision as rules;

@@ -15,7 +15,8 @@ same_itself a = (eq_by_cmp_equiv nat_list_cmp_total).refl (folded a)
 
 -- an answer that holds exactly where the folded texts are equal is that of the test
 pub same_is : (r : Bool) (a b : List ℕ) → (IsTrue r ↔ (folded a ≡ folded b)) → r ≡ same_address a b
-same_is true a b h = sym (ap (λ x. eq_by_cmp (slice_cmp nat_cmp) (folded a) x) (sym (h.0 refl)) ∙ same_itself a)
+same_is true a b h = sym (ap (λ x. eq_by_cmp (slice_cmp nat_cmp) (folded a) x) (sym (h.0 refl))
+    ∙ same_itself a)
 same_is false a b h = cases (same_address a b) refl where
   cases : (s : Bool) → same_address a b ≡ s → false ≡ s
   cases true e = absurd (false≢true (h.1 (tells_apart exact_bytes (folded a) (folded b) e)))

@@ -1,5 +1,7 @@
--- The syntax of mail addresses, by their bytes (RFC 5321, 4.1.2; without quoted local parts and domain literals).
-use Rattle.std.specs.Prelude.{ℕ, Bool, false, ◌&&◌, ◌||◌, not, ◌==◌, nat_lt, nat_le, List, [], ◌∷◌, length, map, if◌then◌else◌, Option, Some, None, Result}
+-- The syntax of mail addresses, by their bytes (RFC 5321, 4.1.2; without quoted local parts and
+-- domain literals).
+use Rattle.std.specs.Prelude.{ℕ, Bool, false, ◌&&◌, ◌||◌, not, ◌==◌, nat_lt, nat_le, List, [], ◌∷◌}
+use Rattle.std.specs.Prelude.{length, map, if◌then◌else◌, Option, Some, None, Result}
 use Rattle.std.specs.Option.{option_map_or}
 use Rattle.std.specs.Char.{to_ascii_lowercase}
 use Rattle.std.specs.Cmp.Lexicographic.{slice_cmp}
@@ -13,11 +15,13 @@ abbrev pub is_dot : ℕ → Bool
 is_dot b = b == 46
 
 abbrev pub is_letter_or_digit : ℕ → Bool
-is_letter_or_digit b = (nat_le 48 b && nat_le b 57) || (nat_le 65 b && nat_le b 90) || (nat_le 97 b && nat_le b 122)
+is_letter_or_digit b = (nat_le 48 b && nat_le b 57) || (nat_le 65 b && nat_le b 90)
+    || (nat_le 97 b && nat_le b 122)
 
 -- a byte of a local part is visible ASCII, and none of " \ < > ( ) , ; @
 abbrev pub is_local_byte : ℕ → Bool
-is_local_byte b = nat_le 33 b && nat_le b 126 && not (b == 34 || b == 92 || b == 60 || b == 62 || b == 40 || b == 41 || b == 44 || b == 59 || b == 64)
+is_local_byte b = nat_le 33 b && nat_le b 126 && not (b == 34 || b == 92 || b == 60 || b == 62
+    || b == 40 || b == 41 || b == 44 || b == 59 || b == 64)
 
 -- a byte of a label is a letter, a digit, '-' or '_'
 abbrev pub is_label_byte : ℕ → Bool
@@ -61,7 +65,8 @@ local_of bytes = option_map_or (λ parts. parts.0) (parts_of bytes) []
 abbrev pub domain_of : List ℕ → List ℕ
 domain_of bytes = option_map_or (λ parts. parts.1) (parts_of bytes) []
 
--- A to Z in lower case; two addresses are the same where their folded texts are equal (access(5) folds so)
+-- A to Z in lower case; two addresses are the same where their folded texts are equal (access(5)
+-- folds so)
 abbrev pub folded : List ℕ → List ℕ
 folded bytes = map to_ascii_lowercase bytes
 

@@ -1,9 +1,11 @@
 -- The rules of names, keys and texts, by their bytes. The limits are this product's own.
-use Rattle.std.specs.Prelude.{ℕ, Bool, ◌&&◌, ◌||◌, ◌==◌, nat_lt, nat_le, List, length, codes, Result}
+use Rattle.std.specs.Prelude.{ℕ, Bool, ◌&&◌, ◌||◌, ◌==◌, nat_lt, nat_le, List, length, codes}
+use Rattle.std.specs.Prelude.{Result}
 use Rattle.std.specs.List.{list_all}
 use Rattle.hq_base.specs.Readers.{checked}
 use Rattle.hq_base.specs.declared.failure.Refusal.{Refusal}
-use Rattle.hq_base.specs.declared.failure.Refusal.TheVariants.{BadField, BadSpool, BadLabel, BadText, BadHost}
+use Rattle.hq_base.specs.declared.failure.Refusal.TheVariants.{BadField, BadSpool, BadLabel}
+use Rattle.hq_base.specs.declared.failure.Refusal.TheVariants.{BadText, BadHost}
 use Rattle.hq_envelope.specs.Addresses.{is_letter_or_digit, is_domain}
 
 -- a letter, a digit, '.', '-' or '_'

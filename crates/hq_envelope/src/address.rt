@@ -1,7 +1,10 @@
 //! Mail addresses and senders: RFC 5321, 4.1.2, without quoted local parts and domain literals.
 
-ghost use Rattle.std.specs.Prelude.{◌≡◌, ◌↔◌, IsTrue, IfOk, MatchOption, Some, None, Ok, string_bytes};
-ghost use Rattle.hq_envelope.specs.Addresses.{is_local_byte, is_label_byte, is_local, is_domain_label, is_domain, is_address, address_in, parts_of, local_of, domain_of, folded, same_address};
+ghost use Rattle.std.specs.Prelude.{◌≡◌, ◌↔◌, IsTrue, IfOk, MatchOption, Some, None, Ok};
+ghost use Rattle.std.specs.Prelude.{string_bytes};
+ghost use Rattle.hq_envelope.specs.Addresses.{is_local_byte, is_label_byte, is_local};
+ghost use Rattle.hq_envelope.specs.Addresses.{is_domain_label, is_domain, is_address, address_in};
+ghost use Rattle.hq_envelope.specs.Addresses.{parts_of, local_of, domain_of, folded, same_address};
 ghost use Rattle.hq_base.specs.Readers.{Reads};
 ghost use Rattle.hq_envelope.specs.Senders.{sender_in, sender_text};
 

@@ -1,6 +1,7 @@
 //! The values that the outside names: addresses, names, keys and texts. Each text has one rule, and
-//! one reader that is exact; a text that the desk itself has written has none. Refusals, faults, queue IDs, moments and lists are those of `hq_base`,
-//! shown here too. What is done with these values is for the crates above.
+//! one reader that is exact; a text that the desk itself has written has none. Refusals, faults,
+//! queue IDs, moments and lists are those of `hq_base`, shown here too. What is done with these
+//! values is for the crates above.
 #![tactic(auto)]
 
 mod address;

@@ -1,5 +1,7 @@
--- What the fields of a request say of its body and its key (RFC 9112, section 6; the key is this product's own field).
-use Rattle.std.specs.Prelude.{ℕ, List, [], ◌∷◌, map, length, Bool, ◌==◌, nat_lt, if◌then◌else◌, Option, Some, None, option_map, codes, bytes_eq}
+-- What the fields of a request say of its body and its key (RFC 9112, section 6; the key is this
+-- product's own field).
+use Rattle.std.specs.Prelude.{ℕ, List, [], ◌∷◌, map, length, Bool, ◌==◌, nat_lt, if◌then◌else◌}
+use Rattle.std.specs.Prelude.{Option, Some, None, option_map, codes, bytes_eq}
 use Rattle.std.specs.Char.{to_ascii_lowercase}
 use Rattle.std.specs.List.{All, list_all}
 use Rattle.httparse.specs.Spans.{IsHeaderWithin, header_bytes}

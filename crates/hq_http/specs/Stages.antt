@@ -1,14 +1,16 @@
 -- How far a request has come.
-use Rattle.std.specs.Prelude.{◌≡◌, ◌≢◌, ◌⊎◌, ◌≤◌, ◌<◌, ℕ, List, length, Option, option_map, string_bytes}
+use Rattle.std.specs.Prelude.{◌≡◌, ◌≢◌, ◌⊎◌, ◌≤◌, ◌<◌, ℕ, List, length, Option, option_map}
+use Rattle.std.specs.Prelude.{string_bytes}
 use Rattle.std.specs.Io.KnownBytes.{Consumes}
 use Rattle.httparse.specs.Grammar.{RequestHead}
 use Rattle.hq_base.specs.declared.engine.EngineFault.{EngineFault}
 use Rattle.hq_base.specs.declared.engine.EngineFault.TheVariants as fault
 use Rattle.hq_http.specs.Requests as requests
-use Rattle.hq_http.specs.Requests.{IsOpen, Reads, Settles, RequestOf, Received, HasNoRoom, nothing, refused, request}
+use Rattle.hq_http.specs.Requests.{IsOpen, Reads, Settles, RequestOf, Received, HasNoRoom, nothing}
+use Rattle.hq_http.specs.Requests.{refused, request}
 use Rattle.hq_http.specs.declared.ends.Place.TheVariants.{Ended}
 use Rattle.hq_http.specs.declared.head.WholeHead.{WholeHead}
-use Rattle.hq_http.specs.declared.stages.Message.{Message}
+use Rattle.hq_http.specs.declared.stages.Request.{Request}
 use Rattle.hq_http.specs.declared.stages.Stage.{Stage}
 use Rattle.hq_http.specs.declared.stages.Stage.TheVariants.{Head, Body}
 use Rattle.hq_http.specs.declared.stages.Step.{Step}
@@ -18,28 +20,36 @@ use Rattle.hq_http.specs.declared.reading.Input.TheVariants as input
 use Rattle.hq_http.specs.declared.reading.Turn.{Turn}
 use Rattle.hq_http.specs.declared.reading.Turn.TheVariants.{Again, Done}
 
--- a message as the code holds it
-abbrev pub shown : Message → requests.Request
-shown m = record { method = string_bytes m.method; path = string_bytes m.path; key = option_map string_bytes m.key; body = m.body.items }
+-- a request as the code holds it
+abbrev pub shown : Request → requests.Request
+shown m = record {
+  method = string_bytes m.method;
+  path = string_bytes m.path;
+  key = option_map string_bytes m.key;
+  body = m.body.items;
+}
 
--- a message has the texts of a head, and these bytes as its body
-pub record IsOf (m : Message) (w : WholeHead) (rest : List ℕ) : Type 0 where
+-- a request has the texts of a head, and these bytes as its body
+pub record IsOf (m : Request) (w : WholeHead) (rest : List ℕ) : Type 0 where
   pub method : string_bytes m.method ≡ w.method.now
   pub path : string_bytes m.path ≡ w.path.now
   pub key : option_map string_bytes m.key ≡ option_map (λ k. k.now) w.key
   pub body : m.body.items ≡ rest
 
--- the bytes are a head with a body of this length, and the message has what the head says, and the bytes behind it
-pub record BodyBegun (bytes : List ℕ) (m : Message) (length : ℕ) : Type 0 where
+-- the bytes are a head with a body of this length, and the request has what the head says, and the
+-- bytes behind it
+pub record BodyBegun (bytes : List ℕ) (m : Request) (length : ℕ) : Type 0 where
   pub head : RequestHead
-  pub reads : Reads bytes head (record { length = length; key = option_map string_bytes m.key }) m.body.items
+  pub reads : Reads bytes head (record { length = length; key = option_map string_bytes m.key })
+      m.body.items
   pub limit : length ≤ 262144
   pub method : string_bytes m.method ≡ head.method
   pub path : string_bytes m.path ≡ head.target
 
 -- bytes lead to this stage: a head that has not ended, or a body that is not whole
 abbrev pub StageIs : List ℕ → Stage → Type 0
-StageIs bytes (Head begun) = (begun.bytes.items ≡ bytes) × (begun.place ≢ Ended) × (length bytes < 16384)
+StageIs bytes (Head begun) = (begun.bytes.items ≡ bytes) × (begun.place ≢ Ended)
+    × (length bytes < 16384)
 StageIs bytes (Body m n) = BodyBegun bytes m n × (length m.body.items < n)
 
 -- bytes make this of a request: it is open, or settled however they go on
@@ -50,7 +60,8 @@ StepIs bytes (step.Whole m) = Settles bytes (request (shown m))
 
 -- some bytes were read, and so far the request is
 abbrev pub Going : Option (List ℕ) → Option (List ℕ) → Stage → Type 0
-Going read_old read_new stage = (bytes : List ℕ) × Consumes read_old read_new bytes × StageIs bytes stage
+Going read_old read_new stage = (bytes : List ℕ) × Consumes read_old read_new bytes
+    × StageIs bytes stage
 
 -- what was read, or that there was no room for it
 abbrev pub InputIs : Option (List ℕ) → Option (List ℕ) → Input → Type 0
@@ -65,7 +76,8 @@ StaysOpen read_old read_new = (bytes : List ℕ) × Consumes read_old read_new b
 
 -- a fault of reading: a read failed, or there were too many; it leaves an open request
 abbrev pub LeavesOpen : Option (List ℕ) → Option (List ℕ) → EngineFault → Type 0
-LeavesOpen read_old read_new why = ((why ≡ fault.Read) ⊎ (why ≡ fault.TooManyReads)) × StaysOpen read_old read_new
+LeavesOpen read_old read_new why = ((why ≡ fault.Read) ⊎ (why ≡ fault.TooManyReads))
+    × StaysOpen read_old read_new
 
 -- a read, and what it makes of the request
 abbrev pub TurnIs : Option (List ℕ) → Option (List ℕ) → Turn → Type 0

@@ -1,7 +1,8 @@
 //! What the fields of a head say of the body and the key.
 
 ghost use Rattle.std.specs.Prelude.{◌≡◌, ◌≤◌, ◌∷◌, [], length, drop, option_map, MatchOption};
-ghost use Rattle.hq_http.specs.Fields.{AreWithin, fields_in, values, at_most_one, framing, framing_view, length_of, key_of, is_plain, is_ascii};
+ghost use Rattle.hq_http.specs.Fields.{AreWithin, fields_in, values, at_most_one, framing};
+ghost use Rattle.hq_http.specs.Fields.{framing_view, length_of, key_of, is_plain, is_ascii};
 ghost use Rattle.std.specs.Str.{IsUtf8};
 
 use hq_base::read_number;

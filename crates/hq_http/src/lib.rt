@@ -12,5 +12,5 @@ mod writing;
 
 pub use laws::one_request;
 pub use reading::{Input, read_request};
-pub use stages::Message;
+pub use stages::Request;
 pub use writing::write_response;

@@ -5,7 +5,7 @@ ghost use Rattle.std.specs.Io.KnownBytes.{Consumes};
 ghost use Rattle.hq_http.specs.Stages.{StageIs, Going, InputIs, LeavesOpen, TurnIs, EndIs};
 
 use crate::begun::Begun;
-use crate::stages::{Message, Stage, Step, advance};
+use crate::stages::{Request, Stage, Step, advance};
 use hq_base::{EngineFault, Refusal};
 use std::alloc::Global;
 use std::io::{ErrorKind, Read};
@@ -26,7 +26,7 @@ pub enum Input {
     /// There was no room for it.
     NoRoom,
     /// A whole request.
-    Request(Message),
+    Request(Request),
 }
 
 /// What one read makes.
@@ -59,7 +59,7 @@ fn take_chunk(alloc: Global, stage: Stage, chunk: &[u8]) -> Turn
     match advance(alloc, stage, chunk) {
         Ok(Step::Open(stage)) => Turn::Again(stage),
         Ok(Step::Refused(refusal)) => Turn::Done(Input::Refused(refusal)),
-        Ok(Step::Whole(message)) => Turn::Done(Input::Request(message)),
+        Ok(Step::Whole(whole)) => Turn::Done(Input::Request(whole)),
         Err(_) => Turn::Done(Input::NoRoom),
     }
 }

@@ -1,6 +1,7 @@
 //! How far a request has come, from chunk to chunk.
 
-ghost use Rattle.std.specs.Prelude.{◌≡◌, ◌≢◌, ◌<◌, ◌++◌, [], length, List, ℕ, IfOk, option_map, string_bytes};
+ghost use Rattle.std.specs.Prelude.{◌≡◌, ◌≢◌, ◌<◌, ◌++◌, [], length, List, ℕ, IfOk, option_map};
+ghost use Rattle.std.specs.Prelude.{string_bytes};
 ghost use Rattle.hq_http.specs.Ends.{HasEnd};
 ghost use Rattle.hq_http.specs.Stages.{BodyBegun, StageIs, StepIs, IsOf};
 
@@ -12,7 +13,7 @@ use std::alloc::{AllocError, Global};
 
 /// A request as it came.
 #[derive(Drop)]
-pub struct Message {
+pub struct Request {
     /// The method, as `GET`.
     pub method: String,
     /// The path, as it stands.
@@ -29,7 +30,7 @@ pub(crate) enum Stage {
     /// Bytes in which no head has ended.
     Head(Begun),
     /// A request with the first bytes of its body, and how many its body has in all.
-    Body(Message, u64),
+    Body(Request, u64),
 }
 
 /// What more bytes make of a request.
@@ -40,19 +41,19 @@ pub(crate) enum Step {
     /// However they go on, they are refused.
     Refused(Refusal),
     /// A whole request, whatever follows.
-    Whole(Message),
+    Whole(Request),
 }
 
 /// A request whose body has begun, or is whole already.
-fn with_body(message: Message, length: u64) -> Step
-    ensures { (bytes : List ℕ) → BodyBegun bytes message length → StepIs bytes result }
+fn with_body(request: Request, length: u64) -> Step
+    ensures { (bytes : List ℕ) → BodyBegun bytes request length → StepIs bytes result }
 {
-    if (message.body.len() as u64) < length {
-        return Step::Open(Stage::Body(message, length));
+    if (request.body.len() as u64) < length {
+        return Step::Open(Stage::Body(request, length));
     }
-    let mut message = message;
-    message.body.truncate(length as usize);
-    Step::Whole(message)
+    let mut request = request;
+    request.body.truncate(length as usize);
+    Step::Whole(request)
 }
 
 /// A key of its own.
@@ -67,10 +68,10 @@ fn own_key(alloc: Global, key: Option<&str>) -> Result<Option<String>, AllocErro
 }
 
 /// The request of a head, with the first bytes of its body.
-fn message_of(alloc: Global, head: &WholeHead<'_>, rest: &[u8]) -> Result<Message, AllocError>
-    ensures { IfOk result (λ message. IsOf message head.now rest.now) }
+fn request_of(alloc: Global, head: &WholeHead<'_>, rest: &[u8]) -> Result<Request, AllocError>
+    ensures { IfOk result (λ request. IsOf request head.now rest.now) }
 {
-    Ok(Message {
+    Ok(Request {
         method: String::from_str(alloc, head.method)?,
         path: String::from_str(alloc, head.path)?,
         key: own_key(alloc, head.key)?,
@@ -86,8 +87,8 @@ fn behind_end(alloc: Global, held: &[u8]) -> Result<Step, AllocError>
     match head_of(held) {
         Head::Refused(refusal) => Ok(Step::Refused(refusal)),
         Head::Whole(head) => {
-            let message = message_of(alloc, &head, &held[head.start..])?;
-            Ok(with_body(message, head.length))
+            let request = request_of(alloc, &head, &held[head.start..])?;
+            Ok(with_body(request, head.length))
         }
     }
 }
@@ -106,13 +107,13 @@ fn behind_begun(alloc: Global, begun: Begun) -> Result<Step, AllocError>
 }
 
 /// More bytes of a body.
-fn more_of_body(message: Message, length: u64, chunk: &[u8]) -> Result<Step, AllocError>
-    ensures { (bytes : List ℕ) → StageIs bytes (Stage.Body message length)
+fn more_of_body(request: Request, length: u64, chunk: &[u8]) -> Result<Step, AllocError>
+    ensures { (bytes : List ℕ) → StageIs bytes (Stage.Body request length)
         → IfOk result (StepIs (bytes ++ chunk.now)) }
 {
-    let mut message = message;
-    message.body.extend_from_slice(chunk)?;
-    Ok(with_body(message, length))
+    let mut request = request;
+    request.body.extend_from_slice(chunk)?;
+    Ok(with_body(request, length))
 }
 
 /// What more bytes make of a request. At want of memory what was read is lost.
@@ -123,6 +124,6 @@ pub(crate) fn advance(alloc: Global, stage: Stage, chunk: &[u8]) -> Result<Step,
 {
     match stage {
         Stage::Head(begun) => behind_begun(alloc, begun.more(chunk)?),
-        Stage::Body(message, length) => more_of_body(message, length, chunk),
+        Stage::Body(request, length) => more_of_body(request, length, chunk),
     }
 }

@@ -1,6 +1,7 @@
 //! The head and the body of a response, written from fixed texts and digits.
 
-ghost use Rattle.std.specs.Prelude.{◌≡◌, ◌++◌, List, [], ℕ, length, codes, decimal, unwrap_or, OnOk};
+ghost use Rattle.std.specs.Prelude.{◌≡◌, ◌++◌, List, [], ℕ, length, codes, decimal, unwrap_or};
+ghost use Rattle.std.specs.Prelude.{OnOk};
 ghost use Rattle.http.specs.StatusCode.{reason_phrase};
 ghost use Rattle.std.specs.Io.KnownBytes.{Appends};
 ghost use Rattle.hq_http.specs.Responses.{phrase_of, status_line, fields, response_text};

@@ -1,6 +1,8 @@
--- The first 1,002 records of a file say what all of them say: row 1,001 is one too many, and what stands behind a row
--- that is refused does not count.
-use Rattle.std.proofs.Common.{◌≡◌, ◌≤◌, ◌+◌, ℕ, zero, suc, Bool, true, false, nat_lt, nat_le, List, [], ◌∷◌, ◌++◌, length, take, Result, Ok, Err, lit≤, refl, sym, ap, ◌∙◌, arith}
+-- The first 1,002 records of a file say what all of them say: row 1,001 is one too many, and what
+-- stands behind a row that is refused does not count.
+use Rattle.std.proofs.Common.{◌≡◌, ◌≤◌, ◌+◌, ℕ, zero, suc, Bool, true, false, nat_lt, nat_le, List}
+use Rattle.std.proofs.Common.{[], ◌∷◌, ◌++◌, length, take, Result, Ok, Err, lit≤, refl, sym, ap}
+use Rattle.std.proofs.Common.{◌∙◌, arith}
 use Rattle.std.specs.Bool.{⊤}
 use Rattle.std.proofs.lemmas.List.{length-append}
 use Rattle.std.proofs.lemmas.Bool.Decides.{nat_tests}
@@ -8,7 +10,8 @@ use Rattle.hq_base.specs.Readers.{◌>>=◌, checked, guard}
 use Rattle.hq_base.specs.declared.failure.Refusal.{Refusal}
 use Rattle.hq_base.specs.declared.failure.Refusal.TheVariants.{BadCsv, BadDirectory}
 use Rattle.hq_queue.specs.declared.account.Customer.{Customer}
-use Rattle.hq_import.specs.Directories.{next_customer, customers_under, customers_in, directory_header}
+use Rattle.hq_import.specs.Directories.{next_customer, customers_under, customers_in}
+use Rattle.hq_import.specs.Directories.{directory_header}
 use Rattle.hq_import.specs.First.{first_lines, first_customers}
 use Rattle.hq_import.specs.Records.{records_in, is_header, under_header}
 use Rattle.hq_import.specs.Tables.{next_line, lines_under, lines_in, table_header}
@@ -17,33 +20,45 @@ abbrev Row : Type 0
 Row = List (List ℕ)
 
 -- values that rows hold, one after another; the first that is refused ends it
-abbrev values_under : {A : Type 0} → (List A → Row → Result A Refusal) → List A → List Row → Result (List A) Refusal
+abbrev values_under : {A : Type 0} → (List A → Row → Result A Refusal) → List A → List Row →
+    Result (List A) Refusal
 values_under next earlier [] = Ok earlier
-values_under next earlier (row ∷ rows) = next earlier row >>= (λ value. values_under next (earlier ++ value ∷ []) rows)
+values_under next earlier (row ∷ rows) = next earlier row >>=
+    (λ value. values_under next (earlier ++ value ∷ []) rows)
 
 -- behind 1,000 values the next row is refused
 abbrev Stops : {A : Type 0} → (List A → Row → Result A Refusal) → Type 0
-Stops {A} next = (earlier : List A) (row : Row) → 1000 ≤ length earlier → (bad : Refusal) × (next earlier row ≡ Err bad)
+Stops {A} next = (earlier : List A) (row : Row) → 1000 ≤ length earlier → (bad : Refusal)
+    × (next earlier row ≡ Err bad)
 
 ok_err : {A : Type 0} (a : A) (r : Refusal) → ◌≡◌ {A = Result A Refusal} (Ok a) (Err r) → ⊥
 ok_err a r e = cc
 
-enough : {A : Type 0} (next : List A → Row → Result A Refusal) → Stops next → (rows : List Row) (n : ℕ) (earlier : List A) → length earlier + n ≡ 1001 → length earlier ≤ 1000 → values_under next earlier (take n rows) ≡ values_under next earlier rows
+enough : {A : Type 0} (next : List A → Row → Result A Refusal) → Stops next →
+    (rows : List Row) (n : ℕ) (earlier : List A) → length earlier + n ≡ 1001 → length earlier ≤ 1000
+    → values_under next earlier (take n rows) ≡ values_under next earlier rows
 enough next stops [] zero earlier all few = refl
 enough next stops [] (suc n) earlier all few = refl
 enough next stops (row ∷ rows) zero earlier all few = absurd (omega arith)
-enough {A} next stops (row ∷ rows) (suc n) earlier all few = by (λ value. enough next stops rows n (earlier ++ value ∷ [])) (next earlier row) refl
+enough {A} next stops (row ∷ rows) (suc n) earlier all few =
+    by (λ value. enough next stops rows n (earlier ++ value ∷ [])) (next earlier row) refl
   where
-    by : ((value : A) → length (earlier ++ value ∷ []) + n ≡ 1001 → length (earlier ++ value ∷ []) ≤ 1000 → values_under next (earlier ++ value ∷ []) (take n rows) ≡ values_under next (earlier ++ value ∷ []) rows)
+    by : ((value : A) → length (earlier ++ value ∷ []) + n ≡ 1001 →
+        length (earlier ++ value ∷ []) ≤ 1000 →
+        values_under next (earlier ++ value ∷ []) (take n rows) ≡ values_under next (earlier
+        ++ value ∷ []) rows)
         → (o : Result A Refusal) → next earlier row ≡ o
-        → (o >>= (λ value. values_under next (earlier ++ value ∷ []) (take n rows))) ≡ (o >>= (λ value. values_under next (earlier ++ value ∷ []) rows))
+        → (o >>= (λ value. values_under next (earlier ++ value ∷ []) (take n rows))) ≡
+        (o >>= (λ value. values_under next (earlier ++ value ∷ []) rows))
     by further (Err e) f = refl
     by further (Ok value) f =
-        let not_yet : 1000 ≤ length earlier → ⊥ = λ many. let stop = stops earlier row many in ok_err value stop.0 (sym f ∙ stop.1) in
+        let not_yet : 1000 ≤ length earlier → ⊥ = λ many. let stop = stops earlier row many in
+        ok_err value stop.0 (sym f ∙ stop.1) in
         let longer = length-append earlier (value ∷ []) in
         further value (omega arith) (omega arith)
 
-refused_first : {A : Type 0} (few : Bool) (bad : Refusal) (rest : ⊤ → Result A Refusal) → few ≡ false → (guard few bad >>= rest) ≡ Err bad
+refused_first : {A : Type 0} (few : Bool) (bad : Refusal) (rest : ⊤ → Result A Refusal) →
+    few ≡ false → (guard few bad >>= rest) ≡ Err bad
 refused_first true bad rest h = absurd (no h) where
   no : true ≡ false → ⊥
   no e = cc
@@ -54,30 +69,45 @@ one_too_many count many = grind (arith, nat_tests)
 
 lines_stop : Stops next_line
 unfolding next_line
-lines_stop earlier row many = (BadCsv (length earlier + 1), refused_first (nat_le (length earlier + 1) 1000) (BadCsv (length earlier + 1)) _ (one_too_many (length earlier) many))
+lines_stop earlier row many = (
+  BadCsv (length earlier + 1),
+  refused_first (nat_le (length earlier + 1) 1000) (BadCsv (length earlier + 1)) _
+      (one_too_many (length earlier) many),
+)
 
 customers_stop : Stops next_customer
 unfolding next_customer
-customers_stop earlier row many = (BadDirectory (length earlier + 1), refused_first (nat_le (length earlier + 1) 1000) (BadDirectory (length earlier + 1)) _ (one_too_many (length earlier) many))
+customers_stop earlier row many = (
+  BadDirectory (length earlier + 1),
+  refused_first (nat_le (length earlier + 1) 1000) (BadDirectory (length earlier + 1)) _
+      (one_too_many (length earlier) many),
+)
 
 -- what goes by the first 1,001 rows goes by the first 1,002 records
-rows_then : {A : Type 0} (names : List (List ℕ)) (bad : Refusal) (fits : Bool) (records : List Row) (under : List Row → Result A Refusal) → ((rows : List Row) → under (take 1001 rows) ≡ under rows)
-    → ((checked (take 1002 records) fits bad >>= under_header names bad) >>= under) ≡ ((checked records fits bad >>= under_header names bad) >>= under)
+rows_then : {A : Type 0} (names : List (List ℕ)) (bad : Refusal) (fits : Bool) (records : List Row)
+    (under : List Row → Result A Refusal) → ((rows : List Row) →
+    under (take 1001 rows) ≡ under rows)
+    → ((checked (take 1002 records) fits bad >>= under_header names bad) >>= under) ≡
+    ((checked records fits bad >>= under_header names bad) >>= under)
 rows_then names bad false records under h = refl
 rows_then names bad true [] under h = refl
 rows_then names bad true (header ∷ rows) under h = chosen (is_header names header)
   where
-    chosen : (b : Bool) → (checked (take 1001 rows) b bad >>= under) ≡ (checked rows b bad >>= under)
+    chosen : (b : Bool) → (checked (take 1001 rows) b bad >>= under) ≡
+        (checked rows b bad >>= under)
     chosen true = h rows
     chosen false = refl
 
 pub lines_enough : (file : List ℕ) → first_lines file ≡ lines_in file
 unfolding first_lines lines_in lines_under
-lines_enough file = rows_then table_header (BadCsv 0) (nat_le (length file) 262144) (records_in file) (lines_under []) (λ rows. enough next_line lines_stop rows 1001 [] refl (lit≤ tt))
+lines_enough file = rows_then table_header (BadCsv 0) (nat_le (length file) 262144)
+    (records_in file) (lines_under []) (λ rows. enough next_line lines_stop rows 1001 [] refl
+    (lit≤ tt))
 
 -- the rows of a directory, of which there is at least one
 abbrev some_under : List Row → Result (List Customer) Refusal
-some_under rows = guard (nat_lt 0 (length rows)) (BadDirectory 0) >>= (λ some. customers_under [] rows)
+some_under rows = guard (nat_lt 0 (length rows)) (BadDirectory 0) >>=
+    (λ some. customers_under [] rows)
 
 positive : (n : ℕ) → nat_lt 0 (suc n) ≡ true
 positive n = grind (arith, nat_tests)
@@ -86,10 +116,13 @@ some_enough : (rows : List Row) → some_under (take 1001 rows) ≡ some_under r
 unfolding customers_under
 some_enough [] = refl
 some_enough (row ∷ rows) =
-    ap (λ b. guard b (BadDirectory 0) >>= (λ some. customers_under [] (take 1001 (row ∷ rows)))) (positive (length (take 1000 rows)))
+    ap (λ b. guard b (BadDirectory 0) >>= (λ some. customers_under [] (take 1001 (row ∷ rows))))
+    (positive (length (take 1000 rows)))
     ∙ enough next_customer customers_stop (row ∷ rows) 1001 [] refl (lit≤ tt)
-    ∙ ap (λ b. guard b (BadDirectory 0) >>= (λ some. customers_under [] (row ∷ rows))) (sym (positive (length rows)))
+    ∙ ap (λ b. guard b (BadDirectory 0) >>= (λ some. customers_under [] (row ∷ rows)))
+    (sym (positive (length rows)))
 
 pub customers_enough : (file : List ℕ) → first_customers file ≡ customers_in file
 unfolding first_customers customers_in
-customers_enough file = rows_then directory_header (BadDirectory 0) (nat_le (length file) 262144) (records_in file) some_under some_enough
+customers_enough file = rows_then directory_header (BadDirectory 0) (nat_le (length file) 262144)
+    (records_in file) some_under some_enough

@@ -21,22 +21,37 @@ failed true bad h = absurd (no h) where
   no e = cc
 failed false bad h = refl
 
-pub quota_taken : (bad : Refusal) (m b l n : ℕ) (h : IsTrue (is_quota m b l n)) → quota_of bad m b l n ≡ Ok (record { messages = m; bytes = b; lines = l; notices = n; limits = h })
+pub quota_taken : (bad : Refusal) (m b l n : ℕ) (h : IsTrue (is_quota m b l n)) →
+    quota_of bad m b l n ≡ Ok (record {
+      messages = m;
+      bytes = b;
+      lines = l;
+      notices = n;
+      limits = h;
+    })
 quota_taken bad m b l n h =
-    let made : IsTrue (is_quota m b l n) → Result Quota Refusal = λ k. Ok (record { messages = m; bytes = b; lines = l; notices = n; limits = k }) in
+    let made : IsTrue (is_quota m b l n) → Result Quota Refusal =
+    λ k. Ok (record { messages = m; bytes = b; lines = l; notices = n; limits = k }) in
     ap (λ r. r >>= made) (passed (is_quota m b l n) bad h)
 
-pub quota_refused : (bad : Refusal) (m b l n : ℕ) → is_quota m b l n ≡ false → quota_of bad m b l n ≡ Err bad
+pub quota_refused : (bad : Refusal) (m b l n : ℕ) → is_quota m b l n ≡ false →
+    quota_of bad m b l n ≡ Err bad
 quota_refused bad m b l n h =
-    let made : IsTrue (is_quota m b l n) → Result Quota Refusal = λ k. Ok (record { messages = m; bytes = b; lines = l; notices = n; limits = k }) in
+    let made : IsTrue (is_quota m b l n) → Result Quota Refusal =
+    λ k. Ok (record { messages = m; bytes = b; lines = l; notices = n; limits = k }) in
     ap (λ r. r >>= made) (failed (is_quota m b l n) bad h)
 
-pub entry_taken : (bad : Refusal) (name : List ℕ) (quota : Quota) (delay : ℕ) (h : IsTrue (is_delay delay)) → entry_of bad name quota delay ≡ Ok (record { name = name; quota = quota; delay = delay; limit = h })
+pub entry_taken : (bad : Refusal) (name : List ℕ) (quota : Quota) (delay : ℕ)
+    (h : IsTrue (is_delay delay)) → entry_of bad name quota delay ≡ Ok
+    (record { name = name; quota = quota; delay = delay; limit = h })
 entry_taken bad name quota delay h =
-    let made : IsTrue (is_delay delay) → Result Entry Refusal = λ k. Ok (record { name = name; quota = quota; delay = delay; limit = k }) in
+    let made : IsTrue (is_delay delay) → Result Entry Refusal =
+    λ k. Ok (record { name = name; quota = quota; delay = delay; limit = k }) in
     ap (λ r. r >>= made) (passed (is_delay delay) bad h)
 
-pub entry_refused : (bad : Refusal) (name : List ℕ) (quota : Quota) (delay : ℕ) → is_delay delay ≡ false → entry_of bad name quota delay ≡ Err bad
+pub entry_refused : (bad : Refusal) (name : List ℕ) (quota : Quota) (delay : ℕ) →
+    is_delay delay ≡ false → entry_of bad name quota delay ≡ Err bad
 entry_refused bad name quota delay h =
-    let made : IsTrue (is_delay delay) → Result Entry Refusal = λ k. Ok (record { name = name; quota = quota; delay = delay; limit = k }) in
+    let made : IsTrue (is_delay delay) → Result Entry Refusal =
+    λ k. Ok (record { name = name; quota = quota; delay = delay; limit = k }) in
     ap (λ r. r >>= made) (failed (is_delay delay) bad h)

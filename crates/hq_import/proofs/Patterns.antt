@@ -1,12 +1,14 @@
 -- The lines of an access table have patterns of their own.
-use Rattle.std.proofs.Common.{◌≡◌, ℕ, Bool, true, false, not, List, [], ◌∷◌, ◌++◌, Result, Ok, Err, IfOk, IsTrue, Vec, Global, refl, subst}
+use Rattle.std.proofs.Common.{◌≡◌, ℕ, Bool, true, false, not, List, [], ◌∷◌, ◌++◌, Result, Ok, Err}
+use Rattle.std.proofs.Common.{IfOk, IsTrue, Vec, Global, refl, subst}
 use Rattle.hq_base.specs.Readers.{◌>>=◌, guard, Reads, seen_by}
 use Rattle.hq_base.specs.declared.failure.Fail.{Fail}
 use Rattle.hq_base.specs.declared.failure.Refusal.{Refusal}
 use Rattle.hq_access.specs.declared.pattern.Class.{Class}
 use Rattle.hq_access.specs.declared.pattern.Class.TheVariants.{SenderSide, RecipientSide}
 use Rattle.hq_access.specs.declared.pattern.Line.{Line}
-use Rattle.hq_import.specs.Tables.{is_same_class, is_same_pattern, is_doubled, patterns_apart, next_line, lines_under}
+use Rattle.hq_import.specs.Tables.{is_same_class, is_same_pattern, is_doubled, patterns_apart}
+use Rattle.hq_import.specs.Tables.{next_line, lines_under}
 use Rattle.hq_import.proofs.Apart.{err_ok, same_ok, apart_push}
 use Rattle.hq_import.proofs.Seeing.{same_either_way}
 
@@ -20,36 +22,54 @@ abbrev same_line : Line → Line → Bool
 same_line a b = is_same_pattern a.pattern b
 
 lines_turned : (a b : Line) → same_line a b ≡ same_line b a
-lines_turned a b = rw (classes_turned a.pattern.0 b.pattern.0, same_either_way a.pattern.1 b.pattern.1) refl
+lines_turned a b = rw (
+  classes_turned a.pattern.0 b.pattern.0,
+  same_either_way a.pattern.1 b.pattern.1,
+) refl
 
 -- where the test passes, the pattern is not doubled
-accepted : (earlier : List Line) (few : Bool) (one two : Refusal) (read : Result Line Refusal) (line : Line)
-    → (guard few one >>= (λ _. read >>= (λ l. guard (not (is_doubled earlier l)) two >>= (λ _. Ok l)))) ≡ Ok line
+accepted : (earlier : List Line) (few : Bool) (one two : Refusal) (read : Result Line Refusal)
+    (line : Line)
+    → (guard few one >>= (λ _. read >>= (λ l. guard (not (is_doubled earlier l)) two >>=
+    (λ _. Ok l)))) ≡ Ok line
     → is_doubled earlier line ≡ false
 accepted earlier false one two read line h = absurd (err_ok one line h)
 accepted earlier true one two (Err e) line h = absurd (err_ok e line h)
 accepted earlier true one two (Ok l) line h = told (is_doubled earlier l) refl h
   where
-    told : (b : Bool) → is_doubled earlier l ≡ b → (guard (not b) two >>= (λ _. Ok l)) ≡ Ok line → is_doubled earlier line ≡ false
+    told : (b : Bool) → is_doubled earlier l ≡ b → (guard (not b) two >>= (λ _. Ok l)) ≡ Ok line →
+        is_doubled earlier line ≡ false
     told true f g = absurd (err_ok two line g)
     told false f g = subst (λ x. is_doubled earlier x ≡ false) (same_ok l line g) f
 
-new_line : (earlier : List Line) (row : List (List ℕ)) (line : Line) → next_line earlier row ≡ Ok line → is_doubled earlier line ≡ false
+new_line : (earlier : List Line) (row : List (List ℕ)) (line : Line) →
+    next_line earlier row ≡ Ok line → is_doubled earlier line ≡ false
 unfolding next_line
 new_line earlier row line h = accepted earlier _ _ _ _ line h
 
 -- what the rows of an access table hold
-under_apart : (rows : List (List (List ℕ))) (earlier lines : List Line) → patterns_apart earlier ≡ true → lines_under earlier rows ≡ Ok lines → patterns_apart lines ≡ true
+under_apart : (rows : List (List (List ℕ))) (earlier lines : List Line) →
+    patterns_apart earlier ≡ true → lines_under earlier rows ≡ Ok lines →
+    patterns_apart lines ≡ true
 unfolding lines_under
-under_apart [] earlier lines h read = subst (λ xs. patterns_apart xs ≡ true) (same_ok earlier lines read) h
-under_apart (row ∷ rows) earlier lines h read = by (λ line. under_apart rows (earlier ++ line ∷ []) lines) (next_line earlier row) refl read
+under_apart [] earlier lines h read = subst (λ xs. patterns_apart xs ≡ true)
+    (same_ok earlier lines read) h
+under_apart (row ∷ rows) earlier lines h read =
+    by (λ line. under_apart rows (earlier ++ line ∷ []) lines) (next_line earlier row) refl read
   where
-    by : ((line : Line) → patterns_apart (earlier ++ line ∷ []) ≡ true → lines_under (earlier ++ line ∷ []) rows ≡ Ok lines → patterns_apart lines ≡ true)
-        → (o : Result Line Refusal) → next_line earlier row ≡ o → (o >>= (λ line. lines_under (earlier ++ line ∷ []) rows)) ≡ Ok lines → patterns_apart lines ≡ true
+    by : ((line : Line) → patterns_apart (earlier ++ line ∷ []) ≡ true →
+        lines_under (earlier ++ line ∷ []) rows ≡ Ok lines → patterns_apart lines ≡ true)
+        → (o : Result Line Refusal) → next_line earlier row ≡ o →
+        (o >>= (λ line. lines_under (earlier ++ line ∷ []) rows)) ≡ Ok lines →
+        patterns_apart lines ≡ true
     by further (Err e) f g = absurd (err_ok e lines g)
-    by further (Ok line) f g = further line (apart_push same_line lines_turned earlier line h (new_line earlier row line f)) g
+    by further (Ok line) f g =
+        further line (apart_push same_line lines_turned earlier line h
+        (new_line earlier row line f)) g
 
 -- what was read of them
-pub read_apart : (result : Result (Vec Line Global) Fail) (rows : List (List (List ℕ))) → Reads (seen_by (λ v. v.items) result) (lines_under [] rows) → IfOk result (λ v. IsTrue (patterns_apart v.items))
+pub read_apart : (result : Result (Vec Line Global) Fail) (rows : List (List (List ℕ))) →
+    Reads (seen_by (λ v. v.items) result) (lines_under [] rows) →
+    IfOk result (λ v. IsTrue (patterns_apart v.items))
 read_apart (Ok v) rows read = under_apart rows [] v.items refl read
 read_apart (Err e) rows read = tt

@@ -1,10 +1,12 @@
--- The directory as CSV: rows of customers under the header `name,key,messages,bytes,lines,notices,delay`. It is this
--- product's own.
-use Rattle.std.specs.Prelude.{ℕ, ◌+◌, Bool, not, ◌==◌, nat_lt, nat_le, List, [], ◌∷◌, ◌++◌, length, codes, Result, Ok}
+-- The directory as CSV: rows of customers under the header
+-- `name,key,messages,bytes,lines,notices,delay`. It is this product's own.
+use Rattle.std.specs.Prelude.{ℕ, ◌+◌, Bool, not, ◌==◌, nat_lt, nat_le, List, [], ◌∷◌, ◌++◌, length}
+use Rattle.std.specs.Prelude.{codes, Result, Ok}
 use Rattle.std.specs.List.{list_any}
 use Rattle.hq_base.specs.Readers.{◌>>=◌, guard, or_refuse, passes}
 use Rattle.hq_base.specs.declared.failure.Refusal.{Refusal}
-use Rattle.hq_base.specs.declared.failure.Refusal.TheVariants.{BadDirectory, DoubledName, DoubledKey}
+use Rattle.hq_base.specs.declared.failure.Refusal.TheVariants.{BadDirectory, DoubledName}
+use Rattle.hq_base.specs.declared.failure.Refusal.TheVariants.{DoubledKey}
 use Rattle.hq_envelope.specs.Words.{name_in, key_in}
 use Rattle.hq_queue.specs.Limits.{is_quota, is_delay}
 use Rattle.hq_queue.specs.declared.account.Customer.{Customer}
@@ -18,7 +20,13 @@ use Rattle.hq_import.specs.Records.{Record, most_rows, rows_in}
 abbrev pub quota_of : Refusal → ℕ → ℕ → ℕ → ℕ → Result Quota Refusal
 quota_of bad messages bytes lines notices = do
   limits ← passes (is_quota messages bytes lines notices) bad
-  Ok (record { messages = messages; bytes = bytes; lines = lines; notices = notices; limits = limits })
+  Ok (record {
+    messages = messages;
+    bytes = bytes;
+    lines = lines;
+    notices = notices;
+    limits = limits;
+  })
 
 -- the quota of a row
 unfoldable pub quota_in : Refusal → Record → Result Quota Refusal
@@ -55,8 +63,8 @@ is_named earlier name = list_any (has_name name) earlier
 abbrev pub is_taken : List Customer → List ℕ → Bool
 is_taken earlier key = list_any (has_key key) earlier
 
--- The customer of the row under these customers, of which there is one per row, or what is wrong with that row: there are
--- too many, or it is bad; or else its name is doubled; or else its key is.
+-- The customer of the row under these customers, of which there is one per row, or what is wrong
+-- with that row: there are too many, or it is bad; or else its name is doubled; or else its key is.
 unfoldable pub next_customer : List Customer → Record → Result Customer Refusal
 next_customer earlier fields =
     let number = length earlier + 1 in do
@@ -66,16 +74,19 @@ next_customer earlier fields =
       new_key ← guard (not (is_taken earlier customer.key)) (DoubledKey number)
       Ok customer
 
--- these customers and those of the rows under them, or what is wrong with the first row that is not good
+-- these customers and those of the rows under them, or what is wrong with the first row that is not
+-- good
 unfoldable pub customers_under : List Customer → List Record → Result (List Customer) Refusal
 customers_under earlier [] = Ok earlier
-customers_under earlier (row ∷ rows) = next_customer earlier row >>= (λ customer. customers_under (earlier ++ customer ∷ []) rows)
+customers_under earlier (row ∷ rows) =
+    next_customer earlier row >>= (λ customer. customers_under (earlier ++ customer ∷ []) rows)
 
 abbrev pub directory_header : Record
-directory_header = codes "name" ∷ codes "key" ∷ codes "messages" ∷ codes "bytes" ∷ codes "lines" ∷ codes "notices" ∷ codes "delay" ∷ []
+directory_header = codes "name" ∷ codes "key" ∷ codes "messages" ∷ codes "bytes" ∷ codes "lines"
+    ∷ codes "notices" ∷ codes "delay" ∷ []
 
--- The customers of a directory, in the order of its rows, or its first fault: 53 at row 0 is the header or the whole file,
--- which has at least one row.
+-- The customers of a directory, in the order of its rows, or its first fault: 53 at row 0 is the
+-- header or the whole file, which has at least one row.
 unfoldable pub customers_in : List ℕ → Result (List Customer) Refusal
 customers_in file = do
   rows ← rows_in directory_header (BadDirectory 0) file

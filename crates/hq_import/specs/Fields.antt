@@ -1,5 +1,6 @@
 -- The fields of a row: what a text and a number are. Both are this product's own.
-use Rattle.std.specs.Prelude.{ℕ, List, if◌then◌else◌, Option, Some, None, option_and_then, Result, Ok, Err}
+use Rattle.std.specs.Prelude.{ℕ, List, if◌then◌else◌, Option, Some, None, option_and_then, Result}
+use Rattle.std.specs.Prelude.{Ok, Err}
 use Rattle.std.specs.Str.{is_utf8}
 use Rattle.csv.specs.Records.{field_at}
 use Rattle.hq_base.specs.Decimals.{number_in}

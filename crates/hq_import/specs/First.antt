@@ -1,4 +1,5 @@
--- What the first 1,002 records of a file say: words of the crate's own functions. No claim rests on them.
+-- What the first 1,002 records of a file say: words of the crate's own functions. No claim rests on
+-- them.
 -- Inner: it serves proofs alone, and no promise rests on it.
 use Rattle.std.specs.Prelude.{ℕ, nat_lt, nat_le, List, [], length, take, Result}
 use Rattle.hq_base.specs.Readers.{◌>>=◌, checked, guard}

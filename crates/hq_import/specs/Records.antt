@@ -1,7 +1,8 @@
--- The records of a CSV file, and the rows under its header. What a byte does to the record at hand is what the reader of
--- the crate `csv` does with its default settings: those of RFC 4180, and lines may end in CR, LF or both; empty lines are
--- no records. The limits are this product's own.
-use Rattle.std.specs.Prelude.{ℕ, Bool, nat_le, List, [], ◌∷◌, ◌++◌, length, bytes_eq, if◌then◌else◌, Result, Err}
+-- The records of a CSV file, and the rows under its header. What a byte does to the record at hand
+-- is what the reader of the crate `csv` does with its default settings: those of RFC 4180, and
+-- lines may end in CR, LF or both; empty lines are no records. The limits are this product's own.
+use Rattle.std.specs.Prelude.{ℕ, Bool, nat_le, List, [], ◌∷◌, ◌++◌, length, bytes_eq, if◌then◌else◌}
+use Rattle.std.specs.Prelude.{Result, Err}
 use Rattle.std.specs.Cmp.Lexicographic.{pointwise}
 use Rattle.csv.specs.Machine.{step, is_end, ends_at_end, fields_after, field_after}
 use Rattle.csv.specs.Reading.{default_config, strip_bom}
@@ -14,13 +15,15 @@ use Rattle.hq_base.specs.declared.failure.Refusal.{Refusal}
 abbrev pub Record : Type 0
 Record = List (List ℕ)
 
--- the records that bytes go on to write, from a state of the reader and behind the fields and the field at hand
+-- the records that bytes go on to write, from a state of the reader and behind the fields and the
+-- field at hand
 unfoldable pub records_from : State → Record → List ℕ → List ℕ → List Record
 records_from s fields field [] = if ends_at_end s then (fields ++ field ∷ []) ∷ [] else []
 records_from s fields field (b ∷ bytes) =
     let next = step default_config s b in
     let so_far = fields_after next.1 fields field in
-    if is_end next.1 then so_far ∷ records_from next.0 [] [] bytes else records_from next.0 so_far (field_after next.1 b field) bytes
+    if is_end next.1 then so_far ∷ records_from next.0 [] [] bytes else
+    records_from next.0 so_far (field_after next.1 b field) bytes
 
 -- the records of a file; one byte order mark at its start is dropped
 abbrev pub records_in : List ℕ → List Record

@@ -25,7 +25,8 @@ is_same a b = is_same_class a.0 b.0 && is_same_text a.1 b.1
 
 -- the patterns of these lines were noted, and no others
 abbrev pub KnowsPatterns : SeenPatterns → List Line → Type 0
-KnowsPatterns seen earlier = (pattern : Class × List ℕ) → has_pattern pattern seen ≡ list_any (is_same_pattern pattern) earlier
+KnowsPatterns seen earlier = (pattern : Class × List ℕ) →
+    has_pattern pattern seen ≡ list_any (is_same_pattern pattern) earlier
 
 -- the names of these customers were noted, and no others
 abbrev pub KnowsNames : Seen → List Customer → Type 0

@@ -1,6 +1,9 @@
--- Access tables as CSV: rows of class, pattern and action under the header `class,pattern,action`. Patterns and actions are
--- those of access(5); the form of the file and the order of its faults are this product's own.
-use Rattle.std.specs.Prelude.{ℕ, ◌+◌, Bool, true, false, ◌&&◌, not, ◌==◌, nat_le, List, [], ◌∷◌, ◌++◌, length, codes, bytes_eq, if◌then◌else◌, Option, Some, None, option_and_then, Result, Ok}
+-- Access tables as CSV: rows of class, pattern and action under the header `class,pattern,action`.
+-- Patterns and actions are those of access(5); the form of the file and the order of its faults are
+-- this product's own.
+use Rattle.std.specs.Prelude.{ℕ, ◌+◌, Bool, true, false, ◌&&◌, not, ◌==◌, nat_le, List, [], ◌∷◌}
+use Rattle.std.specs.Prelude.{◌++◌, length, codes, bytes_eq, if◌then◌else◌, Option, Some, None}
+use Rattle.std.specs.Prelude.{option_and_then, Result, Ok}
 use Rattle.std.specs.List.{list_any}
 use Rattle.hq_base.specs.Readers.{◌>>=◌, guard, or_refuse}
 use Rattle.hq_base.specs.declared.failure.Refusal.{Refusal}
@@ -16,7 +19,8 @@ use Rattle.hq_import.specs.Records.{Record, most_rows, rows_in}
 
 -- the class of a name
 abbrev pub class_in : List ℕ → Option Class
-class_in name = if bytes_eq name (class_name SenderSide) then Some SenderSide else if bytes_eq name (class_name RecipientSide) then Some RecipientSide else None
+class_in name = if bytes_eq name (class_name SenderSide) then Some SenderSide else
+    if bytes_eq name (class_name RecipientSide) then Some RecipientSide else None
 
 -- the line of a row: three texts, which are a class, a pattern of that class, and an action
 unfoldable pub line_in : Refusal → Record → Result Line Refusal
@@ -35,9 +39,11 @@ is_same_class SenderSide RecipientSide = false
 is_same_class RecipientSide SenderSide = false
 is_same_class RecipientSide RecipientSide = true
 
--- two lines of one class whose patterns have one text; patterns are folded, so their spelling does not count
+-- two lines of one class whose patterns have one text; patterns are folded, so their spelling does
+-- not count
 abbrev pub is_same_pattern : Class × List ℕ → Line → Bool
-is_same_pattern pattern line = is_same_class pattern.0 line.pattern.0 && is_same_text pattern.1 line.pattern.1
+is_same_pattern pattern line = is_same_class pattern.0 line.pattern.0
+    && is_same_text pattern.1 line.pattern.1
 
 -- a line's pattern stands in an earlier row
 abbrev pub is_doubled : List Line → Line → Bool
@@ -48,8 +54,8 @@ abbrev pub patterns_apart : List Line → Bool
 patterns_apart [] = true
 patterns_apart (line ∷ lines) = not (is_doubled lines line) && patterns_apart lines
 
--- The line of the row under these lines, of which there is one per row, or what is wrong with that row: there are too
--- many, or it is bad; or else its pattern is doubled.
+-- The line of the row under these lines, of which there is one per row, or what is wrong with that
+-- row: there are too many, or it is bad; or else its pattern is doubled.
 unfoldable pub next_line : List Line → Record → Result Line Refusal
 next_line earlier fields =
     let number = length earlier + 1 in do
@@ -58,14 +64,17 @@ next_line earlier fields =
       new ← guard (not (is_doubled earlier line)) (DoubledPattern number)
       Ok line
 
--- these lines and those of the rows under them, or what is wrong with the first row that is not good
+-- these lines and those of the rows under them, or what is wrong with the first row that is not
+-- good
 unfoldable pub lines_under : List Line → List Record → Result (List Line) Refusal
 lines_under earlier [] = Ok earlier
-lines_under earlier (row ∷ rows) = next_line earlier row >>= (λ line. lines_under (earlier ++ line ∷ []) rows)
+lines_under earlier (row ∷ rows) = next_line earlier row >>=
+    (λ line. lines_under (earlier ++ line ∷ []) rows)
 
 abbrev pub table_header : Record
 table_header = codes "class" ∷ codes "pattern" ∷ codes "action" ∷ []
 
--- The lines of an access table, in the order of its rows, or its first fault: 50 at row 0 is the header or the whole file.
+-- The lines of an access table, in the order of its rows, or its first fault: 50 at row 0 is the
+-- header or the whole file.
 unfoldable pub lines_in : List ℕ → Result (List Line) Refusal
 lines_in file = rows_in table_header (BadCsv 0) file >>= lines_under []

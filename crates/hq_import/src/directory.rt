@@ -1,13 +1,15 @@
 //! The directory as CSV.
 
-ghost use Rattle.std.specs.Prelude.{◌≡◌, ◌<◌, ◌≤◌, [], ◌∷◌, ◌++◌, length, IfOk, IsTrue, OnOk, map as map_list};
+ghost use Rattle.std.specs.Prelude.{◌≡◌, ◌<◌, ◌≤◌, [], ◌∷◌, ◌++◌, length, IfOk, IsTrue, OnOk};
+ghost use Rattle.std.specs.Prelude.{map as map_list};
 ghost use Rattle.csv.specs.Records.{fields_of};
 ghost use Rattle.hq_base.specs.Readers.{Reads, seen_by};
 ghost use Rattle.hq_queue.specs.Limits.{is_quota};
 ghost use Rattle.hq_queue.specs.Customers.{are_customers};
 ghost use Rattle.hq_import.specs.First.{first_customers};
 ghost use Rattle.hq_import.specs.Seen.{KnowsNames, KnowsKeys};
-ghost use Rattle.hq_import.specs.Directories.{quota_of, quota_in, entry_of, customer_in, next_customer, customers_under, customers_in};
+ghost use Rattle.hq_import.specs.Directories.{quota_of, quota_in, entry_of, customer_in};
+ghost use Rattle.hq_import.specs.Directories.{next_customer, customers_under, customers_in};
 
 use crate::fields::{number_at, text_at, told_as};
 use crate::records::{MOST_ROWS, file_records, under_header};

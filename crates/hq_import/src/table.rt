@@ -1,11 +1,13 @@
 //! Access tables as CSV.
 
-ghost use Rattle.std.specs.Prelude.{◌≡◌, ◌<◌, ◌≤◌, [], ◌∷◌, ◌++◌, length, IfOk, IsTrue, OnOk, map as map_list};
+ghost use Rattle.std.specs.Prelude.{◌≡◌, ◌<◌, ◌≤◌, [], ◌∷◌, ◌++◌, length, IfOk, IsTrue, OnOk};
+ghost use Rattle.std.specs.Prelude.{map as map_list};
 ghost use Rattle.csv.specs.Records.{fields_of};
 ghost use Rattle.hq_base.specs.Readers.{Reads, seen_by};
 ghost use Rattle.hq_import.specs.First.{first_lines};
 ghost use Rattle.hq_import.specs.Seen.{KnowsPatterns};
-ghost use Rattle.hq_import.specs.Tables.{class_in, line_in, next_line, lines_under, lines_in, patterns_apart};
+ghost use Rattle.hq_import.specs.Tables.{class_in, line_in, next_line, lines_under, lines_in};
+ghost use Rattle.hq_import.specs.Tables.{patterns_apart};
 
 use crate::fields::{text_at, told_as};
 use crate::records::{MOST_ROWS, file_records, under_header};

@@ -1,9 +1,11 @@
 -- No call but an import touches the marks of imports.
-use Rattle.std.proofs.Common.{◌≡◌, ℕ, suc, ◌+◌, Bool, true, false, List, [], ◌∷◌, ◌++◌, map, length, refl, ap, ◌∙◌, Some, None, Option, Ok, Err, Result}
+use Rattle.std.proofs.Common.{◌≡◌, ℕ, suc, ◌+◌, Bool, true, false, List, [], ◌∷◌, ◌++◌, map, length}
+use Rattle.std.proofs.Common.{refl, ap, ◌∙◌, Some, None, Option, Ok, Err, Result}
 use Rattle.std.specs.Prelude.{if◌then◌else◌, ◌==◌, ◌&&◌, nat_lt, nat_le}
 use Rattle.std.specs.List.{flat_map}
 use Rattle.hq_base.specs.declared.failure.Refusal.{Refusal}
-use Rattle.hq_base.specs.declared.failure.Refusal.TheVariants.{QuotaLines, SerialsSpent, NoticesSpent}
+use Rattle.hq_base.specs.declared.failure.Refusal.TheVariants.{QuotaLines, SerialsSpent}
+use Rattle.hq_base.specs.declared.failure.Refusal.TheVariants.{NoticesSpent}
 use Rattle.hq_access.specs.declared.action.Action.{Action}
 use Rattle.hq_access.specs.declared.pattern.Class.{Class}
 use Rattle.hq_access.specs.declared.pattern.Line.{Line}
@@ -23,7 +25,8 @@ use Rattle.hq_queue.specs.declared.sweep.Swept.{Swept}
 use Rattle.hq_queue.specs.declared.sweep.Swept.TheVariants.{Expired, Warned, Untouched}
 use Rattle.hq_store.specs.Readings.{read_state}
 use Rattle.hq_store.specs.declared.change.Change.{Change}
-use Rattle.hq_store.specs.declared.change.Change.TheVariants.{PutHead, PutMessage, DropMessage, AddNotice}
+use Rattle.hq_store.specs.declared.change.Change.TheVariants.{PutHead, PutMessage, DropMessage}
+use Rattle.hq_store.specs.declared.change.Change.TheVariants.{AddNotice}
 use Rattle.hq_store.specs.declared.notice.Notice.{Notice}
 use Rattle.hq_store.specs.Sound.{pending_count}
 use Rattle.hq_store.specs.Tables.{State, change, change_all}
@@ -31,7 +34,8 @@ use Rattle.hq_store.proofs.Many.{change_all-append}
 use Rattle.hq_calls.specs.AccessLines as lines
 use Rattle.hq_calls.specs.Answering.{tell, refuse}
 use Rattle.hq_calls.specs.Messages as messages
-use Rattle.hq_calls.specs.Notices.{noticed, added_from, kept_below, with_notices, planned, carried_out, show_notice}
+use Rattle.hq_calls.specs.Notices.{noticed, added_from, kept_below, with_notices, planned}
+use Rattle.hq_calls.specs.Notices.{carried_out, show_notice}
 use Rattle.hq_calls.specs.Outcomes.{put_or_dropped, attempted, outcome_with, outcome}
 use Rattle.hq_calls.specs.Queues as queues
 use Rattle.hq_calls.specs.Submissions as submissions
@@ -63,10 +67,17 @@ pub release_leaves : (s : State) (at : ℕ) (o : Option Message) → Leaves s (m
 release_leaves s at None = refl
 release_leaves s at (Some m) = moved_leaves s (released at m)
 
-pub requeue_leaves : (s : State) (at : ℕ) (o : Option Message) → Leaves s (messages.requeue s.head at o)
+pub requeue_leaves : (s : State) (at : ℕ) (o : Option Message) →
+    Leaves s (messages.requeue s.head at o)
 requeue_leaves s at None = refl
 requeue_leaves s at (Some m) = cases (s.head.next_serial == spent) where
-  cases : (b : Bool) → Leaves s (if b then refuse SerialsSpent else record { answer = answer.Requeued s.head.next_serial; changes = DropMessage m.serial ∷ PutHead (messages.next_head s.head) ∷ PutMessage (requeued at s.head.next_serial m) ∷ [] })
+  cases : (b : Bool) → Leaves s (if b then refuse SerialsSpent else
+      record {
+        answer = answer.Requeued s.head.next_serial;
+        changes = DropMessage m.serial
+            ∷ PutHead (messages.next_head s.head)
+            ∷ PutMessage (requeued at s.head.next_serial m) ∷ [];
+      })
   cases true = refl
   cases false = refl
 
@@ -78,17 +89,20 @@ pub show_leaves : (s : State) (o : Option Message) → Leaves s (messages.show o
 show_leaves s None = refl
 show_leaves s (Some m) = refl
 
-settled_leaves : (s : State) (at : ℕ) (sub : Submission) (serial : Result ℕ Refusal) (v : Verdict) → Leaves s (submissions.settled s.head at sub serial v)
+settled_leaves : (s : State) (at : ℕ) (sub : Submission) (serial : Result ℕ Refusal) (v : Verdict) →
+    Leaves s (submissions.settled s.head at sub serial v)
 settled_leaves s at sub serial (verdict.Rejected refused) = refl
 settled_leaves s at sub serial (verdict.Discarded refused) = refl
 settled_leaves s at sub (Err refusal) (verdict.Queue kept refused redirect held) = refl
 settled_leaves s at sub (Ok serial) (verdict.Queue kept refused redirect held) = refl
 
-pub submit_leaves : (s : State) (entry : Entry) (at : ℕ) (sub : Submission) (o : Option Message) → Leaves s (submissions.submit entry (read_state s) at sub o)
+pub submit_leaves : (s : State) (entry : Entry) (at : ℕ) (sub : Submission) (o : Option Message) →
+    Leaves s (submissions.submit entry (read_state s) at sub o)
 submit_leaves s entry at sub (Some m) = refl
 submit_leaves s entry at sub None = settled_leaves s at sub _ _
 
-pub put_leaves : (s : State) (quota count : ℕ) (line : Line) (o : Option Action) → Leaves s (lines.put_line quota count line o)
+pub put_leaves : (s : State) (quota count : ℕ) (line : Line) (o : Option Action) →
+    Leaves s (lines.put_line quota count line o)
 put_leaves s quota count line (Some known) = over (lines.same_action known line.action) where
   over : (b : Bool) → Leaves s (if b then tell (answer.LinePut Same) else lines.set Changed line)
   over true = refl
@@ -98,7 +112,8 @@ put_leaves s quota count line None = beside (nat_le quota count) where
   beside true = refl
   beside false = refl
 
-pub drop_leaves : (s : State) (pattern : Class × List ℕ) (o : Option Action) → Leaves s (lines.drop_line pattern o)
+pub drop_leaves : (s : State) (pattern : Class × List ℕ) (o : Option Action) →
+    Leaves s (lines.drop_line pattern o)
 drop_leaves s pattern None = refl
 drop_leaves s pattern (Some action) = refl
 
@@ -110,12 +125,14 @@ LeavesAll cs = (s : State) → (change_all cs s).marks ≡ s.marks
 
 -- so do some and then others, where each do
 both_leave : (xs ys : List Change) → LeavesAll xs → LeavesAll ys → LeavesAll (xs ++ ys)
-both_leave xs ys first second s = ap (λ (u : State). u.marks) (change_all-append xs ys s) ∙ second (change_all xs s) ∙ first s
+both_leave xs ys first second s = ap (λ (u : State). u.marks) (change_all-append xs ys s)
+    ∙ second (change_all xs s) ∙ first s
 
 -- notices that are added do
 added_leave : (host : List ℕ) (at k : ℕ) (ds : List Draft) → LeavesAll (added_from host at k ds)
 added_leave host at k [] s = refl
-added_leave host at k (d ∷ ds) s = added_leave host at (suc k) ds (change (AddNotice (noticed host at k d)) s)
+added_leave host at k (d ∷ ds) s =
+    added_leave host at (suc k) ds (change (AddNotice (noticed host at k d)) s)
 
 -- and a drop of notices
 kept_leave : (quota next : ℕ) (ds : List Draft) → LeavesAll (kept_below quota next ds)
@@ -123,20 +140,25 @@ kept_leave quota next [] s = refl
 kept_leave quota next (d ∷ ds) s = refl
 
 -- a plan leaves the marks where its changes of messages do
-planned_leave : (host : List ℕ) (entry : Entry) (at : ℕ) (plan : Plan) → LeavesAll plan.changes → LeavesAll (planned host entry at plan)
+planned_leave : (host : List ℕ) (entry : Entry) (at : ℕ) (plan : Plan) → LeavesAll plan.changes →
+    LeavesAll (planned host entry at plan)
 planned_leave host entry at plan leave =
     let head = with_notices (length plan.drafts) plan.head in
     let made = added_from host at plan.head.next_notice plan.drafts in
     let rest = kept_below entry.quota.notices head.next_notice plan.drafts in
     both_leave plan.changes (PutHead head ∷ (made ++ rest)) leave
-    (λ s. both_leave made rest (added_leave host at plan.head.next_notice plan.drafts) (kept_leave entry.quota.notices head.next_notice plan.drafts) (change (PutHead head) s))
+    (λ s. both_leave made rest (added_leave host at plan.head.next_notice plan.drafts)
+    (kept_leave entry.quota.notices head.next_notice plan.drafts) (change (PutHead head) s))
 
 -- whether or not it finds the numbers for its notices
-carried_out_leaves : (host : List ℕ) (entry : Entry) (s : State) (at : ℕ) (plan : Plan) → LeavesAll plan.changes → Leaves s (carried_out host entry at plan)
-carried_out_leaves host entry s at plan leave = cases (nat_lt spent (plan.head.next_notice + length plan.drafts)) where
-  cases : (b : Bool) → Leaves s (if b then refuse NoticesSpent else record { answer = plan.answer; changes = planned host entry at plan })
-  cases true = refl
-  cases false = planned_leave host entry at plan leave s
+carried_out_leaves : (host : List ℕ) (entry : Entry) (s : State) (at : ℕ) (plan : Plan) →
+    LeavesAll plan.changes → Leaves s (carried_out host entry at plan)
+carried_out_leaves host entry s at plan leave =
+    cases (nat_lt spent (plan.head.next_notice + length plan.drafts)) where
+      cases : (b : Bool) → Leaves s (if b then refuse NoticesSpent else
+          record { answer = plan.answer; changes = planned host entry at plan })
+      cases true = refl
+      cases false = planned_leave host entry at plan leave s
 
 -- a message put or dropped after an attempt leaves the marks
 put_or_dropped_leaves : (m : Message) (ps : List Pending) → LeavesAll (put_or_dropped m ps ∷ [])
@@ -144,18 +166,24 @@ put_or_dropped_leaves m [] s = refl
 put_or_dropped_leaves m (p ∷ ps) s = refl
 
 -- whatever a report comes to
-reported_leaves : (host : List ℕ) (entry : Entry) (s : State) (at : ℕ) (m : Message) (r : Result (Reported × Message) Refusal) → Leaves s (outcome_with host entry at s.head m r)
+reported_leaves : (host : List ℕ) (entry : Entry) (s : State) (at : ℕ) (m : Message)
+    (r : Result (Reported × Message) Refusal) → Leaves s (outcome_with host entry at s.head m r)
 reported_leaves host entry s at m (Err refusal) = refl
 reported_leaves host entry s at m (Ok (Repeat, after)) = refl
-reported_leaves host entry s at m (Ok (Done delivered deferred failed, after)) = carried_out_leaves host entry s at (attempted s.head after delivered deferred failed) (put_or_dropped_leaves after after.pending)
+reported_leaves host entry s at m (Ok (Done delivered deferred failed, after)) =
+    carried_out_leaves host entry s at (attempted s.head after delivered deferred failed)
+    (put_or_dropped_leaves after after.pending)
 
 -- a report leaves them, of a message that is there or not
-pub outcome_leaves : (host : List ℕ) (entry : Entry) (s : State) (at : ℕ) (report : AttemptReport) (o : Option Message) → Leaves s (outcome host entry at s.head report o)
+pub outcome_leaves : (host : List ℕ) (entry : Entry) (s : State) (at : ℕ) (report : AttemptReport)
+    (o : Option Message) → Leaves s (outcome host entry at s.head report o)
 outcome_leaves host entry s at report None = refl
-outcome_leaves host entry s at report (Some m) = reported_leaves host entry s at m (reported m at report.attempt report.outcomes)
+outcome_leaves host entry s at report (Some m) =
+    reported_leaves host entry s at m (reported m at report.attempt report.outcomes)
 
 -- changes made of each of many leave them, where those of one do
-each_leaves : {X : Type 0} (f : X → List Change) → ((x : X) → LeavesAll (f x)) → (xs : List X) → LeavesAll (flat_map f xs)
+each_leaves : {X : Type 0} (f : X → List Change) → ((x : X) → LeavesAll (f x)) → (xs : List X) →
+    LeavesAll (flat_map f xs)
 each_leaves f one [] s = refl
 each_leaves f one (x ∷ xs) s = both_leave (f x) (flat_map f xs) (one x) (each_leaves f one xs) s
 
@@ -166,7 +194,8 @@ changed_by_leaves (m, Warned) s = refl
 changed_by_leaves (m, Untouched) s = refl
 
 -- a sweep leaves them
-pub sweep_leaves : (host : List ℕ) (entry : Entry) (s : State) (at : ℕ) (ms : List Message) → Leaves s (sweep host entry at s.head ms)
+pub sweep_leaves : (host : List ℕ) (entry : Entry) (s : State) (at : ℕ) (ms : List Message) →
+    Leaves s (sweep host entry at s.head ms)
 sweep_leaves host entry s at ms = cases (expired == 0 && warned == 0) where
   rows : List (Message × Swept)
   rows = map (met at entry.delay) ms
@@ -177,9 +206,12 @@ sweep_leaves host entry s at ms = cases (expired == 0 && warned == 0) where
   warned : ℕ
   warned = how_many Warned rows
 
-  cases : (b : Bool) → Leaves s (if b then tell (answer.Swept (record { expired = 0; notices = 0; warned = 0 })) else carried_out host entry at (swept_all s.head rows expired warned))
+  cases : (b : Bool) → Leaves s (if b then
+      tell (answer.Swept (record { expired = 0; notices = 0; warned = 0 })) else
+      carried_out host entry at (swept_all s.head rows expired warned))
   cases true = refl
-  cases false = carried_out_leaves host entry s at (swept_all s.head rows expired warned) (each_leaves changed_by changed_by_leaves rows)
+  cases false = carried_out_leaves host entry s at (swept_all s.head rows expired warned)
+      (each_leaves changed_by changed_by_leaves rows)
 
 -- a notice that is told leaves them
 pub show_notice_leaves : (s : State) (o : Option Notice) → Leaves s (show_notice o)
@@ -192,8 +224,10 @@ put_leaves_marks : (o : Option Message) → LeavesAll (queues.put o)
 put_leaves_marks None s = refl
 put_leaves_marks (Some m) s = refl
 
-pub move_all_leaves : (s : State) (move : Move) (ms : List Message) → Leaves s (queues.move_all move ms)
-move_all_leaves s move ms = each_leaves (λ m. queues.put (queues.moved_by move m)) (λ m. put_leaves_marks (queues.moved_by move m)) ms s
+pub move_all_leaves : (s : State) (move : Move) (ms : List Message) →
+    Leaves s (queues.move_all move ms)
+move_all_leaves s move ms = each_leaves (λ m. queues.put (queues.moved_by move m))
+    (λ m. put_leaves_marks (queues.moved_by move m)) ms s
 
 drops_leave : (ms : List Message) → LeavesAll (map queues.drop ms)
 drops_leave [] s = refl
@@ -204,6 +238,11 @@ delete_all_leaves s ms = cases (length ms == 0) where
   head : Head
   head = messages.with_deleted (pending_count ms) s.head
 
-  cases : (b : Bool) → Leaves s (if b then tell (answer.Changed 0) else record { answer = answer.Changed (length ms); changes = map queues.drop ms ++ PutHead head ∷ [] })
+  cases : (b : Bool) → Leaves s (if b then tell (answer.Changed 0) else
+      record {
+        answer = answer.Changed (length ms);
+        changes = map queues.drop ms ++ PutHead head
+            ∷ [];
+      })
   cases true = refl
   cases false = both_leave (map queues.drop ms) (PutHead head ∷ []) (drops_leave ms) (λ u. refl) s

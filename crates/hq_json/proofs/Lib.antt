@@ -1,3 +1,2 @@
 pub mod NoFloats
 pub mod OneLine
-pub mod Submitted

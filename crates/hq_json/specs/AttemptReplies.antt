@@ -1,5 +1,5 @@
--- What is told to the relay's workers: what an attempt came to, what may be tried now, and what a sweep did. Members
--- stand in the order of their names.
+-- What is told to the relay's workers: what an attempt came to, what may be tried now, and what a
+-- sweep did. Members stand in the order of their names.
 use Rattle.std.specs.Prelude.{ℕ, ◌+◌, Bool, List, [], ◌∷◌, map, codes}
 use Rattle.serde_json.specs.Data.{Data, boolean, string, array}
 use Rattle.serde_json.specs.View.{items_of}
@@ -21,7 +21,8 @@ attempted counts = having (
 
 -- the attempts so far, of which the reported one is one
 abbrev pub attempt_repeated : ℕ → Data
-attempt_repeated attempts = having ((codes "attempts", count attempts) ∷ (codes "result", string (codes "repeat")) ∷ [])
+attempt_repeated attempts = having ((codes "attempts", count attempts)
+    ∷ (codes "result", string (codes "repeat")) ∷ [])
 
 -- a message that may be tried, with the number of its next attempt
 unfoldable pub due_entry : Message → Data
@@ -34,7 +35,8 @@ due_entry m = having (
     [])
 
 unfoldable pub due_listed : List Message → Bool → Data
-due_listed ms more = having ((codes "due", array (items_of (map due_entry ms))) ∷ (codes "more", boolean more) ∷ [])
+due_listed ms more = having ((codes "due", array (items_of (map due_entry ms)))
+    ∷ (codes "more", boolean more) ∷ [])
 
 abbrev pub swept : SweepCounts → Data
 swept counts = having (

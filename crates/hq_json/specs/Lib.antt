@@ -5,4 +5,3 @@ pub mod OneLine
 pub mod QueueReplies
 pub mod TableReplies
 pub mod Replies
-pub mod Submissions

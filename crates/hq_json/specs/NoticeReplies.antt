@@ -27,7 +27,8 @@ notice_entry n = having (
     [])
 
 unfoldable pub notices_listed : List Notice → Bool → Data
-notices_listed ns more = having ((codes "more", boolean more) ∷ (codes "notices", array (items_of (map notice_entry ns))) ∷ [])
+notices_listed ns more = having ((codes "more", boolean more)
+    ∷ (codes "notices", array (items_of (map notice_entry ns))) ∷ [])
 
 -- a notice shown whole
 unfoldable pub notice_shown : Notice → Data

@@ -1,4 +1,5 @@
--- What a customer is told of its use of the desk and of its queue. Members stand in the order of their names.
+-- What a customer is told of its use of the desk and of its queue. Members stand in the order of
+-- their names.
 use Rattle.std.specs.Prelude.{ℕ, List, [], ◌∷◌, codes}
 use Rattle.serde_json.specs.Data.{Data, string}
 use Rattle.hq_calls.specs.declared.answer.Usage.{Usage}

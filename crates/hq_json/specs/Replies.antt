@@ -1,5 +1,5 @@
--- The body of each answer, as a JSON value with its members in the order of their names; its bytes are the compact
--- text of the value, as `serde_json` writes it.
+-- The body of each answer, as a JSON value with its members in the order of their names; its bytes
+-- are the compact text of the value, as `serde_json` writes it.
 use Rattle.std.specs.Prelude.{ℕ, Bool, List, [], ◌∷◌, map, length, codes, Option, None, Some}
 use Rattle.serde_json.specs.Data.{Data, boolean, string, array}
 use Rattle.serde_json.specs.View.{items_of}
@@ -7,7 +7,9 @@ use Rattle.serde_json.specs.Written.{compact_text}
 use Rattle.hq_base.specs.Refusals.{refusal_number, refusal_name}
 use Rattle.hq_envelope.specs.Senders.{sender_text}
 use Rattle.hq_base.specs.declared.failure.Refusal.{Refusal}
-use Rattle.hq_base.specs.declared.failure.Refusal.TheVariants.{AttemptAhead, BadCsv, DoubledPattern, BadDirectory, DoubledName, DoubledKey}
+use Rattle.hq_base.specs.declared.failure.Refusal.TheVariants.{AttemptAhead, BadCsv, DoubledPattern}
+use Rattle.hq_base.specs.declared.failure.Refusal.TheVariants.{BadDirectory, DoubledName}
+use Rattle.hq_base.specs.declared.failure.Refusal.TheVariants.{DoubledKey}
 use Rattle.hq_access.specs.declared.verdicts.Refused.{Refused}
 use Rattle.hq_queue.specs.declared.message.Message.{Message}
 use Rattle.hq_queue.specs.declared.message.Pending.{Pending}
@@ -19,7 +21,8 @@ use Rattle.hq_json.specs.AttemptReplies.{attempted, attempt_repeated, due_listed
 use Rattle.hq_json.specs.NoticeReplies.{notices_listed, notice_shown}
 use Rattle.hq_json.specs.Objects.{having, count, id, addresses}
 use Rattle.hq_json.specs.QueueReplies.{used, reported}
-use Rattle.hq_json.specs.TableReplies.{refused_list, lines_listed, line_put, line_dropped, checked, imported}
+use Rattle.hq_json.specs.TableReplies.{refused_list, lines_listed, line_put, line_dropped, checked}
+use Rattle.hq_json.specs.TableReplies.{imported}
 
 -- ---- refusals
 
@@ -130,10 +133,12 @@ abbrev pub repeated : ℕ → Data
 repeated serial = having ((codes "id", id serial) ∷ (codes "verdict", string (codes "repeat")) ∷ [])
 
 abbrev pub rejected : List Refused → Data
-rejected refused = having ((codes "refused", refused_list refused) ∷ (codes "verdict", string (codes "rejected")) ∷ [])
+rejected refused = having ((codes "refused", refused_list refused)
+    ∷ (codes "verdict", string (codes "rejected")) ∷ [])
 
 abbrev pub discarded : List Refused → Data
-discarded refused = having ((codes "refused", refused_list refused) ∷ (codes "verdict", string (codes "discarded")) ∷ [])
+discarded refused = having ((codes "refused", refused_list refused)
+    ∷ (codes "verdict", string (codes "discarded")) ∷ [])
 
 abbrev pub changed : ℕ → Data
 changed n = having ((codes "changed", count n) ∷ [])

@@ -1,4 +1,5 @@
--- What is told of access tables: lines, lookups, imports, and who is refused. Members stand in the order of their names.
+-- What is told of access tables: lines, lookups, imports, and who is refused. Members stand in the
+-- order of their names.
 use Rattle.std.specs.Prelude.{ℕ, Bool, List, [], ◌∷◌, map, codes, Option, None, Some}
 use Rattle.serde_json.specs.Data.{Data, null, boolean, string, array}
 use Rattle.serde_json.specs.View.{items_of}

@@ -1,5 +1,5 @@
-//! Laws over the texts of answers, with no program in them. Each is an empty function whose contract
-//! is the law.
+//! Laws over the texts of answers, with no program in them. Each is an empty function whose
+//! contract is the law.
 
 ghost use Rattle.std.specs.Prelude.{◌≡◌, true};
 ghost use Rattle.hq_calls.specs.declared.answer.Answer.{Answer};

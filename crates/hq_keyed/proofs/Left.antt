@@ -1,12 +1,14 @@
 -- What a call that fails leaves.
-use Rattle.std.proofs.Common.{◌≡◌, inl, inr, arith, ℕ, List, Option, Some, None, Ok, Err, true, false}
+use Rattle.std.proofs.Common.{◌≡◌, inl, inr, arith, ℕ, List, Option, Some, None, Ok, Err, true}
+use Rattle.std.proofs.Common.{false}
 use Rattle.std.proofs.lemmas.Bool.{cases_Bool}
 use Rattle.sqlite.specs.Order.{Row}
 use Rattle.sqlite.specs.declared.error.Error.{Error}
 use Rattle.sqlite_resolve.specs.declared.compiled.Compiled.{Compiled}
 use Rattle.sqlite_schema.specs.declared.command.Returning.{Returning}
 use Rattle.sqlite.specs.Clock.{timed}
-use Rattle.sqlite.specs.State.{State, HasCleanDisk, IsUnchanged, Fails, IsNotRun, FailsToQuery, FailsToShow, RunsCommand, ExecutesIn, Executes, shows_rows}
+use Rattle.sqlite.specs.State.{State, HasCleanDisk, IsUnchanged, Fails, IsNotRun, FailsToQuery}
+use Rattle.sqlite.specs.State.{FailsToShow, RunsCommand, ExecutesIn, Executes, shows_rows}
 use Rattle.sqlite.specs.State.{Shown, ShowsRows}
 use Rattle.sqlite.specs.Listing.{understood}
 use Rattle.sqlite.proofs.Callers.{IsPlain}
@@ -15,31 +17,38 @@ use Rattle.std.proofs.Common.{refl, sym, ap, ◌∙◌}
 use Rattle.sqlite.specs.State.{KeepsCommit}
 use Rattle.std.proofs.Common.{true≢false}
 use Rattle.sqlite_trees.specs.declared.error.StoreError.{StoreError}
-use Rattle.sqlite_trees.specs.declared.error.StoreError.TheVariants.{OutOfMemory, Io, Corrupt, Full, Broken, Unstorable}
+use Rattle.sqlite_trees.specs.declared.error.StoreError.TheVariants.{OutOfMemory, Io, Corrupt, Full}
+use Rattle.sqlite_trees.specs.declared.error.StoreError.TheVariants.{Broken, Unstorable}
 use Rattle.sqlite.specs.State.{store_error}
 use Rattle.hq_keyed.specs.Left.{IsLeft, IsQuiet, is_clash}
 
-not_run : (old new : State) (sql : List ℕ) (params : Row) (e : Error) → IsNotRun old new sql params e → IsLeft old new
+not_run : (old new : State) (sql : List ℕ) (params : Row) (e : Error) →
+    IsNotRun old new sql params e → IsLeft old new
 unfolding IsNotRun IsLeft
 not_run old new sql params e (inl h) = inl h.1
 not_run old new sql params e (inr h) = inr h.3
 
-command_left : (old new : State) (sql : List ℕ) (c : Compiled) (params : Row) (e : Error) → RunsCommand old new sql c params (Err e) → IsLeft old new
+command_left : (old new : State) (sql : List ℕ) (c : Compiled) (params : Row) (e : Error) →
+    RunsCommand old new sql c params (Err e) → IsLeft old new
 unfolding IsLeft
 command_left old new sql c params e (inl h) = inl h.1
 command_left old new sql c params e (inr h) = inr h.3
 
-show_left : (old new : State) (sql : List ℕ) (c : Compiled) (params : Row) (e : Error) (o : Option Returning) → FailsToShow old new sql c params e o → IsLeft old new
+show_left : (old new : State) (sql : List ℕ) (c : Compiled) (params : Row) (e : Error)
+    (o : Option Returning) → FailsToShow old new sql c params e o → IsLeft old new
 unfolding IsLeft
 show_left old new sql c params e None h = inl h.3
 show_left old new sql c params e (Some r) h = command_left old new sql c params e h
 
-pub query_left : (old new : State) (sql : List ℕ) (params : Row) (e : Error) → FailsToQuery sql params old new e → IsLeft old new
+pub query_left : (old new : State) (sql : List ℕ) (params : Row) (e : Error) →
+    FailsToQuery sql params old new e → IsLeft old new
 unfolding FailsToQuery
 query_left old new sql params e (inl h) = not_run old new sql params e h
-query_left old new sql params e (inr h) = show_left old new sql h.0 (timed params h.0.formats h.1.now) e h.0.returning h.2
+query_left old new sql params e (inr h) =
+    show_left old new sql h.0 (timed params h.0.formats h.1.now) e h.0.returning h.2
 
-pub execute_left : (old new : State) (sql : List ℕ) (params : Row) (e : Error) → Executes sql params old new (Err e) → IsLeft old new
+pub execute_left : (old new : State) (sql : List ℕ) (params : Row) (e : Error) →
+    Executes sql params old new (Err e) → IsLeft old new
 unfolding ExecutesIn IsLeft
 execute_left old new sql params e (inl h) = not_run old new sql params e h
 execute_left old new sql params e (inr h) = elim (cases_Bool (shows_rows false h.0)) [
@@ -47,14 +56,16 @@ execute_left old new sql params e (inr h) = elim (cases_Bool (shows_rows false h
   | inr runs ↦ command_left old new sql h.0 (timed params h.0.formats h.1.now) e (rw runs at h.2)
 ]
 
-pub shown_unchanged : (old new : State) (sql : List ℕ) (params : Row) (rows : List Row) → IsPlain (understood old.now.schema sql) → Shown sql params old new rows → IsUnchanged old new
+pub shown_unchanged : (old new : State) (sql : List ℕ) (params : Row) (rows : List Row) →
+    IsPlain (understood old.now.schema sql) → Shown sql params old new rows → IsUnchanged old new
 unfolding Shown
 shown_unchanged old new sql params rows plain h =
     let none = (subst IsPlain h.1.is plain).0 in
     (subst (ShowsRows old new sql h.0 (timed params h.0.formats h.1.now) rows) none h.2).3
 
 -- a query with no RETURNING leaves all as it was
-pub shown_left : (old new : State) (sql : List ℕ) (params : Row) (rows : List Row) → IsPlain (understood old.now.schema sql) → Shown sql params old new rows → IsLeft old new
+pub shown_left : (old new : State) (sql : List ℕ) (params : Row) (rows : List Row) →
+    IsPlain (understood old.now.schema sql) → Shown sql params old new rows → IsLeft old new
 unfolding IsLeft
 shown_left old new sql params rows plain h = inl (shown_unchanged old new sql params rows plain h)
 
@@ -64,11 +75,17 @@ on_err (Err e) p = p
 
 pub left_keeps : (old new : State) → IsLeft old new → KeepsCommit old new
 unfolding IsLeft
-left_keeps old new (inl h) = record { was_open = λ _. h.0.was_open; committed = λ _. h.0.committed_is }
+left_keeps old new (inl h) = record {
+  was_open = λ _. h.0.was_open;
+  committed = λ _. h.0.committed_is;
+}
 left_keeps old new (inr h) = record { was_open = h.was_open; committed = λ is. (h.undone is).1 }
 
 pub keeps_then : (a b c : State) → KeepsCommit a b → KeepsCommit b c → KeepsCommit a c
-keeps_then a b c p q = record { was_open = λ is. p.was_open (q.was_open is); committed = λ is. q.committed is ∙ p.committed (q.was_open is) }
+keeps_then a b c p q = record {
+  was_open = λ is. p.was_open (q.was_open is);
+  committed = λ is. q.committed is ∙ p.committed (q.was_open is);
+}
 
 pub keeps_itself : (a : State) → KeepsCommit a a
 keeps_itself a = record { was_open = λ is. is; committed = λ _. refl }
@@ -82,7 +99,10 @@ pub quiet_then : (a b c : State) → IsQuiet a b → IsQuiet b c → IsQuiet a c
 quiet_then a b c p q = omega (arith, p, q)
 
 pub unchanged_keeps : (old new : State) → IsUnchanged old new → KeepsCommit old new
-unchanged_keeps old new h = record { was_open = λ _. h.0.was_open; committed = λ _. h.0.committed_is }
+unchanged_keeps old new h = record {
+  was_open = λ _. h.0.was_open;
+  committed = λ _. h.0.committed_is;
+}
 
 -- ---- a constraint
 
@@ -94,19 +114,23 @@ no_clash Full = refl
 no_clash Broken = refl
 no_clash Unstorable = refl
 
-fails_other : (old new : State) (big : Type 0) (e : Error) → is_clash e ≡ true → Fails old new big e → ⊥
+fails_other : (old new : State) (big : Type 0) (e : Error) → is_clash e ≡ true → Fails old new big e
+    → ⊥
 fails_other old new big e clash h = true≢false (sym clash ∙ ap is_clash h.1 ∙ no_clash h.0)
 
-command_unchanged : (old new : State) (sql : List ℕ) (c : Compiled) (params : Row) (e : Error) → is_clash e ≡ true → RunsCommand old new sql c params (Err e) → IsUnchanged old new
+command_unchanged : (old new : State) (sql : List ℕ) (c : Compiled) (params : Row) (e : Error) →
+    is_clash e ≡ true → RunsCommand old new sql c params (Err e) → IsUnchanged old new
 command_unchanged old new sql c params e clash (inl h) = h.1
 command_unchanged old new sql c params e clash (inr h) = absurd (fails_other old new _ e clash h)
 
 -- where a constraint refuses a row nothing changes, and the transaction goes on
-pub clash_unchanged : (old new : State) (sql : List ℕ) (params : Row) (e : Error) → is_clash e ≡ true → Executes sql params old new (Err e) → IsUnchanged old new
+pub clash_unchanged : (old new : State) (sql : List ℕ) (params : Row) (e : Error) →
+    is_clash e ≡ true → Executes sql params old new (Err e) → IsUnchanged old new
 unfolding ExecutesIn IsNotRun
 clash_unchanged old new sql params e clash (inl (inl h)) = h.1
 clash_unchanged old new sql params e clash (inl (inr h)) = absurd (fails_other old new _ e clash h)
 clash_unchanged old new sql params e clash (inr h) = elim (cases_Bool (shows_rows false h.0)) [
   | inl shows ↦ (rw shows at h.2).1
-  | inr runs ↦ command_unchanged old new sql h.0 (timed params h.0.formats h.1.now) e clash (rw runs at h.2)
+  | inr runs ↦ command_unchanged old new sql h.0 (timed params h.0.formats h.1.now) e clash
+      (rw runs at h.2)
 ]

@@ -1,5 +1,6 @@
 -- Terms of WHERE and keys of ORDER BY as tests of typed keys, and values as they are cast.
-use Rattle.std.proofs.Common.{◌≡◌, ◌||◌, ℕ, ℤ, pos, negsuc, true, false, List, refl, ◌∙◌, arith, nat_cmp, int_cmp, int_eq, is_eq}
+use Rattle.std.proofs.Common.{◌≡◌, ◌||◌, ℕ, ℤ, pos, negsuc, true, false, List, refl, ◌∙◌, arith}
+use Rattle.std.proofs.Common.{nat_cmp, int_cmp, int_eq, is_eq}
 use Rattle.std.specs.Prelude.{int_lt, nat_lt, nat_le}
 use Rattle.std.specs.Ordering.{eq_by_cmp}
 use Rattle.std.proofs.lemmas.Int.{ints}
@@ -17,24 +18,29 @@ use Rattle.hq_keyed.specs.Values.{text_cmp}
 use Rattle.hq_keyed.specs.Values.{number}
 
 -- column = parameter, for texts and for numbers: the test of the parameter with the column
-pub text_is : (x c : List ℕ) → truth_or false (binary (Compare Eq Binary) (Text x) (Text c)) ≡ eq_by_cmp text_cmp c x
+pub text_is : (x c : List ℕ) → truth_or false (binary (Compare Eq Binary) (Text x) (Text c)) ≡
+    eq_by_cmp text_cmp c x
 text_is x c = at_texts false Eq x c ∙ turn_eq text_cmp nat_list_cmp_total x c
 
 same_numbers : (x n : ℕ) → int_eq (pos x) (pos n) ≡ is_eq (nat_cmp n x)
 same_numbers x n = grind (arith, nat_tests)
 
-pub number_is : (x n : ℕ) → truth_or false (binary (Compare Eq Binary) (number x) (number n)) ≡ eq_by_cmp nat_cmp n x
+pub number_is : (x n : ℕ) → truth_or false (binary (Compare Eq Binary) (number x) (number n)) ≡
+    eq_by_cmp nat_cmp n x
 number_is x n = at_ints false Eq (pos x) (pos n) ∙ same_numbers x n
 
 -- column > parameter
-pub number_above : (x : ℕ) (n : ℤ) → truth_or false (binary (Compare Gt Binary) (number x) (Int n)) ≡ int_lt n (pos x)
+pub number_above : (x : ℕ) (n : ℤ) →
+    truth_or false (binary (Compare Gt Binary) (number x) (Int n)) ≡ int_lt n (pos x)
 number_above x n = at_ints false Gt (pos x) n
 
 -- column >= parameter, and column <= parameter
-pub number_from : (x n : ℕ) → truth_or false (binary (Compare Ge Binary) (number x) (number n)) ≡ nat_le n x
+pub number_from : (x n : ℕ) → truth_or false (binary (Compare Ge Binary) (number x) (number n)) ≡
+    nat_le n x
 number_from x n = at_ints false Ge (pos x) (pos n)
 
-pub number_to : (x n : ℕ) → truth_or false (binary (Compare Le Binary) (number x) (number n)) ≡ nat_le x n
+pub number_to : (x n : ℕ) → truth_or false (binary (Compare Le Binary) (number x) (number n)) ≡
+    nat_le x n
 number_to x n = at_ints false Le (pos x) (pos n)
 
 same_order : (a b : ℕ) → int_cmp (pos a) (pos b) ≡ nat_cmp a b
@@ -51,5 +57,8 @@ pub above_some : (n x : ℕ) → int_lt (pos n) (pos x) ≡ nat_lt n x
 above_some n x = refl
 
 -- a place that is none of 1 to n
-pub number_beside : (x n : ℕ) → truth_or false (binary Or (binary (Compare Lt Binary) (number x) (number 1)) (binary (Compare Gt Binary) (number x) (number n))) ≡ (nat_lt x 1 || nat_lt n x)
-number_beside x n = at_or false _ _ (at_ints false Lt (pos x) (pos 1)) (at_ints false Gt (pos x) (pos n))
+pub number_beside : (x n : ℕ) → truth_or false
+    (binary Or (binary (Compare Lt Binary) (number x) (number 1))
+    (binary (Compare Gt Binary) (number x) (number n))) ≡ (nat_lt x 1 || nat_lt n x)
+number_beside x n = at_or false _ _ (at_ints false Lt (pos x) (pos 1))
+    (at_ints false Gt (pos x) (pos n))

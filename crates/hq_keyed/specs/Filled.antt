@@ -19,9 +19,12 @@ abbrev pub added : {X : Type 0} → List (ℤ × X) → List X → List (ℤ × 
 added xs [] = xs
 added xs (y ∷ ys) = added (xs ++ (next_key (λ (k : ℤ × _). k.0) xs, y) ∷ []) ys
 
--- the table has the rows that the query answered, each under the next rowid, and their count is told
-pub record Filled (schema : Schema) (table : Table) (query : Program) (params : Row) (count : ℕ) (old new : State) : Type 0 where
+-- the table has the rows that the query answered, each under the next rowid, and their count is
+-- told
+pub record Filled (schema : Schema) (table : Table) (query : Program) (params : Row) (count : ℕ)
+    (old new : State) : Type 0 where
   pub rows : List Row
   pub answers : Answers (record old.now { schema = schema }) query (stamped table params) rows
-  pub sets : Sets schema old.now new.now table.tree (put_all [] (numbered Chosen [] (map (cast_row table) rows)))
+  pub sets : Sets schema old.now new.now table.tree
+      (put_all [] (numbered Chosen [] (map (cast_row table) rows)))
   pub count_is : count ≡ length rows

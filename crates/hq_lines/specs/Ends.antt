@@ -4,12 +4,15 @@ use Rattle.std.specs.Io.KnownBytes.{IsAtEnd}
 use Rattle.hq_lines.specs.Fields.{Request}
 use Rattle.hq_lines.specs.Lines.{whole_lines, lines_in, Streams, Served, Broken}
 use Rattle.hq_base.specs.declared.engine.EngineFault.{EngineFault}
-use Rattle.hq_base.specs.declared.engine.EngineFault.TheVariants.{Read, Write, TooManyReads, WantOfMemory}
+use Rattle.hq_base.specs.declared.engine.EngineFault.TheVariants.{Read, Write, TooManyReads}
+use Rattle.hq_base.specs.declared.engine.EngineFault.TheVariants.{WantOfMemory}
 
--- Where it ends well, the input was read to its end and all its lines are answered; after a failed read or the last that
--- is allowed, the whole lines among the bytes read are; after a failed write the first lines are done; and where the room
--- for a line was refused, nothing was touched. `done` says what requests and their replies did.
-abbrev pub Ends : (List (Option Request) → List (List ℕ) → Type 0) → Type 0 → Streams → Streams → Result ⊤ EngineFault → Type 0
+-- Where it ends well, the input was read to its end and all its lines are answered; after a failed
+-- read or the last that is allowed, the whole lines among the bytes read are; after a failed write
+-- the first lines are done; and where the room for a line was refused, nothing was touched. `done`
+-- says what requests and their replies did.
+abbrev pub Ends : (List (Option Request) → List (List ℕ) → Type 0) → Type 0 → Streams → Streams →
+    Result ⊤ EngineFault → Type 0
 Ends done untouched old new (Ok _) = Served done lines_in old new × IsAtEnd new.input
 Ends done untouched old new (Err Read) = Served done whole_lines old new
 Ends done untouched old new (Err TooManyReads) = Served done whole_lines old new

@@ -1,5 +1,7 @@
 -- The fields of a batch line: AT METHOD PATH KEY BODY, parted by one space each.
-use Rattle.std.specs.Prelude.{ℕ, ◌+◌, ◌==◌, ◌&&◌, nat_lt, nat_le, if◌then◌else◌, List, [], ◌∷◌, length, take, drop, position, bytes_eq, codes, Option, Some, None, option_map}
+use Rattle.std.specs.Prelude.{ℕ, ◌+◌, ◌==◌, ◌&&◌, nat_lt, nat_le, if◌then◌else◌, List, [], ◌∷◌}
+use Rattle.std.specs.Prelude.{length, take, drop, position, bytes_eq, codes, Option, Some, None}
+use Rattle.std.specs.Prelude.{option_map}
 use Rattle.std.specs.Str.{is_utf8}
 use Rattle.hq_base.specs.Decimals.{number_in}
 use Rattle.hq_lines.specs.declared.fields.RequestLine.{RequestLine}
@@ -9,7 +11,8 @@ abbrev pub ◌>>=◌ : {A B : Type 0} → Option A → (A → Option B) → Opti
 None >>= f = None
 (Some x) >>= f = f x
 
--- What a batch line asks for: at a moment, a method and a path with a key or none, and the bytes of a body.
+-- What a batch line asks for: at a moment, a method and a path with a key or none, and the bytes of
+-- a body.
 pub record Request : Type 0 where
   pub at : ℕ
   pub method : List ℕ
@@ -57,7 +60,13 @@ fields_in line = do
   path ← text_in (cut after_method).0
   after_path ← (cut after_method).1
   key ← text_in (cut after_path).0
-  Some (record { at = at; method = method; path = path; key = key_in key; body = body_in (cut after_path).1 })
+  Some (record {
+    at = at;
+    method = method;
+    path = path;
+    key = key_in key;
+    body = body_in (cut after_path).1;
+  })
 
 -- What a line asks for, or nothing where it is too long or cannot be read.
 unfoldable pub request_in : List ℕ → Option Request
@@ -65,4 +74,10 @@ request_in line = if nat_le (length line) 300000 then fields_in line else None
 
 -- a line as the code holds it, as a request
 abbrev pub shown : RequestLine → Request
-shown line = record { at = line.at; method = line.method.now; path = line.path.now; key = option_map (λ k. k.now) line.key; body = line.body.now }
+shown line = record {
+  at = line.at;
+  method = line.method.now;
+  path = line.path.now;
+  key = option_map (λ k. k.now) line.key;
+  body = line.body.now;
+}

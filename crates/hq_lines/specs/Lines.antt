@@ -1,5 +1,6 @@
 -- The lines of an input, and what it is to answer them in order.
-use Rattle.std.specs.Prelude.{◌≡◌, ◌⊎◌, ℕ, nat_lt, nat_le, ◌==◌, Bool, if◌then◌else◌, List, [], ◌∷◌, ◌++◌, length, map, Option}
+use Rattle.std.specs.Prelude.{◌≡◌, ◌⊎◌, ℕ, nat_lt, nat_le, ◌==◌, Bool, if◌then◌else◌, List, [], ◌∷◌}
+use Rattle.std.specs.Prelude.{◌++◌, length, map, Option}
 use Rattle.std.specs.List.{filter, concat}
 use Rattle.std.specs.Io.BufRead.{strip_last}
 use Rattle.std.specs.Io.KnownBytes.{Consumes, Appends, IsAtEnd}
@@ -13,7 +14,8 @@ before_first b (line ∷ lines, rest) = ((b ∷ line) ∷ lines, rest)
 -- the lines that an LF (10) ends, each without it, and what follows the last LF
 abbrev pub parted : List ℕ → List (List ℕ) × List ℕ
 parted [] = ([], [])
-parted (b ∷ bytes) = if b == 10 then ([] ∷ (parted bytes).0, (parted bytes).1) else before_first b (parted bytes)
+parted (b ∷ bytes) = if b == 10 then ([] ∷ (parted bytes).0, (parted bytes).1) else
+    before_first b (parted bytes)
 
 -- a line that an LF ended loses one CR (13) at its end, unless it is too long to be read with it
 unfoldable pub without_return : List ℕ → List ℕ
@@ -37,15 +39,16 @@ requests lines = map request_in lines
 
 -- ---- what is done with lines
 
--- What is seen of an input and an output: the bytes that are left to be read, and those that were written, where they
--- are known.
+-- What is seen of an input and an output: the bytes that are left to be read, and those that were
+-- written, where they are known.
 pub record Streams : Type 0 where
   pub input : Option (List ℕ)
   pub output : Option (List ℕ)
 
--- Some bytes were read, and of those the lines (all, or the whole ones) were answered in order, each by its reply.
--- `done` says what these requests and their replies did.
-pub record Served (done : List (Option Request) → List (List ℕ) → Type 0) (lines : List ℕ → List (List ℕ)) (old new : Streams) : Type 0 where
+-- Some bytes were read, and of those the lines (all, or the whole ones) were answered in order,
+-- each by its reply. `done` says what these requests and their replies did.
+pub record Served (done : List (Option Request) → List (List ℕ) → Type 0) (lines : List ℕ →
+    List (List ℕ)) (old new : Streams) : Type 0 where
   pub bytes : List ℕ
   pub replies : List (List ℕ)
   pub read : Consumes old.input new.input bytes
@@ -56,8 +59,10 @@ pub record Served (done : List (Option Request) → List (List ℕ) → Type 0) 
 abbrev pub AreRead : Option (List ℕ) → List ℕ → List (List ℕ) → Type 0
 AreRead rest bytes lines = (whole_lines bytes ≡ lines) ⊎ (IsAtEnd rest × (lines_in bytes ≡ lines))
 
--- Some bytes were read, and the first of those lines were done; of what was written nothing is said.
-pub record Broken (done : List (Option Request) → List (List ℕ) → Type 0) (old new : Streams) : Type 0 where
+-- Some bytes were read, and the first of those lines were done; of what was written nothing is
+-- said.
+pub record Broken (done : List (Option Request) → List (List ℕ) → Type 0) (old new : Streams) : Type
+    0 where
   pub bytes : List ℕ
   pub first : List (List ℕ)
   pub missed : List (List ℕ)

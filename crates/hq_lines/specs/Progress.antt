@@ -11,15 +11,18 @@ use Rattle.hq_lines.specs.Lines.{parted, whole_lines, requests}
 unfoldable pub kept : List ℕ → List ℕ
 kept line = take 300001 line
 
--- These bytes were read, the whole lines among them are answered, and the line behind those is kept.
-pub record Progress {S : Type 0} (steps : S → Option Request → List ℕ → S → Type 0) (bytes : List ℕ) (write_old write_new : Option (List ℕ)) (old new : S) (begun : List ℕ) : Type 0 where
+-- These bytes were read, the whole lines among them are answered, and the line behind those is
+-- kept.
+pub record Progress {S : Type 0} (steps : S → Option Request → List ℕ → S → Type 0) (bytes : List ℕ)
+    (write_old write_new : Option (List ℕ)) (old new : S) (begun : List ℕ) : Type 0 where
   pub replies : List (List ℕ)
   pub written : Appends write_old write_new (concat replies)
   pub run : InTurn steps old (requests (whole_lines bytes)) replies new
   pub line : begun ≡ kept (parted bytes).1
 
 -- The steps of the first whole lines of these bytes are done.
-pub record Cut {S : Type 0} (steps : S → Option Request → List ℕ → S → Type 0) (bytes : List ℕ) (old new : S) : Type 0 where
+pub record Cut {S : Type 0} (steps : S → Option Request → List ℕ → S → Type 0) (bytes : List ℕ)
+    (old new : S) : Type 0 where
   pub first : List (List ℕ)
   pub missed : List (List ℕ)
   pub replies : List (List ℕ)
@@ -27,7 +30,9 @@ pub record Cut {S : Type 0} (steps : S → Option Request → List ℕ → S →
   pub run : InTurn steps old (requests first) replies new
 
 -- Some bytes were read, and so far the loop is.
-pub record Going {S : Type 0} (steps : S → Option Request → List ℕ → S → Type 0) (read_old read_new write_old write_new : Option (List ℕ)) (old new : S) (begun : List ℕ) : Type 0 where
+pub record Going {S : Type 0} (steps : S → Option Request → List ℕ → S → Type 0)
+    (read_old read_new write_old write_new : Option (List ℕ)) (old new : S) (begun : List ℕ) : Type
+    0 where
   pub bytes : List ℕ
   pub read : Consumes read_old read_new bytes
   pub progress : Progress steps bytes write_old write_new old new begun

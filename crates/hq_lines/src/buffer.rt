@@ -1,7 +1,8 @@
 //! Room for one line, taken once. Of a line that is too long only so much is kept as shows that it
 //! is.
 
-ghost use Rattle.std.specs.Prelude.{◌≡◌, ◌≤◌, ◌++◌, ◌∷◌, [], IfOk, length, nat_lt, vec_capacity, if◌then◌else◌};
+ghost use Rattle.std.specs.Prelude.{◌≡◌, ◌≤◌, ◌++◌, ◌∷◌, [], IfOk, length, nat_lt, vec_capacity};
+ghost use Rattle.std.specs.Prelude.{if◌then◌else◌};
 ghost use Rattle.hq_lines.specs.Lines.{without_return};
 
 use crate::fields::MOST_LINE_BYTES;

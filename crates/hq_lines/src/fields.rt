@@ -2,7 +2,8 @@
 //! here.
 
 ghost use Rattle.std.specs.Prelude.{◌≡◌, ◌<◌, ◌==◌, length, position, IfSome, option_map};
-ghost use Rattle.hq_lines.specs.Fields.{cut, moment_in, text_in, key_in, fields_in, request_in, shown};
+ghost use Rattle.hq_lines.specs.Fields.{cut, moment_in, text_in, key_in, fields_in, request_in};
+ghost use Rattle.hq_lines.specs.Fields.{shown};
 
 use hq_base::{Moment, read_number};
 

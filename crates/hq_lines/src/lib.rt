@@ -2,9 +2,9 @@
 //! What a request means and what its reply says is for the crates above.
 #![tactic(auto)]
 
-mod batch;
+mod answering;
 mod buffer;
 mod fields;
 
-pub use batch::{Answers, serve_lines};
+pub use answering::{Answers, serve_lines};
 pub use fields::{RequestLine, read_line};

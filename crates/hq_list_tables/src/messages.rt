@@ -1,7 +1,8 @@
 //! The rows of messages: look-up, put, drop, counts and pages, and messages joined with their
 //! recipients.
 
-ghost use Rattle.std.specs.Prelude.{◌≡◌, ℕ, not, IfOk, OnOk, [], ◌++◌, filter, map, option_map, slice_get};
+ghost use Rattle.std.specs.Prelude.{◌≡◌, ℕ, not, IfOk, OnOk, [], ◌++◌, filter, map, option_map};
+ghost use Rattle.std.specs.Prelude.{slice_get};
 ghost use Rattle.std.specs.List as list;
 ghost use Rattle.std.specs.List.{filter_map, cons_option};
 ghost use Rattle.std.specs.FinMap as maps;
@@ -9,7 +10,9 @@ ghost use Rattle.hq_queue.specs.declared.message.Message.{Message};
 ghost use Rattle.hq_store.specs.Tables.{Row, row_of, message_of, reason_of, joined};
 ghost use Rattle.hq_store.specs.Readings.{page_of, with_spool};
 ghost use Rattle.hq_rows.specs.Listed.{messages_of, recipients_of, holds_of, message_value};
-ghost use Rattle.hq_rows.specs.Lookups.{is_message, is_past, message_row, pending_in, serials_where, serials_after, serials_with_spool, rows_with, has_spool, message_at, AreUnique, AreDealt};
+ghost use Rattle.hq_rows.specs.Lookups.{is_message, is_past, message_row, pending_in};
+ghost use Rattle.hq_rows.specs.Lookups.{serials_where, serials_after, serials_with_spool};
+ghost use Rattle.hq_rows.specs.Lookups.{rows_with, has_spool, message_at, AreUnique, AreDealt};
 
 use crate::{holds, recipients};
 use hq_envelope::{Items, Name, Serial, Spool, TryCopy};

@@ -7,7 +7,8 @@ ghost use Rattle.std.specs.Ordering.{nat_cmp};
 ghost use Rattle.hq_store.specs.Tables.{Noted, left_of, noted_of, notice_of};
 ghost use Rattle.hq_store.specs.Readings.{after_number};
 ghost use Rattle.hq_rows.specs.Listed.{notices_of};
-ghost use Rattle.hq_rows.specs.Lookups.{is_notice, is_notice_past, is_kept_notice, notice_rows_with, AreUniqueNotices};
+ghost use Rattle.hq_rows.specs.Lookups.{is_notice, is_notice_past, is_kept_notice};
+ghost use Rattle.hq_rows.specs.Lookups.{notice_rows_with, AreUniqueNotices};
 
 use hq_envelope::{Items, Name, TryCopy};
 use hq_rows::NoticeRow;

@@ -3,8 +3,9 @@
 ghost use Rattle.std.specs.Prelude.{◌≡◌, not, OnOk, filter, option_map};
 ghost use Rattle.std.specs.List as list;
 ghost use Rattle.std.specs.FinMap as map;
-ghost use Rattle.hq_tables.specs.Owned.{given};
-ghost use Rattle.hq_store.specs.Tables.{Row, account, headed, counted, with_message, without_message, with_line, without_line};
+ghost use Rattle.hq_owned.specs.Owned.{given};
+ghost use Rattle.hq_store.specs.Tables.{Row, account, headed, counted, with_message};
+ghost use Rattle.hq_store.specs.Tables.{without_message, with_line, without_line};
 ghost use Rattle.hq_rows.specs.Listed.{heads_of, messages_of, lines_of};
 ghost use Rattle.hq_rows.specs.Lookups.{is_head};
 

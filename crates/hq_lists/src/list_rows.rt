@@ -4,7 +4,8 @@ ghost use Rattle.std.specs.Prelude.{◌≡◌, IfOk, OnOk};
 ghost use Rattle.hq_store.specs.Tables.{write, write_all};
 ghost use Rattle.hq_lists.specs.Lists.{tables_of};
 ghost use Rattle.hq_lists.specs.Lists.{AreInOrder};
-ghost use Rattle.hq_store.specs.declared.change.Change.TheVariants.{PutMessage, DropMessage, PutLine, DropLine};
+ghost use Rattle.hq_store.specs.declared.change.Change.TheVariants.{PutMessage, DropMessage};
+ghost use Rattle.hq_store.specs.declared.change.Change.TheVariants.{PutLine, DropLine};
 
 use crate::heads;
 use hq_access::{Line, Pattern};

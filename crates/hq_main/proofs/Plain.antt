@@ -1,5 +1,6 @@
 -- What a batch over plain lists does from empty tables.
-use Rattle.std.proofs.Common.{◌≡◌, ℕ, false, List, Option, sym, ap, ◌∙◌, subst, refl, arith, lit<, map}
+use Rattle.std.proofs.Common.{◌≡◌, ℕ, false, List, Option, sym, ap, ◌∙◌, subst, refl, arith, lit<}
+use Rattle.std.proofs.Common.{map}
 use Rattle.std.specs.Bool.{⊤}
 use Rattle.hq_base.specs.Refusals.{no_memory}
 use Rattle.hq_base.specs.declared.failure.Fault.TheVariants.{WantOfMemory}
@@ -31,8 +32,10 @@ plain = record {
   may_answer = λ fault. fault ≡ WantOfMemory;
 }
 
-pub serves : (set : Settings) → settings_seen set ≡ settings → (shelf : ListRows) → tables_of shelf ≡ no_tables
-    → (asked : List (Option Request)) (lines : List (List ℕ)) → ServesOver plain set shelf asked lines → Serves asked lines
+pub serves : (set : Settings) → settings_seen set ≡ settings → (shelf : ListRows) →
+    tables_of shelf ≡ no_tables
+    → (asked : List (Option Request)) (lines : List (List ℕ)) →
+    ServesOver plain set shelf asked lines → Serves asked lines
 serves set builtin shelf none asked lines it =
     let d = set.directory in
     let old = it.old in
@@ -52,7 +55,10 @@ serves set builtin shelf none asked lines it =
       replies = p.0;
       lines_are = p.1;
       tables = after;
-      replied = subst (λ n. AllReplied (λ fault. fault ≡ no_memory) n d no_tables asks p.0 after) named (subst (λ t. AllReplied (λ fault. fault ≡ no_memory) (host_of old) d t asks p.0 after) empty all);
-      alone = subst (λ n. Alone n d asks p.0 no_tables after) named (subst (λ t. Alone (host_of old) d asks p.0 t after) empty alone);
+      replied = subst (λ n. AllReplied (λ fault. fault ≡ no_memory) n d no_tables asks p.0 after)
+          named (subst (λ t. AllReplied (λ fault. fault ≡ no_memory) (host_of old) d t asks p.0
+          after) empty all);
+      alone = subst (λ n. Alone n d asks p.0 no_tables after) named
+          (subst (λ t. Alone (host_of old) d asks p.0 t after) empty alone);
       no_faults = omega (arith, few);
     }

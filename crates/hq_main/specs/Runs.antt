@@ -1,6 +1,7 @@
--- What the program does: with lines of the built-in customers, from an empty desk in memory; with lines, or connections, of
--- those of a directory; and with its words.
-use Rattle.std.specs.Prelude.{◌≡◌, ◌≤◌, ⊤, ℕ, [], List, map, Option, option_map, Result, Ok, Err, IfOk, string_bytes}
+-- What the program does: with lines of the built-in customers, from an empty desk in memory; with
+-- lines, or connections, of those of a directory; and with its words.
+use Rattle.std.specs.Prelude.{◌≡◌, ◌≤◌, ⊤, ℕ, [], List, map, Option, option_map, Result, Ok, Err}
+use Rattle.std.specs.Prelude.{IfOk, string_bytes}
 use Rattle.std.specs.Io.KnownBytes.{Appends}
 use Rattle.std.specs.declared.alloc.AllocError.{AllocError}
 use Rattle.hq_base.specs.Refusals.{no_memory}
@@ -25,62 +26,81 @@ use Rattle.hq_sql_admin.specs.Migrations.{MigrateEnds}
 use Rattle.hq_sql_admin.specs.Words.{QueueEnds, ImportEnds}
 use Rattle.hq_words.specs.Asked.{BatchGiven, Says, given_of}
 use Rattle.hq_words.specs.declared.words.Asked.{Asked}
-use Rattle.hq_words.specs.declared.words.Asked.TheVariants.{Serve, Batch, Queue, Import, Sweep, Migrate}
+use Rattle.hq_words.specs.declared.words.Asked.TheVariants.{Serve, Batch, Queue, Import, Sweep}
+use Rattle.hq_words.specs.declared.words.Asked.TheVariants.{Migrate}
 use Rattle.hq_words.specs.declared.words.Words.{Words}
 use Rattle.hq_words.specs.declared.words.Words.TheVariants.{Builtin, Asked as OfWord, Help, Refused}
 use Rattle.hq_main.specs.Sweeps.{DoesSweep}
 
--- What lines ask for is replied to as a batch of the built-in customers from empty tables, with no fault but want of
--- memory; to each customer the desk is its own.
+-- What lines ask for is replied to as a batch of the built-in customers from empty tables, with no
+-- fault but want of memory; to each customer the desk is its own.
 pub record Serves (asked : List (Option Request)) (lines : List (List ℕ)) : Type 0 where
   pub set : Settings
   pub is_builtin : settings_seen set ≡ settings
   pub replies : List SeenReply
   pub lines_are : lines ≡ map reply_line replies
   pub tables : Tables
-  pub replied : AllReplied (λ fault. fault ≡ no_memory) set.host set.directory no_tables (map (ask_in set.directory) asked) replies tables
-  pub alone : Alone set.host set.directory (map (ask_in set.directory) asked) replies no_tables tables
+  pub replied : AllReplied (λ fault. fault ≡ no_memory) set.host set.directory no_tables
+      (map (ask_in set.directory) asked) replies tables
+  pub alone : Alone set.host set.directory (map (ask_in set.directory) asked) replies no_tables
+      tables
   pub no_faults : store_faults replies ≡ 0
 
--- How a batch ends with the settings that its words name: with the trouble of these, and then nothing is read or written;
--- or as its store has it.
-abbrev pub SetEnds : {S : Type 0} → Sight S → Option (List ℕ) → Type 0 → Streams → Streams → Result Settings Trouble
+-- How a batch ends with the settings that its words name: with the trouble of these, and then
+-- nothing is read or written; or as its store has it.
+abbrev pub SetBatchEnds : {S : Type 0} → Sight S → Option (List ℕ) → Type 0 → Streams → Streams →
+    Result Settings Trouble
     → Result ⊤ Trouble → Type 0
-SetEnds sight store untouched old new (Err trouble) result = untouched × (result ≡ Err trouble)
-SetEnds sight store untouched old new (Ok set) result = StoreEnds sight store set untouched old new result
+SetBatchEnds sight store untouched old new (Err trouble) result = untouched × (result ≡ Err trouble)
+SetBatchEnds sight store untouched old new (Ok set) result =
+    StoreEnds sight store set untouched old new result
 
-abbrev pub BatchEnds : {S : Type 0} → Sight S → BatchGiven → Type 0 → Streams → Streams → Result ⊤ Trouble → Type 0
+abbrev pub BatchEnds : {S : Type 0} → Sight S → BatchGiven → Type 0 → Streams → Streams →
+    Result ⊤ Trouble → Type 0
 BatchEnds sight given untouched old new result =
-    (set : Result Settings Trouble) × SetsUp given.host given.relay_key set × SetEnds sight given.store untouched old new set result
+    (set : Result Settings Trouble) × SetsUp given.host given.relay_key set
+    × SetBatchEnds sight given.store untouched old new set result
 
 -- one call, or a migration, and how it is printed; nothing is read
-abbrev pub Prints : (Result Rendered Trouble → Type 0) → Type 0 → Type 0 → Streams → Streams → ℕ → Type 0
+abbrev pub Prints : (Result Rendered Trouble → Type 0) → Type 0 → Type 0 → Streams → Streams → ℕ →
+    Type 0
 Prints ends unread unwritten old new status =
-    unread × ((done : Result Rendered Trouble) × ends done × IsPrinted done unwritten old.output new.output status)
+    unread × ((done : Result Rendered Trouble) × ends done
+    × IsPrinted done unwritten old.output new.output status)
 
 -- what is done for a word, by what is sight of a store in a file
-abbrev pub DoesWord : {S : Type 0} → Sight S → Asked → Type 0 → Type 0 → Streams → Streams → ℕ → Type 0
+abbrev pub DoesWord : {S : Type 0} → Sight S → Asked → Type 0 → Type 0 → Streams → Streams → ℕ →
+    Type 0
 DoesWord sight (Serve given) unread unwritten old new status =
     unread × Exits (ServeEnds sight given unwritten old.output new.output) status
 DoesWord sight (Batch given) unread unwritten old new status =
     Exits (BatchEnds sight (given_of given) (unread × unwritten) old new) status
-DoesWord sight (Queue given) unread unwritten old new status = Prints (QueueEnds sight given) unread unwritten old new status
-DoesWord sight (Import given) unread unwritten old new status = Prints (ImportEnds sight given) unread unwritten old new status
+DoesWord sight (Queue given) unread unwritten old new status =
+    Prints (QueueEnds sight given) unread unwritten old new status
+DoesWord sight (Import given) unread unwritten old new status =
+    Prints (ImportEnds sight given) unread unwritten old new status
 DoesWord sight (Sweep given) unread unwritten old new status =
-    unread × DoesSweep sight given (option_map (λ c. c.now) given.customer) unwritten old.output new.output status
-DoesWord sight (Migrate given) unread unwritten old new status = Prints MigrateEnds unread unwritten old new status
+    unread × DoesSweep sight given (option_map (λ c. c.now) given.customer) unwritten old.output
+    new.output status
+DoesWord sight (Migrate given) unread unwritten old new status =
+    Prints MigrateEnds unread unwritten old new status
 
--- what is done for what words ask, and the exit status; want of memory may come in place of what they ask
-abbrev pub Does : {S : Type 0} → Sight S → Result Words AllocError → Type 0 → Type 0 → Streams → Streams → ℕ → Type 0
-Does sight (Ok Builtin) unread unwritten old new status = Exits (RunEnds Serves (unread × unwritten) old new) status
-Does sight (Ok (OfWord asked)) unread unwritten old new status = DoesWord sight asked unread unwritten old new status
+-- what is done for what words ask, and the exit status; want of memory may come in place of what
+-- they ask
+abbrev pub Does : {S : Type 0} → Sight S → Result Words AllocError → Type 0 → Type 0 → Streams →
+    Streams → ℕ → Type 0
+Does sight (Ok Builtin) unread unwritten old new status =
+    Exits (RunEnds Serves (unread × unwritten) old new) status
+Does sight (Ok (OfWord asked)) unread unwritten old new status =
+    DoesWord sight asked unread unwritten old new status
 Does sight (Ok (Help text)) unread unwritten old new status =
     unread × (status ≤ 1) × (status ≡ 0 → Appends old.output new.output (string_bytes text))
 Does sight (Ok (Refused text)) unread unwritten old new status = unread × unwritten × (status ≡ 2)
 Does sight (Err error) unread unwritten old new status = unread × unwritten × (status ≡ 1)
 
 -- The program does what its words ask for.
-pub record Commands {S : Type 0} (sight : Sight S) (words : List (List ℕ)) (unread unwritten : Type 0) (old new : Streams) (status : ℕ) : Type 0 where
+pub record Commands {S : Type 0} (sight : Sight S) (words : List (List ℕ))
+    (unread unwritten : Type 0) (old new : Streams) (status : ℕ) : Type 0 where
   pub asked : Result Words AllocError
   pub says : IfOk asked (Says words)
   pub none : words ≡ [] → asked ≡ Ok Builtin

@@ -4,14 +4,37 @@ use Rattle.hq_base.proofs.Truths.{one_proof}
 use Rattle.hq_queue.specs.Limits.{is_quota, is_delay}
 use Rattle.hq_queue.specs.declared.account.Customer.{Customer}
 
-pub same_customer : (m b l n d : ℕ) (h k : IsTrue (is_quota m b l n)) (x y : IsTrue (is_delay d)) (name named key keyed : List ℕ) → name ≡ named → key ≡ keyed
+pub same_customer : (m b l n d : ℕ) (h k : IsTrue (is_quota m b l n)) (x y : IsTrue (is_delay d))
+    (name named key keyed : List ℕ) → name ≡ named → key ≡ keyed
     → ◌≡◌ {A = Customer}
-    (record { entry = record { name = name; quota = record { messages = m; bytes = b; lines = l; notices = n; limits = h }; delay = d; limit = x }; key = key })
-    (record { entry = record { name = named; quota = record { messages = m; bytes = b; lines = l; notices = n; limits = k }; delay = d; limit = y }; key = keyed })
+    (record {
+      entry = record {
+        name = name;
+        quota = record { messages = m; bytes = b; lines = l; notices = n; limits = h };
+        delay = d;
+        limit = x;
+      };
+      key = key;
+    })
+    (record {
+      entry = record {
+        name = named;
+        quota = record { messages = m; bytes = b; lines = l; notices = n; limits = k };
+        delay = d;
+        limit = y;
+      };
+      key = keyed;
+    })
 same_customer m b l n d h k x y name named key keyed names keys = λ i. record {
   entry = record {
     name = names i;
-    quota = record { messages = m; bytes = b; lines = l; notices = n; limits = one_proof (is_quota m b l n) h k i };
+    quota = record {
+      messages = m;
+      bytes = b;
+      lines = l;
+      notices = n;
+      limits = one_proof (is_quota m b l n) h k i;
+    };
     delay = d;
     limit = one_proof (is_delay d) x y i;
   };

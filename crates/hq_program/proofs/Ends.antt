@@ -7,7 +7,15 @@ use Rattle.hq_lines.proofs.Steps.{ends_as}
 use Rattle.hq_program.specs.Runs.{RunEnds}
 use Rattle.hq_program.specs.declared.trouble.Trouble.{Trouble}
 
-module _ (done other : List (Option Request) → List (List ℕ) → Type 0) (untouched : Type 0) (so : (asked : List (Option Request)) (replies : List (List ℕ)) → done asked replies → other asked replies) (old new : Streams) where
-  pub run_ends_as : (result : Result ⊤ Trouble) → RunEnds done untouched old new result → RunEnds other untouched old new result
+module _ (done other : List (Option Request) → List (List ℕ) → Type 0) (untouched : Type 0)
+    (so : (asked : List (Option Request)) (replies : List (List ℕ)) → done asked replies →
+    other asked replies) (old new : Streams) where
+  pub run_ends_as : (result : Result ⊤ Trouble) → RunEnds done untouched old new result →
+      RunEnds other untouched old new result
   run_ends_as (Ok x) p = ends_as done other so (λ (x : ⊥). x) old new (Ok tt) p
-  run_ends_as (Err trouble) p = (p.0, p.1, ends_as done other so (λ (x : untouched). x) old new (Err p.0) p.2)
+  run_ends_as (Err trouble) p = (
+    p.0,
+    p.1,
+    ends_as done other so (λ (x : untouched). x) old new
+        (Err p.0) p.2,
+  )

@@ -1,5 +1,7 @@
 -- Answers that are printed one after the other.
-use Rattle.std.proofs.Common.{◌≡◌, ◌≢◌, ◌==◌, ℕ, zero, suc, Bool, true, false, ◌&&◌, List, [], ◌∷◌, ◌++◌, map, Option, Ok, max, refl, sym, ap, ap₂, ◌∙◌, subst, append-nil, if◌then◌else◌, ◌⊎◌, inl, inr, ⊎_elim, arith}
+use Rattle.std.proofs.Common.{◌≡◌, ◌≢◌, ◌==◌, ℕ, zero, suc, Bool, true, false, ◌&&◌, List, [], ◌∷◌}
+use Rattle.std.proofs.Common.{◌++◌, map, Option, Ok, max, refl, sym, ap, ap₂, ◌∙◌, subst}
+use Rattle.std.proofs.Common.{append-nil, if◌then◌else◌, ◌⊎◌, inl, inr, ⊎_elim, arith}
 use Rattle.std.proofs.KnownBytes.{Appends-nil, Appends-trans}
 use Rattle.std.proofs.lemmas.Bool.{ne_eqb}
 use Rattle.std.proofs.lemmas.List.{map_push}
@@ -17,17 +19,24 @@ pub record SoFar (told : List Rendered) (old new : Option (List ℕ)) (exit_stat
 pub none_yet : (old : Option (List ℕ)) → SoFar [] old old 0
 none_yet old = record { written = Appends-nil old; status_is = refl }
 
-answers_more : (told : List Rendered) (rendered : Rendered) → answers_of (told ++ rendered ∷ []) ≡ answers_of told ++ answer_of rendered
-answers_more told rendered = ap concat (map_push answer_of told rendered) ∙ concat-append (map answer_of told) (answer_of rendered ∷ []) ∙ ap (λ l. answers_of told ++ l) (append-nil (answer_of rendered))
+answers_more : (told : List Rendered) (rendered : Rendered) →
+    answers_of (told ++ rendered ∷ []) ≡ answers_of told ++ answer_of rendered
+answers_more told rendered = ap concat (map_push answer_of told rendered)
+    ∙ concat-append (map answer_of told) (answer_of rendered ∷ [])
+    ∙ ap (λ l. answers_of told ++ l) (append-nil (answer_of rendered))
 
-greater : (all one : Bool) (s p : ℕ) → s ≡ (if all then 0 else 1) → p ≡ (if one then 0 else 1) → max s p ≡ (if all && (one && true) then 0 else 1)
+greater : (all one : Bool) (s p : ℕ) → s ≡ (if all then 0 else 1) → p ≡ (if one then 0 else 1) →
+    max s p ≡ (if all && (one && true) then 0 else 1)
 greater true true s p h k = ap₂ max h k
 greater true false s p h k = ap₂ max h k
 greater false true s p h k = ap₂ max h k
 greater false false s p h k = ap₂ max h k
 
-status_more : (told : List Rendered) (rendered : Rendered) (s p : ℕ) → s ≡ status_of told → p ≡ (if is_answered rendered then 0 else 1) → max s p ≡ status_of (told ++ rendered ∷ [])
-status_more told rendered s p h k = greater (list_all is_answered told) (is_answered rendered) s p h k ∙ ap (λ b. if b then 0 else 1) (sym (list_all-append is_answered told (rendered ∷ [])))
+status_more : (told : List Rendered) (rendered : Rendered) (s p : ℕ) → s ≡ status_of told →
+    p ≡ (if is_answered rendered then 0 else 1) → max s p ≡ status_of (told ++ rendered ∷ [])
+status_more told rendered s p h k =
+    greater (list_all is_answered told) (is_answered rendered) s p h k
+    ∙ ap (λ b. if b then 0 else 1) (sym (list_all-append is_answered told (rendered ∷ [])))
 
 zero_or : (n : ℕ) → (n ≡ 0) ⊎ ((n ≢ 0) × ((n == 0) ≡ false))
 zero_or zero = inl refl
@@ -35,22 +44,30 @@ zero_or (suc n) = inr (some n, ne_eqb (suc n) 0 (some n)) where
   some : (n : ℕ) → suc n ≢ 0
   some n h = absurd (omega (arith, h))
 
-module _ {W : Type 0} (contents : W → Option (List ℕ)) (told : List Rendered) (rendered : Rendered) (old : Option (List ℕ)) (mid new : W) (s p : ℕ) (before : SoFar told old (contents mid) s) where
-  more : (Appends (contents mid) (contents new) (answer_of rendered)) → p ≡ (if is_answered rendered then 0 else 1) → SoFar (told ++ rendered ∷ []) old (contents new) (max s p)
+module _ {W : Type 0} (contents : W → Option (List ℕ)) (told : List Rendered) (rendered : Rendered)
+    (old : Option (List ℕ)) (mid new : W) (s p : ℕ) (before : SoFar told old (contents mid) s) where
+  more : (Appends (contents mid) (contents new) (answer_of rendered)) →
+      p ≡ (if is_answered rendered then 0 else 1) →
+      SoFar (told ++ rendered ∷ []) old (contents new) (max s p)
   more wrote is = record {
-    written = subst (Appends old (contents new)) (sym (answers_more told rendered)) (Appends-trans old (contents mid) (contents new) _ _ before.written wrote);
+    written = subst (Appends old (contents new)) (sym (answers_more told rendered))
+        (Appends-trans old (contents mid) (contents new) _ _ before.written wrote);
     status_is = status_more told rendered s p before.status_is is;
   }
 
   -- one more is printed
-  pub one_more : IsShown rendered (new ≡ mid) (contents mid) (contents new) (Ok p) → SoFar (told ++ rendered ∷ []) old (contents new) (max s p)
+  pub one_more : IsShown rendered (new ≡ mid) (contents mid) (contents new) (Ok p) →
+      SoFar (told ++ rendered ∷ []) old (contents new) (max s p)
   one_more shown = ⊎_elim
       (λ (none : rendered.number ≡ 0).
       let is : is_answered rendered ≡ true = ap (λ n. n == 0) none in
-      more (subst (λ b. Appends (contents mid) (contents new) (if b then rendered.bytes.items else [])) (sym is) (shown.1 none).1)
+      more (subst (λ b. Appends (contents mid) (contents new) (if b then rendered.bytes.items else
+      [])) (sym is) (shown.1 none).1)
       ((shown.1 none).0 ∙ ap (λ b. if b then 0 else 1) (sym is)))
       (λ (some : (rendered.number ≢ 0) × ((rendered.number == 0) ≡ false)).
-      more (subst (λ b. Appends (contents mid) (contents new) (if b then rendered.bytes.items else [])) (sym some.1) (subst (λ w. Appends (contents mid) (contents w) []) (sym (shown.0 some.0).0) (Appends-nil (contents mid))))
+      more (subst (λ b. Appends (contents mid) (contents new) (if b then rendered.bytes.items else
+      [])) (sym some.1) (subst (λ w. Appends (contents mid) (contents w) [])
+      (sym (shown.0 some.0).0) (Appends-nil (contents mid))))
       ((shown.0 some.0).1 ∙ ap (λ b. if b then 0 else 1) (sym some.1)))
       (zero_or rendered.number)
 

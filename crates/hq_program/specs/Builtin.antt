@@ -23,7 +23,13 @@ abbrev pub birch : Customer
 birch = record {
   entry = record {
     name = codes "birch";
-    quota = record { messages = 100; bytes = 1000000; lines = 100; notices = 10; limits = λ _. true };
+    quota = record {
+      messages = 100;
+      bytes = 1000000;
+      lines = 100;
+      notices = 10;
+      limits = λ _. true;
+    };
     delay = 0;
     limit = λ _. true;
   };

@@ -9,13 +9,17 @@ use Rattle.hq_lines.specs.Ends.{Ends}
 use Rattle.hq_lines.specs.Fields.{Request}
 use Rattle.hq_lines.specs.Lines.{Streams}
 use Rattle.hq_base.specs.declared.engine.EngineFault.{EngineFault}
-use Rattle.hq_base.specs.declared.engine.EngineFault.TheVariants.{Read, Write, TooManyReads, WantOfMemory}
+use Rattle.hq_base.specs.declared.engine.EngineFault.TheVariants.{Read, Write, TooManyReads}
+use Rattle.hq_base.specs.declared.engine.EngineFault.TheVariants.{WantOfMemory}
 use Rattle.hq_batch.specs.Batches.{Replied}
 use Rattle.hq_program.specs.declared.trouble.Trouble.{Trouble}
-use Rattle.hq_program.specs.declared.trouble.Trouble.TheVariants.{File, Input, Output, Network, Clock, Desk as OfDesk}
+use Rattle.hq_program.specs.declared.trouble.Trouble.TheVariants.{File, Input, Output, Network}
+use Rattle.hq_program.specs.declared.trouble.Trouble.TheVariants.{Clock, Desk as OfDesk}
 
--- What lines ask for is replied to as a batch of the customers of these settings, with a desk over this shelf.
-pub record ServesOver {S : Type 0} (sight : Sight S) (settings : Settings) (shelf : S) (asked : List (Option Request)) (lines : List (List ℕ)) : Type 0 where
+-- What lines ask for is replied to as a batch of the customers of these settings, with a desk over
+-- this shelf.
+pub record ServesOver {S : Type 0} (sight : Sight S) (settings : Settings) (shelf : S)
+    (asked : List (Option Request)) (lines : List (List ℕ)) : Type 0 where
   pub old : Desk S
   pub host_is : host_of old ≡ settings.host
   pub shelf_is : shelf_of old ≡ shelf
@@ -39,9 +43,11 @@ trouble_shown Clock = codes "clock"
 trouble_shown (OfDesk fail) = fail_shown fail
 
 -- how a run ends: as a batch does, with a fault of it told
-abbrev pub RunEnds : (List (Option Request) → List (List ℕ) → Type 0) → Type 0 → Streams → Streams → Result ⊤ Trouble → Type 0
+abbrev pub RunEnds : (List (Option Request) → List (List ℕ) → Type 0) → Type 0 → Streams → Streams →
+    Result ⊤ Trouble → Type 0
 RunEnds done untouched old new (Ok _) = Ends done ⊥ old new (Ok tt)
-RunEnds done untouched old new (Err trouble) = (fault : EngineFault) × (trouble ≡ trouble_of fault) × Ends done untouched old new (Err fault)
+RunEnds done untouched old new (Err trouble) = (fault : EngineFault) × (trouble ≡ trouble_of fault)
+    × Ends done untouched old new (Err fault)
 
 -- the exit status of a run
 abbrev pub status : Result ⊤ Trouble → ℕ

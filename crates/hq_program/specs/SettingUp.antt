@@ -6,7 +6,8 @@ use Rattle.hq_settings.specs.Seen.{settings_seen}
 use Rattle.hq_settings.specs.Settings.{relay_in, settings_in}
 use Rattle.hq_settings.specs.declared.settings.Settings.{Settings}
 use Rattle.hq_program.specs.declared.trouble.Trouble.{Trouble}
-use Rattle.hq_program.specs.declared.trouble.Trouble.TheVariants.{File, Input, Output, Network, Clock, Desk}
+use Rattle.hq_program.specs.declared.trouble.Trouble.TheVariants.{File, Input, Output, Network}
+use Rattle.hq_program.specs.declared.trouble.Trouble.TheVariants.{Clock, Desk}
 
 -- no file was read: it could not be, or memory ran out
 abbrev pub IsUnread : Trouble → Type 0
@@ -14,13 +15,15 @@ IsUnread File = ⊤
 IsUnread (Desk (AsFault fault)) = fault ≡ no_memory
 IsUnread _ = ⊥
 
--- Settings are those of the relay's name, of its key, and of some file. A refusal is the first of them: of the name and the
--- key whatever the file is, or of these and the file that was read. That a file could not be read is told where the name
--- and the key are good.
+-- Settings are those of the relay's name, of its key, and of some file. A refusal is the first of
+-- them: of the name and the key whatever the file is, or of these and the file that was read. That
+-- a file could not be read is told where the name and the key are good.
 abbrev pub SetsUp : List ℕ → List ℕ → Result Settings Trouble → Type 0
-SetsUp host key (Ok settings) = (file : List ℕ) × (settings_in host key file ≡ Ok (settings_seen settings))
+SetsUp host key (Ok settings) = (file : List ℕ)
+    × (settings_in host key file ≡ Ok (settings_seen settings))
 SetsUp host key (Err (Desk (Refused refusal))) =
-    (relay_in host key ≡ Err refusal) ⊎ ((file : List ℕ) × (settings_in host key file ≡ Err refusal))
+    (relay_in host key ≡ Err refusal) ⊎ ((file : List ℕ)
+    × (settings_in host key file ≡ Err refusal))
 SetsUp host key (Err File) = IsOk (relay_in host key)
 SetsUp host key (Err (Desk (AsFault fault))) = fault ≡ no_memory
 SetsUp host key (Err Input) = ⊥

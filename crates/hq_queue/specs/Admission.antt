@@ -1,7 +1,9 @@
--- When a customer's new message is admitted to the queue. The rule and its order are this product's own.
+-- When a customer's new message is admitted to the queue. The rule and its order are this product's
+-- own.
 use Rattle.std.specs.Prelude.{ℕ, ◌+◌, ◌^◌, ◌==◌, nat_le, nat_lt, if◌then◌else◌, Result, Ok, Err}
 use Rattle.hq_base.specs.declared.failure.Refusal.{Refusal}
-use Rattle.hq_base.specs.declared.failure.Refusal.TheVariants.{QuotaMessages, QuotaBytes, SerialsSpent}
+use Rattle.hq_base.specs.declared.failure.Refusal.TheVariants.{QuotaMessages, QuotaBytes}
+use Rattle.hq_base.specs.declared.failure.Refusal.TheVariants.{SerialsSpent}
 use Rattle.hq_queue.specs.declared.account.Counts.{Counts}
 use Rattle.hq_queue.specs.declared.account.Head.{Head}
 use Rattle.hq_queue.specs.declared.account.Quota.{Quota}
@@ -10,8 +12,8 @@ use Rattle.hq_queue.specs.declared.account.Quota.{Quota}
 abbrev pub spent : ℕ
 spent = 2 ^ 40
 
--- refused where the messages are at the quota, else where the bytes with the new ones are above it, else where
--- no serial is left; admitted under the next serial
+-- refused where the messages are at the quota, else where the bytes with the new ones are above it,
+-- else where no serial is left; admitted under the next serial
 abbrev pub admitted : Head → Quota → Counts → ℕ → Result ℕ Refusal
 admitted head quota counts size =
     if nat_le quota.messages counts.messages then Err QuotaMessages else

@@ -1,11 +1,15 @@
--- The report of a delivery attempt: what it makes of a message, recipient by recipient, or why it is refused.
-use Rattle.std.specs.Prelude.{ℕ, ◌≡◌, ◌+◌, ◌==◌, Bool, true, false, not, ◌||◌, nat_le, nat_lt, if◌then◌else◌, List, [], ◌∷◌, length, Option, None, Some, Result, Ok, Err}
+-- The report of a delivery attempt: what it makes of a message, recipient by recipient, or why it
+-- is refused.
+use Rattle.std.specs.Prelude.{ℕ, ◌≡◌, ◌+◌, ◌==◌, Bool, true, false, not, ◌||◌, nat_le, nat_lt}
+use Rattle.std.specs.Prelude.{if◌then◌else◌, List, [], ◌∷◌, length, Option, None, Some, Result, Ok}
+use Rattle.std.specs.Prelude.{Err}
 use Rattle.std.specs.List.{find, filter_map, count_by, list_any}
 use Rattle.hq_base.specs.Refusals.{no_memory}
 use Rattle.hq_base.specs.declared.failure.Fail.{Fail}
 use Rattle.hq_base.specs.declared.failure.Fail.TheVariants as fail
 use Rattle.hq_base.specs.declared.failure.Refusal.{Refusal}
-use Rattle.hq_base.specs.declared.failure.Refusal.TheVariants.{AttemptAhead, NoOutcome, DoubledRecipient, UnknownRecipient}
+use Rattle.hq_base.specs.declared.failure.Refusal.TheVariants.{AttemptAhead, NoOutcome}
+use Rattle.hq_base.specs.declared.failure.Refusal.TheVariants.{DoubledRecipient, UnknownRecipient}
 use Rattle.hq_envelope.specs.Addresses.{same_address}
 use Rattle.hq_queue.specs.Backoff.{next_try}
 use Rattle.hq_queue.specs.declared.message.Message.{Message}
@@ -37,7 +41,11 @@ left_with p (Some o) = left_by p o.result
 abbrev pub told_by : Pending → Delivery → Option Told
 told_by p delivery.Delivered = None
 told_by p (delivery.Deferred status text) = None
-told_by p (delivery.Failed status text) = Some (record { address = p.address; status = status; text = text })
+told_by p (delivery.Failed status text) = Some (record {
+  address = p.address;
+  status = status;
+  text = text;
+})
 
 -- what is told of a recipient that failed, as the message spells it
 abbrev pub told_with : Pending → Option Outcome → Option Told
@@ -85,7 +93,8 @@ deferred outcomes ps = count_by (λ (p : Pending). deferred_with (outcome_of out
 -- two outcomes name the same address
 abbrev pub is_doubled : List Outcome → Bool
 is_doubled [] = false
-is_doubled (o ∷ os) = list_any (λ (x : Outcome). same_address o.address x.address) os || is_doubled os
+is_doubled (o ∷ os) = list_any (λ (x : Outcome). same_address o.address x.address) os
+    || is_doubled os
 
 -- an outcome names nobody who is pending
 abbrev pub is_unknown : List Pending → Outcome → Bool
@@ -98,10 +107,16 @@ tried Deferred = Deferred
 tried Hold = Hold
 
 abbrev pub after_attempt : Message → ℕ → ℕ → List Outcome → Message
-after_attempt m at attempt outcomes = record m { state = tried m.state; next_try = next_try m.arrival at; attempts = attempt; pending = left outcomes m.pending }
+after_attempt m at attempt outcomes = record m {
+  state = tried m.state;
+  next_try = next_try m.arrival at;
+  attempts = attempt;
+  pending = left outcomes m.pending;
+}
 
 abbrev pub done : Message → List Outcome → Reported
-done m outcomes = Done (delivered outcomes m.pending) (deferred outcomes m.pending) (failed outcomes m.pending)
+done m outcomes = Done (delivered outcomes m.pending) (deferred outcomes m.pending)
+    (failed outcomes m.pending)
 
 -- what is answered to the report of an attempt, with the message after it; or why it is refused
 abbrev pub reported : Message → ℕ → ℕ → List Outcome → Result (Reported × Message) Refusal
@@ -113,9 +128,10 @@ reported m at attempt outcomes =
     (if list_any (is_unknown m.pending) outcomes then Err UnknownRecipient else
     Ok (done m outcomes, after_attempt m at attempt outcomes)))))
 
--- What a report does by its rule: its answer and its message; or its refusal, or that memory ran out, and the message
--- is as it was.
-abbrev pub Reports : Result (Reported × Message) Refusal → Message → Message → Result Reported Fail → Type 0
+-- What a report does by its rule: its answer and its message; or its refusal, or that memory ran
+-- out, and the message is as it was.
+abbrev pub Reports : Result (Reported × Message) Refusal → Message → Message → Result Reported Fail
+    → Type 0
 Reports rule old new (Ok answer) = rule ≡ Ok (answer, new)
 Reports rule old new (Err (fail.Refused refusal)) = (rule ≡ Err refusal) × (new ≡ old)
 Reports rule old new (Err (fail.Fault fault)) = (fault ≡ no_memory) × (new ≡ old)

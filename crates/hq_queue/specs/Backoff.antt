@@ -1,5 +1,5 @@
--- When a message is tried next: qmgr(8) waits as long as a message is old, from minimal_backoff_time up to
--- maximal_backoff_time.
+-- When a message is tried next: qmgr(8) waits as long as a message is old, from
+-- minimal_backoff_time up to maximal_backoff_time.
 use Rattle.std.specs.Prelude.{ℕ, ◌+◌, ◌-◌, min, max}
 use Rattle.hq_base.specs.Moments.{no_later}
 
@@ -15,6 +15,7 @@ shortest_wait = 300
 abbrev pub longest_wait : ℕ
 longest_wait = 4000
 
--- after an attempt a message waits as long as it is old, within these; no moment is past the last one
+-- after an attempt a message waits as long as it is old, within these; no moment is past the last
+-- one
 abbrev pub next_try : ℕ → ℕ → ℕ
 next_try arrival at = no_later (at + min longest_wait (max shortest_wait (age arrival at)))

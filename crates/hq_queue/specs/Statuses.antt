@@ -1,4 +1,5 @@
--- The form of status codes, by their bytes (RFC 3463, 2: a class, a subject and a detail, parted by dots).
+-- The form of status codes, by their bytes (RFC 3463, 2: a class, a subject and a detail, parted by
+-- dots).
 use Rattle.std.specs.Prelude.{ℕ, Bool, false, ◌&&◌, ◌-◌, nat_le, List, [], ◌∷◌, Result, codes}
 use Rattle.std.specs.List.{slice_split}
 use Rattle.hq_envelope.specs.Addresses.{is_dot}
@@ -27,7 +28,8 @@ is_number (a ∷ b ∷ c ∷ []) = is_leading_digit a && is_digit b && is_digit 
 is_number _ = false
 
 abbrev pub are_status_parts : List (List ℕ) → Bool
-are_status_parts (class ∷ subject ∷ detail ∷ []) = is_class class && is_number subject && is_number detail
+are_status_parts (class ∷ subject ∷ detail ∷ []) = is_class class && is_number subject
+    && is_number detail
 are_status_parts _ = false
 
 -- three parts, parted by dots: class, subject, detail

@@ -1,4 +1,5 @@
--- What a sweep makes of one message, by its age (qmgr(8): maximal_queue_lifetime and delay_warning_time).
+-- What a sweep makes of one message, by its age (qmgr(8): maximal_queue_lifetime and
+-- delay_warning_time).
 use Rattle.std.specs.Prelude.{ℕ, not, ◌&&◌, nat_le, nat_lt, true, if◌then◌else◌}
 use Rattle.hq_queue.specs.Backoff.{age}
 use Rattle.hq_queue.specs.Moves.{is_on_hold}
@@ -10,13 +11,14 @@ use Rattle.hq_queue.specs.declared.sweep.Swept.TheVariants.{Expired, Warned, Unt
 abbrev pub expiry : ℕ
 expiry = 432000
 
--- Mail on hold is left alone. A message as old as that expires; before, its sender is warned once, where the
--- customer has a delay, which is in seconds, and the message is as old as the delay.
+-- Mail on hold is left alone. A message as old as that expires; before, its sender is warned once,
+-- where the customer has a delay, which is in seconds, and the message is as old as the delay.
 abbrev pub swept : ℕ → ℕ → Message → Swept
 swept at delay m =
     if is_on_hold m.state then Untouched else
     (if nat_le expiry (age m.arrival at) then Expired else
-    (if nat_lt 0 delay && nat_le delay (age m.arrival at) && not m.warned then Warned else Untouched))
+    (if nat_lt 0 delay && nat_le delay (age m.arrival at) && not m.warned then Warned else
+    Untouched))
 
 -- the message after it; an expired one is for the caller to remove
 abbrev pub after_sweep : Swept → Message → Message

@@ -3,7 +3,7 @@
 //! qmgr(8). The crate is pure: it knows no store, no clock and no wire.
 //!
 //! ```
-//! // what a worker reports of an attempt; a refusal, as want of memory, leaves the message as it was
+//! // what a worker reports of an attempt; after a refusal the message is as it was
 //! if let Reported::Done { failed, .. } = report(alloc, &mut message, at, attempt, outcomes)? {
 //!     // a notice is owed to the sender: of those who failed
 //! }
@@ -19,8 +19,8 @@ mod kind;
 mod message;
 mod moves;
 mod outcome;
-mod renewal;
-mod reports;
+mod reporting;
+mod requeueing;
 mod status;
 mod sweep;
 
@@ -32,7 +32,7 @@ pub use kind::Kind;
 pub use message::{Message, Pending, QueueState};
 pub use moves::{due, hold, release};
 pub use outcome::{Delivery, Outcome, Reported, Told};
-pub use renewal::requeue;
-pub use reports::report;
+pub use reporting::report;
+pub use requeueing::requeue;
 pub use status::Status;
 pub use sweep::{EXPIRY_SECONDS, Swept, sweep_one};

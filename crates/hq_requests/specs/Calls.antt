@@ -1,23 +1,25 @@
 -- From an exchange to a call: the refusals in the order of the steps here.
-use Rattle.std.specs.Prelude.{ℕ, ⊤, ◌≡◌, Bool, true, false, nat_le, List, length, codes, bytes_eq, string_bytes, Option, None, Some, option_map, Result, Ok, if◌then◌else◌}
+use Rattle.std.specs.Prelude.{ℕ, ⊤, ◌≡◌, Bool, true, false, nat_le, List, length, codes, bytes_eq}
+use Rattle.std.specs.Prelude.{string_bytes, Option, None, Some, option_map, Result, Ok}
+use Rattle.std.specs.Prelude.{if◌then◌else◌}
 use Rattle.hq_base.specs.Readers.{◌>>=◌, guard, or_refuse}
 use Rattle.hq_base.specs.Serials.{serial_in}
 use Rattle.hq_base.specs.declared.failure.Refusal.{Refusal}
-use Rattle.hq_base.specs.declared.failure.Refusal.TheVariants.{BodyTooLong, NoRoute, WrongMethod, BadField}
-use Rattle.hq_calls.specs.declared.call.AttemptReport.{AttemptReport}
+use Rattle.hq_base.specs.declared.failure.Refusal.TheVariants.{BodyTooLong, NoRoute, WrongMethod}
+use Rattle.hq_base.specs.declared.failure.Refusal.TheVariants.{BadField}
 use Rattle.hq_calls.specs.declared.call.Call.{Call}
 use Rattle.hq_calls.specs.declared.call.Call.TheVariants as call
 use Rattle.hq_bodies.specs.Due.{read_due}
-use Rattle.hq_bodies.specs.Outcomes.{read_outcome}
+use Rattle.hq_bodies.specs.Outcomes.{read_report}
 use Rattle.hq_bodies.specs.Tables.{read_pattern, read_line, read_check, read_import}
-use Rattle.hq_json.specs.Submissions.{read_submission}
+use Rattle.hq_bodies.specs.Submissions.{read_submission}
 use Rattle.hq_routes.specs.Routes.{path_of, last_segment}
 use Rattle.hq_routes.specs.declared.Path.{Path}
 use Rattle.hq_routes.specs.declared.Path.TheVariants as path
 use Rattle.hq_requests.specs.Directories.{customer_of, relay_alone, entry_of}
 use Rattle.hq_requests.specs.Numbers.{number_in}
 use Rattle.hq_requests.specs.declared.directory.Directory.{Directory}
-use Rattle.hq_requests.specs.declared.asked.Exchange.{Exchange}
+use Rattle.hq_requests.specs.declared.exchanges.Exchange.{Exchange}
 use Rattle.hq_requests.specs.declared.request.Asking.{Asking}
 use Rattle.hq_requests.specs.declared.request.Asking.TheVariants as asking
 use Rattle.hq_requests.specs.declared.request.MessageRoute.{MessageRoute}
@@ -47,8 +49,10 @@ at_method method wanted r others = if bytes_eq method wanted then Some r else ot
 -- the route of a method at a path
 unfoldable pub route_of : Path → List ℕ → Option Route
 route_of path.Messages method = at_method method (codes "GET") route.List None
-route_of path.MessagesAfter method = at_method method (codes "GET") (route.About about.ListAfter) None
-route_of path.Message method = at_method method (codes "GET") (route.About about.Show) (at_method method (codes "DELETE") (route.About about.Delete) None)
+route_of path.MessagesAfter method = at_method method (codes "GET") (route.About about.ListAfter)
+    None
+route_of path.Message method = at_method method (codes "GET") (route.About about.Show)
+    (at_method method (codes "DELETE") (route.About about.Delete) None)
 route_of path.Hold method = at_method method (codes "POST") (route.About about.Hold) None
 route_of path.Release method = at_method method (codes "POST") (route.About about.Release) None
 route_of path.Requeue method = at_method method (codes "POST") (route.About about.Requeue) None
@@ -92,12 +96,6 @@ call_about about.Hold serial = call.Hold serial
 call_about about.Release serial = call.Release serial
 call_about about.Requeue serial = call.Requeue serial
 call_about about.Delete serial = call.Delete serial
-
--- the report of an attempt
-unfoldable pub read_report : List ℕ → Result AttemptReport Refusal
-read_report body = do
-  read ← read_outcome body
-  Ok (record { serial = read.0; attempt = read.1; outcomes = read.2 })
 
 -- what a route asks, of its parameter or its body
 unfoldable pub asked_of : Route → List ℕ → List ℕ → Result Call Refusal
@@ -146,7 +144,8 @@ asked_of route.Sweep segment body = Ok call.Sweep
 asked_of route.SweepAll segment body = Ok call.Sweep
 
 -- the call of one customer: the key and whom it serves, the parameter, the body
-abbrev pub asked_of_one : Directory → Route → Option (List ℕ) → (segment body : List ℕ) → Result Asked Refusal
+abbrev pub asked_of_one : Directory → Route → Option (List ℕ) → (segment body : List ℕ) →
+    Result Asked Refusal
 asked_of_one d route key segment body = do
   name ← customer_of d (is_for_relay route) key segment
   call ← asked_of route segment body
@@ -158,8 +157,10 @@ asked_of_all d key = do
   relay ← relay_alone d key
   Ok SweepOfAll
 
--- what is asked, or the refusal: the body's length, the path, the method, and then those of the call
-unfoldable pub call_from : Directory → (method path : List ℕ) → Option (List ℕ) → List ℕ → Result Asked Refusal
+-- what is asked, or the refusal: the body's length, the path, the method, and then those of the
+-- call
+unfoldable pub call_from : Directory → (method path : List ℕ) → Option (List ℕ) → List ℕ →
+    Result Asked Refusal
 call_from d method path key body = do
   short ← guard (nat_le (length body) 262144) BodyTooLong
   known ← or_refuse NoRoute (path_of path)
@@ -168,4 +169,5 @@ call_from d method path key body = do
 
 -- what an exchange asks
 abbrev pub call_of : Directory → Exchange → Result Asked Refusal
-call_of d x = call_from d (string_bytes x.method) (string_bytes x.path) (option_map string_bytes x.key) x.body.items
+call_of d x = call_from d (string_bytes x.method) (string_bytes x.path)
+    (option_map string_bytes x.key) x.body.items

@@ -1,3 +1,2 @@
 -- What holds of customers, for the crates above.
--- Inner: it serves proofs alone, and no promise rests on it.
 pub use Rattle.hq_queue.specs.Customers.{has_key, has_name, names_apart, keys_apart, are_customers}

@@ -1,5 +1,6 @@
 -- Who shows a key, and which customer an exchange is for.
-use Rattle.std.specs.Prelude.{ℕ, ⊤, Bool, true, false, List, [], ◌∷◌, map, Option, None, Some, Result, Ok, Err, if◌then◌else◌}
+use Rattle.std.specs.Prelude.{ℕ, ⊤, Bool, true, false, List, [], ◌∷◌, map, Option, None, Some}
+use Rattle.std.specs.Prelude.{Result, Ok, Err, if◌then◌else◌}
 use Rattle.std.specs.List.{find}
 use Rattle.std.specs.Ordering.{eq_by_cmp}
 use Rattle.hq_base.specs.declared.failure.Refusal.{Refusal}
@@ -25,7 +26,18 @@ names_of d = map name_of d.customers
 
 -- stands for the entry under a name that no customer has; no call is made for it
 abbrev pub nobody : List ℕ → Entry
-nobody name = record { name = name; quota = record { messages = 1; bytes = 1; lines = 1; notices = 1; limits = λ _. true }; delay = 0; limit = λ _. true }
+nobody name = record {
+  name = name;
+  quota = record {
+    messages = 1;
+    bytes = 1;
+    lines = 1;
+    notices = 1;
+    limits = λ _. true;
+  };
+  delay = 0;
+  limit = λ _. true;
+}
 
 abbrev pub entry_in : List Customer → List ℕ → Entry
 entry_in [] name = nobody name
@@ -50,7 +62,9 @@ by_customer false (Some c) = Ok c.entry.name
 -- the name of the customer that an exchange is for; for_relay says whether the route is the relay's
 abbrev pub customer_of : Directory → Bool → Option (List ℕ) → List ℕ → Result (List ℕ) Refusal
 customer_of d for_relay None segment = Err NoKey
-customer_of d for_relay (Some key) segment = if eq_by_cmp text_cmp key d.relay then by_relay for_relay (find (has_name segment) d.customers) else by_customer for_relay (find (has_key key) d.customers)
+customer_of d for_relay (Some key) segment = if eq_by_cmp text_cmp key d.relay then
+    by_relay for_relay (find (has_name segment) d.customers) else
+    by_customer for_relay (find (has_key key) d.customers)
 
 -- who is not the relay: a customer, or nobody
 abbrev pub not_relay : Option Customer → Result ⊤ Refusal
@@ -60,4 +74,5 @@ not_relay (Some c) = Err WrongRole
 -- nothing, where the relay's key is shown
 abbrev pub relay_alone : Directory → Option (List ℕ) → Result ⊤ Refusal
 relay_alone d None = Err NoKey
-relay_alone d (Some key) = if eq_by_cmp text_cmp key d.relay then Ok tt else not_relay (find (has_key key) d.customers)
+relay_alone d (Some key) = if eq_by_cmp text_cmp key d.relay then Ok tt else
+    not_relay (find (has_key key) d.customers)

@@ -3,7 +3,8 @@
 ghost use Rattle.std.specs.Prelude.{◌≡◌, ◌⊎◌, IsTrue, IfOk, MatchResult, option_map, true, false};
 ghost use Rattle.std.specs.List.{find, list_any};
 ghost use Rattle.hq_base.specs.Refusals.{no_memory_fail, refused};
-ghost use Rattle.hq_requests.specs.Customers.{are_customers, names_apart, keys_apart, has_key, has_name};
+ghost use Rattle.hq_requests.specs.Customers.{are_customers, names_apart, keys_apart, has_key};
+ghost use Rattle.hq_requests.specs.Customers.{has_name};
 
 use hq_envelope::{Fail, Fault, Items, Key, Refusal};
 use hq_queue::{Customer, Entry};
@@ -86,7 +87,8 @@ pub struct Directory {
 }
 
 impl Directory {
-    ghost use Rattle.hq_requests.specs.Directories.{relay_of, customers_of, entry_of, by_relay, by_customer, customer_of, relay_alone};
+    ghost use Rattle.hq_requests.specs.Directories.{relay_of, customers_of, entry_of, by_relay};
+    ghost use Rattle.hq_requests.specs.Directories.{by_customer, customer_of, relay_alone};
     ghost use Rattle.std.specs.Ordering.{eq_by_cmp};
     ghost use Rattle.hq_store.specs.Tables.{text_cmp};
     ghost use Rattle.hq_routes.specs.Routes.{path_of};

@@ -7,13 +7,14 @@ ghost use Rattle.hq_base.specs.declared.failure.Refusal.TheVariants.{BadField};
 ghost use Rattle.hq_routes.specs.Routes.{last_segment};
 ghost use Rattle.hq_requests.specs.Calls as calls;
 
-use crate::asked::Exchange;
 use crate::directory::Directory;
+use crate::exchanges::Exchange;
 use crate::number::number_in;
-use hq_bodies::{read_check, read_due, read_import, read_line, read_outcome, read_pattern};
-use hq_calls::{AttemptReport, Call};
+use hq_bodies::{
+    read_check, read_due, read_import, read_line, read_pattern, read_report, read_submission,
+};
+use hq_calls::Call;
 use hq_envelope::{Fail, Refusal, Serial};
-use hq_json::read_submission;
 use hq_queue::Entry;
 use hq_routes::{Path, last_segment};
 use std::alloc::Global;
@@ -164,19 +165,6 @@ fn call_about(about: MessageRoute, serial: Serial) -> Call
     }
 }
 
-/// The report of an attempt.
-#[tactic(auto, unfolding(crate::specs::Calls::read_report))]
-fn read_report(alloc: Global, body: &[u8]) -> Result<AttemptReport, Fail>
-    ensures { Reads result (calls.read_report body.now) }
-{
-    let (serial, attempt, outcomes) = read_outcome(alloc, body)?;
-    Ok(AttemptReport {
-        serial,
-        attempt,
-        outcomes,
-    })
-}
-
 /// What a route asks, of its parameter or its body.
 #[tactic(auto, unfolding(crate::specs::Calls::asked_of))]
 fn asked_of(alloc: Global, route: Route, segment: &str, body: &[u8]) -> Result<Call, Fail>
@@ -231,8 +219,8 @@ fn key_of(exchange: &Exchange) -> Option<&str>
     }
 }
 
-/// The call of one customer that is asked for: refused as 2 `NoKey`, 3 `WrongRole`, 13 `NoCustomer`,
-/// and then as the parameter and the body are.
+/// The call of one customer that is asked for: refused as 2 `NoKey`, 3 `WrongRole`, 13
+/// `NoCustomer`, and then as the parameter and the body are.
 fn asked_of_one<'d>(
     alloc: Global,
     directory: &'d Directory,

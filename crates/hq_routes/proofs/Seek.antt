@@ -1,8 +1,12 @@
--- Where a parameter stands at the end of a pattern alone, the router's search finds the first row that the path fits.
-use Rattle.std.proofs.Common.{◌≡◌, ℕ, zero, suc, ◌-◌, ◌<◌, List, [], ◌∷◌, length, Option, Some, None, Bool, true, false, cond, not, ◌&&◌, ◌||◌, refl, ap, subst, ◌∙◌, arith, ◌==◌, ltb, ◌⊎◌, inl, inr}
+-- Where a parameter stands at the end of a pattern alone, the router's search finds the first row
+-- that the path fits.
+use Rattle.std.proofs.Common.{◌≡◌, ℕ, zero, suc, ◌-◌, ◌<◌, List, [], ◌∷◌, length, Option, Some}
+use Rattle.std.proofs.Common.{None, Bool, true, false, cond, not, ◌&&◌, ◌||◌, refl, ap, subst, ◌∙◌}
+use Rattle.std.proofs.Common.{arith, ◌==◌, ltb, ◌⊎◌, inl, inr}
 use Rattle.std.proofs.lemmas.Bool.Decides.{nat_tests}
 use Rattle.matchit.specs.Rows.{RowsOf, param_token, catch_all_token, comes_before}
-use Rattle.matchit.specs.Seek.{own, step, or_else, seek, first, param_step, has_slash, segment, longest_suffix}
+use Rattle.matchit.specs.Seek.{own, step, or_else, seek, first, param_step, has_slash, segment}
+use Rattle.matchit.specs.Seek.{longest_suffix}
 use Rattle.matchit.specs.Level.{IsText}
 use Rattle.hq_routes.specs.Routes.{fits, route_in}
 
@@ -45,7 +49,11 @@ module _ {K : Type 0} where
   unfolding seek
   seek-none n [] = refl
   seek-none (suc n) (b ∷ p) = seek-none n p
-  seek-none zero (b ∷ p) = simp (seek-none 0 p, none-param (b ∷ p), seek-none (((param_step {K = K} [] (b ∷ p)).0) - 1) p)
+  seek-none zero (b ∷ p) = simp (
+    seek-none 0 p,
+    none-param (b ∷ p),
+    seek-none (((param_step {K = K} [] (b ∷ p)).0) - 1) p,
+  )
 
   seek-all : (rs : RowsOf K) (p : List ℕ) → seek (length p) rs p ≡ own rs
   unfolding seek
@@ -59,11 +67,13 @@ module _ {K : Type 0} where
 
   -- a parameter at the end takes a segment
   seek-param : (rs : RowsOf K) (b : ℕ) (p : List ℕ) → AllEnd rs
-      → seek ((param_step rs (b ∷ p)).0 - 1) (param_step rs (b ∷ p)).1 p ≡ cond (has_slash (b ∷ p)) None (own rs)
+      → seek ((param_step rs (b ∷ p)).0 - 1) (param_step rs (b ∷ p)).1 p ≡ cond (has_slash (b ∷ p))
+      None (own rs)
   unfolding param_step
   seek-param rs b p h = rw (longest-end (segment (b ∷ p)) rs h) (by (has_slash (b ∷ p)))
     where
-      by : (v : Bool) → seek ((cond {A = ℕ × RowsOf K} v (0, []) (length (b ∷ p), rs)).0 - 1) (cond {A = ℕ × RowsOf K} v (0, []) (length (b ∷ p), rs)).1 p ≡ cond v None (own rs)
+      by : (v : Bool) → seek ((cond {A = ℕ × RowsOf K} v (0, []) (length (b ∷ p), rs)).0 - 1)
+          (cond {A = ℕ × RowsOf K} v (0, []) (length (b ∷ p), rs)).1 p ≡ cond v None (own rs)
       by true = seek-none _ p
       by false = let e : length (b ∷ p) - 1 ≡ length p = omega arith in rw e (seek-all rs p)
 
@@ -72,15 +82,18 @@ module _ {K : Type 0} where
   step-param (([], k) ∷ rest) h = step-param rest h.1
   step-param ((x ∷ t, k) ∷ rest) h = elim h.0 [
     | inl s ↦ let e : (x == 256) ≡ false = grind (arith, nat_tests) in rw e (step-param rest h.1)
-    | inr s ↦ let e : (x == 256) ≡ true = grind (arith, nat_tests) in rw e (s.1, step-param rest h.1)
+    | inr s ↦ let e : (x == 256) ≡ true = grind (arith, nat_tests) in
+        rw e (s.1, step-param rest h.1)
   ]
 
   step-catch_all : (rs : RowsOf K) → AllSimple rs → step catch_all_token rs ≡ []
   step-catch_all [] h = refl
   step-catch_all (([], k) ∷ rest) h = step-catch_all rest h.1
   step-catch_all ((x ∷ t, k) ∷ rest) h = elim h.0 [
-    | inl s ↦ let e : (x == 257) ≡ false = grind (arith, nat_tests) in rw e (step-catch_all rest h.1)
-    | inr s ↦ let e : (x == 257) ≡ false = grind (arith, nat_tests) in rw e (step-catch_all rest h.1)
+    | inl s ↦ let e : (x == 257) ≡ false = grind (arith, nat_tests) in
+        rw e (step-catch_all rest h.1)
+    | inr s ↦ let e : (x == 257) ≡ false = grind (arith, nat_tests) in
+        rw e (step-catch_all rest h.1)
   ]
 
   step-simple : (b : ℕ) (rs : RowsOf K) → AllSimple rs → AllSimple (step b rs)
@@ -92,7 +105,8 @@ module _ {K : Type 0} where
       tail (inl s) = s.1
       tail (inr s) = rw s.1 tt
 
-      by : (v : Bool) → IsSimple t → AllSimple (step b rest) → AllSimple (cond v ((t, k) ∷ step b rest) (step b rest))
+      by : (v : Bool) → IsSimple t → AllSimple (step b rest) →
+          AllSimple (cond v ((t, k) ∷ step b rest) (step b rest))
       by true s r = (s, r)
       by false s r = r
 
@@ -101,7 +115,8 @@ module _ {K : Type 0} where
   step-before b t (([], k) ∷ rest) h = step-before b t rest h.1
   step-before b t ((x ∷ u, k) ∷ rest) h = by (x == b) refl (step-before b t rest h.1)
     where
-      by : (v : Bool) → (x == b) ≡ v → Before t (step b rest) → Before t (cond v ((u, k) ∷ step b rest) (step b rest))
+      by : (v : Bool) → (x == b) ≡ v → Before t (step b rest) →
+          Before t (cond v ((u, k) ∷ step b rest) (step b rest))
       by true e r =
           let same : x ≡ b = grind (arith, nat_tests) in
           let lt : ltb b x ≡ false = grind (arith, nat_tests) in
@@ -114,19 +129,23 @@ module _ {K : Type 0} where
   step-sorted b (([], k) ∷ rest) h = step-sorted b rest h.1
   step-sorted b ((x ∷ t, k) ∷ rest) h = by (x == b) refl (step-sorted b rest h.1)
     where
-      by : (v : Bool) → (x == b) ≡ v → Sorted (step b rest) → Sorted (cond v ((t, k) ∷ step b rest) (step b rest))
+      by : (v : Bool) → (x == b) ≡ v → Sorted (step b rest) →
+          Sorted (cond v ((t, k) ∷ step b rest) (step b rest))
       by true e r =
           let same : x ≡ b = grind (arith, nat_tests) in
           (step-before b t rest (subst (λ y. Before (y ∷ t) rest) same h.0), r)
       by false e r = r
 
   -- after a parameter no row begins with a byte
-  after-param : (b : ℕ) (rs : RowsOf K) → b < 256 → AllSimple rs → Before (256 ∷ []) rs → step b rs ≡ []
+  after-param : (b : ℕ) (rs : RowsOf K) → b < 256 → AllSimple rs → Before (256 ∷ []) rs →
+      step b rs ≡ []
   after-param b [] lt s h = refl
   after-param b (([], k) ∷ rest) lt s h = after-param b rest lt s.1 h.1
   after-param b ((x ∷ t, k) ∷ rest) lt s h = absurd (elim s.0 [
-    | inl p ↦ let l : ltb 256 x ≡ false = grind (arith, nat_tests) in let e : (256 == x) ≡ false = grind (arith, nat_tests) in cc (rw (l, e) at h.0)
-    | inr p ↦ let l : ltb 256 x ≡ false = grind (arith, nat_tests) in let e : (256 == x) ≡ true = grind (arith, nat_tests) in cc (rw (l, e) at h.0)
+    | inl p ↦ let l : ltb 256 x ≡ false = grind (arith, nat_tests) in let e : (256 == x) ≡ false =
+        grind (arith, nat_tests) in cc (rw (l, e) at h.0)
+    | inr p ↦ let l : ltb 256 x ≡ false = grind (arith, nat_tests) in let e : (256 == x) ≡ true =
+        grind (arith, nat_tests) in cc (rw (l, e) at h.0)
   ])
 
   own-route : (rs : RowsOf K) → own rs ≡ route_in rs []
@@ -140,7 +159,8 @@ module _ {K : Type 0} where
 
   -- the rows that go on with the byte, and then those that end in a parameter
   joined : (b : ℕ) (p : List ℕ) (rs : RowsOf K) → b < 256 → AllSimple rs → Sorted rs
-      → or_else (route_in (step b rs) p) (cond (has_slash (b ∷ p)) None (own (step 256 rs))) ≡ route_in rs (b ∷ p)
+      → or_else (route_in (step b rs) p) (cond (has_slash (b ∷ p)) None (own (step 256 rs))) ≡
+      route_in rs (b ∷ p)
   joined b p [] lt s o = nothing (has_slash (b ∷ p))
   joined b p (([], k) ∷ rest) lt s o = joined b p rest lt s.1 o.1
   joined b p ((x ∷ t, k) ∷ rest) lt s o = elim s.0 [
@@ -150,29 +170,39 @@ module _ {K : Type 0} where
     | inr q ↦
         let e : (x == 256) ≡ true = grind (arith, nat_tests) in
         let n : (x == b) ≡ false = grind (arith, nat_tests) in
-        let before : Before (256 ∷ []) rest = subst (λ u. Before u rest) (ap (λ y. y ∷ t) q.0 ∙ ap (λ u. 256 ∷ u) q.1) o.0 in
+        let before : Before (256 ∷ []) rest = subst (λ u. Before u rest) (ap (λ y. y ∷ t) q.0
+        ∙ ap (λ u. 256 ∷ u) q.1) o.0 in
         let none : step b rest ≡ [] = after-param b rest lt s.1 before in
         let ih = rw none at (joined b p rest lt s.1 o.1) in
         rw (e, n, q.1, none) (last (has_slash (b ∷ p)) ih)
   ]
     where
-      more : (w : Bool) → or_else (route_in (step b rest) p) (cond (has_slash (b ∷ p)) None (own (step 256 rest))) ≡ route_in rest (b ∷ p)
-          → or_else (cond w (Some k) (route_in (step b rest) p)) (cond (has_slash (b ∷ p)) None (own (step 256 rest))) ≡ cond (w || false) (Some k) (route_in rest (b ∷ p))
+      more : (w : Bool) → or_else (route_in (step b rest) p)
+          (cond (has_slash (b ∷ p)) None (own (step 256 rest))) ≡ route_in rest (b ∷ p)
+          → or_else (cond w (Some k) (route_in (step b rest) p))
+          (cond (has_slash (b ∷ p)) None (own (step 256 rest))) ≡ cond (w || false) (Some k)
+          (route_in rest (b ∷ p))
       more true h = refl
       more false h = h
 
-      byte : (v : Bool) → or_else (route_in (step b rest) p) (cond (has_slash (b ∷ p)) None (own (step 256 rest))) ≡ route_in rest (b ∷ p)
-          → or_else (route_in (cond v ((t, k) ∷ step b rest) (step b rest)) p) (cond (has_slash (b ∷ p)) None (own (step 256 rest))) ≡ cond ((v && fits t p) || (false && length t == 0 && not (has_slash (b ∷ p)))) (Some k) (route_in rest (b ∷ p))
+      byte : (v : Bool) → or_else (route_in (step b rest) p)
+          (cond (has_slash (b ∷ p)) None (own (step 256 rest))) ≡ route_in rest (b ∷ p)
+          → or_else (route_in (cond v ((t, k) ∷ step b rest) (step b rest)) p)
+          (cond (has_slash (b ∷ p)) None (own (step 256 rest))) ≡ cond ((v && fits t p)
+          || (false && length t == 0 && not (has_slash (b ∷ p)))) (Some k)
+          (route_in rest (b ∷ p))
       byte true h = more (fits t p) h
       byte false h = h
 
       last : (v : Bool) → or_else None (cond v None (own (step 256 rest))) ≡ route_in rest (b ∷ p)
-          → or_else None (cond v None (Some k)) ≡ cond (false || (true && true && not v)) (Some k) (route_in rest (b ∷ p))
+          → or_else None (cond v None (Some k)) ≡ cond (false || (true && true && not v)) (Some k)
+          (route_in rest (b ∷ p))
       last true h = h
       last false h = refl
 
   -- the search is the first row that fits
-  pub first-route : (rs : RowsOf K) (path : List ℕ) → AllSimple rs → Sorted rs → IsText path → first rs path ≡ route_in rs path
+  pub first-route : (rs : RowsOf K) (path : List ℕ) → AllSimple rs → Sorted rs → IsText path →
+      first rs path ≡ route_in rs path
   unfolding seek
   first-route rs [] s o t = own-route rs
   first-route rs (b ∷ p) s o t =

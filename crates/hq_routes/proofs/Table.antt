@@ -1,5 +1,7 @@
 -- The rows of the router are the table.
-use Rattle.std.proofs.Common.{◌≡◌, ℕ, ◌<◌, List, [], ◌∷◌, map, refl, ap, sym, ◌∙◌, Bool, true, false, ◌&&◌, ◌||◌, ◌==◌, ltb, length, arith, ◌⊎◌, inl, inr, get_or, suc}
+use Rattle.std.proofs.Common.{◌≡◌, ℕ, ◌<◌, List, [], ◌∷◌, map, refl, ap, sym, ◌∙◌, Bool, true}
+use Rattle.std.proofs.Common.{false, ◌&&◌, ◌||◌, ◌==◌, ltb, length, arith, ◌⊎◌, inl, inr, get_or}
+use Rattle.std.proofs.Common.{suc}
 use Rattle.std.proofs.lemmas.Bool.{and_parts}
 use Rattle.std.proofs.lemmas.Bool.Decides.{nat_tests}
 use Rattle.matchit.specs.Rows.{RowsOf, comes_before}
@@ -39,9 +41,11 @@ no_length (x ∷ t) e = let h : suc (length t) ≡ 0 = grind (arith, nat_tests) 
 
 simple_from : (t : List ℕ) → is_simple t ≡ true → IsSimple t
 simple_from [] e = tt
-simple_from (x ∷ t) e = by (λ h. simple_from t h) (or_parts (ltb x 256 && is_simple t) (x == 256 && length t == 0) e)
+simple_from (x ∷ t) e = by (λ h. simple_from t h)
+    (or_parts (ltb x 256 && is_simple t) (x == 256 && length t == 0) e)
   where
-    by : (is_simple t ≡ true → IsSimple t) → ((ltb x 256 && is_simple t) ≡ true) ⊎ ((x == 256 && length t == 0) ≡ true) → IsSimple (x ∷ t)
+    by : (is_simple t ≡ true → IsSimple t) → ((ltb x 256 && is_simple t) ≡ true)
+        ⊎ ((x == 256 && length t == 0) ≡ true) → IsSimple (x ∷ t)
     by rest (inl h) =
         let p = and_parts (ltb x 256) (is_simple t) h in
         let a : ltb x 256 ≡ true = p.0 in
@@ -60,7 +64,8 @@ module _ {K : Type 0} where
 
   all_simple_from : (rs : RowsOf K) → are_simple rs ≡ true → AllSimple rs
   all_simple_from [] e = tt
-  all_simple_from ((t, k) ∷ rest) e = let p = and_parts (is_simple t) (are_simple rest) e in (simple_from t p.0, all_simple_from rest p.1)
+  all_simple_from ((t, k) ∷ rest) e = let p = and_parts (is_simple t) (are_simple rest) e in
+      (simple_from t p.0, all_simple_from rest p.1)
 
   abbrev is_before : List ℕ → RowsOf K → Bool
   is_before t [] = true
@@ -68,7 +73,8 @@ module _ {K : Type 0} where
 
   before_from : (t : List ℕ) (rs : RowsOf K) → is_before t rs ≡ true → Before t rs
   before_from t [] e = tt
-  before_from t ((u, k) ∷ rest) e = let p = and_parts (comes_before t u) (is_before t rest) e in (p.0, before_from t rest p.1)
+  before_from t ((u, k) ∷ rest) e = let p = and_parts (comes_before t u) (is_before t rest) e in
+      (p.0, before_from t rest p.1)
 
   abbrev is_sorted : RowsOf K → Bool
   is_sorted [] = true
@@ -76,7 +82,8 @@ module _ {K : Type 0} where
 
   sorted_from : (rs : RowsOf K) → is_sorted rs ≡ true → Sorted rs
   sorted_from [] e = tt
-  sorted_from ((t, k) ∷ rest) e = let p = and_parts (is_before t rest) (is_sorted rest) e in (before_from t rest p.0, sorted_from rest p.1)
+  sorted_from ((t, k) ∷ rest) e = let p = and_parts (is_before t rest) (is_sorted rest) e in
+      (before_from t rest p.0, sorted_from rest p.1)
 
 table_simple : are_simple table ≡ true
 unfolding table
@@ -91,6 +98,8 @@ text_from [] h = tt
 text_from (b ∷ bytes) h = (h 0, text_from bytes (λ i. h (suc i)))
 
 -- what the router finds is what the table says
-pub found : (rows : RowsOf (RouteOf Path)) (path : List ℕ) → rename (λ e. e.value) rows ≡ table → IsText path → map_key (λ e. e.value) (first rows path) ≡ path_of path
+pub found : (rows : RowsOf (RouteOf Path)) (path : List ℕ) → rename (λ e. e.value) rows ≡ table →
+    IsText path → map_key (λ e. e.value) (first rows path) ≡ path_of path
 unfolding path_of
-found rows path h t = sym (seek-rename (λ e. e.value) 0 rows path) ∙ ap (λ r. first r path) h ∙ first-route table path (all_simple_from table table_simple) (sorted_from table table_sorted) t
+found rows path h t = sym (seek-rename (λ e. e.value) 0 rows path) ∙ ap (λ r. first r path) h
+    ∙ first-route table path (all_simple_from table table_simple) (sorted_from table table_sorted) t

@@ -1,5 +1,6 @@
 -- The paths of the desk, and which one a path is.
-use Rattle.std.specs.Prelude.{ℕ, List, [], ◌∷◌, ◌++◌, ◌&&◌, ◌||◌, ◌==◌, not, length, Bool, true, false, cond, codes, Option, Some, None, is_none, Result, Ok, Err}
+use Rattle.std.specs.Prelude.{ℕ, List, [], ◌∷◌, ◌++◌, ◌&&◌, ◌||◌, ◌==◌, not, length, Bool, true}
+use Rattle.std.specs.Prelude.{false, cond, codes, Option, Some, None, is_none, Result, Ok, Err}
 use Rattle.matchit.specs.Rows.{RowsOf}
 use Rattle.matchit.specs.Order.{placed}
 use Rattle.matchit.specs.Router.{RouteOf, route_from, nearest}
@@ -7,18 +8,25 @@ use Rattle.matchit.specs.Route.{Scan, parse_route}
 use Rattle.matchit.specs.declared.error.InsertError.{InsertError}
 use Rattle.matchit.specs.Seek.{has_slash}
 use Rattle.hq_routes.specs.declared.Path.{Path}
-use Rattle.hq_routes.specs.declared.Path.TheVariants.{Messages, MessagesAfter, Message, Hold, Release, Requeue, HoldAll, ReleaseAll, DeleteAll, Import, Lines, LinesAfter, LinePut, LineDrop, Check, Notices, NoticesAfter, Notice, Usage, Report, Submit, Outcome, Due, Sweep, SweepAll}
+use Rattle.hq_routes.specs.declared.Path.TheVariants.{Messages, MessagesAfter, Message, Hold}
+use Rattle.hq_routes.specs.declared.Path.TheVariants.{Release, Requeue, HoldAll, ReleaseAll}
+use Rattle.hq_routes.specs.declared.Path.TheVariants.{DeleteAll, Import, Lines, LinesAfter, LinePut}
+use Rattle.hq_routes.specs.declared.Path.TheVariants.{LineDrop, Check, Notices, NoticesAfter}
+use Rattle.hq_routes.specs.declared.Path.TheVariants.{Notice, Usage, Report, Submit, Outcome, Due}
+use Rattle.hq_routes.specs.declared.Path.TheVariants.{Sweep, SweepAll}
 
 -- what stands for a parameter at the end of a pattern: it is no byte
 abbrev pub parameter : ℕ
 parameter = 256
 
--- the path is the pattern's bytes; a parameter at the pattern's end takes the rest, one segment of at least one byte
+-- the path is the pattern's bytes; a parameter at the pattern's end takes the rest, one segment of
+-- at least one byte
 abbrev pub fits : List ℕ → List ℕ → Bool
 fits [] [] = true
 fits [] (b ∷ path) = false
 fits (x ∷ pattern) [] = false
-fits (x ∷ pattern) (b ∷ path) = (x == b && fits pattern path) || (x == parameter && length pattern == 0 && not (has_slash (b ∷ path)))
+fits (x ∷ pattern) (b ∷ path) = (x == b && fits pattern path)
+    || (x == parameter && length pattern == 0 && not (has_slash (b ∷ path)))
 
 -- the first row that the path fits
 abbrev pub route_in : {K : Type 0} → RowsOf K → List ℕ → Option K
@@ -62,7 +70,8 @@ unfoldable pub path_of : List ℕ → Option Path
 path_of path = route_in table path
 
 -- the rows of a router after a path is added that has no fault and no conflict
-abbrev pub added_read : Result Scan InsertError → Path → RowsOf (RouteOf Path) → RowsOf (RouteOf Path)
+abbrev pub added_read : Result Scan InsertError → Path → RowsOf (RouteOf Path) →
+    RowsOf (RouteOf Path)
 added_read (Ok s) path rows = placed (s.pattern, route_from s path) rows
 added_read (Err e) path rows = rows
 

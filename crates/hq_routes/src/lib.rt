@@ -5,7 +5,8 @@
 ghost use Rattle.std.specs.Prelude.{◌≡◌, [], true, IfOk, IfErr, OnOk, MatchOption, map as map_list};
 ghost use Rattle.matchit.specs.Seek.{first};
 ghost use Rattle.matchit.specs.Router.{rename, map_key};
-ghost use Rattle.hq_routes.specs.Routes.{last_segment, path_of, added, added_all, can_add, can_add_all, table};
+ghost use Rattle.hq_routes.specs.Routes.{last_segment, path_of, added, added_all, can_add};
+ghost use Rattle.hq_routes.specs.Routes.{can_add_all, table};
 
 use matchit::{InsertError, Router};
 use std::alloc::Global;

@@ -1,5 +1,6 @@
 -- Heads and messages in rows: the general lemmas at their keys.
-use Rattle.std.proofs.Common.{◌≡◌, ℕ, Bool, true, false, not, cond, List, [], ◌∷◌, ◌++◌, filter, refl, sym, ap, ◌∙◌, Some, None, Option}
+use Rattle.std.proofs.Common.{◌≡◌, ℕ, Bool, true, false, not, cond, List, [], ◌∷◌, ◌++◌, filter}
+use Rattle.std.proofs.Common.{refl, sym, ap, ◌∙◌, Some, None, Option}
 use Rattle.std.specs.Prelude.{option_map, nat_le}
 use Rattle.std.specs.List as list
 use Rattle.std.specs.Cmp.Lexicographic.{nat_list_cmp_total}
@@ -7,9 +8,10 @@ use Rattle.std.proofs.lemmas.Map.Views.{tells_apart}
 use Rattle.std.specs.Ordering.{eq_by_cmp}
 use Rattle.std.proofs.lemmas.Map.Lookups.{exact_bytes}
 use Rattle.std.specs.FinMap.{get, insert, remove, retain_keys}
-use Rattle.hq_store.specs.Tables.{message_cmp, lines_cmp, notice_cmp, Noted, left_of, noted_of, notice_of}
-use Rattle.hq_tables.proofs.Lists.{get_table, table_drop, table_keep, table_put}
-use Rattle.hq_tables.proofs.Unique.{unique_filter, unique_put}
+use Rattle.hq_store.specs.Tables.{message_cmp, lines_cmp, notice_cmp, Noted, left_of, noted_of}
+use Rattle.hq_store.specs.Tables.{notice_of}
+use Rattle.hq_owned.proofs.Lists.{get_table, table_drop, table_keep, table_put}
+use Rattle.hq_owned.proofs.Unique.{unique_filter, unique_put}
 use Rattle.hq_access.specs.declared.pattern.Class.{Class}
 use Rattle.hq_rows.specs.declared.rows.HeadRow.{HeadRow}
 use Rattle.hq_rows.specs.declared.rows.HoldRow.{HoldRow}
@@ -17,116 +19,179 @@ use Rattle.hq_rows.specs.declared.rows.LineRow.{LineRow}
 use Rattle.hq_rows.specs.declared.rows.MarkRow.{MarkRow}
 use Rattle.hq_rows.specs.declared.rows.MessageRow.{MessageRow}
 use Rattle.hq_rows.specs.declared.rows.NoticeRow.{NoticeRow}
-use Rattle.hq_rows.specs.Listed.{head_key, head_value, message_key, message_value, heads_of, messages_of, hold_key, hold_value, holds_of, line_row_key, line_row_value, lines_of, mark_key, mark_value, marks_of, notice_key, notice_value, notices_of}
-use Rattle.hq_rows.specs.Lookups.{is_head, is_message, is_hold, AreUnique, is_line, AreUniqueLines, is_mark, is_notice, is_kept_notice, AreUniqueNotices}
-use Rattle.hq_store.proofs.Orders.{message_total, lines_total, mark_total, message_exact, lines_exact, mark_exact}
+use Rattle.hq_rows.specs.Listed.{head_key, head_value, message_key, message_value, heads_of}
+use Rattle.hq_rows.specs.Listed.{messages_of, hold_key, hold_value, holds_of, line_row_key}
+use Rattle.hq_rows.specs.Listed.{line_row_value, lines_of, mark_key, mark_value, marks_of}
+use Rattle.hq_rows.specs.Listed.{notice_key, notice_value, notices_of}
+use Rattle.hq_rows.specs.Lookups.{is_head, is_message, is_hold, AreUnique, is_line, AreUniqueLines}
+use Rattle.hq_rows.specs.Lookups.{is_mark, is_notice, is_kept_notice, AreUniqueNotices}
+use Rattle.hq_store.proofs.Orders.{message_total, lines_total, mark_total, message_exact}
+use Rattle.hq_store.proofs.Orders.{lines_exact, mark_exact}
 
-pub head_found : (rows : List HeadRow) (c : List ℕ) → option_map head_value (list.find (is_head c) rows) ≡ get (heads_of rows) c
+pub head_found : (rows : List HeadRow) (c : List ℕ) →
+    option_map head_value (list.find (is_head c) rows) ≡ get (heads_of rows) c
 unfolding is_head
 head_found rows c = sym (get_table nat_list_cmp_total exact_bytes head_key head_value rows c)
 
-pub head_put : (rows : List HeadRow) (r : HeadRow) → heads_of (filter (λ x. not (is_head r.customer x)) rows ++ r ∷ []) ≡ insert (heads_of rows) r.customer (head_value r)
+pub head_put : (rows : List HeadRow) (r : HeadRow) →
+    heads_of (filter (λ x. not (is_head r.customer x)) rows ++ r ∷ []) ≡ insert (heads_of rows)
+    r.customer (head_value r)
 unfolding is_head
 head_put rows r = table_put nat_list_cmp_total exact_bytes head_key head_value rows r
 
-pub message_found : (rows : List MessageRow) (c : List ℕ) (serial : ℕ) → option_map message_value (list.find (is_message c serial) rows) ≡ get (messages_of rows) (c, serial)
+pub message_found : (rows : List MessageRow) (c : List ℕ) (serial : ℕ) →
+    option_map message_value (list.find (is_message c serial) rows) ≡ get (messages_of rows) (
+      c,
+      serial,
+    )
 unfolding is_message
-message_found rows c serial = sym (get_table message_total message_exact message_key message_value rows (c, serial))
+message_found rows c serial =
+    sym (get_table message_total message_exact message_key message_value rows (c, serial))
 
-pub message_drop : (rows : List MessageRow) (c : List ℕ) (serial : ℕ) → messages_of (filter (λ x. not (is_message c serial x)) rows) ≡ remove (messages_of rows) (c, serial)
+pub message_drop : (rows : List MessageRow) (c : List ℕ) (serial : ℕ) →
+    messages_of (filter (λ x. not (is_message c serial x)) rows) ≡ remove (messages_of rows) (
+      c,
+      serial,
+    )
 unfolding is_message
-message_drop rows c serial = table_drop message_total message_exact message_key message_value (c, serial) rows
+message_drop rows c serial =
+    table_drop message_total message_exact message_key message_value (c, serial) rows
 
-pub message_put : (rows : List MessageRow) (r : MessageRow) → messages_of (filter (λ x. not (is_message r.customer r.serial x)) rows ++ r ∷ []) ≡ insert (messages_of rows) (r.customer, r.serial) (message_value r)
+pub message_put : (rows : List MessageRow) (r : MessageRow) →
+    messages_of (filter (λ x. not (is_message r.customer r.serial x)) rows ++ r ∷ []) ≡ insert
+    (messages_of rows) (r.customer, r.serial) (message_value r)
 unfolding is_message
 message_put rows r = table_put message_total message_exact message_key message_value rows r
 
-pub unique_drop : (rows : List MessageRow) (c : List ℕ) (serial : ℕ) → AreUnique rows → AreUnique (filter (λ x. not (is_message c serial x)) rows)
+pub unique_drop : (rows : List MessageRow) (c : List ℕ) (serial : ℕ) → AreUnique rows →
+    AreUnique (filter (λ x. not (is_message c serial x)) rows)
 unfolding AreUnique
 unique_drop rows c serial u = unique_filter message_cmp message_key _ rows u
 
-pub unique_message : (rows : List MessageRow) (r : MessageRow) → AreUnique rows → AreUnique (filter (λ x. not (is_message r.customer r.serial x)) rows ++ r ∷ [])
+pub unique_message : (rows : List MessageRow) (r : MessageRow) → AreUnique rows →
+    AreUnique (filter (λ x. not (is_message r.customer r.serial x)) rows ++ r ∷ [])
 unfolding AreUnique is_message
 unique_message rows r u = unique_put message_total message_key rows r u
 
-pub line_found : (rows : List LineRow) (c : List ℕ) (p : Class × List ℕ) → option_map line_row_value (list.find (is_line c p) rows) ≡ get (lines_of rows) (c, p)
+pub line_found : (rows : List LineRow) (c : List ℕ) (p : Class × List ℕ) →
+    option_map line_row_value (list.find (is_line c p) rows) ≡ get (lines_of rows) (c, p)
 unfolding is_line
-line_found rows c p = sym (get_table lines_total lines_exact line_row_key line_row_value rows (c, p))
+line_found rows c p = sym
+    (get_table lines_total lines_exact line_row_key line_row_value rows (c, p))
 
-pub line_drop : (rows : List LineRow) (c : List ℕ) (p : Class × List ℕ) → lines_of (filter (λ x. not (is_line c p x)) rows) ≡ remove (lines_of rows) (c, p)
+pub line_drop : (rows : List LineRow) (c : List ℕ) (p : Class × List ℕ) →
+    lines_of (filter (λ x. not (is_line c p x)) rows) ≡ remove (lines_of rows) (c, p)
 unfolding is_line
 line_drop rows c p = table_drop lines_total lines_exact line_row_key line_row_value (c, p) rows
 
-pub line_put : (rows : List LineRow) (r : LineRow) → lines_of (filter (λ x. not (is_line r.customer r.line.pattern x)) rows ++ r ∷ []) ≡ insert (lines_of rows) (r.customer, r.line.pattern) r.line.action
+pub line_put : (rows : List LineRow) (r : LineRow) →
+    lines_of (filter (λ x. not (is_line r.customer r.line.pattern x)) rows ++ r ∷ []) ≡ insert
+    (lines_of rows) (r.customer, r.line.pattern) r.line.action
 unfolding is_line
 line_put rows r = table_put lines_total lines_exact line_row_key line_row_value rows r
 
-pub unique_line_drop : (rows : List LineRow) (c : List ℕ) (p : Class × List ℕ) → AreUniqueLines rows → AreUniqueLines (filter (λ x. not (is_line c p x)) rows)
+pub unique_line_drop : (rows : List LineRow) (c : List ℕ) (p : Class × List ℕ) → AreUniqueLines rows
+    → AreUniqueLines (filter (λ x. not (is_line c p x)) rows)
 unfolding AreUniqueLines
 unique_line_drop rows c p u = unique_filter lines_cmp line_row_key _ rows u
 
-pub unique_line_put : (rows : List LineRow) (r : LineRow) → AreUniqueLines rows → AreUniqueLines (filter (λ x. not (is_line r.customer r.line.pattern x)) rows ++ r ∷ [])
+pub unique_line_put : (rows : List LineRow) (r : LineRow) → AreUniqueLines rows →
+    AreUniqueLines (filter (λ x. not (is_line r.customer r.line.pattern x)) rows ++ r ∷ [])
 unfolding AreUniqueLines is_line
 unique_line_put rows r u = unique_put lines_total line_row_key rows r u
 
-pub mark_found : (rows : List MarkRow) (c label : List ℕ) → option_map mark_value (list.find (is_mark c label) rows) ≡ get (marks_of rows) (c, label)
+pub mark_found : (rows : List MarkRow) (c label : List ℕ) →
+    option_map mark_value (list.find (is_mark c label) rows) ≡ get (marks_of rows) (c, label)
 unfolding is_mark
 mark_found rows c label = sym (get_table mark_total mark_exact mark_key mark_value rows (c, label))
 
-pub mark_put : (rows : List MarkRow) (r : MarkRow) → marks_of (filter (λ x. not (is_mark r.customer r.mark.label x)) rows ++ r ∷ []) ≡ insert (marks_of rows) (r.customer, r.mark.label) r.mark
+pub mark_put : (rows : List MarkRow) (r : MarkRow) →
+    marks_of (filter (λ x. not (is_mark r.customer r.mark.label x)) rows ++ r ∷ []) ≡ insert
+    (marks_of rows) (r.customer, r.mark.label) r.mark
 unfolding is_mark
 mark_put rows r = table_put mark_total mark_exact mark_key mark_value rows r
 
-pub hold_found : (rows : List HoldRow) (c : List ℕ) (serial : ℕ) → option_map hold_value (list.find (is_hold c serial) rows) ≡ get (holds_of rows) (c, serial)
+pub hold_found : (rows : List HoldRow) (c : List ℕ) (serial : ℕ) →
+    option_map hold_value (list.find (is_hold c serial) rows) ≡ get (holds_of rows) (c, serial)
 unfolding is_hold
-hold_found rows c serial = sym (get_table message_total message_exact hold_key hold_value rows (c, serial))
+hold_found rows c serial = sym
+    (get_table message_total message_exact hold_key hold_value rows (c, serial))
 
-pub hold_drop : (rows : List HoldRow) (c : List ℕ) (serial : ℕ) → holds_of (filter (λ x. not (is_hold c serial x)) rows) ≡ remove (holds_of rows) (c, serial)
+pub hold_drop : (rows : List HoldRow) (c : List ℕ) (serial : ℕ) →
+    holds_of (filter (λ x. not (is_hold c serial x)) rows) ≡ remove (holds_of rows) (c, serial)
 unfolding is_hold
-hold_drop rows c serial = table_drop message_total message_exact hold_key hold_value (c, serial) rows
+hold_drop rows c serial = table_drop message_total message_exact hold_key hold_value (c, serial)
+    rows
 
-pub hold_put : (rows : List HoldRow) (r : HoldRow) → holds_of (filter (λ x. not (is_hold r.customer r.serial x)) rows ++ r ∷ []) ≡ insert (holds_of rows) (r.customer, r.serial) r.reason
+pub hold_put : (rows : List HoldRow) (r : HoldRow) →
+    holds_of (filter (λ x. not (is_hold r.customer r.serial x)) rows ++ r ∷ []) ≡ insert
+    (holds_of rows) (r.customer, r.serial) r.reason
 unfolding is_hold
 hold_put rows r = table_put message_total message_exact hold_key hold_value rows r
 
-noted_found : (rows : List NoticeRow) (c : List ℕ) (number : ℕ) → option_map notice_value (list.find (is_notice c number) rows) ≡ get (notices_of rows) (c, number)
+noted_found : (rows : List NoticeRow) (c : List ℕ) (number : ℕ) →
+    option_map notice_value (list.find (is_notice c number) rows) ≡ get (notices_of rows) (
+      c,
+      number,
+    )
 unfolding is_notice
-noted_found rows c number = sym (get_table message_total message_exact notice_key notice_value rows (c, number))
+noted_found rows c number = sym
+    (get_table message_total message_exact notice_key notice_value rows (c, number))
 
-pub notice_put : (rows : List NoticeRow) (r : NoticeRow) → notices_of (filter (λ x. not (is_notice r.customer r.notice.number x)) rows ++ r ∷ []) ≡ insert (notices_of rows) (r.customer, r.notice.number) (noted_of r.notice)
+pub notice_put : (rows : List NoticeRow) (r : NoticeRow) →
+    notices_of (filter (λ x. not (is_notice r.customer r.notice.number x)) rows ++ r ∷ []) ≡ insert
+    (notices_of rows) (r.customer, r.notice.number) (noted_of r.notice)
 unfolding is_notice
 notice_put rows r = table_put message_total message_exact notice_key notice_value rows r
 
-pub notices_kept : (rows : List NoticeRow) (c : List ℕ) (number : ℕ) → notices_of (filter (is_kept_notice c number) rows) ≡ retain_keys (notices_of rows) (left_of c (nat_le number))
+pub notices_kept : (rows : List NoticeRow) (c : List ℕ) (number : ℕ) →
+    notices_of (filter (is_kept_notice c number) rows) ≡ retain_keys (notices_of rows)
+    (left_of c (nat_le number))
 unfolding is_kept_notice
-notices_kept rows c number = table_keep message_total message_exact notice_key notice_value (left_of c (nat_le number)) rows
+notices_kept rows c number =
+    table_keep message_total message_exact notice_key notice_value (left_of c (nat_le number)) rows
 
-pub unique_notice_put : (rows : List NoticeRow) (r : NoticeRow) → AreUniqueNotices rows → AreUniqueNotices (filter (λ x. not (is_notice r.customer r.notice.number x)) rows ++ r ∷ [])
+pub unique_notice_put : (rows : List NoticeRow) (r : NoticeRow) → AreUniqueNotices rows →
+    AreUniqueNotices (filter (λ x. not (is_notice r.customer r.notice.number x)) rows ++ r ∷ [])
 unfolding AreUniqueNotices is_notice
 unique_notice_put rows r u = unique_put message_total notice_key rows r u
 
-pub unique_notices_kept : (rows : List NoticeRow) (c : List ℕ) (number : ℕ) → AreUniqueNotices rows → AreUniqueNotices (filter (is_kept_notice c number) rows)
+pub unique_notices_kept : (rows : List NoticeRow) (c : List ℕ) (number : ℕ) → AreUniqueNotices rows
+    → AreUniqueNotices (filter (is_kept_notice c number) rows)
 unfolding AreUniqueNotices
 unique_notices_kept rows c number u = unique_filter message_cmp notice_key _ rows u
 
 -- a row that is found has that number
-whole_notice : (c : List ℕ) (number : ℕ) (rows : List NoticeRow) → option_map (λ (r : NoticeRow). r.notice) (list.find (is_notice c number) rows) ≡ option_map (λ (r : NoticeRow). notice_of (number, noted_of r.notice)) (list.find (is_notice c number) rows)
+whole_notice : (c : List ℕ) (number : ℕ) (rows : List NoticeRow) →
+    option_map (λ (r : NoticeRow). r.notice) (list.find (is_notice c number) rows) ≡ option_map
+    (λ (r : NoticeRow). notice_of (number, noted_of r.notice)) (list.find (is_notice c number) rows)
 unfolding is_notice
 whole_notice c number [] = refl
-whole_notice c number (r ∷ rows) = cases (eq_by_cmp notice_cmp (c, number) (r.customer, r.notice.number)) refl (whole_notice c number rows) where
-  rest : Option NoticeRow
-  rest = list.find (is_notice c number) rows
+whole_notice c number (r ∷ rows) =
+    cases (eq_by_cmp notice_cmp (c, number) (r.customer, r.notice.number)) refl
+    (whole_notice c number rows) where
+      rest : Option NoticeRow
+      rest = list.find (is_notice c number) rows
 
-  cases : (b : Bool) → eq_by_cmp notice_cmp (c, number) (r.customer, r.notice.number) ≡ b → option_map (λ (x : NoticeRow). x.notice) rest ≡ option_map (λ (x : NoticeRow). notice_of (number, noted_of x.notice)) rest
-      → option_map (λ (x : NoticeRow). x.notice) (cond b (Some r) rest) ≡ option_map (λ (x : NoticeRow). notice_of (number, noted_of x.notice)) (cond b (Some r) rest)
-  cases true e later = ap (λ (k : ℕ). Some (notice_of (k, noted_of r.notice))) (sym (ap (λ (k : List ℕ × ℕ). k.1) (tells_apart message_exact (c, number) (r.customer, r.notice.number) e)))
-  cases false e later = later
+      cases : (b : Bool) → eq_by_cmp notice_cmp (c, number) (r.customer, r.notice.number) ≡ b →
+          option_map (λ (x : NoticeRow). x.notice) rest ≡ option_map
+          (λ (x : NoticeRow). notice_of (number, noted_of x.notice)) rest
+          → option_map (λ (x : NoticeRow). x.notice) (cond b (Some r) rest) ≡ option_map
+          (λ (x : NoticeRow). notice_of (number, noted_of x.notice)) (cond b (Some r) rest)
+      cases true e later = ap (λ (k : ℕ). Some (notice_of (k, noted_of r.notice)))
+          (sym (ap (λ (k : List ℕ × ℕ). k.1)
+          (tells_apart message_exact (c, number) (r.customer, r.notice.number) e)))
+      cases false e later = later
 
-pub notice_found : (rows : List NoticeRow) (c : List ℕ) (number : ℕ) → option_map (λ (r : NoticeRow). r.notice) (list.find (is_notice c number) rows) ≡ option_map (λ (n : Noted). notice_of (number, n)) (get (notices_of rows) (c, number))
+pub notice_found : (rows : List NoticeRow) (c : List ℕ) (number : ℕ) →
+    option_map (λ (r : NoticeRow). r.notice) (list.find (is_notice c number) rows) ≡ option_map
+    (λ (n : Noted). notice_of (number, n)) (get (notices_of rows) (c, number))
 notice_found rows c number =
     whole_notice c number rows
-    ∙ sym (option_map-map (λ (n : Noted). notice_of (number, n)) notice_value (list.find (is_notice c number) rows))
+    ∙ sym (option_map-map (λ (n : Noted). notice_of (number, n)) notice_value
+    (list.find (is_notice c number) rows))
     ∙ ap (option_map (λ (n : Noted). notice_of (number, n))) (noted_found rows c number) where
-      option_map-map : {A B C : Type 0} (g : B → C) (f : A → B) (o : Option A) → option_map g (option_map f o) ≡ option_map (λ a. g (f a)) o
+      option_map-map : {A B C : Type 0} (g : B → C) (f : A → B) (o : Option A) →
+          option_map g (option_map f o) ≡ option_map (λ a. g (f a)) o
       option_map-map g f None = refl
       option_map-map g f (Some a) = refl

@@ -13,8 +13,9 @@ use Rattle.hq_rows.specs.declared.rows.MarkRow.{MarkRow}
 use Rattle.hq_rows.specs.declared.rows.MessageRow.{MessageRow}
 use Rattle.hq_rows.specs.declared.rows.NoticeRow.{NoticeRow}
 use Rattle.hq_rows.specs.declared.rows.RecipientRow.{RecipientRow}
-use Rattle.hq_store.specs.Tables.{Row, Noted, text_cmp, message_cmp, recipient_cmp, lines_cmp, mark_cmp, notice_cmp, noted_of}
-use Rattle.hq_tables.specs.Rows.{table}
+use Rattle.hq_store.specs.Tables.{Row, Noted, text_cmp, message_cmp, recipient_cmp, lines_cmp}
+use Rattle.hq_store.specs.Tables.{mark_cmp, notice_cmp, noted_of}
+use Rattle.hq_owned.specs.Rows.{table}
 
 -- ---- keys and values of rows
 
@@ -28,7 +29,16 @@ abbrev pub message_key : MessageRow → List ℕ × ℕ
 message_key r = (r.customer, r.serial)
 
 abbrev pub message_value : MessageRow → Row
-message_value r = record { sender = r.sender; spool = r.spool; size = r.size; arrival = r.arrival; state = r.state; next_try = r.next_try; attempts = r.attempts; warned = r.warned }
+message_value r = record {
+  sender = r.sender;
+  spool = r.spool;
+  size = r.size;
+  arrival = r.arrival;
+  state = r.state;
+  next_try = r.next_try;
+  attempts = r.attempts;
+  warned = r.warned;
+}
 
 abbrev pub recipient_key : RecipientRow → List ℕ × (ℕ × ℕ)
 recipient_key r = (r.customer, (r.serial, r.place))

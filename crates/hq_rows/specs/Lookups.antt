@@ -1,6 +1,8 @@
--- The words of the functions of the plain lists: tests of rows, rows made, their order, pages. No claim rests on them.
+-- The words of the functions of the plain lists: tests of rows, rows made, their order, pages. No
+-- claim rests on them.
 -- Inner: it serves proofs alone, and no promise rests on it.
-use Rattle.std.specs.Prelude.{◌≡◌, ℕ, suc, Bool, true, nat_le, nat_lt, None, Some, ◌&&◌, List, [], ◌∷◌, map, filter, Option, option_map}
+use Rattle.std.specs.Prelude.{◌≡◌, ℕ, suc, Bool, true, nat_le, nat_lt, None, Some, ◌&&◌, List, []}
+use Rattle.std.specs.Prelude.{◌∷◌, map, filter, Option, option_map}
 use Rattle.std.specs.Ordering.{nat_cmp, eq_by_cmp, is_lt}
 use Rattle.std.specs.FinMap.{entries, get}
 use Rattle.hq_queue.specs.declared.message.Message.{Message}
@@ -14,10 +16,12 @@ use Rattle.hq_rows.specs.declared.rows.MarkRow.{MarkRow}
 use Rattle.hq_rows.specs.declared.rows.MessageRow.{MessageRow}
 use Rattle.hq_rows.specs.declared.rows.NoticeRow.{NoticeRow}
 use Rattle.hq_rows.specs.declared.rows.RecipientRow.{RecipientRow}
-use Rattle.hq_store.specs.Tables.{Row, text_cmp, message_cmp, line_cmp, lines_cmp, mark_cmp, notice_cmp, Noted, left_of, joined, pending_of}
-use Rattle.hq_tables.specs.Owned.{rows_of}
-use Rattle.hq_tables.specs.Rows.{HasUniqueKeys}
-use Rattle.hq_rows.specs.Listed.{message_key, recipient_value, line_row_key, notice_key, messages_of, recipients_of, holds_of, lines_of, notices_of}
+use Rattle.hq_store.specs.Tables.{Row, text_cmp, message_cmp, line_cmp, lines_cmp, mark_cmp}
+use Rattle.hq_store.specs.Tables.{notice_cmp, Noted, left_of, joined, pending_of}
+use Rattle.hq_owned.specs.Owned.{rows_of}
+use Rattle.hq_owned.specs.Rows.{HasUniqueKeys}
+use Rattle.hq_rows.specs.Listed.{message_key, recipient_value, line_row_key, notice_key}
+use Rattle.hq_rows.specs.Listed.{messages_of, recipients_of, holds_of, lines_of, notices_of}
 
 -- ---- tests of rows
 
@@ -28,7 +32,8 @@ unfoldable pub is_message : List ℕ → ℕ → MessageRow → Bool
 is_message customer serial r = eq_by_cmp message_cmp (customer, serial) (r.customer, r.serial)
 
 unfoldable pub is_recipient : List ℕ → ℕ → RecipientRow → Bool
-is_recipient customer serial r = eq_by_cmp text_cmp customer r.customer && eq_by_cmp nat_cmp serial r.serial
+is_recipient customer serial r = eq_by_cmp text_cmp customer r.customer
+    && eq_by_cmp nat_cmp serial r.serial
 
 -- the reason of a message
 unfoldable pub is_hold : List ℕ → ℕ → HoldRow → Bool
@@ -44,7 +49,8 @@ is_past customer after r = eq_by_cmp text_cmp customer r.customer && is_after af
 
 -- a message of the customer with a spool name
 unfoldable pub has_spool : List ℕ → List ℕ → MessageRow → Bool
-has_spool customer spool r = eq_by_cmp text_cmp customer r.customer && eq_by_cmp text_cmp spool r.spool
+has_spool customer spool r = eq_by_cmp text_cmp customer r.customer
+    && eq_by_cmp text_cmp spool r.spool
 
 -- the line of a pattern
 unfoldable pub is_line : List ℕ → Class × List ℕ → LineRow → Bool
@@ -56,7 +62,8 @@ is_after_pattern (Some first) pattern = is_lt (line_cmp first pattern)
 
 -- a line of the customer after a pattern, or any of its lines
 unfoldable pub is_line_past : List ℕ → Option (Class × List ℕ) → LineRow → Bool
-is_line_past customer after r = eq_by_cmp text_cmp customer r.customer && is_after_pattern after r.line.pattern
+is_line_past customer after r = eq_by_cmp text_cmp customer r.customer
+    && is_after_pattern after r.line.pattern
 
 -- the import of a label
 unfoldable pub is_mark : List ℕ → List ℕ → MarkRow → Bool
@@ -68,7 +75,8 @@ is_notice customer number r = eq_by_cmp notice_cmp (customer, number) (r.custome
 
 -- a notice of the customer after a number, or any of its notices
 unfoldable pub is_notice_past : List ℕ → Option ℕ → NoticeRow → Bool
-is_notice_past customer after r = eq_by_cmp text_cmp customer r.customer && is_after after r.notice.number
+is_notice_past customer after r = eq_by_cmp text_cmp customer r.customer
+    && is_after after r.notice.number
 
 -- another customer's notice, or one of a number that is not below this one
 unfoldable pub is_kept_notice : List ℕ → ℕ → NoticeRow → Bool
@@ -77,12 +85,28 @@ is_kept_notice customer number r = left_of customer (nat_le number) (r.customer,
 -- ---- rows made
 
 abbrev pub message_row : List ℕ → Message → MessageRow
-message_row customer m = record { customer = customer; serial = m.serial; sender = m.sender; spool = m.spool; size = m.size; arrival = m.arrival; state = m.state; next_try = m.next_try; attempts = m.attempts; warned = m.warned }
+message_row customer m = record {
+  customer = customer;
+  serial = m.serial;
+  sender = m.sender;
+  spool = m.spool;
+  size = m.size;
+  arrival = m.arrival;
+  state = m.state;
+  next_try = m.next_try;
+  attempts = m.attempts;
+  warned = m.warned;
+}
 
 -- recipients at the places from i on
 abbrev pub recipient_rows : List ℕ → ℕ → ℕ → List Pending → List RecipientRow
 recipient_rows customer serial i [] = []
-recipient_rows customer serial i (p ∷ ps) = record { customer = customer; serial = serial; place = i; pending = p } ∷ recipient_rows customer serial (suc i) ps
+recipient_rows customer serial i (p ∷ ps) = record {
+  customer = customer;
+  serial = serial;
+  place = i;
+  pending = p;
+} ∷ recipient_rows customer serial (suc i) ps
 
 -- ---- the order in which rows are kept
 
@@ -92,7 +116,8 @@ pending_in customer serial rows = map recipient_value (filter (is_recipient cust
 
 -- each message's recipients lie in the order of their places
 unfoldable pub AreDealt : List RecipientRow → Type 0
-AreDealt rows = (customer : List ℕ) (serial : ℕ) → pending_in customer serial rows ≡ pending_of customer serial (recipients_of rows)
+AreDealt rows = (customer : List ℕ) (serial : ℕ) →
+    pending_in customer serial rows ≡ pending_of customer serial (recipients_of rows)
 
 -- no message stands twice
 unfoldable pub AreUnique : List MessageRow → Type 0
@@ -118,11 +143,13 @@ serials_where p rows = map (λ (r : MessageRow). r.serial) (filter p rows)
 
 -- the serials after a serial, in order
 abbrev pub serials_after : Option ℕ → List (ℕ × Row) → List ℕ
-serials_after after es = map (λ (e : ℕ × Row). e.0) (filter (λ (e : ℕ × Row). is_after after e.0) es)
+serials_after after es = map (λ (e : ℕ × Row). e.0)
+    (filter (λ (e : ℕ × Row). is_after after e.0) es)
 
 -- the serials with a spool name, in order
 abbrev pub serials_with_spool : List ℕ → List (ℕ × Row) → List ℕ
-serials_with_spool spool es = map (λ (e : ℕ × Row). e.0) (filter (λ (e : ℕ × Row). eq_by_cmp text_cmp spool e.1.spool) es)
+serials_with_spool spool es = map (λ (e : ℕ × Row). e.0)
+    (filter (λ (e : ℕ × Row). eq_by_cmp text_cmp spool e.1.spool) es)
 
 -- the customer's rows of lines, by class and pattern
 abbrev pub line_rows_with : List ℕ → List LineRow → List ((Class × List ℕ) × Action)
@@ -132,5 +159,8 @@ line_rows_with customer rows = rows_of text_cmp customer (entries (lines_of rows
 abbrev pub notice_rows_with : List ℕ → List NoticeRow → List (ℕ × Noted)
 notice_rows_with customer rows = rows_of text_cmp customer (entries (notices_of rows))
 
-abbrev pub message_at : List ℕ → List MessageRow → List RecipientRow → List HoldRow → ℕ → Option Message
-message_at customer messages recipients holds serial = option_map (joined customer (recipients_of recipients) (holds_of holds) serial) (get (messages_of messages) (customer, serial))
+abbrev pub message_at : List ℕ → List MessageRow → List RecipientRow → List HoldRow → ℕ →
+    Option Message
+message_at customer messages recipients holds serial =
+    option_map (joined customer (recipients_of recipients) (holds_of holds) serial)
+    (get (messages_of messages) (customer, serial))

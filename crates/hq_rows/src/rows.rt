@@ -3,7 +3,9 @@
 ghost use Rattle.std.specs.Prelude.{◌≡◌, not, option_map};
 ghost use Rattle.std.specs.Ordering.{nat_cmp, eq_by_cmp};
 ghost use Rattle.hq_store.specs.Tables.{text_cmp, line_cmp};
-ghost use Rattle.hq_rows.specs.Lookups.{is_head, is_message, is_recipient, is_hold, is_past, has_spool, is_line, is_line_past, is_mark, is_notice, is_notice_past, is_kept_notice};
+ghost use Rattle.hq_rows.specs.Lookups.{is_head, is_message, is_recipient, is_hold, is_past};
+ghost use Rattle.hq_rows.specs.Lookups.{has_spool, is_line, is_line_past, is_mark, is_notice};
+ghost use Rattle.hq_rows.specs.Lookups.{is_notice_past, is_kept_notice};
 
 use hq_access::{Class, Line, Pattern};
 use hq_envelope::{Label, Moment, Name, Sender, Serial, Spool, Text, TryCopy};

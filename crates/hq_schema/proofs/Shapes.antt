@@ -7,9 +7,12 @@ use Rattle.hq_schema.specs.Shapes.{table_of}
 use Rattle.hq_schema.specs.declared.shape.TableShape.{TableShape}
 
 pub table_is : (t : Table) (s : TableShape)
-    → (t.key ≡ None) × (t.checks ≡ []) × (t.references ≡ []) × (t.computed ≡ []) × (t.stamps ≡ record { places = []; terms = []; formats = [] }) × (t.is_counted ≡ false)
-    → (t.name ≡ s.name.now) × (t.tree ≡ s.tree) × (t.columns ≡ map (λ c. column c.0.now c.1) s.columns.now)
-    → (t.primary ≡ s.primary.now) × (t.uniques ≡ map (λ p. p.now) s.uniques.now) × (t.orders ≡ map (λ _. plain) t.uniques)
+    → (t.key ≡ None) × (t.checks ≡ []) × (t.references ≡ []) × (t.computed ≡ [])
+    × (t.stamps ≡ record { places = []; terms = []; formats = [] }) × (t.is_counted ≡ false)
+    → (t.name ≡ s.name.now) × (t.tree ≡ s.tree)
+    × (t.columns ≡ map (λ c. column c.0.now c.1) s.columns.now)
+    → (t.primary ≡ s.primary.now) × (t.uniques ≡ map (λ p. p.now) s.uniques.now)
+    × (t.orders ≡ map (λ _. plain) t.uniques)
     → t ≡ table_of s
 table_is t s bare has keyed = λ i. record {
   name = has.0 i;

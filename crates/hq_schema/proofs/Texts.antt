@@ -7,8 +7,10 @@ use Rattle.std.specs.List.{AllZip}
 use Rattle.sqlite_tied.specs.Compute.{everything}
 use Rattle.hq_schema.specs.Made.{Defines, desk_tables, desk_texts}
 use Rattle.hq_schema.specs.Schema.{no_schema, version_alone, first_schema, desk_schema}
-use Rattle.hq_schema.specs.Schema.{version_text, heads_text, messages_text, recipients_text, lines_text, notices_text, marks_text, holds_text}
-use Rattle.hq_schema.specs.Schema.{version, heads, messages, recipients, lines, notices, marks, holds}
+use Rattle.hq_schema.specs.Schema.{version_text, heads_text, messages_text, recipients_text}
+use Rattle.hq_schema.specs.Schema.{lines_text, notices_text, marks_text, holds_text}
+use Rattle.hq_schema.specs.Schema.{version, heads, messages, recipients, lines, notices, marks}
+use Rattle.hq_schema.specs.Schema.{holds}
 
 pub version_defined : table_defined_by version_text ≡ Ok version
 unfolding understood everything
@@ -46,7 +48,9 @@ pub version_is_alone : created no_schema version ≡ version_alone
 unfolding understood everything
 version_is_alone = refl
 
-pub first_is_made : created (created (created (created (created (created (created no_schema version) heads) messages) recipients) lines) notices) marks ≡ first_schema
+pub first_is_made : created (created (created
+    (created (created (created (created no_schema version) heads) messages) recipients) lines)
+    notices) marks ≡ first_schema
 unfolding understood everything
 first_is_made = refl
 
@@ -54,8 +58,25 @@ pub holds_made_last : created first_schema holds ≡ desk_schema
 unfolding understood everything
 holds_made_last = refl
 
-pub desk_is_made : created (created (created (created (created (created (created (created no_schema version) heads) messages) recipients) lines) notices) marks) holds ≡ desk_schema
+pub desk_is_made : created (created (created
+    (created (created (created (created (created no_schema version) heads) messages) recipients)
+    lines) notices) marks) holds ≡ desk_schema
 desk_is_made = ap (λ s. created s holds) first_is_made ∙ holds_made_last
 
 pub texts_defined : AllZip Defines desk_texts desk_tables
-texts_defined = (version_defined, (heads_defined, (messages_defined, (recipients_defined, (lines_defined, (notices_defined, (marks_defined, (holds_defined, tt))))))))
+texts_defined = (
+  version_defined,
+  (
+    heads_defined,
+    (
+      messages_defined,
+      (
+        recipients_defined,
+        (
+          lines_defined,
+          (notices_defined, (marks_defined, (holds_defined, tt))),
+        ),
+      ),
+    ),
+  ),
+)

@@ -8,7 +8,8 @@ use Rattle.hq_schema.specs.declared.shape.IndexShape.{IndexShape}
 use Rattle.hq_schema.specs.declared.shape.TableShape.{TableShape}
 
 abbrev pub table_of : TableShape → Table
-table_of s = record (table s.name.now (map (λ c. column c.0.now c.1) s.columns.now) s.primary.now (map (λ p. p.now) s.uniques.now)) { tree = s.tree }
+table_of s = record (table s.name.now (map (λ c. column c.0.now c.1) s.columns.now) s.primary.now
+    (map (λ p. p.now) s.uniques.now)) { tree = s.tree }
 
 abbrev pub index_of : IndexShape → Index
 index_of s = unique_index s.name.now s.tree s.table s.places.now

@@ -1,13 +1,14 @@
 -- What was read of a connection, and what the desk made of it.
 use Rattle.std.specs.Io.KnownBytes.{Appends, Keeps}
-use Rattle.std.proofs.Common.{◌≡◌, ℕ, List, [], Option, None, Some, Result, inl, refl, sym, false, subst}
+use Rattle.std.proofs.Common.{◌≡◌, ℕ, List, [], Option, None, Some, Result, inl, refl, sym, false}
+use Rattle.std.proofs.Common.{subst}
 use Rattle.hq_base.specs.declared.failure.Refusal.{Refusal}
 use Rattle.hq_store.specs.Shelves.{Sight}
 use Rattle.hq_desk.specs.declared.desk.Desk.{Desk}
 use Rattle.hq_requests.specs.Calls.{Asked, call_from}
 use Rattle.hq_wire.specs.Exchanges.{Exchanged, IsRefused, ask_of}
 use Rattle.hq_wire.specs.Replies.{SeenReply, seen, tells_store}
-use Rattle.hq_requests.specs.declared.asked.Exchange.{Exchange}
+use Rattle.hq_requests.specs.declared.exchanges.Exchange.{Exchange}
 use Rattle.hq_requests.specs.declared.directory.Directory.{Directory}
 use Rattle.hq_wire.proofs.Exchanging as exchanging
 use Rattle.hq_wire.proofs.Serving.{served, served_once}
@@ -18,37 +19,50 @@ use Rattle.hq_wire.specs.declared.reply.Reply.{Reply}
 use Rattle.hq_serve.specs.Connections.{Answered, IsWritten, response_of}
 use Rattle.hq_serve.specs.Steps.{AreSent, IsAsked}
 
-module _ {S : Type 0} (sight : Sight S) (d : Directory) (at : ℕ) (a b : Option (List ℕ)) (old : Desk S) where
+module _ {S : Type 0} (sight : Sight S) (d : Directory) (at : ℕ) (a b : Option (List ℕ))
+    (old : Desk S) where
   -- no byte came, and nothing was done
   pub of_nothing : Received a b nothing → Answered sight d at a b old None old
   of_nothing h = inl (nothing, h, served sight d old old [] [] refl)
 
   -- it was refused
-  pub of_refusal : (why : Refusal) (r : SeenReply) → Received a b (refused why) → IsRefused why r → tells_store r ≡ false → Answered sight d at a b old (Some r) old
-  of_refusal why r h told store = inl (refused why, h, served_once sight d old old _ r (exchanging.refused sight d old at why r told store))
+  pub of_refusal : (why : Refusal) (r : SeenReply) → Received a b (refused why) → IsRefused why r →
+      tells_store r ≡ false → Answered sight d at a b old (Some r) old
+  of_refusal why r h told store = inl (
+    refused why,
+    h,
+    served_once sight d old old _ r (exchanging.refused sight d old at why r told store),
+  )
 
   -- it was replied to as its exchange
-  pub of_request : (q : requests.Request) (x : Exchange) (r : SeenReply) (new : Desk S) → Received a b (request q) → IsAsked x at q → Exchanged sight d old (ask_of d x) r new → Answered sight d at a b old (Some r) new
+  pub of_request : (q : requests.Request) (x : Exchange) (r : SeenReply) (new : Desk S) →
+      Received a b (request q) → IsAsked x at q → Exchanged sight d old (ask_of d x) r new →
+      Answered sight d at a b old (Some r) new
   of_request q x r new h is done = inl (
     request q,
     h,
     served_once sight d old new _ r (
-        subst (λ (a : ℕ × Result Asked Refusal). Exchanged sight d old (record { at = a.0; called = a.1 }) r new)
+        subst (λ (a : ℕ × Result Asked Refusal). Exchanged sight d old
+        (record { at = a.0; called = a.1 }) r new)
         (λ i. (is.0 i, call_from d (is.1 i) (is.2 i) (is.3 i) (is.4 i)))
         done
         ),
   )
 
   -- where there is a reply, one was seen
-  pub is_some : (reply : Reply) (r : Option SeenReply) (new : Desk S) → AreSent (Some reply) r → Answered sight d at a b old r new → (q : SeenReply) × Answered sight d at a b old (Some q) new
+  pub is_some : (reply : Reply) (r : Option SeenReply) (new : Desk S) → AreSent (Some reply) r →
+      Answered sight d at a b old r new → (q : SeenReply) × Answered sight d at a b old (Some q) new
   is_some reply None new sent h = absurd sent
   is_some reply (Some r) new sent h = (r, h)
 
 -- what is written of a reply is written of the same, as it is seen
-pub written_none : (old new : Option (List ℕ)) (r : Option SeenReply) → AreSent None r → Keeps old new → IsWritten old new r
+pub written_none : (old new : Option (List ℕ)) (r : Option SeenReply) → AreSent None r →
+    Keeps old new → IsWritten old new r
 written_none old new None sent h = h
 written_none old new (Some r) sent h = absurd sent
 
-pub written : (old new : Option (List ℕ)) (reply : Reply) (r : Option SeenReply) → AreSent (Some reply) r → Appends old new (response_of (seen reply)) → IsWritten old new r
+pub written : (old new : Option (List ℕ)) (reply : Reply) (r : Option SeenReply) →
+    AreSent (Some reply) r → Appends old new (response_of (seen reply)) → IsWritten old new r
 written old new reply None sent h = absurd sent
-written old new reply (Some r) sent h = subst (Appends old new) (sym (λ i. response_text (sent.0 i) (sent.1 i))) h
+written old new reply (Some r) sent h =
+    subst (Appends old new) (sym (λ i. response_text (sent.0 i) (sent.1 i))) h

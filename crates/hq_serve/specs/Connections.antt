@@ -1,5 +1,6 @@
 -- One connection: what it asks for is replied to once.
-use Rattle.std.specs.Prelude.{◌≡◌, ◌⊎◌, ⊤, ℕ, List, [], ◌∷◌, Option, None, Some, option_to_list, Result, Ok, Err}
+use Rattle.std.specs.Prelude.{◌≡◌, ◌⊎◌, ⊤, ℕ, List, [], ◌∷◌, Option, None, Some, option_to_list}
+use Rattle.std.specs.Prelude.{Result, Ok, Err}
 use Rattle.std.specs.Io.KnownBytes.{Appends, Keeps}
 use Rattle.hq_base.specs.Refusals.{no_memory}
 use Rattle.hq_store.specs.Shelves.{Sight}
@@ -11,12 +12,14 @@ use Rattle.hq_wire.specs.Runs.{Served}
 use Rattle.hq_requests.specs.declared.directory.Directory.{Directory}
 use Rattle.hq_lines.specs.Lines.{Streams}
 use Rattle.hq_base.specs.declared.engine.EngineFault.{EngineFault}
-use Rattle.hq_base.specs.declared.engine.EngineFault.TheVariants.{Read, Write, TooManyReads, WantOfMemory}
+use Rattle.hq_base.specs.declared.engine.EngineFault.TheVariants.{Read, Write, TooManyReads}
+use Rattle.hq_base.specs.declared.engine.EngineFault.TheVariants.{WantOfMemory}
 use Rattle.hq_http.specs.Requests.{Asked, nothing, refused, request, Received, HasNoRoom}
 use Rattle.hq_http.specs.Responses.{response_text}
 use Rattle.hq_http.specs.Stages.{StaysOpen}
 
--- What the desk is asked at a moment: nothing, or one exchange. A refusal of the request is that of its exchange.
+-- What the desk is asked at a moment: nothing, or one exchange. A refusal of the request is that of
+-- its exchange.
 abbrev pub asks : Directory → ℕ → Asked → List Ask
 asks d at nothing = []
 asks d at (refused why) = record { at = at; called = Err why } ∷ []
@@ -31,17 +34,27 @@ abbrev pub IsWritten : Option (List ℕ) → Option (List ℕ) → Option SeenRe
 IsWritten old new None = Keeps old new
 IsWritten old new (Some r) = Appends old new (response_of r)
 
--- What was read was served as its exchange is, or as none; or there was no room for it, which is told, and nothing was done.
-abbrev pub Answered : {S : Type 0} → Sight S → Directory → ℕ → Option (List ℕ) → Option (List ℕ) → Desk S → Option SeenReply → Desk S → Type 0
+-- What was read was served as its exchange is, or as none; or there was no room for it, which is
+-- told, and nothing was done.
+abbrev pub Answered : {S : Type 0} → Sight S → Directory → ℕ → Option (List ℕ) → Option (List ℕ) →
+    Desk S → Option SeenReply → Desk S → Type 0
 Answered sight d at read_old read_new old reply new =
-    ((asked : Asked) × Received read_old read_new asked × Served sight d old (asks d at asked) (option_to_list reply) new)
+    ((asked : Asked) × Received read_old read_new asked
+    × Served sight d old (asks d at asked) (option_to_list reply) new)
     ⊎ (HasNoRoom read_old read_new × (reply ≡ Some (reply_of_fault no_memory)) × (new ≡ old))
 
--- How the serving of a connection ends: what was read is answered, and the response is written; or nothing was done, as
--- more had to be read; or what was read is answered, and its response is not told to be whole.
-abbrev pub Ends : {S : Type 0} → Sight S → Directory → ℕ → Streams → Streams → Type 0 → Desk S → Desk S → Result ⊤ EngineFault → Type 0
-Ends sight d at start end quiet old new (Ok _) = (reply : Option SeenReply) × Answered sight d at start.input end.input old reply new × IsWritten start.output end.output reply
-Ends sight d at start end quiet old new (Err Read) = StaysOpen start.input end.input × quiet × (new ≡ old)
-Ends sight d at start end quiet old new (Err TooManyReads) = StaysOpen start.input end.input × quiet × (new ≡ old)
-Ends sight d at start end quiet old new (Err Write) = (reply : SeenReply) × Answered sight d at start.input end.input old (Some reply) new
+-- How the serving of a connection ends: what was read is answered, and the response is written; or
+-- nothing was done, as more had to be read; or what was read is answered, and its response is not
+-- told to be whole.
+abbrev pub Ends : {S : Type 0} → Sight S → Directory → ℕ → Streams → Streams → Type 0 → Desk S →
+    Desk S → Result ⊤ EngineFault → Type 0
+Ends sight d at start end quiet old new (Ok _) = (reply : Option SeenReply)
+    × Answered sight d at start.input end.input old reply new
+    × IsWritten start.output end.output reply
+Ends sight d at start end quiet old new (Err Read) = StaysOpen start.input end.input × quiet
+    × (new ≡ old)
+Ends sight d at start end quiet old new (Err TooManyReads) = StaysOpen start.input end.input × quiet
+    × (new ≡ old)
+Ends sight d at start end quiet old new (Err Write) = (reply : SeenReply)
+    × Answered sight d at start.input end.input old (Some reply) new
 Ends sight d at start end quiet old new (Err WantOfMemory) = ⊥

@@ -1,2 +1,4 @@
 pub mod Connections
+pub mod Deadlines
+pub mod Listening
 pub mod Steps

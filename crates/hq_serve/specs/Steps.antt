@@ -5,14 +5,15 @@ use Rattle.hq_http.specs.Requests as requests
 use Rattle.hq_store.specs.Shelves.{Sight}
 use Rattle.hq_desk.specs.declared.desk.Desk.{Desk}
 use Rattle.hq_wire.specs.Replies.{IsSent, SeenReply}
-use Rattle.hq_requests.specs.declared.asked.Exchange.{Exchange}
+use Rattle.hq_requests.specs.declared.exchanges.Exchange.{Exchange}
 use Rattle.hq_requests.specs.declared.directory.Directory.{Directory}
 use Rattle.hq_wire.specs.declared.reply.Reply.{Reply}
 use Rattle.hq_serve.specs.Connections.{Answered}
 
 -- the exchange that a request asks for at a moment
 abbrev pub IsAsked : Exchange → ℕ → requests.Request → Type 0
-IsAsked x at q = (x.at ≡ at) × (string_bytes x.method ≡ q.method) × (string_bytes x.path ≡ q.path) × (option_map string_bytes x.key ≡ q.key) × (x.body.items ≡ q.body)
+IsAsked x at q = (x.at ≡ at) × (string_bytes x.method ≡ q.method) × (string_bytes x.path ≡ q.path)
+    × (option_map string_bytes x.key ≡ q.key) × (x.body.items ≡ q.body)
 
 -- byte for byte it is this reply, or there is none
 abbrev pub AreSent : Option Reply → Option SeenReply → Type 0
@@ -21,5 +22,7 @@ AreSent (Some reply) (Some r) = IsSent reply r
 AreSent _ _ = ⊥
 
 -- what was read is answered, as it is sent
-abbrev pub Sends : {S : Type 0} → Sight S → Directory → ℕ → Option (List ℕ) → Option (List ℕ) → Desk S → Option Reply → Desk S → Type 0
-Sends sight d at read_old read_new old reply new = (r : Option SeenReply) × AreSent reply r × Answered sight d at read_old read_new old r new
+abbrev pub Sends : {S : Type 0} → Sight S → Directory → ℕ → Option (List ℕ) → Option (List ℕ) →
+    Desk S → Option Reply → Desk S → Type 0
+Sends sight d at read_old read_new old reply new = (r : Option SeenReply) × AreSent reply r
+    × Answered sight d at read_old read_new old r new

@@ -1,7 +1,13 @@
-//! One connection: what it asks for is replied to once, by the desk.
+//! One connection: what it asks for is replied to once, by the desk; and the connections of a
+//! listening socket, served one after another.
 #![tactic(auto)]
 
+mod connections;
+mod due;
+mod listening;
 mod serving;
 
+pub use connections::Connections;
 pub use hq_base::EngineFault;
+pub use listening::{End, Limits, serve_on};
 pub use serving::serve_one;

@@ -10,22 +10,22 @@ ghost use Rattle.hq_serve.specs.Steps.{IsAsked, Sends};
 use hq_base::EngineFault;
 use hq_desk::Desk;
 use hq_envelope::{Fault, Moment};
-use hq_http::{Input, Message, read_request, write_response};
+use hq_http::{Input, Request, read_request, write_response};
 use hq_store::Shelf;
 use hq_wire::{Directory, Exchange, Reply, exchange, fault_reply, refusal_reply};
 use std::alloc::Global;
 use std::io::{self, Read, Write};
 
 /// The exchange that a request asks for at a moment.
-fn exchange_of(message: Message, at: Moment) -> Exchange
-    ensures { IsAsked result at (shown message) }
+fn exchange_of(request: Request, at: Moment) -> Exchange
+    ensures { IsAsked result at (shown request) }
 {
     Exchange {
         at,
-        method: message.method,
-        path: message.path,
-        key: message.key,
-        body: message.body,
+        method: request.method,
+        path: request.path,
+        key: request.key,
+        body: request.body,
     }
 }
 
@@ -44,8 +44,8 @@ fn reply_to<S: Shelf + Drop>(
         Input::Nothing => None,
         Input::Refused(refusal) => Some(refusal_reply(alloc, refusal)),
         Input::NoRoom => Some(fault_reply(Fault::WantOfMemory)),
-        Input::Request(message) => {
-            let asked = exchange_of(message, at);
+        Input::Request(request) => {
+            let asked = exchange_of(request, at);
             Some(exchange(alloc, desk, directory, &asked))
         }
     }
@@ -69,7 +69,7 @@ fn write_reply<W: Write>(writer: &mut W, reply: &Reply) -> io::Result<()>
 ///
 /// To every customer the reply to its call, and what is kept of it afterwards, are those of the
 /// machine of one customer, started from its own state and given its share of the calls alone; a
-/// call that is replied to with 503 is struck out.
+/// call that is replied to with 503 does not count.
 ///
 /// An error is `Read` or `TooManyReads`: no head had ended, or the body of one was not whole, and
 /// nothing was done and nothing written; or `Write`: what was asked was done, and how much of its

@@ -1,5 +1,6 @@
--- What a desk is set up with, and what is refused of it. The order of the refusals is this product's own: the relay's name,
--- the form of its key, the directory, and then whether its key is a customer's.
+-- What a desk is set up with, and what is refused of it. The order of the refusals is this
+-- product's own: the relay's name, the form of its key, the directory, and then whether its key is
+-- a customer's.
 use Rattle.std.specs.Prelude.{ℕ, not, List, Result, Ok}
 use Rattle.std.specs.List.{list_any}
 use Rattle.hq_base.specs.Readers.{◌>>=◌, checked, guard}
@@ -31,7 +32,8 @@ relay_in host_text key_text = do
   key ← relay_key_in key_text
   Ok (record { host = host; key = key })
 
--- a relay with the customers of a directory: the first fault of the file, or else 57 where its key is a customer's
+-- a relay with the customers of a directory: the first fault of the file, or else 57 where its key
+-- is a customer's
 abbrev pub settings_of : Named → List ℕ → Result Set Refusal
 settings_of relay file = do
   customers ← customers_in file

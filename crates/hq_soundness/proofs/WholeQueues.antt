@@ -1,6 +1,7 @@
--- Calls on all messages keep a customer's state sound: each is put with the recipients that it had, or all are dropped and
--- the tally tells of them.
-use Rattle.std.proofs.Common.{◌≡◌, ◌+◌, Bool, true, false, List, [], ◌∷◌, ◌++◌, map, length, refl, sym, ap, subst, Some, None, arith}
+-- Calls on all messages keep a customer's state sound: each is put with the recipients that it had,
+-- or all are dropped and the tally tells of them.
+use Rattle.std.proofs.Common.{◌≡◌, ◌+◌, Bool, true, false, List, [], ◌∷◌, ◌++◌, map, length, refl}
+use Rattle.std.proofs.Common.{sym, ap, subst, Some, None, arith}
 use Rattle.std.specs.Prelude.{if◌then◌else◌, ◌==◌}
 use Rattle.std.specs.List.{flat_map}
 use Rattle.std.specs.FinMap.{get, values}
@@ -13,7 +14,8 @@ use Rattle.hq_store.specs.Sound.{SoundState, ShapedState, pending_count}
 use Rattle.hq_store.specs.Tables.{State, change, change_all}
 use Rattle.hq_store.specs.declared.change.Change.{Change}
 use Rattle.hq_store.specs.declared.change.Change.TheVariants.{PutHead}
-use Rattle.hq_store.proofs.Many.{Does, change_all-append, does_nothing, does_put, does_drop, moved_sound, taken_sound}
+use Rattle.hq_store.proofs.Many.{Does, change_all-append, does_nothing, does_put, does_drop}
+use Rattle.hq_store.proofs.Many.{moved_sound, taken_sound}
 use Rattle.hq_calls.specs.Answering.{tell}
 use Rattle.hq_calls.specs.Messages.{with_deleted}
 use Rattle.hq_calls.specs.Queues.{moved_by, put, move_all, drop, delete_all}
@@ -25,18 +27,24 @@ use Rattle.hq_soundness.proofs.Kept.{Keeps, saturated_is}
 -- ---- hold and release of all
 
 -- a move of one message takes no recipient
-move_does : (move : Move) (s : State) (m : Message) → ShapedState s → get s.messages m.serial ≡ Some m → Does s (change_all (put (moved_by move m)) s) m 0
+move_does : (move : Move) (s : State) (m : Message) → ShapedState s →
+    get s.messages m.serial ≡ Some m → Does s (change_all (put (moved_by move m)) s) m 0
 move_does Hold s m h there = cases (is_on_hold m.state) where
-  cases : (b : Bool) → Does s (change_all (put (if b then None else Some (record m { state = state.Hold; reason = customer_hold }))) s) m 0
+  cases : (b : Bool) → Does s (change_all (put (if b then None else
+      Some (record m { state = state.Hold; reason = customer_hold }))) s) m 0
   cases true = does_nothing s m h
-  cases false = does_put s m (record m { state = state.Hold; reason = customer_hold }) h there refl refl refl (λ right. refl)
+  cases false = does_put s m (record m { state = state.Hold; reason = customer_hold }) h there refl
+      refl refl (λ right. refl)
 move_does (Release at) s m h there = cases (is_on_hold m.state) where
-  cases : (b : Bool) → Does s (change_all (put (if b then Some (record m { state = state.Deferred; reason = []; next_try = at }) else None)) s) m 0
-  cases true = does_put s m (record m { state = state.Deferred; reason = []; next_try = at }) h there refl refl refl (λ right. refl)
+  cases : (b : Bool) → Does s (change_all (put (if b then
+      Some (record m { state = state.Deferred; reason = []; next_try = at }) else None)) s) m 0
+  cases true = does_put s m (record m { state = state.Deferred; reason = []; next_try = at }) h
+      there refl refl refl (λ right. refl)
   cases false = does_nothing s m h
 
 -- so all of them take none
-pub move_all_kept : (move : Move) (s : State) → SoundState s → Keeps s (move_all move (values s.messages))
+pub move_all_kept : (move : Move) (s : State) → SoundState s →
+    Keeps s (move_all move (values s.messages))
 move_all_kept move s h = moved_sound (λ m. put (moved_by move m)) s (move_does move) h
 
 -- ---- the deletion of all
@@ -46,20 +54,32 @@ drops_each : (ms : List Message) → map drop ms ≡ flat_map (λ m. drop m ∷ 
 drops_each [] = refl
 drops_each (m ∷ ms) = ap (λ rest. drop m ∷ rest) (drops_each ms)
 
-dropped_sound : (s : State) → SoundState s → SoundState (change_all (map drop (values s.messages) ++ PutHead (with_deleted (pending_count (values s.messages)) s.head) ∷ []) s)
+dropped_sound : (s : State) → SoundState s →
+    SoundState (change_all (map drop (values s.messages)
+    ++ PutHead (with_deleted (pending_count (values s.messages)) s.head) ∷ []) s)
 dropped_sound s h =
     let ms = values s.messages in
     let head = with_deleted (pending_count ms) s.head in
     let was = h.conserved in
     let bound = h.bounded in
     let next = h.shaped.next_serial in
-    let exact : saturated (s.head.tally.deleted + pending_count ms) ≡ s.head.tally.deleted + pending_count ms = saturated_is (s.head.tally.deleted + pending_count ms) (omega arith) in
+    let exact : saturated (s.head.tally.deleted + pending_count ms) ≡ s.head.tally.deleted +
+    pending_count ms = saturated_is (s.head.tally.deleted + pending_count ms) (omega arith) in
     subst SoundState (sym (change_all-append (map drop ms) (PutHead head ∷ []) s))
-    (subst (λ (cs : List Change). SoundState (change (PutHead head) (change_all cs s))) (sym (drops_each ms))
-    (taken_sound (λ m. drop m ∷ []) (λ m. length m.pending) s head (λ u m shaped there. does_drop u m shaped there) h refl h.shaped.next_notice (omega arith) refl (omega arith)))
+    (subst (λ (cs : List Change). SoundState (change (PutHead head) (change_all cs s)))
+    (sym (drops_each ms))
+    (taken_sound (λ m. drop m ∷ []) (λ m. length m.pending) s head
+    (λ u m shaped there. does_drop u m shaped there) h refl h.shaped.next_notice (omega arith)
+    refl (omega arith)))
 
 pub delete_all_kept : (s : State) → SoundState s → Keeps s (delete_all s.head (values s.messages))
 delete_all_kept s h = cases (length (values s.messages) == 0) where
-  cases : (b : Bool) → Keeps s (if b then tell (answer.Changed 0) else record { answer = answer.Changed (length (values s.messages)); changes = map drop (values s.messages) ++ PutHead (with_deleted (pending_count (values s.messages)) s.head) ∷ [] })
+  cases : (b : Bool) → Keeps s (if b then tell (answer.Changed 0) else
+      record {
+        answer = answer.Changed (length (values s.messages));
+        changes =
+            map drop (values s.messages) ++ PutHead
+            (with_deleted (pending_count (values s.messages)) s.head) ∷ [];
+      })
   cases true = h
   cases false = dropped_sound s h

@@ -1,5 +1,5 @@
-//! Sound tables stay sound by every call: a law over the definitions of the calls, with no program in
-//! it. It is an empty function whose contract is the law.
+//! Sound tables stay sound by every call: a law over the definitions of the calls, with no program
+//! in it. It is an empty function whose contract is the law.
 #![tactic(auto)]
 
 ghost use Rattle.std.specs.Prelude.{◌≡◌, ◌≢◌, ℕ, List};

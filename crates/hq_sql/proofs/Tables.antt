@@ -1,5 +1,6 @@
 -- What a write of one table leaves of them all.
-use Rattle.std.proofs.Common.{◌≡◌, ◌≢◌, ℕ, pos, Bool, true, false, not, eqb, cond, List, [], ◌∷◌, map, IsTrue, refl, sym, ap, ◌∙◌, subst}
+use Rattle.std.proofs.Common.{◌≡◌, ◌≢◌, ℕ, pos, Bool, true, false, not, eqb, cond, List, [], ◌∷◌}
+use Rattle.std.proofs.Common.{map, IsTrue, refl, sym, ap, ◌∙◌, subst}
 use Rattle.std.specs.List.{list_all}
 use Rattle.std.specs.FinMap.{FinMap}
 use Rattle.std.proofs.lemmas.Bool.Decides.{nat_tests}
@@ -16,13 +17,19 @@ use Rattle.hq_keyed.specs.Stored.{IsStored}
 use Rattle.hq_keyed.proofs.Placed.{Kind, Place, Wrote, map_in}
 use Rattle.hq_schema.specs.Schema.{desk_schema}
 use Rattle.hq_store.specs.Tables.{Tables}
-use Rattle.hq_rows.specs.Listed.{heads_of, messages_of, recipients_of, holds_of, lines_of, marks_of, notices_of}
-use Rattle.hq_sql.specs.Rows.{head_read, message_read, recipient_read, hold_read, line_read, mark_read, notice_read}
-use Rattle.hq_sql.specs.Tables.{IsDesk, Leaves, AreHeads, AreMessages, AreRecipients, AreHolds, AreLines, AreMarks, AreNotices, tables_in}
+use Rattle.hq_rows.specs.Listed.{heads_of, messages_of, recipients_of, holds_of, lines_of, marks_of}
+use Rattle.hq_rows.specs.Listed.{notices_of}
+use Rattle.hq_sql.specs.Rows.{head_read, message_read, recipient_read, hold_read, line_read}
+use Rattle.hq_sql.specs.Rows.{mark_read, notice_read}
+use Rattle.hq_sql.specs.Tables.{IsDesk, Leaves, AreHeads, AreMessages, AreRecipients, AreHolds}
+use Rattle.hq_sql.specs.Tables.{AreLines, AreMarks, AreNotices, tables_in}
 
 -- a tree of a table is no index
-pub no_index : (t : ℕ) → list_all (λ (i : Index). not (eqb i.tree t)) desk_schema.indexes ≡ true → IsNoIndex desk_schema t
-no_index t h = all_weaker (λ (i : Index). not (eqb i.tree t) ≡ true) (λ (i : Index). i.tree ≢ t) (λ i e. λ same. grind (arith, nat_tests)) desk_schema.indexes (all_from_test (λ (i : Index). not (eqb i.tree t)) desk_schema.indexes h)
+pub no_index : (t : ℕ) → list_all (λ (i : Index). not (eqb i.tree t)) desk_schema.indexes ≡ true →
+    IsNoIndex desk_schema t
+no_index t h = all_weaker (λ (i : Index). not (eqb i.tree t) ≡ true) (λ (i : Index). i.tree ≢ t)
+    (λ i e. λ same. grind (arith, nat_tests)) desk_schema.indexes
+    (all_from_test (λ (i : Index). not (eqb i.tree t)) desk_schema.indexes h)
 
 pub apart : (m n : ℕ) → eqb m n ≡ false → m ≢ n
 apart m n h = λ same. grind (arith, nat_tests)
@@ -36,26 +43,33 @@ either false A B = B
 -- the rows may stand in this tree
 abbrev pub Fits : ℕ → List Row → Type 0
 Fits t rows =
-    either (eqb t 0) (map (λ r. column r 1) rows ≡ Int (pos 2) ∷ []) (either (eqb t 1) (AreHeads rows) (either (eqb t 3) (AreMessages rows) (either (eqb t 6) (AreRecipients rows)
-    (either (eqb t 8) (AreLines rows) (either (eqb t 10) (AreNotices rows) (either (eqb t 12) (AreMarks rows) (AreHolds rows)))))))
+    either (eqb t 0) (map (λ r. column r 1) rows ≡ Int (pos 2) ∷ [])
+    (either (eqb t 1) (AreHeads rows) (either (eqb t 3) (AreMessages rows)
+    (either (eqb t 6) (AreRecipients rows)
+    (either (eqb t 8) (AreLines rows) (either (eqb t 10) (AreNotices rows)
+    (either (eqb t 12) (AreMarks rows) (AreHolds rows)))))))
 
 -- the database with these rows in one tree
 abbrev pub with_rows : ℕ → List Row → Database → Database
 with_rows tree rows db = record db { trees = λ t. cond (eqb t tree) rows (db.trees t) }
 
-module _ (old new : Database) (tree : ℕ) (rows : List Row) (sets : Sets desk_schema old new tree rows) where
+module _ (old new : Database) (tree : ℕ) (rows : List Row)
+    (sets : Sets desk_schema old new tree rows) where
   there : (t : ℕ) → IsNoIndex desk_schema t → new.trees t ≡ cond (eqb t tree) rows (old.trees t)
   there t none = go (eqb t tree) refl
     where
       go : (b : Bool) → eqb t tree ≡ b → new.trees t ≡ cond b rows (old.trees t)
-      go true e = let same : t ≡ tree = grind (arith, nat_tests) in ap new.trees same ∙ sets.rows_are
+      go true e = let same : t ≡ tree = grind (arith, nat_tests) in ap new.trees same
+          ∙ sets.rows_are
       go false e = sets.others t (apart t tree e) none
 
-  fits : Fits tree rows → (t : ℕ) → IsNoIndex desk_schema t → Fits t (old.trees t) → Fits t (new.trees t)
+  fits : Fits tree rows → (t : ℕ) → IsNoIndex desk_schema t → Fits t (old.trees t) →
+      Fits t (new.trees t)
   fits are t none was = subst (Fits t) (sym (there t none)) (go (eqb t tree) refl)
     where
       go : (b : Bool) → eqb t tree ≡ b → Fits t (cond b rows (old.trees t))
-      go true e = let same : tree ≡ t = grind (arith, nat_tests) in subst (λ k. Fits k rows) same are
+      go true e = let same : tree ≡ t = grind (arith, nat_tests) in
+          subst (λ k. Fits k rows) same are
       go false e = was
 
   pub desk_left : IsDesk old → Fits tree rows → IsDesk new
@@ -82,23 +96,31 @@ module _ (old new : Database) (tree : ℕ) (rows : List Row) (sets : Sets desk_s
     notices = notices_of (map notice_read (there 10 (no_index 10 refl) i));
   }
 
--- a table of the desk: how it keeps its rows, its place in the schema, and its place among the tables
+-- a table of the desk: how it keeps its rows, its place in the schema, and its place among the
+-- tables
 pub record DeskTable (X K V : Type 0) : Type 0 where
   pub kind : Kind X K V
   pub place : Place desk_schema
-  pub stored : (db : Database) → IsDesk db → IsStored kind.encode kind.decode kind.order kind.key (db.trees place.table.tree)
-  pub fits : (rows : List Row) → IsStored kind.encode kind.decode kind.order kind.key rows → Fits place.table.tree rows
+  pub stored : (db : Database) → IsDesk db →
+      IsStored kind.encode kind.decode kind.order kind.key (db.trees place.table.tree)
+  pub fits : (rows : List Row) → IsStored kind.encode kind.decode kind.order kind.key rows →
+      Fits place.table.tree rows
   pub at : Tables → FinMap kind.order V
   pub put : Tables → FinMap kind.order V → Tables
   pub at_put : (t : Tables) (m : FinMap kind.order V) → at (put t m) ≡ m
   pub put_put : (t : Tables) (m n : FinMap kind.order V) → put (put t m) n ≡ put t n
-  pub set : (db : Database) (rows : List Row) → tables_in (with_rows place.table.tree rows db) ≡ put (tables_in db) (map_in desk_schema place kind rows)
+  pub set : (db : Database) (rows : List Row) →
+      tables_in (with_rows place.table.tree rows db) ≡ put (tables_in db)
+      (map_in desk_schema place kind rows)
 
 -- a write of one table leaves this of them all
-pub left : {X K V : Type 0} (t : DeskTable X K V) (old new : State) (after : FinMap t.kind.order V) → IsDesk old.now → Wrote desk_schema t.place.table.tree t.kind old new after → Leaves old new (t.put (tables_in old.now) after)
+pub left : {X K V : Type 0} (t : DeskTable X K V) (old new : State) (after : FinMap t.kind.order V)
+    → IsDesk old.now → Wrote desk_schema t.place.table.tree t.kind old new after →
+    Leaves old new (t.put (tables_in old.now) after)
 left t old new after desk w = record {
   desk = desk_left old.now new.now t.place.table.tree w.rows w.sets desk (t.fits w.rows w.stored);
-  tables = tables_left old.now new.now t.place.table.tree w.rows w.sets ∙ t.set old.now w.rows ∙ ap (t.put (tables_in old.now)) w.map_is;
+  tables = tables_left old.now new.now t.place.table.tree w.rows w.sets ∙ t.set old.now w.rows
+      ∙ ap (t.put (tables_in old.now)) w.map_is;
   is_open = w.on.is_open;
   was_open = w.on.was_open;
   mode = w.on.mode;
@@ -115,5 +137,9 @@ leaves_then a b c t u p q = record {
   committed = λ within. q.committed (subst IsTrue (sym p.mode) within) ∙ p.committed within;
 }
 
-pub leaves_keeps : (old new : State) (t : Tables) → Leaves old new t → IsTrue old.in_transaction → KeepsCommit old new
-leaves_keeps old new t h within = record { was_open = λ _. h.was_open; committed = λ _. h.committed within }
+pub leaves_keeps : (old new : State) (t : Tables) → Leaves old new t → IsTrue old.in_transaction →
+    KeepsCommit old new
+leaves_keeps old new t h within = record {
+  was_open = λ _. h.was_open;
+  committed = λ _. h.committed within;
+}

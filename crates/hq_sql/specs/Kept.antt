@@ -1,6 +1,8 @@
--- What a statement finds, makes and keeps. `old` and `new` are what is seen of its connection before and after.
+-- What a statement finds, makes and keeps. `old` and `new` are what is seen of its connection
+-- before and after.
 -- Inner: it serves proofs alone, and no promise rests on it.
-use Rattle.std.specs.Prelude.{◌≡◌, Bool, true, false, Option, None, Result, IfOk, OnOk, OnErr, IsTrue}
+use Rattle.std.specs.Prelude.{◌≡◌, Bool, true, false, Option, None, Result, IfOk, OnOk, OnErr}
+use Rattle.std.specs.Prelude.{IsTrue}
 use Rattle.sqlite.specs.declared.error.Error.{Error}
 use Rattle.sqlite.specs.State.{State, HasCleanDisk, IsUnchanged, KeepsCommit}
 use Rattle.hq_keyed.specs.Left.{IsQuiet, LeavesNoMore}
@@ -9,29 +11,40 @@ use Rattle.hq_sql.specs.Tables.{IsDesk, Leaves, tables_in}
 
 -- A query's answer, as `seen`, is `f` of the tables before.
 abbrev pub Shows : {X Y : Type 0} → State → State → Result X Error → (X → Y) → (Tables → Y) → Type 0
-Shows old new result seen f = HasCleanDisk new → IsDesk old.now → IfOk result (λ answer. seen answer ≡ f (tables_in old.now))
+Shows old new result seen f = HasCleanDisk new → IsDesk old.now →
+    IfOk result (λ answer. seen answer ≡ f (tables_in old.now))
 
 -- What is found is `f` of the tables before.
 abbrev pub Finds : {X : Type 0} → State → State → Result X Error → (Tables → X) → Type 0
-Finds old new result f = HasCleanDisk new → IsDesk old.now → IfOk result (λ found. found ≡ f (tables_in old.now))
+Finds old new result f = HasCleanDisk new → IsDesk old.now →
+    IfOk result (λ found. found ≡ f (tables_in old.now))
 
 -- A write that succeeds leaves `f` of the tables before.
 abbrev pub Makes : {X : Type 0} → State → State → Result X Error → (Tables → Tables) → Type 0
-Makes old new result f = HasCleanDisk new → IsDesk old.now → OnOk result (Leaves old new (f (tables_in old.now)))
+Makes old new result f = HasCleanDisk new → IsDesk old.now →
+    OnOk result (Leaves old new (f (tables_in old.now)))
 
 -- So does an INSERT, where nothing stands at the key before.
-abbrev pub Inserts : {X V : Type 0} → State → State → Result X Error → (Tables → Option V) → (Tables → Tables) → Type 0
-Inserts old new result at f = HasCleanDisk new → IsDesk old.now → at (tables_in old.now) ≡ None → OnOk result (Leaves old new (f (tables_in old.now)))
+abbrev pub Inserts : {X V : Type 0} → State → State → Result X Error → (Tables → Option V) →
+    (Tables → Tables) → Type 0
+Inserts old new result at f = HasCleanDisk new → IsDesk old.now → at (tables_in old.now) ≡ None →
+    OnOk result (Leaves old new (f (tables_in old.now)))
 
--- What an UPDATE by key leaves, by whether it tells of a row: `before` is what stood at the key, `t` are the tables before.
-pub record Updated {V : Type 0} (there : Bool) (old new : State) (before : Option V) (t after : Tables) : Type 0 where
+-- What an UPDATE by key leaves, by whether it tells of a row: `before` is what stood at the key,
+-- `t` are the tables before.
+pub record Updated {V : Type 0} (there : Bool) (old new : State) (before : Option V)
+    (t after : Tables) : Type 0 where
   pub made : there ≡ true → Leaves old new after
   pub untouched : there ≡ false → Leaves old new t
   pub free : there ≡ false → before ≡ None
 
--- An UPDATE by key tells whether a row stands there, and leaves `f` of the tables before where one does.
-abbrev pub Updates : {V : Type 0} → State → State → Result Bool Error → (Tables → Option V) → (Tables → Tables) → Type 0
-Updates old new result at f = HasCleanDisk new → IsDesk old.now → IfOk result (λ there. Updated there old new (at (tables_in old.now)) (tables_in old.now) (f (tables_in old.now)))
+-- An UPDATE by key tells whether a row stands there, and leaves `f` of the tables before where one
+-- does.
+abbrev pub Updates : {V : Type 0} → State → State → Result Bool Error → (Tables → Option V) →
+    (Tables → Tables) → Type 0
+Updates old new result at f = HasCleanDisk new → IsDesk old.now →
+    IfOk result (λ there. Updated there old new (at (tables_in old.now)) (tables_in old.now)
+    (f (tables_in old.now)))
 
 -- What a query keeps.
 pub record Keeps {X : Type 0} (old new : State) (result : Result X Error) : Type 0 where

@@ -13,7 +13,8 @@ pub record IsQuery (text : List ℕ) : Type 0 where
   pub plain : IsPlain (understood desk_schema text)
 
 -- all rows of the answer were taken, one after another
-pub record TakesAll {T : Type 0} (takes : T → Row → T → Type 0) (text : List ℕ) (params : Row) (old new : State) (first last : T) : Type 0 where
+pub record TakesAll {T : Type 0} (takes : T → Row → T → Type 0) (text : List ℕ) (params : Row)
+    (old new : State) (first last : T) : Type 0 where
   pub rows : List Row
   pub shown : Shown text params old new rows
   pub taken : FoldsTo takes first rows last

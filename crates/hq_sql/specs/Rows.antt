@@ -1,5 +1,7 @@
--- Typed rows, and the columns that keep them: a row stands behind its rowid, its columns in the order of its table.
-use Rattle.std.specs.Prelude.{ℕ, zero, suc, ℤ, pos, Option, Some, None, Bool, false, not, List, [], ◌∷◌, codes, if◌then◌else◌}
+-- Typed rows, and the columns that keep them: a row stands behind its rowid, its columns in the
+-- order of its table.
+use Rattle.std.specs.Prelude.{ℕ, zero, suc, ℤ, pos, Option, Some, None, Bool, false, not, List, []}
+use Rattle.std.specs.Prelude.{◌∷◌, codes, if◌then◌else◌}
 use Rattle.std.specs.List.{after_first, before_first}
 use Rattle.std.specs.Ordering.{int_eq}
 use Rattle.std.specs.Str.{bytes_eq}
@@ -110,8 +112,11 @@ tail (v ∷ vs) = vs
 abbrev pub head_columns : HeadRow → Row
 head_columns r =
     Text r.customer ∷ number r.account.head.next_serial ∷ number r.account.head.next_notice
-    ∷ number r.account.head.tally.accepted ∷ number r.account.head.tally.delivered ∷ number r.account.head.tally.failed ∷ number r.account.head.tally.deleted ∷ number r.account.head.tally.expired
-    ∷ number r.account.counts.messages ∷ number r.account.counts.bytes ∷ number r.account.counts.lines ∷ []
+    ∷ number r.account.head.tally.accepted ∷ number r.account.head.tally.delivered
+    ∷ number r.account.head.tally.failed ∷ number r.account.head.tally.deleted
+    ∷ number r.account.head.tally.expired
+    ∷ number r.account.counts.messages ∷ number r.account.counts.bytes
+    ∷ number r.account.counts.lines ∷ []
 
 abbrev pub head_stored : ℤ × HeadRow → Row
 head_stored k = Int k.0 ∷ head_columns k.1
@@ -123,15 +128,26 @@ head_read r = record {
     head = record {
       next_serial = number_in (column r 2);
       next_notice = number_in (column r 3);
-      tally = record { accepted = number_in (column r 4); delivered = number_in (column r 5); failed = number_in (column r 6); deleted = number_in (column r 7); expired = number_in (column r 8) };
+      tally = record {
+        accepted = number_in (column r 4);
+        delivered = number_in (column r 5);
+        failed = number_in (column r 6);
+        deleted = number_in (column r 7);
+        expired = number_in (column r 8);
+      };
     };
-    counts = record { messages = number_in (column r 9); bytes = number_in (column r 10); lines = number_in (column r 11) };
+    counts = record {
+      messages = number_in (column r 9);
+      bytes = number_in (column r 10);
+      lines = number_in (column r 11);
+    };
   };
 }
 
 abbrev pub message_columns : MessageRow → Row
 message_columns r =
-    Text r.customer ∷ number r.serial ∷ Text (sender_text r.sender) ∷ Text r.spool ∷ number r.size ∷ number r.arrival
+    Text r.customer ∷ number r.serial ∷ Text (sender_text r.sender) ∷ Text r.spool ∷ number r.size
+    ∷ number r.arrival
     ∷ number (state_code r.state) ∷ number r.next_try ∷ number r.attempts ∷ truth r.warned ∷ []
 
 abbrev pub message_stored : ℤ × MessageRow → Row
@@ -152,7 +168,8 @@ message_read r = record {
 }
 
 abbrev pub recipient_columns : RecipientRow → Row
-recipient_columns r = Text r.customer ∷ number r.serial ∷ number r.place ∷ Text r.pending.address ∷ Text (status_text r.pending.status) ∷ Text r.pending.text ∷ []
+recipient_columns r = Text r.customer ∷ number r.serial ∷ number r.place ∷ Text r.pending.address
+    ∷ Text (status_text r.pending.status) ∷ Text r.pending.text ∷ []
 
 abbrev pub recipient_stored : ℤ × RecipientRow → Row
 recipient_stored k = Int k.0 ∷ recipient_columns k.1
@@ -162,7 +179,11 @@ recipient_read r = record {
   customer = text_in (column r 1);
   serial = number_in (column r 2);
   place = number_in (column r 3);
-  pending = record { address = text_in (column r 4); status = status_of (text_in (column r 5)); text = text_in (column r 6) };
+  pending = record {
+    address = text_in (column r 4);
+    status = status_of (text_in (column r 5));
+    text = text_in (column r 6);
+  };
 }
 
 abbrev pub hold_columns : HoldRow → Row
@@ -172,10 +193,15 @@ abbrev pub hold_stored : ℤ × HoldRow → Row
 hold_stored k = Int k.0 ∷ hold_columns k.1
 
 abbrev pub hold_read : Row → HoldRow
-hold_read r = record { customer = text_in (column r 1); serial = number_in (column r 2); reason = text_in (column r 3) }
+hold_read r = record {
+  customer = text_in (column r 1);
+  serial = number_in (column r 2);
+  reason = text_in (column r 3);
+}
 
 abbrev pub line_columns : LineRow → Row
-line_columns r = Text r.customer ∷ Text (class_name r.line.pattern.0) ∷ Text r.line.pattern.1 ∷ Text (action_text r.line.action) ∷ []
+line_columns r = Text r.customer ∷ Text (class_name r.line.pattern.0) ∷ Text r.line.pattern.1
+    ∷ Text (action_text r.line.action) ∷ []
 
 abbrev pub line_stored : ℤ × LineRow → Row
 line_stored k = Int k.0 ∷ line_columns k.1
@@ -183,11 +209,15 @@ line_stored k = Int k.0 ∷ line_columns k.1
 abbrev pub line_read : Row → LineRow
 line_read r = record {
   customer = text_in (column r 1);
-  line = record { pattern = (class_of (text_in (column r 2)), text_in (column r 3)); action = action_of (text_in (column r 4)) };
+  line = record {
+    pattern = (class_of (text_in (column r 2)), text_in (column r 3));
+    action = action_of (text_in (column r 4));
+  };
 }
 
 abbrev pub mark_columns : MarkRow → Row
-mark_columns r = Text r.customer ∷ Text r.mark.label ∷ Blob r.mark.digest ∷ number r.mark.added ∷ number r.mark.changed ∷ number r.mark.same ∷ []
+mark_columns r = Text r.customer ∷ Text r.mark.label ∷ Blob r.mark.digest ∷ number r.mark.added
+    ∷ number r.mark.changed ∷ number r.mark.same ∷ []
 
 abbrev pub mark_stored : ℤ × MarkRow → Row
 mark_stored k = Int k.0 ∷ mark_columns k.1
@@ -195,12 +225,19 @@ mark_stored k = Int k.0 ∷ mark_columns k.1
 abbrev pub mark_read : Row → MarkRow
 mark_read r = record {
   customer = text_in (column r 1);
-  mark = record { label = text_in (column r 2); digest = blob_in (column r 3); added = number_in (column r 4); changed = number_in (column r 5); same = number_in (column r 6) };
+  mark = record {
+    label = text_in (column r 2);
+    digest = blob_in (column r 3);
+    added = number_in (column r 4);
+    changed = number_in (column r 5);
+    same = number_in (column r 6);
+  };
 }
 
 abbrev pub notice_columns : NoticeRow → Row
 notice_columns r =
-    Text r.customer ∷ number r.notice.number ∷ number (kind_code r.notice.kind) ∷ number r.notice.serial ∷ number r.notice.at
+    Text r.customer ∷ number r.notice.number ∷ number (kind_code r.notice.kind)
+    ∷ number r.notice.serial ∷ number r.notice.at
     ∷ Text r.notice.to ∷ Text r.notice.human ∷ Text r.notice.status ∷ []
 
 abbrev pub notice_stored : ℤ × NoticeRow → Row

@@ -6,9 +6,14 @@ use Rattle.sqlite.specs.Order.{Row, column}
 use Rattle.sqlite.specs.State.{State}
 use Rattle.hq_keyed.specs.Stored.{IsStored}
 use Rattle.hq_schema.specs.Schema.{desk_schema}
-use Rattle.hq_store.specs.Tables.{Tables, text_cmp, message_cmp, recipient_cmp, lines_cmp, mark_cmp, notice_cmp}
-use Rattle.hq_rows.specs.Listed.{head_key, message_key, recipient_key, hold_key, line_row_key, mark_key, notice_key, heads_of, messages_of, recipients_of, holds_of, lines_of, marks_of, notices_of}
-use Rattle.hq_sql.specs.Rows.{head_stored, head_read, message_stored, message_read, recipient_stored, recipient_read, hold_stored, hold_read, line_stored, line_read, mark_stored, mark_read, notice_stored, notice_read}
+use Rattle.hq_store.specs.Tables.{Tables, text_cmp, message_cmp, recipient_cmp, lines_cmp, mark_cmp}
+use Rattle.hq_store.specs.Tables.{notice_cmp}
+use Rattle.hq_rows.specs.Listed.{head_key, message_key, recipient_key, hold_key, line_row_key}
+use Rattle.hq_rows.specs.Listed.{mark_key, notice_key, heads_of, messages_of, recipients_of}
+use Rattle.hq_rows.specs.Listed.{holds_of, lines_of, marks_of, notices_of}
+use Rattle.hq_sql.specs.Rows.{head_stored, head_read, message_stored, message_read}
+use Rattle.hq_sql.specs.Rows.{recipient_stored, recipient_read, hold_stored, hold_read, line_stored}
+use Rattle.hq_sql.specs.Rows.{line_read, mark_stored, mark_read, notice_stored, notice_read}
 
 -- the rows of each tree, read as rows of its table
 abbrev pub tables_in : Database → Tables

@@ -16,11 +16,13 @@ told (Ok rendered) = Ok rendered
 told (Err fault) = Err (Desk (AsFault fault))
 
 -- A call is done over a desk as it was opened; where it could not be, that is told.
-abbrev pub PerformsOpened : {S : Type 0} → Sight S → Result S Fault → Request → Result Rendered Trouble → Type 0
+abbrev pub PerformsOpened : {S : Type 0} → Sight S → Result S Fault → Request →
+    Result Rendered Trouble → Type 0
 PerformsOpened sight (Ok shelf) asked result =
     (done : Result Rendered Fault) × Performs sight shelf asked done × (result ≡ told done)
 PerformsOpened sight (Err fault) asked result = result ≡ Err (Desk (AsFault fault))
 
 -- so it is, over the desk in some file
 abbrev pub PerformsInFile : {S : Type 0} → Sight S → Request → Result Rendered Trouble → Type 0
-PerformsInFile sight asked result = OverFile sight (λ opened. PerformsOpened sight opened asked result)
+PerformsInFile sight asked result = OverFile sight
+    (λ opened. PerformsOpened sight opened asked result)

@@ -1,4 +1,5 @@
--- How the word `migrate` ends. What a file holds is said by no contract, so nothing is said here of which stores are migrated.
+-- How the word `migrate` ends. What a file holds is said by no contract, so nothing is said here of
+-- which stores are migrated.
 use Rattle.std.specs.Prelude.{ℕ, ◌≡◌, ◌++◌, ◌⊎◌, List, codes, decimal, Result, Ok, Err}
 use Rattle.hq_base.specs.Refusals.{no_memory}
 use Rattle.hq_base.specs.declared.failure.Fail.TheVariants.{Fault as AsFault}
@@ -22,4 +23,5 @@ IsTold (Err fault) result = result ≡ Err fault
 abbrev pub MigrateEnds : Result Rendered Trouble → Type 0
 MigrateEnds result =
     (result ≡ Err (Desk (AsFault no_memory)))
-    ⊎ ((done : Result ℕ Fault) × (shown : Result Rendered Fault) × IsTold done shown × (result ≡ told shown))
+    ⊎ ((done : Result ℕ Fault) × (shown : Result Rendered Fault) × IsTold done shown
+    × (result ≡ told shown))

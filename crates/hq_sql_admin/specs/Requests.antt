@@ -5,7 +5,8 @@ use Rattle.hq_base.specs.declared.failure.Refusal.{Refusal}
 use Rattle.hq_envelope.specs.Words.{host_in, label_in}
 use Rattle.hq_queue.specs.declared.account.Entry.{Entry}
 use Rattle.hq_calls.specs.declared.call.Call.{Call}
-use Rattle.hq_calls.specs.declared.call.Call.TheVariants.{Report, Import as OfImport, Sweep as OfSweep}
+use Rattle.hq_calls.specs.declared.call.Call.TheVariants.{Report, Import as OfImport}
+use Rattle.hq_calls.specs.declared.call.Call.TheVariants.{Sweep as OfSweep}
 use Rattle.hq_admin.specs.Customers.{entry_in}
 use Rattle.hq_admin.specs.declared.performing.Request.{Request}
 use Rattle.hq_program.specs.SettingUp.{IsUnread}
@@ -18,12 +19,14 @@ use Rattle.hq_words.specs.declared.options.Sweep.{Sweep}
 -- ---- steps, each of which may end all in trouble
 
 -- what comes after a step: the next one with its value, or its trouble
-abbrev pub Goes : {A B : Type 0} → (A → Result B Trouble → Type 0) → Result A Trouble → Result B Trouble → Type 0
+abbrev pub Goes : {A B : Type 0} → (A → Result B Trouble → Type 0) → Result A Trouble →
+    Result B Trouble → Type 0
 Goes next (Ok value) result = next value result
 Goes next (Err trouble) result = result ≡ Err trouble
 
 -- a step, and what comes after it
-abbrev pub Then : {A B : Type 0} → (Result A Trouble → Type 0) → (A → Result B Trouble → Type 0) → Result B Trouble → Type 0
+abbrev pub Then : {A B : Type 0} → (Result A Trouble → Type 0) → (A → Result B Trouble → Type 0) →
+    Result B Trouble → Type 0
 Then {A} first next result = (found : Result A Trouble) × first found × Goes next found result
 
 -- a value that is read, or its refusal, or want of memory
@@ -45,7 +48,12 @@ HasCustomer name = Then IsFile (λ file. IsRead (entry_in file name))
 
 -- this call of a customer
 abbrev pub Asks : List ℕ → ℕ → Entry → Call → Result Request Trouble → Type 0
-Asks host at entry call result = result ≡ Ok (record { host = host; at = at; entry = entry; call = call })
+Asks host at entry call result = result ≡ Ok (record {
+  host = host;
+  at = at;
+  entry = entry;
+  call = call;
+})
 
 -- the report; its relay's name and moment show nowhere
 abbrev pub QueueAsks : Queue → Result Request Trouble → Type 0

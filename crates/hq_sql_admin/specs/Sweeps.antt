@@ -1,4 +1,5 @@
--- A sweep of all customers: what its words ask for, each check before those behind it, and what is done over a store.
+-- A sweep of all customers: what its words ask for, each check before those behind it, and what is
+-- done over a store.
 use Rattle.std.specs.Prelude.{ℕ, ◌≡◌, List, Result, Ok, Err}
 use Rattle.hq_base.specs.Refusals.{no_memory}
 use Rattle.hq_base.specs.declared.failure.Fail.TheVariants.{Fault as AsFault}
@@ -22,23 +23,30 @@ HasCustomers = Then IsFile (λ file. IsRead (customers_in file))
 
 -- this sweep of these customers
 abbrev pub AsksAll : List ℕ → ℕ → List Customer → Result SweepOfAll Trouble → Type 0
-AsksAll host at customers (Ok asked) = (asked.host ≡ host) × (asked.at ≡ at) × (asked.customers.items ≡ customers)
+AsksAll host at customers (Ok asked) = (asked.host ≡ host) × (asked.at ≡ at)
+    × (asked.customers.items ≡ customers)
 AsksAll host at customers (Err trouble) = ⊥
 
 -- the sweep of the customers of some file, at a moment
 abbrev pub SweepAllAsks : Sweep → Result SweepOfAll Trouble → Type 0
-SweepAllAsks given = Then (IsRead (host_in given.host.now)) (λ host. Then HasCustomers (AsksAll host given.at))
+SweepAllAsks given = Then (IsRead (host_in given.host.now))
+    (λ host. Then HasCustomers (AsksAll host given.at))
 
--- The customers are swept over this shelf; or there is no memory for what is told of them, and then nothing is done.
+-- The customers are swept over this shelf; or there is no memory for what is told of them, and then
+-- nothing is done.
 abbrev pub SweepsOver : {S : Type 0} → Sight S → S → SweepOfAll → Result SweptAll Trouble → Type 0
-SweepsOver sight shelf asked (Ok swept) = SweepsAll sight shelf asked.host asked.at asked.customers.items swept
+SweepsOver sight shelf asked (Ok swept) =
+    SweepsAll sight shelf asked.host asked.at asked.customers.items swept
 SweepsOver sight shelf asked (Err trouble) = trouble ≡ Desk (AsFault no_memory)
 
 -- That is done over a desk as it was opened; where it could not be, that is told.
-abbrev pub SweepsOpened : {S : Type 0} → Sight S → Result S Fault → SweepOfAll → Result SweptAll Trouble → Type 0
+abbrev pub SweepsOpened : {S : Type 0} → Sight S → Result S Fault → SweepOfAll →
+    Result SweptAll Trouble → Type 0
 SweepsOpened sight (Ok shelf) asked result = SweepsOver sight shelf asked result
 SweepsOpened sight (Err fault) asked result = result ≡ Err (Desk (AsFault fault))
 
--- How the word ends: with the trouble of what it is given, or as the sweep over the desk in some file does.
+-- How the word ends: with the trouble of what it is given, or as the sweep over the desk in some
+-- file does.
 abbrev pub SweepAllEnds : {S : Type 0} → Sight S → Sweep → Result SweptAll Trouble → Type 0
-SweepAllEnds sight given = Then (SweepAllAsks given) (λ asked result. OverFile sight (λ opened. SweepsOpened sight opened asked result))
+SweepAllEnds sight given = Then (SweepAllAsks given)
+    (λ asked result. OverFile sight (λ opened. SweepsOpened sight opened asked result))

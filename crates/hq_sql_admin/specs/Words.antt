@@ -1,5 +1,5 @@
--- How the words of an administrator end: with the trouble of what they are given, or as their call over the desk in some
--- file does.
+-- How the words of an administrator end: with the trouble of what they are given, or as their call
+-- over the desk in some file does.
 use Rattle.std.specs.Prelude.{ℕ, List, Result}
 use Rattle.hq_store.specs.Shelves.{Sight}
 use Rattle.hq_desk.specs.declared.desk.Rendered.{Rendered}

@@ -1,5 +1,12 @@
 //! The shelf over a file, and the migration of one, in a crate of its own, since its store loads
 //! much.
+//!
+//! ```
+//! let shelf = SqlShelf::open_memory(alloc)?; // empty tables in memory
+//! let shelf = open_file(rt, path)?; // a file: made, or a desk's; else 91 or 92
+//! let shelf = SqlShelf::adopt(alloc, conn); // any connection; it comes back where it is no desk's
+//! let held = migrate(alloc, &mut conn)?; // a store of the release before; else 0, or 92
+//! ```
 #![tactic(auto)]
 
 ghost use Rattle.std.specs.Prelude.{IfOk};

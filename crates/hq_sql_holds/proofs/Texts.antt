@@ -28,7 +28,8 @@ abbrev pub hold_order : Query → Query
 hold_order q = record q { order = (col 1 1, ascending Binary) ∷ (col 1 2, ascending Binary) ∷ [] }
 
 abbrev pub hold_read_text : List ℕ
-hold_read_text = codes "SELECT customer, serial, hold_reason FROM holds WHERE customer = ?1 AND serial = ?2"
+hold_read_text =
+    codes "SELECT customer, serial, hold_reason FROM holds WHERE customer = ?1 AND serial = ?2"
 
 pub hold_read_known : Asks desk_schema hold_read_text (query_of 14 hold_key hold_columns) hold_names
 unfolding understood everything
@@ -47,6 +48,7 @@ hold_insert_known = record { is = refl; plain = (refl, refl) }
 abbrev pub hold_delete_text : List ℕ
 hold_delete_text = codes "DELETE FROM holds WHERE customer = ?1 AND serial = ?2"
 
-pub hold_delete_known : Orders desk_schema hold_delete_text (Delete 7 (record { lets = []; body = query_of 14 hold_key (col 1 0 ∷ []) }))
+pub hold_delete_known : Orders desk_schema hold_delete_text (Delete 7
+    (record { lets = []; body = query_of 14 hold_key (col 1 0 ∷ []) }))
 unfolding understood everything
 hold_delete_known = record { is = refl; plain = (refl, refl) }

@@ -19,4 +19,6 @@ without_hold key t = record t { holds = remove t.holds key }
 
 -- the reason stands there, if it is not empty
 abbrev pub with_reason : List ℕ → ℕ → List ℕ → Tables → Tables
-with_reason customer serial reason t = record t { holds = give_reason customer serial reason t.holds }
+with_reason customer serial reason t = record t {
+  holds = give_reason customer serial reason t.holds;
+}

@@ -6,7 +6,8 @@ use Rattle.hq_envelope.specs.Addresses.{folded}
 use Rattle.hq_access.specs.Actions.{action_text}
 use Rattle.hq_access.specs.Patterns.{class_name, is_pattern, pattern_in}
 use Rattle.hq_access.specs.declared.action.Action.{Action}
-use Rattle.hq_access.specs.declared.action.Action.TheVariants.{Okay, Reject, Defer, Dunno, Discard, Hold, Redirect}
+use Rattle.hq_access.specs.declared.action.Action.TheVariants.{Okay, Reject, Defer, Dunno, Discard}
+use Rattle.hq_access.specs.declared.action.Action.TheVariants.{Hold, Redirect}
 use Rattle.hq_access.specs.declared.pattern.Class.{Class}
 use Rattle.hq_access.specs.declared.pattern.Class.TheVariants.{SenderSide, RecipientSide}
 use Rattle.hq_rows.specs.declared.rows.LineRow.{LineRow}
@@ -33,10 +34,18 @@ action_back (Redirect []) = refl
 action_back (Redirect (b ∷ text)) = refl
 
 pub line_back : (r : LineRow) (n : ℤ) → line_read (line_stored (n, r)) ≡ r
-line_back r n = λ i. record { customer = r.customer; line = record { pattern = (class_back r.line.pattern.0 i, r.line.pattern.1); action = action_back r.line.action i } }
+line_back r n = λ i. record {
+  customer = r.customer;
+  line =
+      record {
+        pattern = (class_back r.line.pattern.0 i, r.line.pattern.1);
+        action = action_back r.line.action i;
+      };
+}
 
 -- a pattern that was read has the class that it was read for
-pub parsed_class : (class : Class) (text : List ℕ) (p : Class × List ℕ) → pattern_in class text ≡ Ok p → p.0 ≡ class
+pub parsed_class : (class : Class) (text : List ℕ) (p : Class × List ℕ) →
+    pattern_in class text ≡ Ok p → p.0 ≡ class
 parsed_class class text p h = go (is_pattern class (folded text)) h
   where
     go : (b : Bool) → checked (class, folded text) b BadPattern ≡ Ok p → p.0 ≡ class

@@ -1,5 +1,7 @@
 -- What the queries of pages of lines find.
-use Rattle.std.proofs.Common.{◌≡◌, ◌&&◌, ◌||◌, ℕ, ℤ, Bool, false, List, [], ◌∷◌, map, filter, take, Option, Some, None, refl, sym, ap, ◌∙◌, Ordering, Less, Equal, Greater, is_eq, is_lt}
+use Rattle.std.proofs.Common.{◌≡◌, ◌&&◌, ◌||◌, ℕ, ℤ, Bool, false, List, [], ◌∷◌, map, filter, take}
+use Rattle.std.proofs.Common.{Option, Some, None, refl, sym, ap, ◌∙◌, Ordering, Less, Equal}
+use Rattle.std.proofs.Common.{Greater, is_eq, is_lt}
 use Rattle.std.specs.List.{list_all}
 use Rattle.std.specs.Ordering.{eq_by_cmp, ordering_then}
 use Rattle.std.proofs.lemmas.List.{take-map}
@@ -8,7 +10,8 @@ use Rattle.sqlite.specs.Term.{holds}
 use Rattle.sqlite.specs.State.{State, Shown}
 use Rattle.sqlite_sql.specs.declared.ops.CompareOp.TheVariants.{Gt}
 use Rattle.sqlite_value.proofs.OrderLemmas.{value_cmp-Text}
-use Rattle.sqlite_typed.proofs.TestLemmas.{at_texts, at_or, at_and, then_term, last_term, then_key, last_key}
+use Rattle.sqlite_typed.proofs.TestLemmas.{at_texts, at_or, at_and, then_term, last_term, then_key}
+use Rattle.sqlite_typed.proofs.TestLemmas.{last_key}
 use Rattle.sqlite_keyed.specs.Lists.{sort_by}
 use Rattle.sqlite_keyed.proofs.ListLemmas.{map-map}
 use Rattle.hq_keyed.proofs.Terms.{text_is}
@@ -40,12 +43,17 @@ abbrev on_page : List ℕ → Option Key → LineRow → Bool
 on_page c after r = eq_by_cmp text_cmp c r.customer && is_after_pattern after r.line.pattern
 
 -- the first so many rows of a page are the first so many lines
-rows_are : (c : List ℕ) (after : Option Key) (limit : ℕ) (rows kept : List Row) → AreUniqueLines (map line_read kept) → map line_shown rows ≡ take limit (sort_by by_row (filter (on_page c after) (map line_read kept)))
-    → lines_in rows ≡ take limit (after_pattern after (map (λ e. record { pattern = e.0; action = e.1 }) (line_rows_with c (map line_read kept))))
+rows_are : (c : List ℕ) (after : Option Key) (limit : ℕ) (rows kept : List Row) →
+    AreUniqueLines (map line_read kept) → map line_shown rows ≡ take limit
+    (sort_by by_row (filter (on_page c after) (map line_read kept)))
+    → lines_in rows ≡ take limit (after_pattern after (map
+    (λ e. record { pattern = e.0; action = e.1 }) (line_rows_with c (map line_read kept))))
 rows_are c after limit rows kept u shown =
     let line : LineRow → Line = λ r. r.line in
-    sym (map-map line line_shown rows) ∙ ap (map line) shown ∙ sym (take-map line limit (sort_by by_row (filter (on_page c after) (map line_read kept))))
-    ∙ ap (take limit) (sorted_found c after (map line_read kept) u ∙ sym (after_is after (line_rows_with c (map line_read kept))))
+    sym (map-map line line_shown rows) ∙ ap (map line) shown
+    ∙ sym (take-map line limit (sort_by by_row (filter (on_page c after) (map line_read kept))))
+    ∙ ap (take limit) (sorted_found c after (map line_read kept) u
+    ∙ sym (after_is after (line_rows_with c (map line_read kept))))
 
 -- the test of class and pattern is that of their order
 after_both : (o q : Ordering) → (is_lt o || (is_eq o && is_lt q)) ≡ is_lt (ordering_then o q)
@@ -53,30 +61,49 @@ after_both Less q = refl
 after_both Equal q = refl
 after_both Greater q = refl
 
-after_tests : (c : List ℕ) (last : Key) (limit : ℕ) (k : ℤ × LineRow) → list_all (holds (after_columns c last limit ∷ line_stored k ∷ [])) text.after_terms ≡ on_page c (Some last) k.1
+after_tests : (c : List ℕ) (last : Key) (limit : ℕ) (k : ℤ × LineRow) →
+    list_all (holds (after_columns c last limit ∷ line_stored k ∷ [])) text.after_terms ≡ on_page c
+    (Some last) k.1
 after_tests c last limit k =
     let class = class_name k.1.line.pattern.0 in
     let pattern = k.1.line.pattern.1 in
-    then_term (text_is k.1.customer c) (last_term (at_or false _ _ (at_texts false Gt class (class_name last.0)) (at_and false _ _ (text_is class (class_name last.0)) (at_texts false Gt pattern last.1)) ∙ after_both (class_cmp last.0 k.1.line.pattern.0) (text_cmp last.1 pattern)))
+    then_term (text_is k.1.customer c) (last_term (at_or false _ _
+    (at_texts false Gt class (class_name last.0))
+    (at_and false _ _ (text_is class (class_name last.0)) (at_texts false Gt pattern last.1))
+    ∙ after_both (class_cmp last.0 k.1.line.pattern.0) (text_cmp last.1 pattern)))
 
 -- any line of the customer
-first_tests : (c : List ℕ) (limit : ℕ) (k : ℤ × LineRow) → list_all (holds (first_columns c limit ∷ line_stored k ∷ [])) (at 1 0 ∷ []) ≡ on_page c None k.1
+first_tests : (c : List ℕ) (limit : ℕ) (k : ℤ × LineRow) →
+    list_all (holds (first_columns c limit ∷ line_stored k ∷ [])) (at 1 0 ∷ []) ≡ on_page c None k.1
 first_tests c limit k = then_term (text_is k.1.customer c) refl
 
 -- the customer's first lines
-pub first_shown : (old new : State) (c : List ℕ) (limit : ℕ) (rows : List Row) → IsDesk old.now → Shown text.lines_from_start_text (first_columns c limit) old new rows
+pub first_shown : (old new : State) (c : List ℕ) (limit : ℕ) (rows : List Row) → IsDesk old.now →
+    Shown text.lines_from_start_text (first_columns c limit) old new rows
     → lines_in rows ≡ take limit (read_tables c (tables_in old.now)).lines
 unfolding AreUniqueLines
 first_shown old new c limit rows desk h =
     rows_are c None limit rows (old.now.trees 8) desk.lines.unique
-    (pages lines_table old new desk text.lines_from_start_text _ _ text.lines_from_start_known refl refl refl (first_columns c limit) line_shown (λ k. refl) (on_page c None) (first_tests c limit)
-    (λ j k. then_key (value_cmp-Text j.1.customer k.1.customer) (then_key (value_cmp-Text (class_name j.1.line.pattern.0) (class_name k.1.line.pattern.0)) (last_key (value_cmp-Text j.1.line.pattern.1 k.1.line.pattern.1)))) limit (λ xs. refl) rows h)
+    (pages lines_table old new desk text.lines_from_start_text _ _ text.lines_from_start_known refl
+    refl refl (first_columns c limit) line_shown (λ k. refl) (on_page c None)
+    (first_tests c limit)
+    (λ j k. then_key (value_cmp-Text j.1.customer k.1.customer)
+    (then_key (value_cmp-Text (class_name j.1.line.pattern.0) (class_name k.1.line.pattern.0))
+    (last_key (value_cmp-Text j.1.line.pattern.1 k.1.line.pattern.1)))) limit (λ xs. refl) rows
+    h)
 
 -- the customer's first lines after a pattern
-pub after_shown : (old new : State) (c : List ℕ) (last : Key) (limit : ℕ) (rows : List Row) → IsDesk old.now → Shown text.lines_after_text (after_columns c last limit) old new rows
-    → lines_in rows ≡ take limit (after_pattern (Some last) (read_tables c (tables_in old.now)).lines)
+pub after_shown : (old new : State) (c : List ℕ) (last : Key) (limit : ℕ) (rows : List Row) →
+    IsDesk old.now → Shown text.lines_after_text (after_columns c last limit) old new rows
+    → lines_in rows ≡ take limit
+    (after_pattern (Some last) (read_tables c (tables_in old.now)).lines)
 unfolding AreUniqueLines
 after_shown old new c last limit rows desk h =
     rows_are c (Some last) limit rows (old.now.trees 8) desk.lines.unique
-    (pages lines_table old new desk text.lines_after_text _ _ text.lines_after_known refl refl refl (after_columns c last limit) line_shown (λ k. refl) (on_page c (Some last)) (after_tests c last limit)
-    (λ j k. then_key (value_cmp-Text j.1.customer k.1.customer) (then_key (value_cmp-Text (class_name j.1.line.pattern.0) (class_name k.1.line.pattern.0)) (last_key (value_cmp-Text j.1.line.pattern.1 k.1.line.pattern.1)))) limit (λ xs. refl) rows h)
+    (pages lines_table old new desk text.lines_after_text _ _ text.lines_after_known refl refl refl
+    (after_columns c last limit) line_shown (λ k. refl) (on_page c (Some last))
+    (after_tests c last limit)
+    (λ j k. then_key (value_cmp-Text j.1.customer k.1.customer)
+    (then_key (value_cmp-Text (class_name j.1.line.pattern.0) (class_name k.1.line.pattern.0))
+    (last_key (value_cmp-Text j.1.line.pattern.1 k.1.line.pattern.1)))) limit (λ xs. refl) rows
+    h)

@@ -1,5 +1,6 @@
 -- What the statements on `lines` do.
-use Rattle.std.proofs.Common.{◌≡◌, ◌&&◌, ℕ, ℤ, List, [], ◌∷◌, drop, slice_get, option_map, not, None, Ok, refl, ap, ◌∙◌}
+use Rattle.std.proofs.Common.{◌≡◌, ◌&&◌, ℕ, ℤ, List, [], ◌∷◌, drop, slice_get, option_map, not}
+use Rattle.std.proofs.Common.{None, Ok, refl, ap, ◌∙◌}
 use Rattle.std.specs.Prelude.{nat_eq}
 use Rattle.std.specs.List.{list_all}
 use Rattle.std.specs.Ordering.{eq_by_cmp}
@@ -34,8 +35,24 @@ Key = List ℕ × (Class × List ℕ)
 
 abbrev pub lines_table : DeskTable LineRow Key Action
 lines_table = record {
-  kind = record { encode = line_stored; decode = line_read; order = lines_cmp; total = lines_total; exact = lines_exact; key = line_row_key; val = line_row_value; numbered = λ k. refl };
-  place = record { at = 4; table = record schema.lines { tree = 8 }; listed = refl; plain = λ db. refl; unlinked = λ olds news. refl; uncounted = refl };
+  kind = record {
+    encode = line_stored;
+    decode = line_read;
+    order = lines_cmp;
+    total = lines_total;
+    exact = lines_exact;
+    key = line_row_key;
+    val = line_row_value;
+    numbered = λ k. refl;
+  };
+  place = record {
+    at = 4;
+    table = record schema.lines { tree = 8 };
+    listed = refl;
+    plain = λ db. refl;
+    unlinked = λ olds news. refl;
+    uncounted = refl;
+  };
   stored = λ db desk. desk.lines;
   fits = λ rows s. s;
   at = λ t. t.lines;
@@ -45,30 +62,55 @@ lines_table = record {
   set = λ db rows. refl;
 }
 
-key_tests : (q : Key) (k : ℤ × LineRow) (more : Row) → list_all (holds ((Text q.0 ∷ Text (class_name q.1.0) ∷ Text q.1.1 ∷ more) ∷ line_stored k ∷ [])) text.line_key ≡ eq_by_cmp lines_cmp q (line_row_key k.1)
+key_tests : (q : Key) (k : ℤ × LineRow) (more : Row) →
+    list_all (holds ((Text q.0 ∷ Text (class_name q.1.0) ∷ Text q.1.1 ∷ more) ∷ line_stored k ∷ []))
+    text.line_key ≡ eq_by_cmp lines_cmp q (line_row_key k.1)
 key_tests q k more =
-    then_term (text_is k.1.customer q.0) (then_term (text_is (class_name k.1.line.pattern.0) (class_name q.1.0)) (last_term (text_is k.1.line.pattern.1 q.1.1)))
-    ∙ ap (λ b. eq_by_cmp text_cmp q.0 k.1.customer && b) (tied_then (class_cmp q.1.0 k.1.line.pattern.0) (text_cmp q.1.1 k.1.line.pattern.1))
+    then_term (text_is k.1.customer q.0)
+    (then_term (text_is (class_name k.1.line.pattern.0) (class_name q.1.0))
+    (last_term (text_is k.1.line.pattern.1 q.1.1)))
+    ∙ ap (λ b. eq_by_cmp text_cmp q.0 k.1.customer && b)
+    (tied_then (class_cmp q.1.0 k.1.line.pattern.0) (text_cmp q.1.1 k.1.line.pattern.1))
     ∙ tied_then (text_cmp q.0 k.1.customer) (line_cmp q.1 k.1.line.pattern)
 
-pub line_got : (old new : State) (q : Key) (rows : List Row) → IsDesk old.now → Shown text.line_read_text (key_columns q) old new rows
-    → option_map (λ r. line_row_value (line_shown r)) (slice_get rows 0) ≡ get (tables_in old.now).lines q
-line_got old new q rows desk h = got lines_table old new desk text.line_read_text text.line_key text.line_columns _ text.line_read_known (key_columns q) line_shown (λ k. refl) (λ xs. refl) q (λ k. key_tests q k []) rows h
+pub line_got : (old new : State) (q : Key) (rows : List Row) → IsDesk old.now →
+    Shown text.line_read_text (key_columns q) old new rows
+    → option_map (λ r. line_row_value (line_shown r)) (slice_get rows 0) ≡ get
+    (tables_in old.now).lines q
+line_got old new q rows desk h =
+    got lines_table old new desk text.line_read_text text.line_key text.line_columns _
+    text.line_read_known (key_columns q) line_shown (λ k. refl) (λ xs. refl) q
+    (λ k. key_tests q k []) rows h
 
 -- the row with the action of r
 abbrev set_to : LineRow → LineRow → LineRow
-set_to r x = record { customer = x.customer; line = record { pattern = x.line.pattern; action = r.line.action } }
+set_to r x = record {
+  customer = x.customer;
+  line = record { pattern = x.line.pattern; action = r.line.action };
+}
 
 module _ (old new : State) (r : LineRow) (count : ℕ) (desk : IsDesk old.now) where
   pub line_updated : Executes text.line_update_text (line_columns r) old new (Ok count)
-      → Updated (not (nat_eq count 0)) old new (get (tables_in old.now).lines (line_row_key r)) (tables_in old.now) (with_line r (tables_in old.now))
+      → Updated (not (nat_eq count 0)) old new (get (tables_in old.now).lines (line_row_key r))
+      (tables_in old.now) (with_line r (tables_in old.now))
   line_updated h =
-      sets lines_table old new desk text.line_update_text text.line_key text.line_updated text.line_update_known (line_columns r) count (line_row_key r) (set_to r) r.line.action (λ x. refl) (λ x. refl) (λ k. line_back (set_to r k.1) k.0)
-      (λ k. key_tests (line_row_key r) k (drop 3 (line_columns r))) (λ k. refl) (λ k. then_value (cast_int k.0) refl) h
+      sets lines_table old new desk text.line_update_text text.line_key text.line_updated
+      text.line_update_known (line_columns r) count (line_row_key r) (set_to r) r.line.action
+      (λ x. refl) (λ x. refl) (λ k. line_back (set_to r k.1) k.0)
+      (λ k. key_tests (line_row_key r) k (drop 3 (line_columns r))) (λ k. refl)
+      (λ k. then_value (cast_int k.0) refl) h
 
-  pub line_inserted : get (tables_in old.now).lines (line_row_key r) ≡ None → Executes text.line_insert_text (line_columns r) old new (Ok count) → Leaves old new (with_line r (tables_in old.now))
+  pub line_inserted : get (tables_in old.now).lines (line_row_key r) ≡ None →
+      Executes text.line_insert_text (line_columns r) old new (Ok count) →
+      Leaves old new (with_line r (tables_in old.now))
   line_inserted free h =
-      puts lines_table old new desk text.line_insert_text text.line_inserted 5 text.line_insert_known (line_columns r) (Null ∷ line_columns r) count r refl cast_null (λ n. refl) (λ n. line_back r n) free h
+      puts lines_table old new desk text.line_insert_text text.line_inserted 5
+      text.line_insert_known (line_columns r) (Null ∷ line_columns r) count r refl cast_null
+      (λ n. refl) (λ n. line_back r n) free h
 
-pub line_deleted : (old new : State) (q : Key) (count : ℕ) → IsDesk old.now → Executes text.line_delete_text (key_columns q) old new (Ok count) → Leaves old new (without_line q (tables_in old.now))
-line_deleted old new q count desk h = drops_at lines_table old new desk text.line_delete_text text.line_key text.line_delete_known (key_columns q) count q (λ k. key_tests q k []) h
+pub line_deleted : (old new : State) (q : Key) (count : ℕ) → IsDesk old.now →
+    Executes text.line_delete_text (key_columns q) old new (Ok count) →
+    Leaves old new (without_line q (tables_in old.now))
+line_deleted old new q count desk h =
+    drops_at lines_table old new desk text.line_delete_text text.line_key text.line_delete_known
+    (key_columns q) count q (λ k. key_tests q k []) h

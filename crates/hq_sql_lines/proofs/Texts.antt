@@ -27,10 +27,15 @@ abbrev pub line_names : List (List ℕ)
 line_names = codes "customer" ∷ codes "class" ∷ codes "pattern" ∷ codes "action" ∷ []
 
 abbrev pub line_order : Query → Query
-line_order q = record q { order = (col 1 1, ascending Binary) ∷ (col 1 2, ascending Binary) ∷ (col 1 3, ascending Binary) ∷ [] }
+line_order q = record q {
+  order = (col 1 1, ascending Binary) ∷ (col 1 2, ascending Binary)
+      ∷ (col 1 3, ascending Binary) ∷ [];
+}
 
 abbrev pub line_read_text : List ℕ
-line_read_text = codes "SELECT customer, class, pattern, action FROM lines WHERE customer = ?1 AND class = ?2 AND pattern = ?3"
+line_read_text =
+    codes
+    "SELECT customer, class, pattern, action FROM lines WHERE customer = ?1 AND class = ?2 AND pattern = ?3"
 
 pub line_read_known : Asks desk_schema line_read_text (query_of 8 line_key line_columns) line_names
 unfolding understood everything
@@ -41,9 +46,11 @@ abbrev pub line_updated : List Term
 line_updated = col 1 0 ∷ col 1 0 ∷ col 1 1 ∷ col 1 2 ∷ col 1 3 ∷ col 0 3 ∷ []
 
 abbrev pub line_update_text : List ℕ
-line_update_text = codes "UPDATE lines SET action = ?4 WHERE customer = ?1 AND class = ?2 AND pattern = ?3"
+line_update_text =
+    codes "UPDATE lines SET action = ?4 WHERE customer = ?1 AND class = ?2 AND pattern = ?3"
 
-pub line_update_known : Orders desk_schema line_update_text (Update 4 (record { lets = []; body = query_of 8 line_key line_updated }))
+pub line_update_known : Orders desk_schema line_update_text (Update 4
+    (record { lets = []; body = query_of 8 line_key line_updated }))
 unfolding understood everything
 line_update_known = record { is = refl; plain = (refl, refl) }
 
@@ -51,7 +58,8 @@ abbrev pub line_inserted : List Term
 line_inserted = lit Null ∷ col 0 0 ∷ col 0 1 ∷ col 0 2 ∷ col 0 3 ∷ []
 
 abbrev pub line_insert_text : List ℕ
-line_insert_text = codes "INSERT INTO lines (customer, class, pattern, action) VALUES (?1, ?2, ?3, ?4)"
+line_insert_text =
+    codes "INSERT INTO lines (customer, class, pattern, action) VALUES (?1, ?2, ?3, ?4)"
 
 pub line_insert_known : Orders desk_schema line_insert_text (Insert 4 (Values line_inserted 5))
 unfolding understood everything
@@ -60,23 +68,31 @@ line_insert_known = record { is = refl; plain = (refl, refl) }
 abbrev pub line_delete_text : List ℕ
 line_delete_text = codes "DELETE FROM lines WHERE customer = ?1 AND class = ?2 AND pattern = ?3"
 
-pub line_delete_known : Orders desk_schema line_delete_text (Delete 4 (record { lets = []; body = query_of 8 line_key (col 1 0 ∷ []) }))
+pub line_delete_known : Orders desk_schema line_delete_text (Delete 4
+    (record { lets = []; body = query_of 8 line_key (col 1 0 ∷ []) }))
 unfolding understood everything
 line_delete_known = record { is = refl; plain = (refl, refl) }
 
 abbrev pub lines_from_start_text : List ℕ
-lines_from_start_text = codes "SELECT customer, class, pattern, action FROM lines WHERE customer = ?1 ORDER BY customer, class, pattern LIMIT ?2"
+lines_from_start_text =
+    codes
+    "SELECT customer, class, pattern, action FROM lines WHERE customer = ?1 ORDER BY customer, class, pattern LIMIT ?2"
 
-pub lines_from_start_known : Asks desk_schema lines_from_start_text (record (line_order (query_of 8 (at 1 0 ∷ []) line_columns)) { limit = col 0 1 }) line_names
+pub lines_from_start_known : Asks desk_schema lines_from_start_text
+    (record (line_order (query_of 8 (at 1 0 ∷ []) line_columns)) { limit = col 0 1 }) line_names
 unfolding understood everything
 lines_from_start_known = record { is = refl; plain = (refl, refl); unlisted = refl }
 
 abbrev pub after_terms : List Term
-after_terms = at 1 0 ∷ op2 Or (op2 (Compare Gt Binary) (col 1 2) (col 0 1)) (op2 And (at 2 1) (op2 (Compare Gt Binary) (col 1 3) (col 0 2))) ∷ []
+after_terms = at 1 0 ∷ op2 Or (op2 (Compare Gt Binary) (col 1 2) (col 0 1))
+    (op2 And (at 2 1) (op2 (Compare Gt Binary) (col 1 3) (col 0 2))) ∷ []
 
 abbrev pub lines_after_text : List ℕ
-lines_after_text = codes "SELECT customer, class, pattern, action FROM lines WHERE customer = ?1 AND (class > ?2 OR class = ?2 AND pattern > ?3) ORDER BY customer, class, pattern LIMIT ?4"
+lines_after_text =
+    codes
+    "SELECT customer, class, pattern, action FROM lines WHERE customer = ?1 AND (class > ?2 OR class = ?2 AND pattern > ?3) ORDER BY customer, class, pattern LIMIT ?4"
 
-pub lines_after_known : Asks desk_schema lines_after_text (record (line_order (query_of 8 after_terms line_columns)) { limit = col 0 3 }) line_names
+pub lines_after_known : Asks desk_schema lines_after_text
+    (record (line_order (query_of 8 after_terms line_columns)) { limit = col 0 3 }) line_names
 unfolding understood everything
 lines_after_known = record { is = refl; plain = (refl, refl); unlisted = refl }

@@ -23,4 +23,5 @@ first_columns customer limit = Text customer ∷ number limit ∷ []
 
 -- what the page after a pattern is asked with
 abbrev pub after_columns : List ℕ → Class × List ℕ → ℕ → Row
-after_columns customer last limit = Text customer ∷ Text (class_name last.0) ∷ Text last.1 ∷ number limit ∷ []
+after_columns customer last limit = Text customer ∷ Text (class_name last.0) ∷ Text last.1
+    ∷ number limit ∷ []

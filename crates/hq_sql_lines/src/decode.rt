@@ -1,12 +1,14 @@
-//! Rows of answers as lines. A value that no row of the desk has is an error.
+//! Rows of answers as lines and marks. A value that no row of the desk has is an error.
 
 ghost use Rattle.std.specs.Prelude.{◌≡◌, IfOk, option_map, slice_get, is_some};
-ghost use Rattle.hq_rows.specs.Listed.{line_row_value};
-ghost use Rattle.hq_sql.specs.Rows.{line_shown};
+ghost use Rattle.hq_rows.specs.Listed.{line_row_value, mark_value};
+ghost use Rattle.hq_sql.specs.Rows.{line_shown, mark_shown};
 ghost use Rattle.hq_sql_lines.specs.LinePages.{line_in};
 
 use crate::read;
 use hq_access::{Action, Line};
+use hq_sql::read::number;
+use hq_store::Mark;
 use sqlite::{Error, Row};
 use std::alloc::Global;
 
@@ -34,4 +36,28 @@ pub(crate) fn line(alloc: Global, row: &Row) -> Result<Line, Error>
     let pattern = read::pattern(alloc, row, 1, 2)?;
     let action = read::action(alloc, row, 3)?;
     Ok(Line { pattern, action })
+}
+
+/// The mark of a row.
+fn mark(alloc: Global, row: &Row) -> Result<Mark, Error>
+    ensures { IfOk result (λ mark. mark ≡ mark_value (mark_shown row.now)) }
+{
+    Ok(Mark {
+        label: read::label(alloc, row, 1)?,
+        digest: read::digest(row, 2)?,
+        added: number(row, 3)?,
+        changed: number(row, 4)?,
+        same: number(row, 5)?,
+    })
+}
+
+/// The mark of the first row.
+pub(crate) fn first_mark(alloc: Global, rows: &[Row]) -> Result<Option<Mark>, Error>
+    ensures { IfOk result (λ found. found
+        ≡ option_map (λ r. mark_value (mark_shown r)) (slice_get rows.now 0)) }
+{
+    match rows.first() {
+        None => Ok(None),
+        Some(row) => Ok(Some(mark(alloc, row)?)),
+    }
 }

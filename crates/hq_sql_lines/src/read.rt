@@ -1,14 +1,14 @@
-//! Actions and patterns out of the columns of a row. A value that no row of the desk has is an
-//! error.
+//! Actions, patterns, labels and digests out of the columns of a row. A value that no row of the
+//! desk has is an error.
 
 ghost use Rattle.std.specs.Prelude.{◌≡◌, IfOk};
 ghost use Rattle.std.specs.List.{after_first, before_first};
 ghost use Rattle.sqlite.specs.Order.{column};
 ghost use Rattle.hq_access.specs.Actions.{is_space};
-ghost use Rattle.hq_sql.specs.Rows.{text_in, class_of, action_of, action_of_verb};
+ghost use Rattle.hq_sql.specs.Rows.{blob_in, text_in, class_of, action_of, action_of_verb};
 
 use hq_access::{Action, Class, Pattern};
-use hq_envelope::{Address, Fail, Text};
+use hq_envelope::{Address, Fail, Label, Text};
 use hq_sql::read::{text, unread};
 use sqlite::{Error, Row};
 use std::alloc::Global;
@@ -92,4 +92,33 @@ pub(crate) fn pattern(
     let class = class(row, class_at)?;
     let text = text(row, text_at)?;
     pattern_with(alloc, class, text.as_str())
+}
+
+/// The bytes of a column; an error where its value is none.
+fn blob(row: &Row, at: usize) -> Result<Vec<u8>, Error>
+    ensures { IfOk result (λ bytes. bytes.items ≡ blob_in (column row.now at)) }
+{
+    row.get(at)
+}
+
+/// The digest of a column; an error where it has not 32 bytes.
+pub(crate) fn digest(row: &Row, at: usize) -> Result<[u8; 32], Error>
+    ensures { IfOk result (λ digest. digest ≡ blob_in (column row.now at)) }
+{
+    let bytes = blob(row, at)?;
+    match <[u8; 32]>::try_from(bytes.as_slice()) {
+        Ok(digest) => Ok(digest),
+        Err(_) => Err(Error::InvalidQuery),
+    }
+}
+
+/// The label of a column; an error where its text is none.
+pub(crate) fn label(alloc: Global, row: &Row, at: usize) -> Result<Label, Error>
+    ensures { IfOk result (λ label. label ≡ text_in (column row.now at)) }
+{
+    let text = text(row, at)?;
+    match Label::parse(alloc, text.as_str()) {
+        Ok(label) => Ok(label),
+        Err(fail) => Err(unread(fail)),
+    }
 }

@@ -4,7 +4,8 @@ use Rattle.hq_queue.specs.declared.message.QueueState.{QueueState}
 use Rattle.hq_queue.specs.declared.message.QueueState.TheVariants as state
 use Rattle.hq_rows.specs.declared.rows.MessageRow.{MessageRow}
 use Rattle.hq_envelope.specs.Senders.{sender_text}
-use Rattle.hq_sql.specs.Rows.{sender_of, state_of, state_code, truth, truth_in, message_stored, message_read}
+use Rattle.hq_sql.specs.Rows.{sender_of, state_of, state_code, truth, truth_in, message_stored}
+use Rattle.hq_sql.specs.Rows.{message_read}
 
 state_back : (s : QueueState) → state_of (state_code s) ≡ s
 state_back state.Incoming = refl
@@ -19,7 +20,8 @@ truth_back false = refl
 abbrev pub IsReadable : MessageRow → Type 0
 IsReadable r = sender_of (sender_text r.sender) ≡ r.sender
 
-pub message_back : (r : MessageRow) (n : ℤ) → IsReadable r → message_read (message_stored (n, r)) ≡ r
+pub message_back : (r : MessageRow) (n : ℤ) → IsReadable r →
+    message_read (message_stored (n, r)) ≡ r
 message_back r n sender = λ i. record {
   customer = r.customer;
   serial = r.serial;

@@ -1,3 +1,4 @@
 pub mod Texts
 pub mod Backs
+pub mod SetWhere
 pub mod OnMessages

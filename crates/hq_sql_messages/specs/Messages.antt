@@ -1,10 +1,14 @@
 -- What the statements on messages find and leave.
 -- Inner: it serves proofs alone, and no promise rests on it.
-use Rattle.std.specs.Prelude.{ℕ, ℤ, pos, negsuc, Bool, ◌&&◌, List, [], ◌∷◌, Option, None, Some}
+use Rattle.std.specs.Prelude.{◌≡◌, ℕ, ℤ, pos, negsuc, Bool, true, false, ◌&&◌, List, [], ◌∷◌}
+use Rattle.std.specs.Prelude.{Option, None, Some, Result, IfOk}
 use Rattle.std.specs.Ordering.{eq_by_cmp}
 use Rattle.std.specs.FinMap.{insert, remove}
 use Rattle.sqlite.specs.declared.types.Value.TheVariants.{Text, Int}
 use Rattle.sqlite.specs.Order as sqlite
+use Rattle.sqlite.specs.declared.error.Error.{Error}
+use Rattle.sqlite.specs.State.{State, HasCleanDisk}
+use Rattle.hq_sql.specs.Tables.{IsDesk, Leaves, tables_in}
 use Rattle.hq_keyed.specs.Values.{number}
 use Rattle.hq_queue.specs.declared.message.Message.{Message}
 use Rattle.hq_store.specs.Tables.{Tables, Row, text_cmp, row_of, message_of}
@@ -15,6 +19,22 @@ use Rattle.hq_sql.specs.Rows.{message_shown}
 -- the row of the message stands at its key
 abbrev pub with_row : List ℕ → Message → Tables → Tables
 with_row customer m t = record t { messages = insert t.messages (customer, m.serial) (row_of m) }
+
+-- What an UPDATE of a message of this size leaves, by whether it tells of one: `before` is the size
+-- that it had, `t` are the tables before.
+pub record UpdatedSize (there : Bool) (old new : State) (before : Option ℕ) (size : ℕ)
+    (t after : Tables) : Type 0 where
+  pub made : there ≡ true → Leaves old new after
+  pub same : there ≡ true → before ≡ Some size
+  pub untouched : there ≡ false → Leaves old new t
+
+-- An UPDATE of a message of this size tells whether there is one, and leaves `f` of the tables
+-- before where there is.
+abbrev pub UpdatesSize : State → State → Result Bool Error → (Tables → Option ℕ) → ℕ →
+    (Tables → Tables) → Type 0
+UpdatesSize old new result at size f = HasCleanDisk new → IsDesk old.now →
+    IfOk result (λ there. UpdatedSize there old new (at (tables_in old.now)) size
+    (tables_in old.now) (f (tables_in old.now)))
 
 -- no row stands at the key
 abbrev pub without_row : List ℕ × ℕ → Tables → Tables
@@ -39,7 +59,8 @@ is_on_page customer after e = eq_by_cmp text_cmp customer e.0.0 && is_after afte
 
 -- a message of the customer with a spool name
 abbrev pub has_spool_name : List ℕ → List ℕ → (List ℕ × ℕ) × Row → Bool
-has_spool_name customer spool e = eq_by_cmp text_cmp customer e.0.0 && eq_by_cmp text_cmp spool e.1.spool
+has_spool_name customer spool e = eq_by_cmp text_cmp customer e.0.0
+    && eq_by_cmp text_cmp spool e.1.spool
 
 -- the message of a row of an answer, without reason and recipients
 abbrev pub bare : sqlite.Row → Message

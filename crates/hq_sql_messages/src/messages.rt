@@ -4,11 +4,12 @@ ghost use Rattle.std.specs.Prelude.{◌≡◌, [], ◌∷◌, ◌++◌};
 ghost use Rattle.std.specs.Prelude.{map, option_map, slice_get, take, filter};
 ghost use Rattle.std.specs.FinMap.{get, entries};
 ghost use Rattle.sqlite.specs.Held.{state};
-ghost use Rattle.hq_tables.specs.Rows.{pairs_of};
+ghost use Rattle.hq_owned.specs.Rows.{pairs_of};
 ghost use Rattle.hq_rows.specs.Listed.{message_key, message_value};
 ghost use Rattle.hq_sql.specs.Rows.{message_shown};
 ghost use Rattle.hq_sql.specs.Kept.{Shows, Finds, Makes, Inserts, Updates, Keeps, KeepsCommitted};
-ghost use Rattle.hq_sql_messages.specs.Messages.{with_row, without_row, is_on_page, has_spool_name};
+ghost use Rattle.hq_sql_messages.specs.Messages.{UpdatesSize, with_row, without_row};
+ghost use Rattle.hq_sql_messages.specs.Messages.{is_on_page, has_spool_name};
 ghost use Rattle.hq_sql_messages.specs.Messages.{bare, bare_entry};
 
 use crate::{bind, decode};
@@ -139,6 +140,27 @@ fn update<S: Alter>(
         &params,
     )?;
     Ok(count != 0)
+}
+
+/// Sets all columns of the row of a message that has this size; whether there is one is told.
+pub fn update_of_size<S: Alter>(
+    conn: &mut Connection<S>,
+    customer: &Name,
+    message: &Message,
+) -> Result<bool, Error>
+    ensures made { UpdatesSize (state S.Store conn.old) (state S.Store conn.new) result
+        (λ t. option_map (λ r. r.size) (get t.messages (customer.now, message.now.serial)))
+        message.now.size (with_row customer.now message.now) }
+    ensures kept { KeepsCommitted (state S.Store conn.old) (state S.Store conn.new) }
+{
+    let params = bind::message(customer, message);
+    let changed = conn.execute(
+        "UPDATE messages SET sender = ?3, spool = ?4, size = ?5, arrival = ?6, state = ?7, \
+         next_try = ?8, attempts = ?9, warned = ?10 \
+         WHERE customer = ?1 AND serial = ?2 AND size = ?5",
+        &params,
+    )?;
+    Ok(changed != 0)
 }
 
 /// Adds the row of a new message, without its recipients. A spool name that another message of the

@@ -24,8 +24,11 @@ second_is_desk db s = record {
 }
 
 -- each customer's state is lifted, and sound tables are sound again
-pub customers_lifted : (before after : Database) → IsLifted earlier_hold before after → (c : List ℕ) → own c (tables_in after) ≡ lift (own c (first_tables_in before))
+pub customers_lifted : (before after : Database) → IsLifted earlier_hold before after → (c : List ℕ)
+    → own c (tables_in after) ≡ lift (own c (first_tables_in before))
 customers_lifted before after l c = ap (own c) l.tables ∙ own_lifted c (first_tables_in before)
 
-pub sound_lifted : (before after : Database) → IsLifted earlier_hold before after → FirstSound (first_tables_in before) → Sound (tables_in after)
-sound_lifted before after l sound = subst Sound (sym l.tables) (tables_lifted (first_tables_in before) sound)
+pub sound_lifted : (before after : Database) → IsLifted earlier_hold before after →
+    FirstSound (first_tables_in before) → Sound (tables_in after)
+sound_lifted before after l sound =
+    subst Sound (sym l.tables) (tables_lifted (first_tables_in before) sound)

@@ -27,7 +27,9 @@ makes_holds = record { defined = holds_defined; is_create = holds_create; uncoun
 -- ---- the rows of holds
 
 abbrev pub fill_text : List ℕ
-fill_text = codes "INSERT INTO holds (customer, serial, hold_reason) SELECT customer, serial, ?1 FROM messages WHERE state = 2 ORDER BY customer, serial"
+fill_text =
+    codes
+    "INSERT INTO holds (customer, serial, hold_reason) SELECT customer, serial, ?1 FROM messages WHERE state = 2 ORDER BY customer, serial"
 
 abbrev pub held_terms : List Term
 held_terms = op2 (Compare Eq Binary) (col 1 7) (lit (Int (pos 2))) ∷ []
@@ -37,9 +39,14 @@ abbrev pub fill_columns : List Term
 fill_columns = lit Null ∷ col 1 1 ∷ col 1 2 ∷ col 0 0 ∷ []
 
 abbrev pub fill_query : Query
-fill_query = record (query_of 3 held_terms fill_columns) { collations = Binary ∷ Binary ∷ Binary ∷ Binary ∷ []; order = (col 1 1, ascending Binary) ∷ (col 1 2, ascending Binary) ∷ [] }
+fill_query = record (query_of 3 held_terms fill_columns) {
+  collations = Binary ∷ Binary ∷ Binary
+      ∷ Binary ∷ [];
+  order = (col 1 1, ascending Binary) ∷ (col 1 2, ascending Binary) ∷ [];
+}
 
-pub fill_is : command_of (understood desk_schema fill_text) ≡ Insert 7 (source.Query (record { lets = []; body = fill_query }))
+pub fill_is : command_of (understood desk_schema fill_text) ≡ Insert 7
+    (source.Query (record { lets = []; body = fill_query }))
 unfolding understood everything
 fill_is = refl
 
@@ -55,7 +62,8 @@ version_text = codes "UPDATE desk_schema SET version = 2"
 abbrev pub version_terms : List Term
 version_terms = col 1 0 ∷ col 1 0 ∷ lit (Int (pos 2)) ∷ []
 
-pub version_is : command_of (understood desk_schema version_text) ≡ Update 0 (record { lets = []; body = query_of 0 [] version_terms })
+pub version_is : command_of (understood desk_schema version_text) ≡ Update 0
+    (record { lets = []; body = query_of 0 [] version_terms })
 unfolding understood everything
 version_is = refl
 

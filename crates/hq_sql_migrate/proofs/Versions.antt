@@ -1,5 +1,6 @@
 -- Whether a store with the first schema is of version 1.
-use Rattle.std.proofs.Common.{◌≡◌, Bool, false, List, [], ◌∷◌, map, codes, length, Result, IsTrue, OnErr, refl, sym, ap, ◌∙◌, subst, arith, IsPermutation}
+use Rattle.std.proofs.Common.{◌≡◌, Bool, false, List, [], ◌∷◌, map, codes, length, Result, IsTrue}
+use Rattle.std.proofs.Common.{OnErr, refl, sym, ap, ◌∙◌, subst, arith, IsPermutation}
 use Rattle.std.proofs.lemmas.List.Sorted.{IsPermutation-sym}
 use Rattle.sqlite.specs.declared.error.Error.{Error}
 use Rattle.sqlite.specs.declared.types.Value.{Value}
@@ -8,7 +9,8 @@ use Rattle.sqlite.specs.Command.TheVariants.{Select}
 use Rattle.sqlite.specs.Listing.{understood, reads_listing}
 use Rattle.sqlite.specs.Effect.{Database}
 use Rattle.sqlite.specs.Schema.{Schema}
-use Rattle.sqlite.specs.State.{State, HasCleanDisk, Survives, CommitsShowing, Shown, IsUnchanged, KeepsCommit}
+use Rattle.sqlite.specs.State.{State, HasCleanDisk, Survives, CommitsShowing, Shown, IsUnchanged}
+use Rattle.sqlite.specs.State.{KeepsCommit}
 use Rattle.sqlite_tied.specs.Compute.{everything}
 use Rattle.sqlite.proofs.Callers.{command_of, reads_as, one_permutation, IsPlain}
 use Rattle.hq_keyed.specs.Values.{number}
@@ -20,7 +22,8 @@ use Rattle.hq_sql_open.proofs.Texts.{read_text, read_query}
 use Rattle.hq_sql_open.proofs.Version.{versions_shown}
 use Rattle.hq_sql_migrate.specs.Migration.{IsVersion, ShowsFirst, KeepsVersion}
 
-first_is : command_of (understood first_schema read_text) ≡ Select (record { lets = []; body = read_query }) (codes "version" ∷ [])
+first_is : command_of (understood first_schema read_text) ≡ Select
+    (record { lets = []; body = read_query }) (codes "version" ∷ [])
 unfolding understood everything
 first_is = refl
 
@@ -32,19 +35,30 @@ first_listed : reads_listing first_schema read_text ≡ false
 unfolding understood everything
 first_listed = refl
 
-plain_here : (old : State) → old.now.schema ≡ first_schema → IsPlain (understood old.now.schema read_text)
+plain_here : (old : State) → old.now.schema ≡ first_schema →
+    IsPlain (understood old.now.schema read_text)
 plain_here old has = subst (λ s. IsPlain (understood s read_text)) (sym has) first_plain
 
-pub version_shows : (old new : State) (rows : List Row) → old.now.schema ≡ first_schema → Shown read_text [] old new rows → ShowVersions old.now rows × IsUnchanged old new
+pub version_shows : (old new : State) (rows : List Row) → old.now.schema ≡ first_schema →
+    Shown read_text [] old new rows → ShowVersions old.now rows × IsUnchanged old new
 version_shows old new rows has h = (
-  versions_shown old.now rows (reads_as read_text [] old new first_schema has _ first_is first_plain first_listed rows h),
+  versions_shown old.now rows (reads_as read_text [] old new first_schema has _ first_is first_plain
+      first_listed rows h),
   shown_unchanged old new read_text _ rows (plain_here old has) h,
 )
 
-pub version_keeps : {X : Type 0} (old new : State) (result : Result X Error) → Survives old new (CommitsShowing read_text [] old) → (HasCleanDisk new → old.now.schema ≡ first_schema → OnErr result (KeepsCommit old new)) → KeepsVersion old new result
-version_keeps old new result survives h = record { kept = h; quiet = survives.clean; stops = λ has. query_leaves_no_more old new read_text [] (plain_here old has) survives }
+pub version_keeps : {X : Type 0} (old new : State) (result : Result X Error) →
+    Survives old new (CommitsShowing read_text [] old) →
+    (HasCleanDisk new → old.now.schema ≡ first_schema → OnErr result (KeepsCommit old new)) →
+    KeepsVersion old new result
+version_keeps old new result survives h = record {
+  kept = h;
+  quiet = survives.clean;
+  stops = λ has. query_leaves_no_more old new read_text [] (plain_here old has) survives;
+}
 
-alone : (vs : List Value) (row : Row) → map (λ v. v ∷ []) vs ≡ row ∷ [] → column row 0 ≡ number 1 → vs ≡ number 1 ∷ []
+alone : (vs : List Value) (row : Row) → map (λ v. v ∷ []) vs ≡ row ∷ [] → column row 0 ≡ number 1 →
+    vs ≡ number 1 ∷ []
 alone [] row e is = absurd (let k = e in cc)
 alone (v ∷ []) row e is =
     let same : v ∷ [] ≡ row = let k = e in cc in
@@ -52,15 +66,25 @@ alone (v ∷ []) row e is =
     ap (λ x. x ∷ []) value
 alone (v ∷ w ∷ more) row e is = absurd (let k = e in cc)
 
-one_shown : (db : Database) (rows : List Row) → ShowVersions db rows → ShowsFirst rows → IsVersion 1 db
+one_shown : (db : Database) (rows : List Row) → ShowVersions db rows → ShowsFirst rows →
+    IsVersion 1 db
 one_shown db rows same one =
-    let back : IsPermutation (one.0 ∷ []) (map (λ v. v ∷ []) (versions_in db)) = subst (λ l. IsPermutation l (map (λ v. v ∷ []) (versions_in db))) one.1 (IsPermutation-sym _ _ same) in
+    let back : IsPermutation (one.0 ∷ []) (map (λ v. v ∷ []) (versions_in db)) =
+    subst (λ l. IsPermutation l (map (λ v. v ∷ []) (versions_in db))) one.1
+    (IsPermutation-sym _ _ same) in
     alone (versions_in db) one.0 (one_permutation one.0 _ back) one.2
 
-one_is_shown : (db : Database) (rows : List Row) → ShowVersions db rows → IsVersion 1 db → ShowsFirst rows
-one_is_shown db rows same is = (number 1 ∷ [], one_permutation _ _ (subst (λ vs. IsPermutation (map (λ v. v ∷ []) vs) rows) is same), refl)
+one_is_shown : (db : Database) (rows : List Row) → ShowVersions db rows → IsVersion 1 db →
+    ShowsFirst rows
+one_is_shown db rows same is = (
+  number 1 ∷ [],
+  one_permutation _ _ (subst (λ vs. IsPermutation (map (λ v. v ∷ []) vs) rows) is same),
+  refl,
+)
 
-pub tells : (old new : State) (rows : List Row) (told : Bool) → ShowVersions old.now rows × IsUnchanged old new → (IsTrue told → ShowsFirst rows) → (ShowsFirst rows → IsTrue told) → Tells told (IsVersion 1 old.now) old new
+pub tells : (old new : State) (rows : List Row) (told : Bool) → ShowVersions old.now rows
+    × IsUnchanged old new → (IsTrue told → ShowsFirst rows) → (ShowsFirst rows → IsTrue told) →
+    Tells told (IsVersion 1 old.now) old new
 tells old new rows told shown only all = record {
   only = λ is. one_shown old.now rows shown.0 (only is);
   all = λ is. all (one_is_shown old.now rows shown.0 is);

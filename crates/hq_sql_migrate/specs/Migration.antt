@@ -1,5 +1,7 @@
--- What a migration does and keeps. `old` and `new` are what is seen of a connection before and after.
-use Rattle.std.specs.Prelude.{◌≡◌, ◌≢◌, ◌⊎◌, ℕ, List, [], ◌∷◌, map, Option, None, Some, Result, OnErr}
+-- What a migration does and keeps. `old` and `new` are what is seen of a connection before and
+-- after.
+use Rattle.std.specs.Prelude.{◌≡◌, ◌≢◌, ◌⊎◌, ℕ, List, [], ◌∷◌, map, Option, None, Some, Result}
+use Rattle.std.specs.Prelude.{OnErr}
 use Rattle.sqlite.specs.declared.error.Error.{Error}
 use Rattle.sqlite.specs.Effect.{Database}
 use Rattle.sqlite.specs.State.{State, HasCleanDisk, KeepsCommit}
@@ -16,7 +18,8 @@ use Rattle.hq_sql.specs.Tables.{AreMessages, AreHolds}
 use Rattle.hq_sql_open.specs.Making.{GoesOn}
 use Rattle.hq_sql_open.specs.Opening.{versions_in, Stays}
 use Rattle.hq_sql_open.specs.Transactions.{IsSettled}
-use Rattle.hq_sql_migrate.specs.Stores.{HasVersion, holds_in, first_tables_in, count_on_hold, IsFirst, IsLifted}
+use Rattle.hq_sql_migrate.specs.Stores.{HasVersion, holds_in, first_tables_in, count_on_hold}
+use Rattle.hq_sql_migrate.specs.Stores.{IsFirst, IsLifted}
 
 -- the table of holds is there, and has no row
 pub record HasEmptyHolds (db : Database) : Type 0 where
@@ -27,7 +30,8 @@ pub record HasEmptyHolds (db : Database) : Type 0 where
 -- the rows that holds is filled with: one with this reason for each message on hold, and no other
 pub record AreReasons (reason : List ℕ) (messages holds : List Row) (count : ℕ) : Type 0 where
   pub are : AreHolds holds
-  pub found : holds_of (map hold_read holds) ≡ holds_for reason (messages_of (map message_read messages))
+  pub found : holds_of (map hold_read holds) ≡ holds_for reason
+      (messages_of (map message_read messages))
   pub count_is : count ≡ count_on_hold (messages_of (map message_read messages))
 
 -- it got a row with this reason for each message on hold, and no other, and the other tables stay
@@ -58,12 +62,15 @@ pub record Migrates (reason : List ℕ) (count : ℕ) (old new : State) : Type 0
   pub lifted : IsLifted reason old.now new.now
   pub count_is : count ≡ count_on_hold (first_tables_in old.now).messages
 
--- an open after a crash may find what it might have found before, or a whole version 2 store with what it had
+-- an open after a crash may find what it might have found before, or a whole version 2 store with
+-- what it had
 abbrev pub LeavesLifted : List ℕ → State → State → Type 0
-LeavesLifted reason old new = HasCleanDisk new → (db : Trees) → new.may_leave db → old.may_leave db ⊎ IsLifted reason old.now (record { schema = desk_schema; trees = db })
+LeavesLifted reason old new = HasCleanDisk new → (db : Trees) → new.may_leave db → old.may_leave db
+    ⊎ IsLifted reason old.now (record { schema = desk_schema; trees = db })
 
 -- What a migration keeps of a version 1 store.
-pub record KeepsMigration {X : Type 0} (reason : List ℕ) (old new : State) (result : Result X Error) : Type 0 where
+pub record KeepsMigration {X : Type 0} (reason : List ℕ) (old new : State) (result : Result X Error)
+    : Type 0 where
   -- what was committed, where it fails
   pub kept : HasCleanDisk new → OnErr result (KeepsCommit old new)
   pub quiet : IsQuiet old new
@@ -93,14 +100,19 @@ pub record KeepsVersion {X : Type 0} (old new : State) (result : Result X Error)
   pub quiet : IsQuiet old new
   pub stops : old.now.schema ≡ first_schema → LeavesNoMore old new
 
--- What a migration does, by its answer: a store of version 1 becomes one of version 2, and how many messages are on hold is told;
--- one of version 2 stays, and 0 is told; any other stays, and is told.
+-- What a migration does, by its answer: a store of version 1 becomes one of version 2, and how many
+-- messages are on hold is told; one of version 2 stays, and 0 is told; any other stays, and is
+-- told.
 abbrev pub MigratesBy : List ℕ → Option ℕ → State → State → Type 0
-MigratesBy reason (Some n) old new = (IsFirstStore old.now × (IsFirst old.now → Migrates reason n old new)) ⊎ (IsSecondStore old.now × (n ≡ 0) × Stays old new)
-MigratesBy reason None old new = (¬ IsFirstStore old.now) × (¬ IsSecondStore old.now) × Stays old new
+MigratesBy reason (Some n) old new = (IsFirstStore old.now
+    × (IsFirst old.now → Migrates reason n old new))
+    ⊎ (IsSecondStore old.now × (n ≡ 0) × Stays old new)
+MigratesBy reason None old new = (¬ IsFirstStore old.now) × (¬ IsSecondStore old.now)
+    × Stays old new
 
 -- What it keeps of any store.
-pub record KeepsAny {X : Type 0} (reason : List ℕ) (old new : State) (result : Result X Error) : Type 0 where
+pub record KeepsAny {X : Type 0} (reason : List ℕ) (old new : State) (result : Result X Error)
+    : Type 0 where
   pub kept : HasCleanDisk new → IsSettled old → OnErr result (KeepsCommit old new)
   pub quiet : IsQuiet old new
   pub stops : IsSettled old → IsFirst old.now → LeavesLifted reason old new

@@ -9,7 +9,8 @@ use Rattle.hq_store.specs.Lifted.{on_hold, holds_for}
 use Rattle.hq_rows.specs.Listed.{holds_of}
 use Rattle.hq_store.specs.Tables.{Tables, Row, message_cmp}
 use Rattle.hq_sql.specs.Rows.{hold_read}
-use Rattle.hq_sql.specs.Tables.{tables_in, AreHeads, AreMessages, AreRecipients, AreLines, AreNotices, AreMarks, AreHolds}
+use Rattle.hq_sql.specs.Tables.{tables_in, AreHeads, AreMessages, AreRecipients, AreLines}
+use Rattle.hq_sql.specs.Tables.{AreNotices, AreMarks, AreHolds}
 
 -- the reasons in the rows of holds
 abbrev pub holds_in : Database → FinMap message_cmp (List ℕ)
@@ -50,7 +51,10 @@ first_tables_in db = record (tables_in db) { holds = empty }
 abbrev pub count_on_hold : FinMap message_cmp Row → ℕ
 count_on_hold messages = length (filter on_hold (entries messages))
 
--- a version 2 store with the tables of a version 1 store, and with this reason for each message on hold and no other
+-- a version 2 store with the tables of a version 1 store, and with this reason for each message on
+-- hold and no other
 pub record IsLifted (reason : List ℕ) (before after : Database) : Type 0 where
   pub second : IsSecond after
-  pub tables : tables_in after ≡ record (first_tables_in before) { holds = holds_for reason (first_tables_in before).messages }
+  pub tables : tables_in after ≡ record (first_tables_in before) {
+    holds = holds_for reason (first_tables_in before).messages;
+  }

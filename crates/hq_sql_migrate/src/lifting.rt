@@ -12,7 +12,8 @@ ghost use Rattle.hq_schema.specs.Schema.{holds, first_schema, desk_schema};
 ghost use Rattle.hq_sql_open.specs.Making.{GoesOn};
 ghost use Rattle.hq_sql_open.specs.Transactions.{IsSettled, KeepsAll};
 ghost use Rattle.hq_sql_migrate.specs.Stores.{HasVersion, IsFirst};
-ghost use Rattle.hq_sql_migrate.specs.Migration.{HasEmptyHolds, Fills, Stamps, Lifts, Migrates, KeepsMigration};
+ghost use Rattle.hq_sql_migrate.specs.Migration.{HasEmptyHolds, Fills, Stamps, Lifts, Migrates};
+ghost use Rattle.hq_sql_migrate.specs.Migration.{KeepsMigration};
 
 use hq_sql_open::transaction::{begin, commit};
 use sqlite::types::ValueRef;

@@ -25,7 +25,9 @@ without_notice key t = record t { notices = remove t.notices key }
 
 -- none of the customer's stands below the number
 abbrev pub without_below : List ℕ → ℕ → Tables → Tables
-without_below customer n t = record t { notices = retain_keys t.notices (left_of customer (nat_le n)) }
+without_below customer n t = record t {
+  notices = retain_keys t.notices (left_of customer (nat_le n));
+}
 
 -- the columns of a key
 abbrev pub key_columns : List ℕ × ℕ → Row
@@ -33,7 +35,12 @@ key_columns key = Text key.0 ∷ number key.1 ∷ []
 
 -- the numbers of a notice as columns take them
 abbrev pub notice_numbers : Notice → NoticeNumbers
-notice_numbers n = record { number = pos n.number; kind = pos (kind_code n.kind); serial = pos n.serial; at = pos n.at }
+notice_numbers n = record {
+  number = pos n.number;
+  kind = pos (kind_code n.kind);
+  serial = pos n.serial;
+  at = pos n.at;
+}
 
 -- above which number notices are wanted
 abbrev pub from_number : Option ℕ → ℤ

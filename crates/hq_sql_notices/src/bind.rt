@@ -3,7 +3,8 @@
 ghost use Rattle.std.specs.Prelude.{◌≡◌, ℕ, pos, Option as AnyOption, IfOk};
 ghost use Rattle.sqlite.specs.Values.{bound};
 ghost use Rattle.hq_sql.specs.Rows.{kind_code, notice_columns};
-ghost use Rattle.hq_sql_notices.specs.Notices.{from_number, key_columns, notice_numbers, notice_row, page_columns};
+ghost use Rattle.hq_sql_notices.specs.Notices.{from_number, key_columns, notice_numbers};
+ghost use Rattle.hq_sql_notices.specs.Notices.{notice_row, page_columns};
 
 use hq_envelope::Name;
 use hq_queue::Kind;

@@ -6,7 +6,8 @@ ghost use Rattle.sqlite.specs.Held.{state};
 ghost use Rattle.hq_store.specs.Tables.{Noted, notice_of};
 ghost use Rattle.hq_sql.specs.Kept.{Shows, Finds, Makes, Inserts, Keeps, KeepsCommitted};
 ghost use Rattle.hq_sql.specs.Rows.{notice_shown};
-ghost use Rattle.hq_sql_notices.specs.Notices.{notice_row, with_notice, without_notice, without_below};
+ghost use Rattle.hq_sql_notices.specs.Notices.{notice_row, with_notice, without_notice};
+ghost use Rattle.hq_sql_notices.specs.Notices.{without_below};
 
 use crate::{bind, decode};
 use hq_envelope::Name;

@@ -1,5 +1,6 @@
 -- What making tables in turn leaves and keeps.
-use Rattle.std.proofs.Common.{◌≡◌, ℕ, List, [], ◌∷◌, ◌++◌, Result, Ok, Err, IsTrue, cond, refl, sym, ap, ◌∙◌, subst, arith}
+use Rattle.std.proofs.Common.{◌≡◌, ℕ, List, [], ◌∷◌, ◌++◌, Result, Ok, Err, IsTrue, cond, refl, sym}
+use Rattle.std.proofs.Common.{ap, ◌∙◌, subst, arith}
 use Rattle.sqlite.specs.Change.{created, next_tree, KeepsRows}
 use Rattle.sqlite.specs.Command.TheVariants.{CreateTable}
 use Rattle.sqlite.specs.Listing.{understood}
@@ -21,7 +22,8 @@ use Rattle.hq_sql_open.specs.Transactions.{KeepsAll}
 
 -- ---- what a text that makes a table is
 
-is_create : (text : List ℕ) (r : Result Compiled CompileError) → IsCreate text r → command_of r ≡ CreateTable
+is_create : (text : List ℕ) (r : Result Compiled CompileError) → IsCreate text r →
+    command_of r ≡ CreateTable
 is_create text (Ok c) h = h.0
 is_create text (Err e) h = absurd h
 
@@ -29,21 +31,28 @@ is_plain : (text : List ℕ) (r : Result Compiled CompileError) → IsCreate tex
 is_plain text (Ok c) h = (h.1, h.2)
 is_plain text (Err e) h = absurd h
 
-is_whole : (text : List ℕ) (r : Result Compiled CompileError) → IsCreate text r → statement_of text r ≡ text
+is_whole : (text : List ℕ) (r : Result Compiled CompileError) → IsCreate text r →
+    statement_of text r ≡ text
 is_whole text (Ok c) h = h.3
 is_whole text (Err e) h = absurd h
 
-module _ (old new : State) (s : Schema) (text : List ℕ) (table : Table) (it : MakesTable s text table) (has : old.now.schema ≡ s) where
+module _ (old new : State) (s : Schema) (text : List ℕ) (table : Table)
+    (it : MakesTable s text table) (has : old.now.schema ≡ s) where
   pub table_made : (count : ℕ) → Executes text [] old new (Ok count) → Makes old new s table
-  table_made count h = makes old new s text table count has it.defined (is_create text _ it.is_create) (is_whole text _ it.is_create) (is_plain text _ it.is_create) it.uncounted h
+  table_made count h = makes old new s text table count has it.defined
+      (is_create text _ it.is_create) (is_whole text _ it.is_create) (is_plain text _ it.is_create)
+      it.uncounted h
 
   makes_here : command_of (understood old.now.schema text) ≡ CreateTable
-  makes_here = subst (λ x. command_of (understood x text) ≡ CreateTable) (sym has) (is_create text _ it.is_create)
+  makes_here = subst (λ x. command_of (understood x text) ≡ CreateTable) (sym has)
+      (is_create text _ it.is_create)
 
   plain_here : IsPlain (understood old.now.schema text)
   plain_here = subst (λ x. IsPlain (understood x text)) (sym has) (is_plain text _ it.is_create)
 
-  pub made_keeps : (r : Result ℕ Error) → IsTrue old.in_transaction → Survives old new (CommitsBy text [] old) → (HasCleanDisk new → Executes text [] old new r) → KeepsAll old new
+  pub made_keeps : (r : Result ℕ Error) → IsTrue old.in_transaction →
+      Survives old new (CommitsBy text [] old) → (HasCleanDisk new → Executes text [] old new r) →
+      KeepsAll old new
   made_keeps (Ok count) within survives h = record {
     kept = λ clean. kept_by old new text count makes_here plain_here within (h clean);
     quiet = survives.clean;
@@ -57,15 +66,22 @@ module _ (old new : State) (s : Schema) (text : List ℕ) (table : Table) (it : 
 
 -- ---- one after another
 
-pub keeps_next : (a b c : State) → KeepsAll a b → IsQuiet b c → (HasCleanDisk b → KeepsAll b c) → KeepsAll a c
+pub keeps_next : (a b c : State) → KeepsAll a b → IsQuiet b c → (HasCleanDisk b → KeepsAll b c) →
+    KeepsAll a c
 keeps_next a b c p quiet q = record {
-  kept = λ clean. keeps_then a b c (p.kept (clean_before b c quiet clean)) ((q (clean_before b c quiet clean)).kept clean);
+  kept = λ clean. keeps_then a b c (p.kept (clean_before b c quiet clean))
+      ((q (clean_before b c quiet clean)).kept clean);
   quiet = omega (arith, p.quiet, quiet);
-  stops = λ clean db may. p.stops (clean_before b c quiet clean) db ((q (clean_before b c quiet clean)).stops clean db may);
+  stops = λ clean db may. p.stops (clean_before b c quiet clean) db
+      ((q (clean_before b c quiet clean)).stops clean db may);
 }
 
 pub keeps_itself : (a : State) → KeepsAll a a
-keeps_itself a = record { kept = λ clean. Rattle.hq_keyed.proofs.Left.keeps_itself a; quiet = omega arith; stops = λ clean db may. may }
+keeps_itself a = record {
+  kept = λ clean. Rattle.hq_keyed.proofs.Left.keeps_itself a;
+  quiet = omega arith;
+  stops = λ clean db may. may;
+}
 
 -- ---- no rows
 
@@ -73,7 +89,8 @@ empty_on : (ts : List Table) (a b : Trees) → KeepsRows ts a b → AreEmpty ts 
 empty_on [] a b same empty = tt
 empty_on (t ∷ ts) a b same empty = (same.0 ∙ empty.0, empty_on ts a b same.1 empty.1)
 
-empty_and : (ts : List Table) (new : Table) (a : Trees) → AreEmpty ts a → a new.tree ≡ [] → AreEmpty (ts ++ new ∷ []) a
+empty_and : (ts : List Table) (new : Table) (a : Trees) → AreEmpty ts a → a new.tree ≡ [] →
+    AreEmpty (ts ++ new ∷ []) a
 empty_and [] new a empty h = (h, tt)
 empty_and (t ∷ ts) new a empty h = (empty.0, empty_and ts new a empty.1 h)
 
@@ -87,11 +104,13 @@ goes_then a b c p q = record {
 pub goes_itself : (a : State) → GoesOn a a
 goes_itself a = record { was_open = λ is. is; mode = refl; committed = λ _. refl }
 
-pub one_made : (a b : State) (s : Schema) (table : Table) → a.now.schema ≡ s → AreEmpty s.tables a.now.trees → Makes a b s table → HasMade s (table ∷ []) a b
+pub one_made : (a b : State) (s : Schema) (table : Table) → a.now.schema ≡ s →
+    AreEmpty s.tables a.now.trees → Makes a b s table → HasMade s (table ∷ []) a b
 one_made a b s table has empty m = record {
   schema_is = m.schema_is;
   empty = subst (λ (x : Schema). AreEmpty x.tables b.now.trees) (sym m.schema_is)
-      (empty_and s.tables (record table { tree = next_tree s }) b.now.trees (empty_on s.tables a.now.trees b.now.trees m.others empty) m.empty);
+      (empty_and s.tables (record table { tree = next_tree s }) b.now.trees
+      (empty_on s.tables a.now.trees b.now.trees m.others empty) m.empty);
   goes = record {
     was_open = λ _. m.shown.was_open;
     mode = m.shown.mode;
@@ -99,8 +118,16 @@ one_made a b s table has empty m = record {
   };
 }
 
-pub none_made : (a : State) (s : Schema) → a.now.schema ≡ s → AreEmpty s.tables a.now.trees → HasMade s [] a a
-none_made a s has empty = record { schema_is = has; empty = subst (λ (x : Schema). AreEmpty x.tables a.now.trees) (sym has) empty; goes = goes_itself a }
+pub none_made : (a : State) (s : Schema) → a.now.schema ≡ s → AreEmpty s.tables a.now.trees →
+    HasMade s [] a a
+none_made a s has empty = record {
+  schema_is = has;
+  empty = subst (λ (x : Schema). AreEmpty x.tables a.now.trees) (sym has) empty;
+  goes = goes_itself a;
+}
 
-pub more_made : (a b c : State) (s : Schema) (table : Table) (tables : List Table) → HasMade s (table ∷ []) a b → HasMade (created s table) tables b c → HasMade s (table ∷ tables) a c
-more_made a b c s table tables p q = record { schema_is = q.schema_is; empty = q.empty; goes = goes_then a b c p.goes q.goes }
+pub more_made : (a b c : State) (s : Schema) (table : Table) (tables : List Table) →
+    HasMade s (table ∷ []) a b → HasMade (created s table) tables b c →
+    HasMade s (table ∷ tables) a c
+more_made a b c s table tables p q =
+    record { schema_is = q.schema_is; empty = q.empty; goes = goes_then a b c p.goes q.goes }

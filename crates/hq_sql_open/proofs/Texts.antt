@@ -1,5 +1,6 @@
 -- The texts that make the tables of a desk, and those on the version table, computed.
-use Rattle.std.proofs.Common.{◌≡◌, pos, List, ℕ, [], ◌∷◌, codes, fold, false, drop, refl, sym, ap, ◌∙◌, subst}
+use Rattle.std.proofs.Common.{◌≡◌, pos, List, ℕ, [], ◌∷◌, codes, fold, false, drop, refl, sym, ap}
+use Rattle.std.proofs.Common.{◌∙◌, subst}
 use Rattle.sqlite.specs.declared.types.Value.TheVariants.{Null, Int}
 use Rattle.sqlite.specs.Change.{created}
 use Rattle.sqlite.specs.Command.TheVariants.{Insert, Select}
@@ -13,9 +14,12 @@ use Rattle.sqlite.proofs.Callers.{IsPlain, command_of}
 use Rattle.hq_keyed.proofs.Select.{query_of}
 use Rattle.hq_schema.specs.Made.{desk_tables, desk_texts}
 use Rattle.hq_schema.specs.Schema.{no_schema, version_alone, desk_schema}
-use Rattle.hq_schema.specs.Schema.{version_text, heads_text, messages_text, recipients_text, lines_text, notices_text, marks_text, holds_text}
+use Rattle.hq_schema.specs.Schema.{version_text, heads_text, messages_text, recipients_text}
+use Rattle.hq_schema.specs.Schema.{lines_text, notices_text, marks_text, holds_text}
 use Rattle.hq_schema.specs.Schema.{version, heads, messages, recipients, lines, notices, marks}
-use Rattle.hq_schema.proofs.Texts.{version_defined, heads_defined, messages_defined, recipients_defined, lines_defined, notices_defined, marks_defined, holds_defined, version_is_alone, desk_is_made}
+use Rattle.hq_schema.proofs.Texts.{version_defined, heads_defined, messages_defined}
+use Rattle.hq_schema.proofs.Texts.{recipients_defined, lines_defined, notices_defined}
+use Rattle.hq_schema.proofs.Texts.{marks_defined, holds_defined, version_is_alone, desk_is_made}
 use Rattle.hq_sql_open.specs.Making.{IsCreate, MakeTables}
 
 -- ---- the tables, each in the schema that those before it make
@@ -84,7 +88,10 @@ others_made = (
         record { defined = lines_defined; is_create = lines_create; uncounted = refl },
         (
           record { defined = notices_defined; is_create = notices_create; uncounted = refl },
-          (record { defined = marks_defined; is_create = marks_create; uncounted = refl }, (record { defined = holds_defined; is_create = holds_create; uncounted = refl }, tt)),
+          (
+            record { defined = marks_defined; is_create = marks_create; uncounted = refl },
+            (record { defined = holds_defined; is_create = holds_create; uncounted = refl }, tt),
+          ),
         ),
       ),
     ),
@@ -92,13 +99,17 @@ others_made = (
 )
 
 pub all_made : MakeTables no_schema desk_texts desk_tables
-all_made = (record { defined = version_defined; is_create = version_create; uncounted = refl }, others_made)
+all_made = (
+  record { defined = version_defined; is_create = version_create; uncounted = refl },
+  others_made,
+)
 
 pub all_whole : fold created no_schema desk_tables ≡ desk_schema
 all_whole = desk_is_made
 
 pub others_here : MakeTables version_alone (drop 1 desk_texts) (drop 1 desk_tables)
-others_here = subst (λ s. MakeTables s (drop 1 desk_texts) (drop 1 desk_tables)) version_is_alone others_made
+others_here = subst (λ s. MakeTables s (drop 1 desk_texts) (drop 1 desk_tables)) version_is_alone
+    others_made
 
 pub others_whole : fold created version_alone (drop 1 desk_tables) ≡ desk_schema
 others_whole = ap (λ s. fold created s (drop 1 desk_tables)) (sym version_is_alone) ∙ desk_is_made
@@ -125,7 +136,8 @@ read_text = codes "SELECT version FROM desk_schema"
 abbrev pub read_query : Query
 read_query = query_of 0 [] (col 1 1 ∷ [])
 
-pub read_is : command_of (understood desk_schema read_text) ≡ Select (record { lets = []; body = read_query }) (codes "version" ∷ [])
+pub read_is : command_of (understood desk_schema read_text) ≡ Select
+    (record { lets = []; body = read_query }) (codes "version" ∷ [])
 unfolding understood everything
 read_is = refl
 
@@ -137,7 +149,8 @@ pub read_listed : reads_listing desk_schema read_text ≡ false
 unfolding understood everything
 read_listed = refl
 
-pub alone_is : command_of (understood version_alone read_text) ≡ Select (record { lets = []; body = read_query }) (codes "version" ∷ [])
+pub alone_is : command_of (understood version_alone read_text) ≡ Select
+    (record { lets = []; body = read_query }) (codes "version" ∷ [])
 unfolding understood everything
 alone_is = refl
 

@@ -1,4 +1,5 @@
--- Tables made in turn, inside a transaction. `old` and `new` are what is seen of a connection before and after.
+-- Tables made in turn, inside a transaction. `old` and `new` are what is seen of a connection
+-- before and after.
 -- Inner: it serves proofs alone, and no promise rests on it.
 use Rattle.std.specs.Prelude.{◌≡◌, ⊤, ℕ, List, [], ◌∷◌, fold, None, Result, Ok, Err, false, IsTrue}
 use Rattle.std.specs.List.{AllByRecursion}
@@ -16,7 +17,8 @@ use Rattle.sqlite_resolve.specs.declared.error.CompileError.{CompileError}
 
 -- a text is understood as one that makes a table, as a whole
 abbrev pub IsCreate : List ℕ → Result Compiled CompileError → Type 0
-IsCreate text (Ok c) = (c.command ≡ CreateTable) × (c.returning ≡ None) × (c.formats ≡ []) × (text_of text c ≡ text)
+IsCreate text (Ok c) = (c.command ≡ CreateTable) × (c.returning ≡ None) × (c.formats ≡ [])
+    × (text_of text c ≡ text)
 IsCreate text (Err e) = ⊥
 
 -- in a store with this schema the text makes the table
@@ -28,7 +30,8 @@ pub record MakesTable (s : Schema) (text : List ℕ) (table : Table) : Type 0 wh
 -- each text makes its table, in the schema that those before it left
 abbrev pub MakeTables : Schema → List (List ℕ) → List Table → Type 0
 MakeTables s [] [] = ⊤
-MakeTables s (text ∷ texts) (table ∷ tables) = MakesTable s text table × MakeTables (created s table) texts tables
+MakeTables s (text ∷ texts) (table ∷ tables) = MakesTable s text table
+    × MakeTables (created s table) texts tables
 MakeTables s _ _ = ⊥
 
 -- no table of the list has a row

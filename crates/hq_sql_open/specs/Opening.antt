@@ -1,5 +1,7 @@
--- What is done with a store that is opened. `old` and `new` are what is seen of a connection before and after.
-use Rattle.std.specs.Prelude.{◌≡◌, ◌⊎◌, Bool, true, false, pos, List, [], ◌∷◌, map, IsTrue, IsPermutation, Result, OnErr}
+-- What is done with a store that is opened. `old` and `new` are what is seen of a connection before
+-- and after.
+use Rattle.std.specs.Prelude.{◌≡◌, ◌⊎◌, Bool, true, false, pos, List, [], ◌∷◌, map, IsTrue}
+use Rattle.std.specs.Prelude.{IsPermutation, Result, OnErr}
 use Rattle.sqlite.specs.declared.error.Error.{Error}
 use Rattle.sqlite.specs.declared.types.Value.{Value}
 use Rattle.sqlite.specs.declared.types.Value.TheVariants.{Int}
@@ -37,15 +39,16 @@ IsForeign db = (¬ IsUnmade db) × (¬ IsOurs db)
 abbrev pub Stays : State → State → Type 0
 Stays old new = IsSettled new × KeepsCommit old new
 
--- What opening does, by its answer: a store in which nothing was made gets the tables of a desk, without a row; a desk's
--- store stays as it is; and so does any other, which is told.
+-- What opening does, by its answer: a store in which nothing was made gets the tables of a desk,
+-- without a row; a desk's store stays as it is; and so does any other, which is told.
 abbrev pub Opens : Bool → State → State → Type 0
 Opens true old new = (IsUnmade old.now × Commits new no_tables) ⊎ (IsOurs old.now × Stays old new)
 Opens false old new = IsForeign old.now × Stays old new
 
 -- an open after a crash may find what it might have found before, or a desk without a row
 abbrev pub LeavesEmptyDesk : State → State → Type 0
-LeavesEmptyDesk old new = HasCleanDisk new → (db : Trees) → new.may_leave db → old.may_leave db ⊎ (tables_in (record { schema = desk_schema; trees = db }) ≡ no_tables)
+LeavesEmptyDesk old new = HasCleanDisk new → (db : Trees) → new.may_leave db → old.may_leave db
+    ⊎ (tables_in (record { schema = desk_schema; trees = db }) ≡ no_tables)
 
 -- What opening keeps.
 pub record KeepsOpening {X : Type 0} (old new : State) (result : Result X Error) : Type 0 where

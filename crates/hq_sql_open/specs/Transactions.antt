@@ -1,5 +1,5 @@
--- Transactions: what begins one, ends one or undoes one leaves. `old` and `new` are what is seen of a connection before and
--- after.
+-- Transactions: what begins one, ends one or undoes one leaves. `old` and `new` are what is seen of
+-- a connection before and after.
 use Rattle.std.specs.Prelude.{◌≡◌, ◌⊎◌, true, false, ⊤, Result, Err, OnOk, OnErr, IsTrue}
 use Rattle.sqlite.specs.declared.error.Error.{Error}
 use Rattle.sqlite.specs.declared.error.Error.TheVariants.{SqliteFailure}
@@ -37,7 +37,8 @@ pub record Commits (s : State) (t : Tables) : Type 0 where
 
 -- an open after a crash may find what it might have found before, or these trees
 abbrev pub LeavesAlso : State → State → Trees → Type 0
-LeavesAlso old new trees = HasCleanDisk new → (db : Trees) → new.may_leave db → old.may_leave db ⊎ (db ≡ trees)
+LeavesAlso old new trees = HasCleanDisk new → (db : Trees) → new.may_leave db → old.may_leave db
+    ⊎ (db ≡ trees)
 
 -- What a call keeps that fails or answers no: what was committed; and what it keeps in any case.
 pub record KeepsOnErr {X : Type 0} (old new : State) (result : Result X Error) : Type 0 where
@@ -59,7 +60,8 @@ pub record KeepsAll (old new : State) : Type 0 where
   pub quiet : IsQuiet old new
   pub stops : LeavesNoMore old new
 
--- in no transaction; and while the connection is open, with what the last commit left, which is what was committed
+-- in no transaction; and while the connection is open, with what the last commit left, which is
+-- what was committed
 pub record IsUndone (old new : State) : Type 0 where
   pub kept : KeepsCommit old new
   pub mode : new.in_transaction ≡ false
@@ -75,11 +77,13 @@ pub record Undoes (old new : State) : Type 0 where
 abbrev pub gone : Error
 gone = SqliteFailure Closed
 
--- What asking tells: a connection that answers is open, and one is gone where that is the error. Nothing is done.
+-- What asking tells: a connection that answers is open, and one is gone where that is the error.
+-- Nothing is done.
 pub record Asks (old new : State) (result : Result ⊤ Error) : Type 0 where
   pub shown : HasCleanDisk new → OnOk result (IsUnchanged old new)
   pub shut : HasCleanDisk new → result ≡ Err gone → new.is_open ≡ false
   -- one in no transaction stays as it was
-  pub left : HasCleanDisk new → old.in_transaction ≡ false → (IsTrue old.is_open → old.now ≡ old.committed) → IsUndone old new
+  pub left : HasCleanDisk new → old.in_transaction ≡ false →
+      (IsTrue old.is_open → old.now ≡ old.committed) → IsUndone old new
   pub quiet : IsQuiet old new
   pub stops : LeavesNoMore old new

@@ -12,7 +12,8 @@ ghost use Rattle.hq_schema.specs.Schema.{no_schema, version_alone, desk_schema};
 ghost use Rattle.hq_store.specs.Tables.{no_tables};
 ghost use Rattle.hq_sql.specs.Tables.{Leaves};
 ghost use Rattle.hq_sql_open.specs.Making.{MakeTables, AreEmpty};
-ghost use Rattle.hq_sql_open.specs.Opening.{IsVersioned, Opens, KeepsOpening, ShowVersions, ShowsOne, HasVersions, Tells, KeepsReading};
+ghost use Rattle.hq_sql_open.specs.Opening.{IsVersioned, Opens, KeepsOpening, ShowVersions};
+ghost use Rattle.hq_sql_open.specs.Opening.{ShowsOne, HasVersions, Tells, KeepsReading};
 ghost use Rattle.hq_sql_open.specs.Transactions.{IsSettled, Commits, KeepsAll};
 
 use crate::create::create_all;

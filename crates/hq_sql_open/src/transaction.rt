@@ -3,7 +3,8 @@
 ghost use Rattle.std.specs.Prelude.{OnOk};
 ghost use Rattle.sqlite.specs.Held.{state};
 ghost use Rattle.sqlite.specs.State.{HasCleanDisk};
-ghost use Rattle.hq_sql_open.specs.Transactions.{IsBegun, IsDone, KeepsOnErr, KeepsOrCommits, Undoes, Asks};
+ghost use Rattle.hq_sql_open.specs.Transactions.{IsBegun, IsDone, KeepsOnErr, KeepsOrCommits};
+ghost use Rattle.hq_sql_open.specs.Transactions.{Undoes, Asks};
 ghost use Rattle.hq_sql_open.specs.Standings.{Settles};
 
 use sqlite::{Alter, Connection, Error, ErrorCode};
@@ -59,9 +60,9 @@ fn ask<S: Alter>(conn: &mut Connection<S>) -> Result<(), Error>
     }
 }
 
-/// Undoes the transaction, where there is one, and asks what became of the connection. After
-/// `Open` it is in no transaction; after `Gone` nothing more can be done with it. After `InDoubt` it
-/// was not told, for want of memory: what was begun is undone, and it can be asked again.
+/// Undoes the transaction, where there is one, and asks what became of the connection. After `Open`
+/// it is in no transaction; after `Gone` nothing more can be done with it. After `InDoubt` it was
+/// not told, for want of memory: what was begun is undone, and it can be asked again.
 pub fn settle<S: Alter>(conn: &mut Connection<S>) -> Standing
     ensures { Settles (state S.Store conn.old) (state S.Store conn.new) result }
 {

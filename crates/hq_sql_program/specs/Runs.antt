@@ -27,9 +27,12 @@ use Rattle.hq_program.specs.declared.trouble.Trouble.TheVariants.{Desk as OfDesk
 abbrev pub IsUnopened : Type 0 → Fault → Result ⊤ Trouble → Type 0
 IsUnopened untouched fault result = untouched × (result ≡ Err (OfDesk (AsFault fault)))
 
--- How a run ends over a desk as it was opened: the lines are those of a batch over this shelf, or there is none.
-abbrev pub OpenedEnds : {S : Type 0} → Sight S → Settings → Result S Fault → Type 0 → Streams → Streams → Result ⊤ Trouble → Type 0
-OpenedEnds sight settings (Ok shelf) untouched old new result = RunEnds (ServesOver sight settings shelf) untouched old new result
+-- How a run ends over a desk as it was opened: the lines are those of a batch over this shelf, or
+-- there is none.
+abbrev pub OpenedEnds : {S : Type 0} → Sight S → Settings → Result S Fault → Type 0 → Streams →
+    Streams → Result ⊤ Trouble → Type 0
+OpenedEnds sight settings (Ok shelf) untouched old new result =
+    RunEnds (ServesOver sight settings shelf) untouched old new result
 OpenedEnds sight settings (Err fault) untouched old new result = IsUnopened untouched fault result
 
 -- ---- in memory
@@ -37,27 +40,35 @@ OpenedEnds sight settings (Err fault) untouched old new result = IsUnopened unto
 abbrev pub memory : Sight (SqlShelf MemStore)
 memory = sight_over (state over_memory)
 
--- What was asked of a desk from empty tables, and replied to: where its store was not closed, each was replied to as its
--- exchange is, and to each customer the desk is its own.
-pub record FromEmpty (settings : Settings) (asks : List Ask) (replies : List SeenReply) (new : Desk (SqlShelf MemStore)) : Type 0 where
+-- What was asked of a desk from empty tables, and replied to: where its store was not closed, each
+-- was replied to as its exchange is, and to each customer the desk is its own.
+pub record FromEmpty (settings : Settings) (asks : List Ask) (replies : List SeenReply)
+    (new : Desk (SqlShelf MemStore)) : Type 0 where
   pub replied : (on memory).is_closed new ≡ false
-      → AllReplied memory.may_answer settings.host settings.directory no_tables asks replies ((on memory).tables new)
+      → AllReplied memory.may_answer settings.host settings.directory no_tables asks replies
+      ((on memory).tables new)
   pub alone : (on memory).is_closed new ≡ false
       → Alone settings.host settings.directory asks replies no_tables ((on memory).tables new)
 
--- Lines are replied to as a batch of these customers over a shelf in memory, which began with empty tables.
-pub record Serves (settings : Settings) (asked : List (Option Request)) (lines : List (List ℕ)) : Type 0 where
+-- Lines are replied to as a batch of these customers over a shelf in memory, which began with empty
+-- tables.
+pub record Serves (settings : Settings) (asked : List (Option Request)) (lines : List (List ℕ))
+    : Type 0 where
   pub shelf : SqlShelf MemStore
   pub over : ServesOver memory settings shelf asked lines
-  pub from_empty : FromEmpty settings (map (ask_in settings.directory) asked) over.replied.0 over.new
+  pub from_empty : FromEmpty settings (map (ask_in settings.directory) asked) over.replied.0
+      over.new
 
 abbrev pub MemoryEnds : Settings → Type 0 → Streams → Streams → Result ⊤ Trouble → Type 0
 MemoryEnds settings untouched old new result =
-    RunEnds (Serves settings) untouched old new result ⊎ ((fault : Fault) × IsUnopened untouched fault result)
+    RunEnds (Serves settings) untouched old new result
+    ⊎ ((fault : Fault) × IsUnopened untouched fault result)
 
 -- ---- in memory, or in the file of a path
 
-abbrev pub StoreEnds : {S : Type 0} → Sight S → Option (List ℕ) → Settings → Type 0 → Streams → Streams → Result ⊤ Trouble → Type 0
-StoreEnds sight None settings untouched old new result = MemoryEnds settings untouched old new result
+abbrev pub StoreEnds : {S : Type 0} → Sight S → Option (List ℕ) → Settings → Type 0 → Streams →
+    Streams → Result ⊤ Trouble → Type 0
+StoreEnds sight None settings untouched old new result =
+    MemoryEnds settings untouched old new result
 StoreEnds sight (Some path) settings untouched old new result =
     OverFile sight (λ opened. OpenedEnds sight settings opened untouched old new result)

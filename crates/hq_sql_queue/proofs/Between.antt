@@ -8,7 +8,7 @@ use Rattle.sqlite_value.proofs.OrderLemmas.{value_cmp-Text}
 use Rattle.sqlite_typed.proofs.TestLemmas.{then_key, last_key, then_term, last_term}
 use Rattle.sqlite_keyed.proofs.ListLemmas.{map-map}
 use Rattle.hq_keyed.proofs.Terms.{text_is, number_from, number_to, number_order}
-use Rattle.hq_tables.specs.Rows.{pairs_of}
+use Rattle.hq_owned.specs.Rows.{pairs_of}
 use Rattle.hq_rows.specs.declared.rows.HoldRow.{HoldRow}
 use Rattle.hq_store.specs.Tables.{text_cmp}
 use Rattle.hq_rows.specs.Listed.{recipient_key, recipient_value, hold_key, hold_value}
@@ -22,23 +22,38 @@ use Rattle.hq_sql_queue.specs.Dealt.{is_within, is_between}
 use Rattle.hq_sql_queue.specs.Giving.{hold_serial}
 use Rattle.hq_sql_queue.proofs.Texts as text
 
--- the recipients of the customer's messages from one serial to another, in the order of their serials and places
-pub between_shown : (old new : State) (c : List ℕ) (low high : ℕ) (rows : List Row) → IsDesk old.now → Shown text.recipients_between_text (between_columns c low high) old new rows
-    → pairs_of recipient_key recipient_value (map recipient_shown rows) ≡ filter (is_between c low high) (entries (tables_in old.now).recipients)
+-- the recipients of the customer's messages from one serial to another, in the order of their
+-- serials and places
+pub between_shown : (old new : State) (c : List ℕ) (low high : ℕ) (rows : List Row) → IsDesk old.now
+    → Shown text.recipients_between_text (between_columns c low high) old new rows
+    → pairs_of recipient_key recipient_value (map recipient_shown rows) ≡ filter
+    (is_between c low high) (entries (tables_in old.now).recipients)
 between_shown old new c low high rows desk h =
-    lists_entries recipients_table old new desk text.recipients_between_text _ _ text.recipients_between_known refl refl refl (between_columns c low high) recipient_shown (λ k. refl) (is_between c low high)
-    (λ k. then_term (text_is k.1.customer c) (then_term (number_from k.1.serial low) (last_term (number_to k.1.serial high))))
-    (λ j k. then_key (value_cmp-Text j.1.customer k.1.customer) (then_key (number_order j.1.serial k.1.serial) (last_key (number_order j.1.place k.1.place)))) (λ xs. refl) rows h
+    lists_entries recipients_table old new desk text.recipients_between_text _ _
+    text.recipients_between_known refl refl refl (between_columns c low high) recipient_shown
+    (λ k. refl) (is_between c low high)
+    (λ k. then_term (text_is k.1.customer c)
+    (then_term (number_from k.1.serial low) (last_term (number_to k.1.serial high))))
+    (λ j k. then_key (value_cmp-Text j.1.customer k.1.customer)
+    (then_key (number_order j.1.serial k.1.serial)
+    (last_key (number_order j.1.place k.1.place)))) (λ xs. refl) rows h
 
 -- a reason at its message
 abbrev pub Entry : Type 0
 Entry = (List ℕ × ℕ) × List ℕ
 
 -- the reasons of the customer's messages from one serial to another
-pub holds_shown : (old new : State) (c : List ℕ) (low high : ℕ) (rows : List Row) → IsDesk old.now → Shown text.holds_between_text (between_columns c low high) old new rows
-    → map (λ r. (((hold_shown r).customer, hold_serial r), hold_value (hold_shown r))) rows ≡ filter (λ (e : Entry). eq_by_cmp text_cmp c e.0.0 && is_within low high e.0.1) (entries (tables_in old.now).holds)
+pub holds_shown : (old new : State) (c : List ℕ) (low high : ℕ) (rows : List Row) → IsDesk old.now →
+    Shown text.holds_between_text (between_columns c low high) old new rows
+    → map (λ r. (((hold_shown r).customer, hold_serial r), hold_value (hold_shown r))) rows ≡ filter
+    (λ (e : Entry). eq_by_cmp text_cmp c e.0.0 && is_within low high e.0.1)
+    (entries (tables_in old.now).holds)
 holds_shown old new c low high rows desk h =
     let test : Entry → Bool = λ e. eq_by_cmp text_cmp c e.0.0 && is_within low high e.0.1 in
     sym (map-map (λ (r : HoldRow). (hold_key r, hold_value r)) hold_shown rows)
-    ∙ lists_entries holds_table old new desk text.holds_between_text _ _ text.holds_between_known refl refl refl (between_columns c low high) hold_shown (λ k. refl) test
-    (λ k. then_term (text_is k.1.customer c) (then_term (number_from k.1.serial low) (last_term (number_to k.1.serial high)))) (λ j k. then_key (value_cmp-Text j.1.customer k.1.customer) (last_key (number_order j.1.serial k.1.serial))) (λ xs. refl) rows h
+    ∙ lists_entries holds_table old new desk text.holds_between_text _ _ text.holds_between_known
+    refl refl refl (between_columns c low high) hold_shown (λ k. refl) test
+    (λ k. then_term (text_is k.1.customer c)
+    (then_term (number_from k.1.serial low) (last_term (number_to k.1.serial high))))
+    (λ j k. then_key (value_cmp-Text j.1.customer k.1.customer)
+    (last_key (number_order j.1.serial k.1.serial))) (λ xs. refl) rows h

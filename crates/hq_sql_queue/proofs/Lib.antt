@@ -1,5 +1,6 @@
 pub mod Texts
 pub mod Between
+pub mod Lists
 pub mod Dealt
 pub mod GivenRows
 pub mod Reasons

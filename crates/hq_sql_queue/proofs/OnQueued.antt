@@ -1,5 +1,6 @@
 -- Whole messages: rows with their recipients, and reads one after another.
-use Rattle.std.proofs.Common.{◌≡◌, ℕ, true, List, [], ◌∷◌, map, filter, take, slice_get, option_map, Option, Some, None, Result, Ok, IfOk, refl, sym, ap, ◌∙◌, subst}
+use Rattle.std.proofs.Common.{◌≡◌, ℕ, true, List, [], ◌∷◌, map, filter, take, slice_get, option_map}
+use Rattle.std.proofs.Common.{Option, Some, None, Result, Ok, IfOk, refl, sym, ap, ◌∙◌, subst}
 use Rattle.std.specs.Ordering.{eq_by_cmp}
 use Rattle.std.specs.FinMap.{get, entries}
 use Rattle.std.specs.Prelude.{nat_lt}
@@ -9,12 +10,13 @@ use Rattle.std.proofs.lemmas.Result.{on_ok_weaker, on_err_weaker}
 use Rattle.sqlite.specs.declared.error.Error.{Error}
 use Rattle.sqlite.specs.Order as sqlite
 use Rattle.sqlite.specs.State.{State, HasCleanDisk, IsUnchanged}
-use Rattle.sqlite_keyed.proofs.ListLemmas.{map-map, map_same, filter-map, slice_get-filter, first_taken}
+use Rattle.sqlite_keyed.proofs.ListLemmas.{map-map, map_same, filter-map, slice_get-filter}
+use Rattle.sqlite_keyed.proofs.ListLemmas.{first_taken}
 use Rattle.hq_keyed.proofs.Left.{clean_before, quiet_then, keeps_then, unchanged_keeps}
 use Rattle.hq_keyed.proofs.Select.{option_map-map, find-map}
 use Rattle.hq_queue.specs.declared.message.Message.{Message}
-use Rattle.hq_tables.specs.Owned.{rows_of}
-use Rattle.hq_tables.proofs.OwnedPages.{owned}
+use Rattle.hq_owned.specs.Owned.{rows_of}
+use Rattle.hq_owned.proofs.OwnedPages.{owned}
 use Rattle.hq_rows.specs.declared.rows.MessageRow.{MessageRow}
 use Rattle.hq_store.specs.Tables.{Tables, Row, text_cmp, joined}
 use Rattle.hq_rows.specs.Listed.{message_key, message_value}
@@ -43,12 +45,17 @@ whole_own c t e = joined c t.recipients t.holds e.0 e.1
 abbrev own : Entry → ℕ × Row
 own e = (e.0.1, e.1)
 
-wholes : (c : List ℕ) (t : Tables) (rows : List sqlite.Row) → map (whole c t) rows ≡ map (whole_entry c t) (pairs rows)
+wholes : (c : List ℕ) (t : Tables) (rows : List sqlite.Row) →
+    map (whole c t) rows ≡ map (whole_entry c t) (pairs rows)
 wholes c t rows =
-    sym (map-map (whole_entry c t) (λ r. (message_key (message_shown r), message_value (message_shown r))) rows)
-    ∙ ap (map (whole_entry c t)) (sym (map-map (λ (r : MessageRow). (message_key r, message_value r)) message_shown rows))
+    sym (map-map (whole_entry c t)
+    (λ r. (message_key (message_shown r), message_value (message_shown r))) rows)
+    ∙ ap (map (whole_entry c t)) (sym
+    (map-map (λ (r : MessageRow). (message_key r, message_value r)) message_shown rows))
 
-after_is : (c : List ℕ) (t : Tables) (after : Option ℕ) (es : List (ℕ × Row)) → after_serial after (map (whole_own c t) es) ≡ map (whole_own c t) (filter (λ (e : ℕ × Row). is_after after e.0) es)
+after_is : (c : List ℕ) (t : Tables) (after : Option ℕ) (es : List (ℕ × Row)) →
+    after_serial after (map (whole_own c t) es) ≡ map (whole_own c t)
+    (filter (λ (e : ℕ × Row). is_after after e.0) es)
 after_is c t None es = ap (map (whole_own c t)) (sym (all es)) where
   all : (es : List (ℕ × Row)) → filter (λ (e : ℕ × Row). true) es ≡ es
   all [] = refl
@@ -56,31 +63,54 @@ after_is c t None es = ap (map (whole_own c t)) (sym (all es)) where
 after_is c t (Some n) es = filter-map (λ (m : Message). nat_lt n m.serial) (whole_own c t) es
 
 -- the entries of a page, with their recipients
-pub page_whole : (c : List ℕ) (t : Tables) (after : Option ℕ) (limit : ℕ) → map (with_parts c t) (map bare_entry (take limit (filter (is_on_page c after) (entries t.messages)))) ≡ page_of after limit (read_tables c t).messages
+pub page_whole : (c : List ℕ) (t : Tables) (after : Option ℕ) (limit : ℕ) →
+    map (with_parts c t) (map bare_entry
+    (take limit (filter (is_on_page c after) (entries t.messages)))) ≡ page_of after limit
+    (read_tables c t).messages
 page_whole c t after limit =
-    map-map (with_parts c t) bare_entry (take limit (filter (is_on_page c after) (entries t.messages)))
-    ∙ map_same (λ e. with_parts c t (bare_entry e)) (whole_entry c t) (parts_joined c t) (take limit (filter (is_on_page c after) (entries t.messages)))
+    map-map (with_parts c t) bare_entry (take limit
+    (filter (is_on_page c after) (entries t.messages)))
+    ∙ map_same (λ e. with_parts c t (bare_entry e)) (whole_entry c t) (parts_joined c t)
+    (take limit (filter (is_on_page c after) (entries t.messages)))
     ∙ sym (take-map (whole_entry c t) limit (filter (is_on_page c after) (entries t.messages)))
-    ∙ ap (take limit) (sym (map-map (whole_own c t) own (filter (is_on_page c after) (entries t.messages))) ∙ ap (map (whole_own c t)) (owned text_cmp (λ (e : ℕ × Row). is_after after e.0) c (entries t.messages))
+    ∙ ap (take limit) (sym (map-map (whole_own c t) own
+    (filter (is_on_page c after) (entries t.messages)))
+    ∙ ap (map (whole_own c t)) (owned text_cmp (λ (e : ℕ × Row). is_after after e.0) c
+    (entries t.messages))
     ∙ sym (after_is c t after (rows_of text_cmp c (entries t.messages))))
 
 -- the first row with a spool name, with its recipients
-pub spool_whole : (c : List ℕ) (t : Tables) (p : List ℕ) (rows : List sqlite.Row) → pairs rows ≡ take 1 (filter (has_spool_name c p) (entries t.messages))
+pub spool_whole : (c : List ℕ) (t : Tables) (p : List ℕ) (rows : List sqlite.Row) →
+    pairs rows ≡ take 1 (filter (has_spool_name c p) (entries t.messages))
     → option_map (whole c t) (slice_get rows 0) ≡ (read_tables c t).by_spool p
 spool_whole c t p rows h =
     let es = entries t.messages in
     let passing = filter (has_spool_name c p) es in
-    sym (slice_get-map (whole c t) rows 0) ∙ ap (λ ms. slice_get ms 0) (wholes c t rows ∙ ap (map (whole_entry c t)) h) ∙ slice_get-map (whole_entry c t) (take 1 passing) 0
-    ∙ ap (option_map (whole_entry c t)) (first_taken passing) ∙ sym (slice_get-map (whole_entry c t) passing 0)
-    ∙ ap (λ ms. slice_get ms 0) (sym (map-map (whole_own c t) own passing) ∙ ap (map (whole_own c t)) (owned text_cmp (λ (e : ℕ × Row). eq_by_cmp text_cmp p e.1.spool) c es))
-    ∙ slice_get-map (whole_own c t) (filter (λ (e : ℕ × Row). eq_by_cmp text_cmp p e.1.spool) (rows_of text_cmp c es)) 0
-    ∙ ap (option_map (whole_own c t)) (slice_get-filter (λ (e : ℕ × Row). eq_by_cmp text_cmp p e.1.spool) (rows_of text_cmp c es))
-    ∙ sym (find-map (λ (m : Message). eq_by_cmp text_cmp p m.spool) (whole_own c t) (rows_of text_cmp c es))
+    sym (slice_get-map (whole c t) rows 0) ∙ ap (λ ms. slice_get ms 0) (wholes c t rows
+    ∙ ap (map (whole_entry c t)) h) ∙ slice_get-map (whole_entry c t) (take 1 passing) 0
+    ∙ ap (option_map (whole_entry c t)) (first_taken passing)
+    ∙ sym (slice_get-map (whole_entry c t) passing 0)
+    ∙ ap (λ ms. slice_get ms 0) (sym (map-map (whole_own c t) own passing)
+    ∙ ap (map (whole_own c t)) (owned text_cmp (λ (e : ℕ × Row). eq_by_cmp text_cmp p e.1.spool)
+    c es))
+    ∙ slice_get-map (whole_own c t) (filter (λ (e : ℕ × Row). eq_by_cmp text_cmp p e.1.spool)
+    (rows_of text_cmp c es)) 0
+    ∙ ap (option_map (whole_own c t)) (slice_get-filter (λ (e : ℕ × Row). eq_by_cmp text_cmp p
+    e.1.spool) (rows_of text_cmp c es))
+    ∙ sym (find-map (λ (m : Message). eq_by_cmp text_cmp p m.spool) (whole_own c t)
+    (rows_of text_cmp c es))
 
 -- the row at a serial, with its recipients
-pub message_whole : (c : List ℕ) (t : Tables) (serial : ℕ) (rows : List sqlite.Row) → option_map (λ r. message_value (message_shown r)) (slice_get rows 0) ≡ get t.messages (c, serial)
-    → option_map (λ r. joined c t.recipients t.holds serial (message_value (message_shown r))) (slice_get rows 0) ≡ (read_tables c t).message serial
-message_whole c t serial rows h = sym (option_map-map (joined c t.recipients t.holds serial) (λ r. message_value (message_shown r)) (slice_get rows 0)) ∙ ap (option_map (joined c t.recipients t.holds serial)) h
+pub message_whole : (c : List ℕ) (t : Tables) (serial : ℕ) (rows : List sqlite.Row) →
+    option_map (λ r. message_value (message_shown r)) (slice_get rows 0) ≡ get t.messages (
+      c,
+      serial,
+    )
+    → option_map (λ r. joined c t.recipients t.holds serial (message_value (message_shown r)))
+    (slice_get rows 0) ≡ (read_tables c t).message serial
+message_whole c t serial rows h = sym
+    (option_map-map (joined c t.recipients t.holds serial) (λ r. message_value (message_shown r))
+    (slice_get rows 0)) ∙ ap (option_map (joined c t.recipients t.holds serial)) h
 
 -- ---- reads one after another
 
@@ -98,22 +128,35 @@ unchanged_then a b c p q = (
 )
 
 -- a query that was answered, and another read after it
-module _ {X Y : Type 0} (a b c : State) (x : X) (r : Result Y Error) (first : Keeps a b (Ok x)) (second : Keeps b c r) where
+module _ {X Y : Type 0} (a b c : State) (x : X) (r : Result Y Error) (first : Keeps a b (Ok x))
+    (second : Keeps b c r) where
   desk_there : HasCleanDisk c → IsDesk a.now → IsDesk b.now
-  desk_there clean desk = subst IsDesk (sym (first.same (clean_before b c second.quiet clean) desk).0.now_is) desk
+  desk_there clean desk = subst IsDesk
+      (sym (first.same (clean_before b c second.quiet clean) desk).0.now_is) desk
 
   pub keeps_both : Keeps a c r
   keeps_both = record {
-    same = λ clean desk. on_ok_weaker r (unchanged_then a b c (first.same (clean_before b c second.quiet clean) desk)) (second.same clean (desk_there clean desk));
-    kept = λ clean desk. on_err_weaker r (keeps_then a b c (unchanged_keeps a b (first.same (clean_before b c second.quiet clean) desk))) (second.kept clean (desk_there clean desk));
+    same = λ clean desk. on_ok_weaker r
+        (unchanged_then a b c (first.same (clean_before b c second.quiet clean) desk))
+        (second.same clean (desk_there clean desk));
+    kept = λ clean desk. on_err_weaker r
+        (keeps_then a b c (unchanged_keeps a b
+        (first.same (clean_before b c second.quiet clean) desk)))
+        (second.kept clean (desk_there clean desk));
     quiet = quiet_then a b c first.quiet second.quiet;
-    stops = λ desk clean db may. first.stops desk (clean_before b c second.quiet clean) db (second.stops (desk_there clean desk) clean db may);
+    stops = λ desk clean db may. first.stops desk (clean_before b c second.quiet clean) db
+        (second.stops (desk_there clean desk) clean db may);
   }
 
   -- what the other read finds is of the tables before both
-  pub finds_both : {Z : Type 0} (f : Tables → Z) (g : Y → Z) → (HasCleanDisk c → IsDesk b.now → IfOk r (λ found. g found ≡ f (tables_in b.now))) → HasCleanDisk c → IsDesk a.now → IfOk r (λ found. g found ≡ f (tables_in a.now))
-  finds_both f g h clean desk = subst (λ db. IfOk r (λ found. g found ≡ f (tables_in db))) (first.same (clean_before b c second.quiet clean) desk).0.now_is (h clean (desk_there clean desk))
+  pub finds_both : {Z : Type 0} (f : Tables → Z) (g : Y → Z) →
+      (HasCleanDisk c → IsDesk b.now → IfOk r (λ found. g found ≡ f (tables_in b.now))) →
+      HasCleanDisk c → IsDesk a.now → IfOk r (λ found. g found ≡ f (tables_in a.now))
+  finds_both f g h clean desk = subst (λ db. IfOk r (λ found. g found ≡ f (tables_in db)))
+      (first.same (clean_before b c second.quiet clean) desk).0.now_is
+      (h clean (desk_there clean desk))
 
   -- what the first read found stands
-  pub first_found : {P : Type 0} → (HasCleanDisk b → IsDesk a.now → P) → HasCleanDisk c → IsDesk a.now → P
+  pub first_found : {P : Type 0} → (HasCleanDisk b → IsDesk a.now → P) → HasCleanDisk c →
+      IsDesk a.now → P
   first_found h clean desk = h (clean_before b c second.quiet clean) desk

@@ -1,6 +1,7 @@
 -- Recipients dealt to the messages of a page as their rows come.
 -- Inner: it serves proofs alone, and no promise rests on it.
-use Rattle.std.specs.Prelude.{◌≡◌, ℕ, zero, suc, ◌-◌, ◌<◌, ◌≤◌, length, Bool, ◌==◌, ◌&&◌, nat_le, List, [], ◌∷◌, ◌++◌, map, Some, slice_get, if◌then◌else◌}
+use Rattle.std.specs.Prelude.{◌≡◌, ℕ, zero, suc, ◌-◌, ◌<◌, ◌≤◌, length, Bool, ◌==◌, ◌&&◌, nat_le}
+use Rattle.std.specs.Prelude.{List, [], ◌∷◌, ◌++◌, map, Some, slice_get, if◌then◌else◌}
 use Rattle.std.specs.Ordering.{eq_by_cmp}
 use Rattle.sqlite.specs.Order.{Row}
 use Rattle.sqlite_trees.specs.Tree.{IsAscending}
@@ -35,7 +36,10 @@ pub record Spans (page : List Message) (low high : ℕ) : Type 0 where
 
 -- the message with all its recipients behind those that it has
 abbrev pub with_dealt : List ℕ → Tables → Message → Message
-with_dealt customer t m = record m { pending = m.pending ++ pending_of customer m.serial t.recipients }
+with_dealt customer t m = record m {
+  pending = m.pending
+      ++ pending_of customer m.serial t.recipients;
+}
 
 -- ---- one row
 
@@ -47,7 +51,8 @@ recipient_in r = recipient_value (recipient_shown r)
 
 -- the message with one recipient more, if it has this serial
 abbrev pub dealt_one : ℕ → Pending → Message → Message
-dealt_one serial recipient m = if m.serial == serial then record m { pending = m.pending ++ recipient ∷ [] } else m
+dealt_one serial recipient m = if m.serial == serial then
+    record m { pending = m.pending ++ recipient ∷ [] } else m
 
 -- f of the element at this place, where there is one
 abbrev pub at_place : {A : Type 0} → (A → A) → List A → ℕ → List A
@@ -61,6 +66,7 @@ pub record IsPlaceFrom (serials : List ℕ) (from serial place : ℕ) : Type 0 w
   pub there : (n : ℕ) → slice_get serials place ≡ Some n → serial ≤ n
 
 -- a row's recipient is dealt to its message, sought from the place of the last one on
-pub record Deals (before : List Message) (from : ℕ) (r : Row) (after : List Message) (place : ℕ) : Type 0 where
+pub record Deals (before : List Message) (from : ℕ) (r : Row) (after : List Message) (place : ℕ)
+    : Type 0 where
   pub place_is : IsPlaceFrom (serials_of before) from (serial_in r) place
   pub dealt : after ≡ at_place (dealt_one (serial_in r) (recipient_in r)) before place

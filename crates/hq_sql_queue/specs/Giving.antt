@@ -14,7 +14,8 @@ abbrev pub given_one : ℕ → (Message → Message) → Message → Message
 given_one serial f m = if m.serial == serial then f m else m
 
 -- a row gives to its message, sought from the place of the last one on
-pub record Gives (serial_in : Row → ℕ) (give : Row → Message → Message) (before : List Message) (from : ℕ) (r : Row) (after : List Message) (place : ℕ) : Type 0 where
+pub record Gives (serial_in : Row → ℕ) (give : Row → Message → Message) (before : List Message)
+    (from : ℕ) (r : Row) (after : List Message) (place : ℕ) : Type 0 where
   pub place_is : IsPlaceFrom (serials_of before) from (serial_in r) place
   pub given : after ≡ at_place (given_one (serial_in r) (give r)) before place
 

@@ -9,4 +9,5 @@ use Rattle.hq_sql.specs.Rows.{message_shown}
 
 -- the message of a row of an answer, with its recipients
 abbrev pub whole : List ℕ → Tables → Row → Message
-whole customer t r = joined customer t.recipients t.holds (message_shown r).serial (message_value (message_shown r))
+whole customer t r = joined customer t.recipients t.holds (message_shown r).serial
+    (message_value (message_shown r))

@@ -5,7 +5,8 @@ ghost use Rattle.std.specs.Prelude.{◌≡◌, map};
 ghost use Rattle.sqlite.specs.Held.{state};
 ghost use Rattle.hq_sql.specs.Kept.{Shows, Keeps};
 ghost use Rattle.hq_sql_queue.specs.Dealt.{serials_of, Rise, at_place, Spans};
-ghost use Rattle.hq_sql_queue.specs.Giving.{Gives, given_one, put_reason, hold_serial, give_reason, with_held};
+ghost use Rattle.hq_sql_queue.specs.Giving.{Gives, given_one, put_reason, hold_serial, give_reason};
+ghost use Rattle.hq_sql_queue.specs.Giving.{with_held};
 
 use crate::dealing::place_from;
 use hq_envelope::{Name, Serial, Text};

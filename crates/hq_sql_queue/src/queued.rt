@@ -137,9 +137,9 @@ fn filled<S: Alter>(
 }
 
 /// The customer's messages after a serial, or all, with their recipients and reasons, in order of
-/// serial: at most `limit` of them. A limit of 2^63 or more is an error. Nothing is held here but the page:
-/// the rows of the messages are lent one after another, then those of their recipients, and then
-/// those of their reasons.
+/// serial: at most `limit` of them. A limit of 2^63 or more is an error. Nothing is held here but
+/// the page: the rows of the messages are lent one after another, then those of their recipients,
+/// and then those of their reasons.
 pub fn page<S: Alter>(
     alloc: Global,
     conn: &mut Connection<S>,

@@ -24,19 +24,27 @@ abbrev pub recipient_columns : List Term
 recipient_columns = col 1 1 ∷ col 1 2 ∷ col 1 3 ∷ col 1 4 ∷ col 1 5 ∷ col 1 6 ∷ []
 
 abbrev pub recipient_names : List (List ℕ)
-recipient_names = codes "customer" ∷ codes "serial" ∷ codes "place" ∷ codes "address" ∷ codes "status" ∷ codes "reason" ∷ []
+recipient_names = codes "customer" ∷ codes "serial" ∷ codes "place" ∷ codes "address"
+    ∷ codes "status" ∷ codes "reason" ∷ []
 
 abbrev pub recipient_order : Query → Query
-recipient_order q = record q { order = (col 1 1, ascending Binary) ∷ (col 1 2, ascending Binary) ∷ (col 1 3, ascending Binary) ∷ [] }
+recipient_order q = record q {
+  order = (col 1 1, ascending Binary) ∷ (col 1 2, ascending Binary)
+      ∷ (col 1 3, ascending Binary) ∷ [];
+}
 
 -- the rowid, and then the row as it is to be: the columns of the key stay
 abbrev pub recipient_updated : List Term
-recipient_updated = col 1 0 ∷ col 1 0 ∷ col 1 1 ∷ col 1 2 ∷ col 1 3 ∷ col 0 3 ∷ col 0 4 ∷ col 0 5 ∷ []
+recipient_updated = col 1 0 ∷ col 1 0 ∷ col 1 1 ∷ col 1 2 ∷ col 1 3 ∷ col 0 3 ∷ col 0 4 ∷ col 0 5
+    ∷ []
 
 abbrev pub recipient_update_text : List ℕ
-recipient_update_text = codes "UPDATE recipients SET address = ?4, status = ?5, reason = ?6 WHERE customer = ?1 AND serial = ?2 AND place = ?3"
+recipient_update_text =
+    codes
+    "UPDATE recipients SET address = ?4, status = ?5, reason = ?6 WHERE customer = ?1 AND serial = ?2 AND place = ?3"
 
-pub recipient_update_known : Orders desk_schema recipient_update_text (Update 3 (record { lets = []; body = query_of 6 recipient_key recipient_updated }))
+pub recipient_update_known : Orders desk_schema recipient_update_text
+    (Update 3 (record { lets = []; body = query_of 6 recipient_key recipient_updated }))
 unfolding understood everything
 recipient_update_known = record { is = refl; plain = (refl, refl) }
 
@@ -44,25 +52,34 @@ abbrev pub recipient_inserted : List Term
 recipient_inserted = lit Null ∷ col 0 0 ∷ col 0 1 ∷ col 0 2 ∷ col 0 3 ∷ col 0 4 ∷ col 0 5 ∷ []
 
 abbrev pub recipient_insert_text : List ℕ
-recipient_insert_text = codes "INSERT INTO recipients (customer, serial, place, address, status, reason) VALUES (?1, ?2, ?3, ?4, ?5, ?6)"
+recipient_insert_text =
+    codes
+    "INSERT INTO recipients (customer, serial, place, address, status, reason) VALUES (?1, ?2, ?3, ?4, ?5, ?6)"
 
-pub recipient_insert_known : Orders desk_schema recipient_insert_text (Insert 3 (Values recipient_inserted 7))
+pub recipient_insert_known : Orders desk_schema recipient_insert_text
+    (Insert 3 (Values recipient_inserted 7))
 unfolding understood everything
 recipient_insert_known = record { is = refl; plain = (refl, refl) }
 
 abbrev pub recipients_read_text : List ℕ
-recipients_read_text = codes "SELECT customer, serial, place, address, status, reason FROM recipients WHERE customer = ?1 AND serial = ?2 ORDER BY customer, serial, place"
+recipients_read_text =
+    codes
+    "SELECT customer, serial, place, address, status, reason FROM recipients WHERE customer = ?1 AND serial = ?2 ORDER BY customer, serial, place"
 
-pub recipients_read_known : Asks desk_schema recipients_read_text (recipient_order (query_of 6 (at 1 0 ∷ at 2 1 ∷ []) recipient_columns)) recipient_names
+pub recipients_read_known : Asks desk_schema recipients_read_text
+    (recipient_order (query_of 6 (at 1 0 ∷ at 2 1 ∷ []) recipient_columns)) recipient_names
 unfolding understood everything
 recipients_read_known = record { is = refl; plain = (refl, refl); unlisted = refl }
 
 abbrev pub beside_terms : List Term
-beside_terms = at 1 0 ∷ at 2 1 ∷ op2 Or (op2 (Compare Lt Binary) (col 1 3) (lit (Int (pos 1)))) (op2 (Compare Gt Binary) (col 1 3) (col 0 2)) ∷ []
+beside_terms = at 1 0 ∷ at 2 1 ∷ op2 Or (op2 (Compare Lt Binary) (col 1 3) (lit (Int (pos 1))))
+    (op2 (Compare Gt Binary) (col 1 3) (col 0 2)) ∷ []
 
 abbrev pub beside_text : List ℕ
-beside_text = codes "DELETE FROM recipients WHERE customer = ?1 AND serial = ?2 AND (place < 1 OR place > ?3)"
+beside_text =
+    codes "DELETE FROM recipients WHERE customer = ?1 AND serial = ?2 AND (place < 1 OR place > ?3)"
 
-pub beside_known : Orders desk_schema beside_text (Delete 3 (record { lets = []; body = query_of 6 beside_terms (col 1 0 ∷ []) }))
+pub beside_known : Orders desk_schema beside_text (Delete 3
+    (record { lets = []; body = query_of 6 beside_terms (col 1 0 ∷ []) }))
 unfolding understood everything
 beside_known = record { is = refl; plain = (refl, refl) }

@@ -1,6 +1,7 @@
 -- Places of recipients.
 -- Inner: it serves proofs alone, and no promise rests on it.
-use Rattle.std.specs.Prelude.{◌≡◌, ◌+◌, ℕ, Bool, ◌&&◌, ◌||◌, nat_lt, List, Some, option_map, slice_get}
+use Rattle.std.specs.Prelude.{◌≡◌, ◌+◌, ℕ, Bool, ◌&&◌, ◌||◌, nat_lt, List, Some, option_map}
+use Rattle.std.specs.Prelude.{slice_get}
 use Rattle.std.specs.Ordering.{nat_cmp, eq_by_cmp}
 use Rattle.hq_queue.specs.declared.message.Pending.{Pending}
 use Rattle.hq_store.specs.Tables.{text_cmp}
@@ -14,7 +15,8 @@ is_far n place = nat_lt place 1 || nat_lt n place
 
 -- a recipient of the message at no place of 1 to n
 abbrev pub is_beside : List ℕ → ℕ → ℕ → List ℕ × (ℕ × ℕ) → Bool
-is_beside customer serial n k = (eq_by_cmp text_cmp customer k.0 && eq_by_cmp nat_cmp serial k.1.0) && is_far n k.1.1
+is_beside customer serial n k = (eq_by_cmp text_cmp customer k.0 && eq_by_cmp nat_cmp serial k.1.0)
+    && is_far n k.1.1
 
 -- a recipient of the message
 abbrev pub is_of : List ℕ → ℕ → (List ℕ × (ℕ × ℕ)) × Pending → Bool

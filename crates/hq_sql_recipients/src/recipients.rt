@@ -3,13 +3,13 @@
 ghost use Rattle.std.specs.Prelude.{[], map, filter};
 ghost use Rattle.std.specs.FinMap.{get, entries};
 ghost use Rattle.sqlite.specs.Held.{state};
-ghost use Rattle.hq_tables.specs.Rows.{pairs_of};
+ghost use Rattle.hq_owned.specs.Rows.{pairs_of};
 ghost use Rattle.hq_store.specs.Tables.{pending_of};
 ghost use Rattle.hq_rows.specs.Listed.{recipient_key, recipient_value};
 ghost use Rattle.hq_sql.specs.Rows.{recipient_shown};
 ghost use Rattle.hq_sql.specs.Kept.{Shows, Finds, Makes, Inserts, Updates, Keeps, KeepsCommitted};
 ghost use Rattle.hq_sql_recipients.specs.Places.{is_of};
-ghost use Rattle.hq_sql_recipients.specs.Recipients.{recipient_row, with_recipient};
+ghost use Rattle.hq_sql_recipients.specs.Recipients.{Puts, recipient_row, with_recipient};
 ghost use Rattle.hq_sql_recipients.specs.Recipients.{without_beside, with_pending};
 
 use crate::places;
@@ -98,18 +98,24 @@ fn insert<S: Alter>(
     Ok(())
 }
 
-/// Sets the recipient at a place of the message, in the row that is there or a new one.
+/// Sets the recipient at a place of the message, in the row that is there or a new one. At a place
+/// that is told to be free, the row is added at once.
 fn put_at<S: Alter>(
     conn: &mut Connection<S>,
     customer: &Name,
     serial: Serial,
     place: u32,
     recipient: &Pending,
+    is_free: bool,
 ) -> Result<(), Error>
-    ensures made { Makes (state S.Store conn.old) (state S.Store conn.new) result
+    ensures made { Puts (state S.Store conn.old) (state S.Store conn.new) result is_free
+        (λ t. get t.recipients (customer.now, (serial, place)))
         (with_recipient (recipient_row customer.now serial place recipient.now)) }
     ensures kept { KeepsCommitted (state S.Store conn.old) (state S.Store conn.new) }
 {
+    if is_free {
+        return insert(conn, customer, serial, place, recipient);
+    }
     if !update(conn, customer, serial, place, recipient)? {
         insert(conn, customer, serial, place, recipient)?;
     }
@@ -136,8 +142,8 @@ fn drop_beside<S: Alter>(
 }
 
 /// Puts the recipients of a message at the places 1, 2, .. instead of all that it had. A row that
-/// has its recipient already is not written, and none is dropped where the list did not get
-/// shorter. More than 2^32 - 1 recipients are an error.
+/// has its recipient already is not written. Where the message had none, all are added at once, and
+/// none is dropped where the list did not get shorter. More than 2^32 - 1 recipients are an error.
 pub fn put<S: Alter>(
     conn: &mut Connection<S>,
     customer: &Name,
@@ -150,12 +156,13 @@ pub fn put<S: Alter>(
 {
     let count = places::count(pending)?;
     let rows = query(conn, customer, serial)?;
+    let are_free = rows.as_slice().is_empty();
     let mut last = 0;
     for recipient in pending {
         let is_there = places::stands(rows.as_slice(), last, recipient)?;
         last += 1;
         if !is_there {
-            put_at(conn, customer, serial, last, recipient)?;
+            put_at(conn, customer, serial, last, recipient, are_free)?;
         }
     }
     if places::are_beside(rows.as_slice(), count)? {

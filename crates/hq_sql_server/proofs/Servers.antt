@@ -14,25 +14,35 @@ use Rattle.hq_settings.specs.declared.settings.Settings.{Settings}
 use Rattle.hq_program.specs.declared.trouble.Trouble.{Trouble}
 use Rattle.hq_sql_program.specs.Runs.{memory}
 use Rattle.hq_sql_program.proofs.Memory.{from_empty}
-use Rattle.hq_sql_server.specs.Runs.{ServesConnections, ServesEmpty, ServedEnds, OpenedEnds, MemoryEnds}
+use Rattle.hq_sql_server.specs.Runs.{ServesConnections, ServesEmpty, ServedEnds, OpenedServerEnds}
+use Rattle.hq_sql_server.specs.Runs.{MemoryServerEnds}
 
-module _ (served other : Type 0) (so : served → other) (unwritten : Type 0) (old new : Option (List ℕ)) (result : Result ⊤ Trouble) where
+module _ (served other : Type 0) (so : served → other) (unwritten : Type 0)
+    (old new : Option (List ℕ)) (result : Result ⊤ Trouble) where
   -- what is said of the connections may be said in other words
-  pub served_ends_as : ServedEnds served unwritten old new result → ServedEnds other unwritten old new result
+  pub served_ends_as : ServedEnds served unwritten old new result →
+      ServedEnds other unwritten old new result
   served_ends_as (inl unheard) = inl unheard
   served_ends_as (inr ended) = inr (ended.0, ended.1, so ended.2)
 
-serves_empty : (settings : Settings) (count : ℕ) (shelf : SqlShelf MemStore) → IsOurs (state over_memory shelf.conn) → tables_in (state over_memory shelf.conn).committed ≡ no_tables
+serves_empty : (settings : Settings) (count : ℕ) (shelf : SqlShelf MemStore) →
+    IsOurs (state over_memory shelf.conn) →
+    tables_in (state over_memory shelf.conn).committed ≡ no_tables
     → ServesConnections memory settings count shelf → ServesEmpty settings count
 serves_empty settings count shelf ours none it = record {
   shelf = shelf;
   over = it;
-  from_empty = from_empty settings shelf ours none it.old it.new it.host_is it.shelf_is it.served.asks it.served.replies it.served.served;
+  from_empty = from_empty settings shelf ours none it.old it.new it.host_is it.shelf_is
+      it.served.asks it.served.replies it.served.served;
 }
 
-pub memory_ends : (settings : Settings) (count : ℕ) (opened : Result (SqlShelf MemStore) Fault) (unwritten : Type 0) (old new : Option (List ℕ)) (result : Result ⊤ Trouble)
-    → IfOk opened (λ s. IsOurs (state over_memory s.conn)) → IfOk opened (λ s. tables_in (state over_memory s.conn).committed ≡ no_tables)
-    → OpenedEnds memory settings count opened unwritten old new result → MemoryEnds settings count unwritten old new result
+pub memory_ends : (settings : Settings) (count : ℕ) (opened : Result (SqlShelf MemStore) Fault)
+    (unwritten : Type 0) (old new : Option (List ℕ)) (result : Result ⊤ Trouble)
+    → IfOk opened (λ s. IsOurs (state over_memory s.conn)) →
+    IfOk opened (λ s. tables_in (state over_memory s.conn).committed ≡ no_tables)
+    → OpenedServerEnds memory settings count opened unwritten old new result →
+    MemoryServerEnds settings count unwritten old new result
 memory_ends settings count (Ok shelf) unwritten old new result ours none p =
-    inl (served_ends_as (ServesConnections memory settings count shelf) (ServesEmpty settings count) (serves_empty settings count shelf ours none) unwritten old new result p)
+    inl (served_ends_as (ServesConnections memory settings count shelf) (ServesEmpty settings count)
+    (serves_empty settings count shelf ours none) unwritten old new result p)
 memory_ends settings count (Err fault) unwritten old new result ours none p = inr (fault, p)

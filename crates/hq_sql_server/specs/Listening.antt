@@ -26,16 +26,19 @@ IsUntold unwritten Output = ⊤
 IsUntold unwritten (Desk (AsFault fault)) = unwritten × (fault ≡ no_memory)
 IsUntold unwritten _ = ⊥
 
-abbrev pub TellsAddress : SocketAddr → Type 0 → Option (List ℕ) → Option (List ℕ) → Result ⊤ Trouble → Type 0
+abbrev pub TellsAddress : SocketAddr → Type 0 → Option (List ℕ) → Option (List ℕ) → Result ⊤ Trouble
+    → Type 0
 TellsAddress address unwritten old new (Ok _) = IsTold address old new
 TellsAddress address unwritten old new (Err trouble) = IsUntold unwritten trouble
 
--- why nothing is listened on: the address is none or cannot be bound, and nothing is written; or it is not told
+-- why nothing is listened on: the address is none or cannot be bound, and nothing is written; or it
+-- is not told
 abbrev pub IsUnbound : Type 0 → Trouble → Type 0
 IsUnbound unwritten Network = unwritten
 IsUnbound unwritten trouble = IsUntold unwritten trouble
 
 -- An address is listened on and told; or there is none.
-abbrev pub ListenEnds : {A : Type 0} → Type 0 → Option (List ℕ) → Option (List ℕ) → Result A Trouble → Type 0
+abbrev pub ListenEnds : {A : Type 0} → Type 0 → Option (List ℕ) → Option (List ℕ) → Result A Trouble
+    → Type 0
 ListenEnds unwritten old new (Ok listener) = HasTold old new
 ListenEnds unwritten old new (Err trouble) = IsUnbound unwritten trouble

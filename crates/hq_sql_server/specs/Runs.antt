@@ -8,7 +8,7 @@ use Rattle.hq_sql_shelf.specs.declared.shelf.SqlShelf.{SqlShelf}
 use Rattle.hq_desk.specs.Desks.{host_of, shelf_of}
 use Rattle.hq_desk.specs.declared.desk.Desk.{Desk}
 use Rattle.hq_settings.specs.declared.settings.Settings.{Settings}
-use Rattle.hq_listener.specs.Listening.{DoesSome}
+use Rattle.hq_serve.specs.Listening.{DoesSome}
 use Rattle.hq_words.specs.declared.options.Serve.{Serve}
 use Rattle.hq_program.specs.SettingUp.{SetsUp}
 use Rattle.hq_program.specs.declared.trouble.Trouble.{Trouble}
@@ -17,15 +17,17 @@ use Rattle.hq_sql_program.specs.Runs.{memory, FromEmpty, IsUnopened}
 use Rattle.hq_sql_server.specs.Listening.{HasTold, IsUnbound}
 
 -- So many connections at most are served by a desk over this shelf, as a run of exchanges.
-pub record ServesConnections {S : Type 0} (sight : Sight S) (settings : Settings) (count : ℕ) (shelf : S) : Type 0 where
+pub record ServesConnections {S : Type 0} (sight : Sight S) (settings : Settings) (count : ℕ)
+    (shelf : S) : Type 0 where
   pub old : Desk S
   pub host_is : host_of old ≡ settings.host
   pub shelf_is : shelf_of old ≡ shelf
   pub new : Desk S
   pub served : DoesSome sight settings.directory count old new
 
--- Why no more are served: as many came as there were to be, or one could not be accepted, or the clock tells no moment.
--- That as many came is said where connections are counted, of `serve_on`; nothing that is seen here tells of a socket.
+-- Why no more are served: as many came as there were to be, or one could not be accepted, or the
+-- clock tells no moment. That as many came is said where connections are counted, of `serve_on`;
+-- nothing that is seen here tells of a socket.
 abbrev pub IsEnd : Result ⊤ Trouble → Type 0
 IsEnd (Ok _) = ⊤
 IsEnd (Err Network) = ⊤
@@ -37,49 +39,66 @@ abbrev pub IsUnheard : Type 0 → Result ⊤ Trouble → Type 0
 IsUnheard unwritten (Ok _) = ⊥
 IsUnheard unwritten (Err trouble) = IsUnbound unwritten trouble
 
--- How a server ends: nothing is listened on; or the address is told, and then connections are served so.
-abbrev pub ServedEnds : Type 0 → Type 0 → Option (List ℕ) → Option (List ℕ) → Result ⊤ Trouble → Type 0
+-- How a server ends: nothing is listened on; or the address is told, and then connections are
+-- served so.
+abbrev pub ServedEnds : Type 0 → Type 0 → Option (List ℕ) → Option (List ℕ) → Result ⊤ Trouble →
+    Type 0
 ServedEnds served unwritten old new result =
     IsUnheard unwritten result ⊎ (HasTold old new × IsEnd result × served)
 
-abbrev pub ShelfEnds : {S : Type 0} → Sight S → Settings → ℕ → S → Type 0 → Option (List ℕ) → Option (List ℕ) → Result ⊤ Trouble → Type 0
+abbrev pub ShelfEnds : {S : Type 0} → Sight S → Settings → ℕ → S → Type 0 → Option (List ℕ) →
+    Option (List ℕ) → Result ⊤ Trouble → Type 0
 ShelfEnds sight settings count shelf = ServedEnds (ServesConnections sight settings count shelf)
 
 -- over a desk as it was opened: over this shelf, or there is none
-abbrev pub OpenedEnds : {S : Type 0} → Sight S → Settings → ℕ → Result S Fault → Type 0 → Option (List ℕ) → Option (List ℕ)
+abbrev pub OpenedServerEnds : {S : Type 0} → Sight S → Settings → ℕ → Result S Fault → Type 0 →
+    Option (List ℕ) → Option (List ℕ)
     → Result ⊤ Trouble → Type 0
-OpenedEnds sight settings count (Ok shelf) unwritten old new result = ShelfEnds sight settings count shelf unwritten old new result
-OpenedEnds sight settings count (Err fault) unwritten old new result = IsUnopened unwritten fault result
+OpenedServerEnds sight settings count (Ok shelf) unwritten old new result =
+    ShelfEnds sight settings count shelf unwritten old new result
+OpenedServerEnds sight settings count (Err fault) unwritten old new result =
+    IsUnopened unwritten fault result
 
 -- ---- in memory
 
--- Connections are served by a desk over a shelf in memory, which began with empty tables: to each customer the desk is its
--- own.
+-- Connections are served by a desk over a shelf in memory, which began with empty tables: to each
+-- customer the desk is its own.
 pub record ServesEmpty (settings : Settings) (count : ℕ) : Type 0 where
   pub shelf : SqlShelf MemStore
   pub over : ServesConnections memory settings count shelf
   pub from_empty : FromEmpty settings over.served.asks over.served.replies over.new
 
-abbrev pub MemoryEnds : Settings → ℕ → Type 0 → Option (List ℕ) → Option (List ℕ) → Result ⊤ Trouble → Type 0
-MemoryEnds settings count unwritten old new result =
-    ServedEnds (ServesEmpty settings count) unwritten old new result ⊎ ((fault : Fault) × IsUnopened unwritten fault result)
+abbrev pub MemoryServerEnds : Settings → ℕ → Type 0 → Option (List ℕ) → Option (List ℕ) →
+    Result ⊤ Trouble
+    → Type 0
+MemoryServerEnds settings count unwritten old new result =
+    ServedEnds (ServesEmpty settings count) unwritten old new result
+    ⊎ ((fault : Fault) × IsUnopened unwritten fault result)
 
 -- ---- in memory, or in the file of a path
 
-abbrev pub StoreEnds : {S : Type 0} → Sight S → Option (List ℕ) → Settings → ℕ → Type 0 → Option (List ℕ) → Option (List ℕ)
+abbrev pub StoreServerEnds : {S : Type 0} → Sight S → Option (List ℕ) → Settings → ℕ → Type 0 →
+    Option (List ℕ) → Option (List ℕ)
     → Result ⊤ Trouble → Type 0
-StoreEnds sight None settings count unwritten old new result = MemoryEnds settings count unwritten old new result
-StoreEnds sight (Some path) settings count unwritten old new result =
-    OverFile sight (λ opened. OpenedEnds sight settings count opened unwritten old new result)
+StoreServerEnds sight None settings count unwritten old new result =
+    MemoryServerEnds settings count unwritten old new result
+StoreServerEnds sight (Some path) settings count unwritten old new result =
+    OverFile sight (λ opened. OpenedServerEnds sight settings count opened unwritten old new result)
 
--- How a server ends with the settings that its words name: with the trouble of these, and then nothing is printed; or as its
--- store has it.
-abbrev pub SetEnds : {S : Type 0} → Sight S → Serve → Type 0 → Option (List ℕ) → Option (List ℕ) → Result Settings Trouble
+-- How a server ends with the settings that its words name: with the trouble of these, and then
+-- nothing is printed; or as its store has it.
+abbrev pub SetServerEnds : {S : Type 0} → Sight S → Serve → Type 0 → Option (List ℕ) →
+    Option (List ℕ) →
+    Result Settings Trouble
     → Result ⊤ Trouble → Type 0
-SetEnds sight given unwritten old new (Err trouble) result = unwritten × (result ≡ Err trouble)
-SetEnds sight given unwritten old new (Ok set) result =
-    StoreEnds sight (option_map (λ s. s.now) given.store) set given.count unwritten old new result
+SetServerEnds sight given unwritten old new (Err trouble) result = unwritten
+    × (result ≡ Err trouble)
+SetServerEnds sight given unwritten old new (Ok set) result =
+    StoreServerEnds sight (option_map (λ s. s.now) given.store) set given.count unwritten old new
+    result
 
-abbrev pub ServeEnds : {S : Type 0} → Sight S → Serve → Type 0 → Option (List ℕ) → Option (List ℕ) → Result ⊤ Trouble → Type 0
+abbrev pub ServeEnds : {S : Type 0} → Sight S → Serve → Type 0 → Option (List ℕ) → Option (List ℕ) →
+    Result ⊤ Trouble → Type 0
 ServeEnds sight given unwritten old new result =
-    (set : Result Settings Trouble) × SetsUp given.host.now given.relay_key.now set × SetEnds sight given unwritten old new set result
+    (set : Result Settings Trouble) × SetsUp given.host.now given.relay_key.now set
+    × SetServerEnds sight given unwritten old new set result

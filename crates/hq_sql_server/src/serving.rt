@@ -3,14 +3,14 @@
 ghost use Rattle.std.specs.Prelude.{◌≡◌, option_map};
 ghost use Rattle.sqlite.specs.Held.{state};
 ghost use Rattle.hq_sql_shelf.specs.Shelf.{sight_over};
-ghost use Rattle.hq_sql_server.specs.Runs.{IsEnd, ShelfEnds, OpenedEnds, MemoryEnds};
-ghost use Rattle.hq_sql_server.specs.Runs.{StoreEnds, ServeEnds};
+ghost use Rattle.hq_sql_server.specs.Runs.{IsEnd, ShelfEnds, OpenedServerEnds, MemoryServerEnds};
+ghost use Rattle.hq_sql_server.specs.Runs.{StoreServerEnds, ServeEnds};
 
 use crate::listening::{limits, listen};
 use hq_desk::Desk;
 use hq_envelope::Fault;
-use hq_listener::{Connections, End, serve_on};
 use hq_program::{Trouble, set_up};
+use hq_serve::{Connections, End, serve_on};
 use hq_settings::Settings;
 use hq_sql_file::{FileShelf, open_file};
 use hq_sql_shelf::SqlShelf;
@@ -66,7 +66,7 @@ fn serve_opened<S: Alter + Drop, W: Write, E: Write>(
     output: &mut W,
     errors: &mut E,
 ) -> Result<(), Trouble>
-    ensures { OpenedEnds (sight_over (state S.Store)) settings given.now.count opened
+    ensures { OpenedServerEnds (sight_over (state S.Store)) settings given.now.count opened
         (output.new ≡ output.old) (W.contents output.old) (W.contents output.new) result }
 {
     serve_over(rt, opened?, settings, given, output, errors)
@@ -80,7 +80,7 @@ fn serve_memory<W: Write, E: Write>(
     output: &mut W,
     errors: &mut E,
 ) -> Result<(), Trouble>
-    ensures { MemoryEnds settings given.now.count (output.new ≡ output.old)
+    ensures { MemoryServerEnds settings given.now.count (output.new ≡ output.old)
         (W.contents output.old) (W.contents output.new) result }
 {
     let opened = SqlShelf::open_memory(rt.alloc());
@@ -96,7 +96,7 @@ fn serve_stored<W: Write, E: Write>(
     output: &mut W,
     errors: &mut E,
 ) -> Result<(), Trouble>
-    ensures { StoreEnds ⟦<FileShelf as Shelf>⟧.sight
+    ensures { StoreServerEnds ⟦<FileShelf as Shelf>⟧.sight
         (option_map (λ s. s.now) given.now.store) settings given.now.count
         (output.new ≡ output.old) (W.contents output.old) (W.contents output.new) result }
 {

@@ -20,11 +20,15 @@ at_rest s ours = record { settled = ours.settled; desk = ours.holds.desk }
 pub committed_ours : (s : State) (t : Tables) → Commits s t → AreCounted t → IsOurs s
 committed_ours s t c counted = record {
   settled = c.settled;
-  holds = record { desk = subst IsDesk c.settled.now c.desk; counted = subst AreCounted (sym c.tables ∙ ap tables_in c.settled.now) counted };
+  holds = record {
+    desk = subst IsDesk c.settled.now c.desk;
+    counted = subst AreCounted (sym c.tables ∙ ap tables_in c.settled.now) counted;
+  };
 }
 
 -- an open shelf stands over its connection
-pub open_stands : (standing : Standing) (s : State) → standing ≡ Open → HasCleanDisk s → HasCleanDisk s × Stands standing s
+pub open_stands : (standing : Standing) (s : State) → standing ≡ Open → HasCleanDisk s →
+    HasCleanDisk s × Stands standing s
 open_stands standing s is clean = (clean, subst (λ (it : Standing). Stands it s) (sym is) tt)
 
 -- ---- opening
@@ -43,7 +47,10 @@ pub adopts : (old new : State) → IsSettled old → Opens true old new → Adop
 adopts old new settled (inl made) = record {
   settled = made.1.settled;
   known = λ foreign. foreign.0 made.0;
-  empty = λ unmade. (committed_ours new no_tables made.1 none_counted, ap tables_in (sym made.1.settled.now) ∙ made.1.tables);
+  empty = λ unmade. (
+    committed_ours new no_tables made.1 none_counted,
+    ap tables_in (sym made.1.settled.now) ∙ made.1.tables,
+  );
   stays = λ other. absurd (other made.0);
   same = λ holds. absurd (never_both old.now made.0 holds.desk.schema_is);
 }
@@ -54,5 +61,8 @@ adopts old new settled (inr found) =
       known = λ foreign. foreign.1 found.0;
       empty = λ unmade. absurd (never_both old.now unmade found.0.0);
       stays = λ other. stays;
-      same = λ holds. (record { settled = found.1.0; holds = subst HoldsTables (sym stays) holds }, ap tables_in stays);
+      same = λ holds. (
+        record { settled = found.1.0; holds = subst HoldsTables (sym stays) holds },
+        ap tables_in stays,
+      );
     }

@@ -1,4 +1,5 @@
--- What migrating a desk's store does. `old` and `new` are what is seen of a connection before and after.
+-- What migrating a desk's store does. `old` and `new` are what is seen of a connection before and
+-- after.
 use Rattle.std.specs.Prelude.{◌≡◌, ◌⊎◌, ℕ, false, List, Result, Ok, Err}
 use Rattle.sqlite.specs.State.{State, HasCleanDisk}
 use Rattle.sqlite.specs.Tree.{Trees}
@@ -16,23 +17,29 @@ use Rattle.hq_sql_migrate.specs.Migration.{IsFirstStore, IsSecondStore}
 use Rattle.hq_sql_migrate.specs.Stores.{first_tables_in, count_on_hold, IsLifted}
 use Rattle.hq_sql_shelf.specs.Shelf.{IsOurs}
 
--- The store is a desk's of version 2, with each customer's state lifted, and so many messages were on hold. Where the tables
--- were sound as they stood before reasons, it is ours, and they are sound.
+-- The store is a desk's of version 2, with each customer's state lifted, and so many messages were
+-- on hold. Where the tables were sound as they stood before reasons, it is ours, and they are
+-- sound.
 pub record IsMigrated (count : ℕ) (old new : State) : Type 0 where
   pub settled : IsSettled new
   pub desk : IsDesk new.committed
-  pub lifted : (customer : List ℕ) → own customer (tables_in new.committed) ≡ lift (own customer (first_tables_in old.now))
+  pub lifted : (customer : List ℕ) →
+      own customer (tables_in new.committed) ≡ lift (own customer (first_tables_in old.now))
   pub sound : FirstSound (first_tables_in old.now) → IsOurs new × Sound (tables_in new.committed)
   pub count_is : count ≡ count_on_hold (first_tables_in old.now).messages
 
--- What the answer tells of the store: a number of one of version 1, or 0 of one of version 2, which stays; 92 of any other,
--- which stays. After 90 and 91 what was begun is undone, and 93 tells that the connection is gone.
+-- What the answer tells of the store: a number of one of version 1, or 0 of one of version 2, which
+-- stays; 92 of any other, which stays. After 90 and 91 what was begun is undone, and 93 tells that
+-- the connection is gone.
 abbrev pub TellsVersion : Result ℕ Fault → State → State → Type 0
-TellsVersion (Ok count) old new = IsFirstStore old.now ⊎ (IsSecondStore old.now × (count ≡ 0) × Stays old new)
-TellsVersion (Err BadSchema) old new = (¬ IsFirstStore old.now) × (¬ IsSecondStore old.now) × Stays old new
+TellsVersion (Ok count) old new = IsFirstStore old.now
+    ⊎ (IsSecondStore old.now × (count ≡ 0) × Stays old new)
+TellsVersion (Err BadSchema) old new = (¬ IsFirstStore old.now) × (¬ IsSecondStore old.now)
+    × Stays old new
 TellsVersion (Err Closed) old new = new.is_open ≡ false
 TellsVersion (Err _) old new = IsUndone old new
 
 -- Wherever in it a crash comes, it leaves the trees as they were, or the whole store of version 2.
 abbrev pub LeavesEither : State → State → Type 0
-LeavesEither old new = HasCleanDisk new → (db : Trees) → new.may_leave db → (db ≡ old.now.trees) ⊎ IsLifted earlier_hold old.now (record { schema = desk_schema; trees = db })
+LeavesEither old new = HasCleanDisk new → (db : Trees) → new.may_leave db → (db ≡ old.now.trees)
+    ⊎ IsLifted earlier_hold old.now (record { schema = desk_schema; trees = db })

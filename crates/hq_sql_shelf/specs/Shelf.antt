@@ -18,7 +18,8 @@ use Rattle.hq_sql_open.specs.declared.transaction.Standing.{Standing}
 use Rattle.hq_sql_open.specs.declared.transaction.Standing.TheVariants.{Open, Gone}
 use Rattle.hq_sql_shelf.specs.declared.shelf.SqlShelf.{SqlShelf}
 
--- the fault that an error is told as: the store's want of memory, or any other failure of a statement
+-- the fault that an error is told as: the store's want of memory, or any other failure of a
+-- statement
 abbrev pub fault_in : Error → Fault
 fault_in (SqliteFailure OutOfMemory) = WantOfMemory
 fault_in _ = Disk
@@ -53,8 +54,8 @@ pub record IsOurs (s : State) : Type 0 where
   pub settled : IsSettled s
   pub holds : HoldsTables s.committed
 
--- What is seen of a shelf, by what is seen of its connection: the tables are what was committed. In doubt, nothing is said
--- of them where the connection is gone.
+-- What is seen of a shelf, by what is seen of its connection: the tables are what was committed. In
+-- doubt, nothing is said of them where the connection is gone.
 abbrev pub sight_over : {S : Type 0} → (Held S → State) → Sight (SqlShelf S)
 sight_over seen = record {
   tables = λ s. tables_in (seen s.conn).committed;
@@ -69,8 +70,9 @@ sight_over seen = record {
 abbrev pub GivesUp : Standing → ℕ → ℕ → Fault → Type 0
 GivesUp standing m n fault = IsTallied {X = ⊤} false (is_gone standing) m n (Err fault)
 
--- What a store is once it was taken as a desk: settled, and known. One in which nothing was made has empty tables now; any
--- other is as it was, whatever its rows, and one that held a desk's tables holds the same.
+-- What a store is once it was taken as a desk: settled, and known. One in which nothing was made
+-- has empty tables now; any other is as it was, whatever its rows, and one that held a desk's
+-- tables holds the same.
 pub record Adopts (old new : State) : Type 0 where
   pub settled : IsSettled new
   pub known : ¬ IsForeign old.now

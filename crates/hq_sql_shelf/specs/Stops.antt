@@ -1,5 +1,5 @@
--- Transactions on a desk's store: what one leaves, whether it is made or fails, and what a crash may leave of it. `old` and
--- `new` are what is seen of the connection before and after.
+-- Transactions on a desk's store: what one leaves, whether it is made or fails, and what a crash
+-- may leave of it. `old` and `new` are what is seen of the connection before and after.
 use Rattle.std.specs.Prelude.{◌≡◌, ◌⊎◌, Result, OnErr}
 use Rattle.sqlite.specs.declared.error.Error.{Error}
 use Rattle.sqlite.specs.State.{State, HasCleanDisk, KeepsCommit}
@@ -17,10 +17,12 @@ tables_of trees = tables_in (record { schema = desk_schema; trees = trees })
 
 -- an open after a crash may find what it might have found before, or these tables
 abbrev pub LeavesTables : State → State → Tables → Type 0
-LeavesTables old new t = HasCleanDisk new → (db : Trees) → new.may_leave db → old.may_leave db ⊎ (tables_of db ≡ t)
+LeavesTables old new t = HasCleanDisk new → (db : Trees) → new.may_leave db → old.may_leave db
+    ⊎ (tables_of db ≡ t)
 
 -- What a transaction keeps that is to leave the tables t.
-pub record KeepsTransaction {X : Type 0} (old new : State) (result : Result X Error) (t : Tables) : Type 0 where
+pub record KeepsTransaction {X : Type 0} (old new : State) (result : Result X Error) (t : Tables)
+    : Type 0 where
   -- what was committed, where it fails
   pub kept : HasCleanDisk new → IsAtRest old → OnErr result (KeepsCommit old new)
   pub quiet : IsQuiet old new
@@ -29,7 +31,8 @@ pub record KeepsTransaction {X : Type 0} (old new : State) (result : Result X Er
 
 -- Wherever in a call a crash comes, it leaves the tables before or those after.
 abbrev pub LeavesWhole : State → State → Tables → Tables → Type 0
-LeavesWhole old new before after = HasCleanDisk new → (db : Trees) → new.may_leave db → (tables_of db ≡ before) ⊎ (tables_of db ≡ after)
+LeavesWhole old new before after = HasCleanDisk new → (db : Trees) → new.may_leave db →
+    (tables_of db ≡ before) ⊎ (tables_of db ≡ after)
 
 -- Once a call has answered, a crash leaves these tables alone.
 abbrev pub LeavesOnly : State → Tables → Type 0

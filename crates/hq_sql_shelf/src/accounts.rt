@@ -1,11 +1,14 @@
 //! Head rows: read with what stands for one that is missing, and counted up and down.
 
+ghost use Rattle.std.specs.Prelude.{◌≡◌, IfOk};
 ghost use Rattle.std.specs.FinMap.{get};
 ghost use Rattle.hq_store.specs.Tables.{account};
 ghost use Rattle.sqlite.specs.Held.{state};
 ghost use Rattle.hq_sql.specs.Kept.{Finds, Makes, Keeps, KeepsCommitted};
-ghost use Rattle.hq_sql_shelf.specs.Accounts.{with_head, counted_message, not_counted, counted_line, uncounted_line};
-ghost use Rattle.hq_sql_shelf.specs.Accounts.{resized_message, recounted_message, TellsFree};
+ghost use Rattle.hq_sql_shelf.specs.Accounts.{with_head, counted_message, not_counted};
+ghost use Rattle.hq_sql_shelf.specs.Accounts.{counted_line, uncounted_line};
+ghost use Rattle.hq_sql_shelf.specs.Accounts.{resized_message, recounted_message, TellsFree, sized};
+ghost use Rattle.hq_sql_shelf.specs.Accounts.{unsized};
 
 use hq_access::Pattern;
 use hq_envelope::{Name, Serial};
@@ -84,8 +87,8 @@ fn resize_message<S: Alter>(
     Ok(())
 }
 
-/// Counts the message of this serial as one of this size, before it is put, and tells whether it has
-/// a row. Where it has one of this size already, nothing is written.
+/// Counts the message of this serial as one of this size, before it is put, and tells whether it
+/// has a row. Where it has one of this size already, nothing is written.
 pub(crate) fn recount_message<S: Alter>(
     conn: &mut Connection<S>,
     customer: &Name,
@@ -107,6 +110,30 @@ pub(crate) fn recount_message<S: Alter>(
     }
     resize_message(conn, customer, before, size)?;
     Ok(true)
+}
+
+/// The account once a message is counted in it with this size; it was counted with the size
+/// before, where it has one.
+pub(crate) fn with_size(account: Account, before: Option<u32>, size: u32) -> Result<Account, Error>
+    ensures { IfOk result (λ more. more ≡ sized size account before) }
+{
+    if before == Some(size) {
+        return Ok(account);
+    }
+    match without_size(account, before).with_message(size) {
+        Some(more) => Ok(more),
+        None => Err(TOO_MANY),
+    }
+}
+
+/// The account once a message is counted in it no more, where it was counted with a size.
+pub(crate) fn without_size(account: Account, before: Option<u32>) -> Account
+    ensures { result ≡ unsized account before }
+{
+    match before {
+        Some(size) => account.without_message(size),
+        None => account,
+    }
 }
 
 /// Counts the message of this serial no more, where there is one.

@@ -13,7 +13,8 @@ ghost use Rattle.hq_sql_open.specs.Opening.{IsForeign, Stays};
 ghost use Rattle.hq_sql_open.specs.Standings.{Settles};
 ghost use Rattle.hq_sql_open.specs.Transactions.{IsSettled, IsUndone};
 ghost use Rattle.hq_sql_open.specs.declared.transaction.Standing.TheVariants.{Open};
-ghost use Rattle.hq_sql_shelf.specs.Shelf.{sight_over, fault_in, fault_left, counted, is_gone, GivesUp, Adopts, IsOurs};
+ghost use Rattle.hq_sql_shelf.specs.Shelf.{sight_over, fault_in, fault_left, counted, is_gone};
+ghost use Rattle.hq_sql_shelf.specs.Shelf.{GivesUp, Adopts, IsOurs};
 
 use hq_envelope::Fault;
 use hq_sql_open::open;

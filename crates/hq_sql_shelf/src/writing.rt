@@ -18,10 +18,10 @@ use sqlite::Alter;
 impl<S: Alter> SqlShelf<S> {
     /// Makes all changes of the customer's rows, in order, or none: what `Shelf::apply` does.
     ///
-    /// Wherever in it the process or its machine stops, the disk holds the trees of the tables before
-    /// it or of those after it, and after `Ok` of those after it alone (`stops`, `durable`). This
-    /// rests on what the store says of its disk. It closes the shelf only where the connection is
-    /// gone (`gone`).
+    /// Wherever in it the process or its machine stops, the disk holds the trees of the tables
+    /// before it or of those after it, and after `Ok` of those after it alone (`stops`, `durable`).
+    /// This rests on what the store says of its disk. It closes the shelf only where the connection
+    /// is gone (`gone`).
     pub fn write(&mut self, customer: &Name, changes: &[Change]) -> Result<(), Fault>
         ensures made { OnClean (sight_over (state S.Store)) self.old self.new
             (OnOk result (tables_in (state S.Store self.new.conn).committed

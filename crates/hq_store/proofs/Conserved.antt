@@ -1,5 +1,7 @@
--- One message's change keeps a customer's state sound: put in place of another with as many recipients, dropped, or queued anew.
-use Rattle.std.proofs.Common.{◌≡◌, ◌≢◌, Option, ℕ, ◌+◌, ◌-◌, ◌*◌, ◌<◌, ◌≤◌, length, subst, sym, refl, ap, ◌∙◌, Some, None, arith}
+-- One message's change keeps a customer's state sound: put in place of another with as many
+-- recipients, dropped, or queued anew.
+use Rattle.std.proofs.Common.{◌≡◌, ◌≢◌, Option, ℕ, ◌+◌, ◌-◌, ◌*◌, ◌<◌, ◌≤◌, length, subst, sym}
+use Rattle.std.proofs.Common.{refl, ap, ◌∙◌, Some, None, arith}
 use Rattle.std.specs.FinMap.{FinMap, get, insert, remove, len, values}
 use Rattle.std.specs.Ordering.{nat_cmp}
 use Rattle.std.specs.Cmp.{nat_cmp_total}
@@ -7,8 +9,8 @@ use Rattle.std.proofs.lemmas.Map.Lookups.{exact_unsigned}
 use Rattle.hq_queue.specs.declared.account.Head.{Head}
 use Rattle.hq_queue.specs.declared.message.Message.{Message}
 use Rattle.hq_store.specs.declared.change.Change.TheVariants.{PutHead, PutMessage, DropMessage}
-use Rattle.hq_tables.specs.Owned.{given}
-use Rattle.hq_tables.proofs.Totals.{total-insert, total-remove}
+use Rattle.hq_owned.specs.Owned.{given}
+use Rattle.hq_owned.proofs.Totals.{total-insert, total-remove}
 use Rattle.hq_store.specs.Tables.{State, change}
 use Rattle.hq_store.specs.Sound.{SoundState, IsReasoned, IsQueued, IsNext, AreApart, pending_count}
 use Rattle.hq_store.proofs.States.{change_shaped, none_some}
@@ -20,14 +22,19 @@ abbrev pub pending : Message → ℕ
 pending m = length m.pending
 
 -- the pending recipients of a queue, after a put and after a drop
-pub pending_put : (q : Queue) (m : Message) → pending_count (values (insert q m.serial m)) + given 0 pending (get q m.serial) ≡ pending_count (values q) + pending m
+pub pending_put : (q : Queue) (m : Message) →
+    pending_count (values (insert q m.serial m)) + given 0 pending (get q m.serial) ≡ pending_count
+    (values q) + pending m
 pending_put q m = total-insert nat_cmp_total exact_unsigned pending q m.serial m
 
-pub pending_drop : (q : Queue) (k : ℕ) → pending_count (values (remove q k)) + given 0 pending (get q k) ≡ pending_count (values q)
+pub pending_drop : (q : Queue) (k : ℕ) →
+    pending_count (values (remove q k)) + given 0 pending (get q k) ≡ pending_count (values q)
 pending_drop q k = total-remove nat_cmp_total exact_unsigned pending q k
 
 -- in place of a message with its spool name and as many recipients
-pub replaced_sound : (s : State) (o n : Message) → SoundState s → get s.messages n.serial ≡ Some o → o.spool ≡ n.spool → pending o ≡ pending n → IsQueued s.head.next_serial n.serial n → SoundState (change (PutMessage n) s)
+pub replaced_sound : (s : State) (o n : Message) → SoundState s → get s.messages n.serial ≡ Some o →
+    o.spool ≡ n.spool → pending o ≡ pending n → IsQueued s.head.next_serial n.serial n →
+    SoundState (change (PutMessage n) s)
 replaced_sound s o n h there spool same queued =
     let put = pending_put s.messages n in
     let old : given 0 pending (get s.messages n.serial) ≡ pending o = ap (given 0 pending) there in
@@ -43,9 +50,13 @@ replaced_sound s o n h there spool same queued =
     }
 
 -- a dropped message, whose recipients the new head tells as delivered, failed, deleted or expired
-pub dropped_sound : (s : State) (m : Message) (head : Head) → SoundState s → get s.messages m.serial ≡ Some m
-    → head.next_serial ≡ s.head.next_serial → IsNext head.next_notice → s.head.next_notice ≤ head.next_notice → head.tally.accepted ≡ s.head.tally.accepted
-    → head.tally.delivered + head.tally.failed + head.tally.deleted + head.tally.expired ≡ s.head.tally.delivered + s.head.tally.failed + s.head.tally.deleted + s.head.tally.expired + pending m
+pub dropped_sound : (s : State) (m : Message) (head : Head) → SoundState s →
+    get s.messages m.serial ≡ Some m
+    → head.next_serial ≡ s.head.next_serial → IsNext head.next_notice →
+    s.head.next_notice ≤ head.next_notice → head.tally.accepted ≡ s.head.tally.accepted
+    → head.tally.delivered + head.tally.failed + head.tally.deleted + head.tally.expired ≡
+    s.head.tally.delivered + s.head.tally.failed + s.head.tally.deleted + s.head.tally.expired +
+    pending m
     → SoundState (change (PutHead head) (change (DropMessage m.serial) s))
 dropped_sound s m head h there serial notice later accepted told =
     let drop = pending_drop s.messages m.serial in
@@ -62,26 +73,35 @@ dropped_sound s m head h there serial notice later accepted told =
         above_notices = λ k n at. let below = (dropped.notices k n at).1 in omega arith;
       });
       conserved = omega arith;
-      bounded = subst (λ (x : ℕ × ℕ). x.0 ≤ 100 * (x.1 - 1)) (λ i. (sym accepted i, sym serial i)) bound;
+      bounded = subst (λ (x : ℕ × ℕ). x.0 ≤ 100 * (x.1 - 1)) (λ i. (sym accepted i, sym serial i))
+          bound;
     }
 
 -- nothing stands at the next serial
 free : (s : State) → SoundState s → get s.messages s.head.next_serial ≡ None
 free s h = cases (get s.messages s.head.next_serial) refl where
-  cases : (o : Option Message) → get s.messages s.head.next_serial ≡ o → get s.messages s.head.next_serial ≡ None
+  cases : (o : Option Message) → get s.messages s.head.next_serial ≡ o →
+      get s.messages s.head.next_serial ≡ None
   cases None e = e
-  cases (Some m) e = let below = (h.shaped.messages s.head.next_serial m e).below in absurd (omega arith)
+  cases (Some m) e = let below = (h.shaped.messages s.head.next_serial m e).below in
+      absurd (omega arith)
 
--- a message queued under the next serial: the head is put first, so that the serial is below the next one
+-- a message queued under the next serial: the head is put first, so that the serial is below the
+-- next one
 pub queued_sound : (s : State) (m : Message) (head : Head) → SoundState s
-    → m.serial ≡ s.head.next_serial → head.next_serial ≡ s.head.next_serial + 1 → IsNext head.next_serial → IsNext head.next_notice → s.head.next_notice ≤ head.next_notice
+    → m.serial ≡ s.head.next_serial → head.next_serial ≡ s.head.next_serial + 1 →
+    IsNext head.next_serial → IsNext head.next_notice → s.head.next_notice ≤ head.next_notice
     → head.tally.accepted ≡ s.head.tally.accepted + pending m
-    → head.tally.delivered + head.tally.failed + head.tally.deleted + head.tally.expired ≡ s.head.tally.delivered + s.head.tally.failed + s.head.tally.deleted + s.head.tally.expired
-    → 0 < pending m → pending m ≤ 100 → AreApart m.pending → IsReasoned m → ((serial : ℕ) (n : Message) → get s.messages serial ≡ Some n → n.spool ≢ m.spool) → len s.messages < 1000
+    → head.tally.delivered + head.tally.failed + head.tally.deleted + head.tally.expired ≡
+    s.head.tally.delivered + s.head.tally.failed + s.head.tally.deleted + s.head.tally.expired
+    → 0 < pending m → pending m ≤ 100 → AreApart m.pending → IsReasoned m →
+    ((serial : ℕ) (n : Message) → get s.messages serial ≡ Some n → n.spool ≢ m.spool) →
+    len s.messages < 1000
     → SoundState (change (PutMessage m) (change (PutHead head) s))
 queued_sound s m head h own next serial notice later accepted told some few apart right new room =
     let put = pending_put s.messages m in
-    let none : given 0 pending (get s.messages m.serial) ≡ 0 = ap (given 0 pending) (ap (get s.messages) own ∙ free s h) in
+    let none : given 0 pending (get s.messages m.serial) ≡ 0 =
+    ap (given 0 pending) (ap (get s.messages) own ∙ free s h) in
     let was = h.conserved in
     let bound = h.bounded in
     let positive = h.shaped.next_serial.0 in
@@ -93,7 +113,14 @@ queued_sound s m head h own next serial notice later accepted told some few apar
     }) in
     record {
       shaped = change_shaped (change (PutHead head) s) (PutMessage m) headed (record {
-        queued = record { own_serial = refl; positive = omega arith; below = omega arith; some_pending = some; apart = apart; right = right };
+        queued = record {
+          own_serial = refl;
+          positive = omega arith;
+          below = omega arith;
+          some_pending = some;
+          apart = apart;
+          right = right;
+        };
         spool = λ k n at e. absurd (new k n at e);
         room = λ empty. room;
       });

@@ -1,17 +1,18 @@
--- The orders of the tables' keys: each tells keys apart. Lines go by the name of the class, then by the pattern.
+-- The orders of the tables' keys: each tells keys apart. Lines go by the name of the class, then by
+-- the pattern.
 use Rattle.std.proofs.Common.{◌≡◌, refl, Ordering, Less, List, [], ◌∷◌, T}
 use Rattle.std.specs.List.{AllByRecursion}
 use Rattle.std.specs.Cmp.{IsTotalOrder, on_total, nat_cmp_total}
 use Rattle.std.specs.Cmp.Lexicographic.{nat_list_cmp_total}
 use Rattle.std.proofs.lemmas.Map.Lookups.{CmpEqualImpliesEq, exact_bytes, exact_unsigned}
-use Rattle.hq_tables.proofs.Parts.{both_total, both_exact}
+use Rattle.hq_owned.proofs.Parts.{both_total, both_exact}
 use Rattle.hq_access.specs.declared.pattern.Class.TheVariants.{SenderSide, RecipientSide}
 use Rattle.hq_access.specs.Patterns.{class_name}
 use Rattle.hq_store.specs.Tables.{class_cmp, line_cmp, message_cmp, lines_cmp, mark_cmp}
 use Rattle.std.specs.FinMap.{is_sorted}
 use Rattle.std.specs.FinMap.Entries.{below_all}
 use Rattle.sqlite_trees.specs.Tree.{IsAscending}
-use Rattle.hq_tables.proofs.Cases.{first, second, less}
+use Rattle.hq_owned.proofs.Cases.{first, second, less}
 
 class_exact : CmpEqualImpliesEq class_cmp
 class_exact RecipientSide RecipientSide e = refl
@@ -45,10 +46,12 @@ mark_exact = both_exact exact_bytes exact_bytes
 
 -- the entries of a map ascend
 module _ {K X : Type 0} (R : K → K → Ordering) where
-  pub below : (k : K) (es : List (K × X)) → T (below_all R k es) → AllByRecursion (λ (b : K × X). R k b.0 ≡ Less) es
+  pub below : (k : K) (es : List (K × X)) → T (below_all R k es) →
+      AllByRecursion (λ (b : K × X). R k b.0 ≡ Less) es
   below k [] h = tt
   below k (e ∷ es) h = (less _ (first _ _ h), below k es (second _ _ h))
 
-  pub ascending : (es : List (K × X)) → T (is_sorted R es) → IsAscending (λ (a b : K × X). R a.0 b.0 ≡ Less) es
+  pub ascending : (es : List (K × X)) → T (is_sorted R es) →
+      IsAscending (λ (a b : K × X). R a.0 b.0 ≡ Less) es
   ascending [] h = tt
   ascending (e ∷ es) h = (below e.0 es (first _ _ h), ascending es (second _ _ h))

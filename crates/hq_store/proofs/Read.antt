@@ -1,5 +1,6 @@
 -- What is read of a customer in the tables of all is what is read of its own state.
-use Rattle.std.proofs.Common.{◌≡◌, ℕ, suc, ◌+◌, List, [], ◌∷◌, map, length, sym, refl, ap, ◌∙◌, None, arith}
+use Rattle.std.proofs.Common.{◌≡◌, ℕ, suc, ◌+◌, List, [], ◌∷◌, map, length, sym, refl, ap, ◌∙◌}
+use Rattle.std.proofs.Common.{None, arith}
 use Rattle.std.specs.Prelude.{option_map}
 use Rattle.std.specs.List.{sum_by}
 use Rattle.std.specs.Ordering.{nat_cmp}
@@ -10,24 +11,29 @@ use Rattle.std.proofs.lemmas.List.Sums.{sum_by-cons}
 use Rattle.hq_access.specs.declared.action.Action.{Action}
 use Rattle.hq_access.specs.declared.pattern.Class.{Class}
 use Rattle.hq_queue.specs.declared.message.Message.{Message}
-use Rattle.hq_tables.specs.Owned.{part_of, rows_of}
+use Rattle.hq_owned.specs.Owned.{part_of, rows_of}
 use Rattle.std.specs.Cmp.{nat_cmp_total}
-use Rattle.hq_tables.proofs.Parts.{entries_part, get-map_values, entries-map_values}
+use Rattle.hq_owned.proofs.Parts.{entries_part, get-map_values, entries-map_values}
 use Rattle.hq_store.proofs.Customers.{read_own, rows_own}
 use Rattle.hq_store.proofs.Orders.{line_total, line_exact}
 use Rattle.hq_store.specs.Tables.{Tables, Row, Noted, text_cmp, line_cmp, own, joined, notice_of}
-use Rattle.hq_store.specs.Readings.{read_state, read_tables, messages_in, with_spool, kept_of, kept_in, told, line_of}
+use Rattle.hq_store.specs.Readings.{read_state, read_tables, messages_in, with_spool, kept_of}
+use Rattle.hq_store.specs.Readings.{kept_in, told, line_of}
 
-seconds : {K X Y : Type 0} (f : K → X → Y) (es : List (K × X)) → map (λ (e : K × Y). e.1) (map (λ (e : K × X). (e.0, f e.0 e.1)) es) ≡ map (λ e. f e.0 e.1) es
+seconds : {K X Y : Type 0} (f : K → X → Y) (es : List (K × X)) →
+    map (λ (e : K × Y). e.1) (map (λ (e : K × X). (e.0, f e.0 e.1)) es) ≡ map (λ e. f e.0 e.1) es
 seconds f [] = refl
 seconds f (e ∷ es) = ap (λ ys. f e.0 e.1 ∷ ys) (seconds f es)
 
 -- the messages of the customer's state are its rows with their recipients
-pub same_messages : (customer : List ℕ) (t : Tables) → messages_in customer t ≡ values (own customer t).messages
+pub same_messages : (customer : List ℕ) (t : Tables) →
+    messages_in customer t ≡ values (own customer t).messages
 same_messages customer t =
     let rows = part_of text_cmp customer t.messages in
     let whole = joined customer t.recipients t.holds in
-    sym (ap (map (λ e. e.1)) (entries-map_values nat_cmp whole rows) ∙ seconds whole (entries rows) ∙ ap (map (λ e. whole e.0 e.1)) (entries_part nat_cmp nat_list_cmp_total customer t.messages))
+    sym (ap (map (λ e. e.1)) (entries-map_values nat_cmp whole rows) ∙ seconds whole (entries rows)
+    ∙ ap (map (λ e. whole e.0 e.1))
+    (entries_part nat_cmp nat_list_cmp_total customer t.messages))
 
 -- counted by rows or by messages
 module _ {X Y : Type 0} (f : X → Y) where
@@ -35,18 +41,28 @@ module _ {X Y : Type 0} (f : X → Y) where
   same_length [] = refl
   same_length (x ∷ xs) = ap (λ n. suc n) (same_length xs)
 
-  pub same_sum : (weight : Y → ℕ) (xs : List X) → sum_by weight (map f xs) ≡ sum_by (λ x. weight (f x)) xs
+  pub same_sum : (weight : Y → ℕ) (xs : List X) →
+      sum_by weight (map f xs) ≡ sum_by (λ x. weight (f x)) xs
   same_sum weight [] = refl
-  same_sum weight (x ∷ xs) = sum_by-cons weight (f x) (map f xs) ∙ ap (λ n. weight (f x) + n) (same_sum weight xs) ∙ sym (sum_by-cons (λ x. weight (f x)) x xs)
+  same_sum weight (x ∷ xs) = sum_by-cons weight (f x) (map f xs)
+      ∙ ap (λ n. weight (f x) + n) (same_sum weight xs) ∙ sym (sum_by-cons (λ x. weight (f x)) x xs)
 
-pub same_kept : (customer : List ℕ) (t : Tables) → kept_in customer t ≡ kept_of (λ (m : Message). m.size) (values (own customer t).messages) (entries (own customer t).lines)
+pub same_kept : (customer : List ℕ) (t : Tables) →
+    kept_in customer t ≡ kept_of (λ (m : Message). m.size) (values (own customer t).messages)
+    (entries (own customer t).lines)
 same_kept customer t =
     let whole : ℕ × Row → Message = λ e. joined customer t.recipients t.holds e.0 e.1 in
     let rows = rows_of text_cmp customer (entries t.messages) in
-    (λ i. record { messages = sym (same_length whole rows) i; bytes = sym (same_sum whole (λ (m : Message). m.size) rows) i; lines = length (sym (rows_own line_total line_exact customer t.lines) i) })
-    ∙ ap (λ ms. kept_of (λ (m : Message). m.size) ms (entries (own customer t).lines)) (same_messages customer t)
+    (λ i. record {
+      messages = sym (same_length whole rows) i;
+      bytes = sym (same_sum whole (λ (m : Message). m.size) rows) i;
+      lines = length (sym (rows_own line_total line_exact customer t.lines) i);
+    })
+    ∙ ap (λ ms. kept_of (λ (m : Message). m.size) ms (entries (own customer t).lines))
+    (same_messages customer t)
 
-pub same_readings : (customer : List ℕ) (t : Tables) → read_tables customer t ≡ read_state (own customer t)
+pub same_readings : (customer : List ℕ) (t : Tables) →
+    read_tables customer t ≡ read_state (own customer t)
 same_readings customer t =
     let rows = part_of text_cmp customer t.messages in
     let whole = joined customer t.recipients t.holds in
@@ -54,21 +70,28 @@ same_readings customer t =
     λ i. record {
       head = (own customer t).head;
       counts = told (same_kept customer t i);
-      message = λ serial. sym (get-map_values nat_cmp whole exact_unsigned rows serial ∙ ap (option_map (whole serial)) (read_own nat_cmp_total exact_unsigned customer t.messages serial)) i;
+      message = λ serial. sym (get-map_values nat_cmp whole exact_unsigned rows serial
+          ∙ ap (option_map (whole serial))
+          (read_own nat_cmp_total exact_unsigned customer t.messages serial)) i;
       by_spool = λ spool. with_spool spool (messages i);
       messages = messages i;
       line = λ class key. sym (read_own line_total line_exact customer t.lines (class, key)) i;
       lines = map line_of (sym (rows_own line_total line_exact customer t.lines) i);
       mark = λ label. sym (read_own nat_list_cmp_total exact_bytes customer t.marks label) i;
-      notice = λ number. option_map (λ (n : Noted). notice_of (number, n)) (sym (read_own nat_cmp_total exact_unsigned customer t.notices number) i);
+      notice = λ number. option_map (λ (n : Noted). notice_of (number, n))
+          (sym (read_own nat_cmp_total exact_unsigned customer t.notices number) i);
       notices = map notice_of (sym (rows_own nat_cmp_total exact_unsigned customer t.notices) i);
     }
 
 -- a customer that keeps no line has none at any key
-pub no_line : (customer : List ℕ) (t : Tables) (class : Class) (key : List ℕ) → (read_tables customer t).counts.lines ≡ 0 → (read_tables customer t).line class key ≡ None
+pub no_line : (customer : List ℕ) (t : Tables) (class : Class) (key : List ℕ) →
+    (read_tables customer t).counts.lines ≡ 0 → (read_tables customer t).line class key ≡ None
 no_line customer t class key none =
-    sym (read_own line_total line_exact customer t.lines (class, key)) ∙ get-entries (part_of text_cmp customer t.lines) (class, key)
-    ∙ nothing (entries (part_of text_cmp customer t.lines)) (ap length (rows_own line_total line_exact customer t.lines) ∙ none) where
-      nothing : (es : List ((Class × List ℕ) × Action)) → length es ≡ 0 → find line_cmp (class, key) es ≡ None
+    sym (read_own line_total line_exact customer t.lines (class, key))
+    ∙ get-entries (part_of text_cmp customer t.lines) (class, key)
+    ∙ nothing (entries (part_of text_cmp customer t.lines))
+    (ap length (rows_own line_total line_exact customer t.lines) ∙ none) where
+      nothing : (es : List ((Class × List ℕ) × Action)) → length es ≡ 0 →
+          find line_cmp (class, key) es ≡ None
       nothing [] h = refl
       nothing (e ∷ es) h = absurd (omega arith)

@@ -4,7 +4,9 @@ use Rattle.std.specs.FinMap.{get, len}
 use Rattle.hq_queue.specs.declared.account.Head.{Head}
 use Rattle.hq_queue.specs.declared.message.Message.{Message}
 use Rattle.hq_store.specs.declared.change.Change.{Change}
-use Rattle.hq_store.specs.declared.change.Change.TheVariants.{PutHead, PutMessage, DropMessage, PutLine, DropLine, PutMark, AddNotice, DropNoticesBelow}
+use Rattle.hq_store.specs.declared.change.Change.TheVariants.{PutHead, PutMessage, DropMessage}
+use Rattle.hq_store.specs.declared.change.Change.TheVariants.{PutLine, DropLine, PutMark, AddNotice}
+use Rattle.hq_store.specs.declared.change.Change.TheVariants.{DropNoticesBelow}
 use Rattle.hq_store.specs.Tables.{State, Noted, change}
 use Rattle.hq_store.specs.Sound.{IsNext, IsQueued}
 
@@ -12,13 +14,17 @@ use Rattle.hq_store.specs.Sound.{IsNext, IsQueued}
 pub record HeadFits (s : State) (head : Head) : Type 0 where
   pub next_serial : IsNext head.next_serial
   pub next_notice : IsNext head.next_notice
-  pub above : (serial : ℕ) (m : Message) → get s.messages serial ≡ Some m → serial < head.next_serial
-  pub above_notices : (number : ℕ) (n : Noted) → get s.notices number ≡ Some n → number < head.next_notice
+  pub above : (serial : ℕ) (m : Message) → get s.messages serial ≡ Some m →
+      serial < head.next_serial
+  pub above_notices : (number : ℕ) (n : Noted) → get s.notices number ≡ Some n →
+      number < head.next_notice
 
--- a message for the queue, with a spool name that no other message has, and room where its serial is new
+-- a message for the queue, with a spool name that no other message has, and room where its serial
+-- is new
 pub record MessageFits (s : State) (m : Message) : Type 0 where
   pub queued : IsQueued s.head.next_serial m.serial m
-  pub spool : (serial : ℕ) (n : Message) → get s.messages serial ≡ Some n → n.spool ≡ m.spool → serial ≡ m.serial
+  pub spool : (serial : ℕ) (n : Message) → get s.messages serial ≡ Some n → n.spool ≡ m.spool →
+      serial ≡ m.serial
   pub room : get s.messages m.serial ≡ None → len s.messages < 1000
 
 -- drops always fit; a line fits with room where its pattern is new, an import under a new label,
@@ -30,7 +36,8 @@ Fits s (DropMessage serial) = ⊤
 Fits s (PutLine line) = get s.lines line.pattern ≡ None → len s.lines < 5000
 Fits s (DropLine pattern) = ⊤
 Fits s (PutMark mark) = get s.marks mark.label ≡ None
-Fits s (AddNotice notice) = (0 < notice.number) × ((notice.number < s.head.next_notice) × (get s.notices notice.number ≡ None))
+Fits s (AddNotice notice) = (0 < notice.number)
+    × ((notice.number < s.head.next_notice) × (get s.notices notice.number ≡ None))
 Fits s (DropNoticesBelow number) = ⊤
 
 -- each change fits the state that those before it leave

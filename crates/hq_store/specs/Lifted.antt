@@ -6,7 +6,7 @@ use Rattle.hq_queue.specs.Moves.{is_on_hold}
 use Rattle.hq_queue.specs.declared.message.Message.{Message}
 use Rattle.hq_store.specs.Tables.{State, Tables, Row, message_cmp}
 use Rattle.hq_store.specs.Sound.{SoundBy}
-use Rattle.hq_tables.specs.Owned.{map_values}
+use Rattle.hq_owned.specs.Owned.{map_values}
 
 -- a message on hold gets that reason, and any other none
 abbrev pub lifted : Message → Message
@@ -21,12 +21,14 @@ on_hold e = is_on_hold e.1.state
 
 -- this reason for each message on hold, and for no other
 unfoldable pub holds_for : List ℕ → FinMap message_cmp Row → FinMap message_cmp (List ℕ)
-holds_for reason messages = from_entries (map (λ e. (e.0, reason)) (filter on_hold (entries messages)))
+holds_for reason messages = from_entries (map (λ e. (e.0, reason))
+    (filter on_hold (entries messages)))
 
 -- the tables, so lifted: all stay but the reasons
 abbrev pub lifted_tables : Tables → Tables
 lifted_tables t = record t { holds = holds_for earlier_hold t.messages }
 
--- sound tables, whatever the reasons of messages are: those that were kept before reasons were have none
+-- sound tables, whatever the reasons of messages are: those that were kept before reasons were have
+-- none
 abbrev pub FirstSound : Tables → Type 0
 FirstSound = SoundBy (λ m. ⊤)

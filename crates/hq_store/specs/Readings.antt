@@ -1,5 +1,6 @@
 -- What can be read of one customer: from its state alone, and from the tables of all.
-use Rattle.std.specs.Prelude.{ℕ, ◌-◌, ◌^◌, min, nat_lt, List, map, filter, take, length, Option, None, Some, option_map}
+use Rattle.std.specs.Prelude.{ℕ, ◌-◌, ◌^◌, min, nat_lt, List, map, filter, take, length, Option}
+use Rattle.std.specs.Prelude.{None, Some, option_map}
 use Rattle.std.specs.List.{find, sum_by}
 use Rattle.std.specs.Ordering.{eq_by_cmp, is_lt}
 use Rattle.std.specs.FinMap.{get, entries, values}
@@ -11,8 +12,9 @@ use Rattle.hq_access.specs.declared.pattern.Class.{Class}
 use Rattle.hq_access.specs.declared.pattern.Line.{Line}
 use Rattle.hq_store.specs.declared.mark.Mark.{Mark}
 use Rattle.hq_store.specs.declared.notice.Notice.{Notice}
-use Rattle.hq_store.specs.Tables.{State, Tables, Row, Noted, text_cmp, line_cmp, account, joined, notice_of}
-use Rattle.hq_tables.specs.Owned.{rows_of}
+use Rattle.hq_store.specs.Tables.{State, Tables, Row, Noted, text_cmp, line_cmp, account, joined}
+use Rattle.hq_store.specs.Tables.{notice_of}
+use Rattle.hq_owned.specs.Owned.{rows_of}
 
 -- what can be read of one customer
 pub record Readings : Type 0 where
@@ -83,23 +85,28 @@ read_state s = record {
 
 -- the customer's rows of messages with their recipients, in order of serial
 abbrev pub messages_in : List ℕ → Tables → List Message
-messages_in customer t = map (λ e. joined customer t.recipients t.holds e.0 e.1) (rows_of text_cmp customer (entries t.messages))
+messages_in customer t = map (λ e. joined customer t.recipients t.holds e.0 e.1)
+    (rows_of text_cmp customer (entries t.messages))
 
 -- how much the customer keeps, counted by the rows that have its name
 abbrev pub kept_in : List ℕ → Tables → Counts
-kept_in customer t = kept_of (λ (e : ℕ × Row). e.1.size) (rows_of text_cmp customer (entries t.messages)) (rows_of text_cmp customer (entries t.lines))
+kept_in customer t = kept_of (λ (e : ℕ × Row). e.1.size)
+    (rows_of text_cmp customer (entries t.messages)) (rows_of text_cmp customer (entries t.lines))
 
--- the tables of all, read at keys that begin with the customer's name, and by the rows that have this name
+-- the tables of all, read at keys that begin with the customer's name, and by the rows that have
+-- this name
 abbrev pub read_tables : List ℕ → Tables → Readings
 read_tables customer t = record {
   head = (account t.heads customer).head;
   counts = told (kept_in customer t);
-  message = λ serial. option_map (joined customer t.recipients t.holds serial) (get t.messages (customer, serial));
+  message = λ serial. option_map (joined customer t.recipients t.holds serial)
+      (get t.messages (customer, serial));
   by_spool = λ spool. with_spool spool (messages_in customer t);
   messages = messages_in customer t;
   line = λ class key. get t.lines (customer, (class, key));
   lines = map line_of (rows_of text_cmp customer (entries t.lines));
   mark = λ label. get t.marks (customer, label);
-  notice = λ number. option_map (λ (n : Noted). notice_of (number, n)) (get t.notices (customer, number));
+  notice = λ number. option_map (λ (n : Noted). notice_of (number, n))
+      (get t.notices (customer, number));
   notices = map notice_of (rows_of text_cmp customer (entries t.notices));
 }

@@ -1,6 +1,7 @@
--- What each call of a shelf says. `sight` is what is seen of the shelf, and `old` and `new` are the shelf before the call
--- and after it.
-use Rattle.std.specs.Prelude.{◌≡◌, ℕ, ◌+◌, ◌-◌, ◌^◌, min, Bool, true, false, List, Result, Ok, Err, IfOk, IfErr, OnErr}
+-- What each call of a shelf says. `sight` is what is seen of the shelf, and `old` and `new` are the
+-- shelf before the call and after it.
+use Rattle.std.specs.Prelude.{◌≡◌, ℕ, ◌+◌, ◌-◌, ◌^◌, min, Bool, true, false, List, Result, Ok, Err}
+use Rattle.std.specs.Prelude.{IfOk, IfErr, OnErr}
 use Rattle.hq_base.specs.declared.failure.Fault.{Fault}
 use Rattle.hq_base.specs.declared.failure.Fault.TheVariants.{WantOfMemory, Disk, BadSchema, Closed}
 use Rattle.hq_store.specs.Tables.{Tables}
@@ -38,25 +39,31 @@ OnSound sight old new P = sight.is_clean new → sight.is_ours old → Sound (si
 
 -- where all of these hold
 abbrev pub OnOpenSound : {S : Type 0} → Sight S → S → S → Type 0 → Type 0
-OnOpenSound sight old new P = sight.is_clean new → sight.is_ours old → sight.is_closed new ≡ false → Sound (sight.tables old) → P
+OnOpenSound sight old new P = sight.is_clean new → sight.is_ours old → sight.is_closed new ≡ false →
+    Sound (sight.tables old) → P
 
 -- ---- what is found, and what is kept
 
 -- the value of an answer is this of what can be read of the customer
-abbrev pub Finds : {S X : Type 0} → Sight S → S → S → Result X Fault → List ℕ → (Readings → X) → Type 0
-Finds sight old new result customer wanted = sight.is_clean new → sight.is_ours old → IfOk result (λ x. x ≡ wanted (read_tables customer (sight.tables old)))
+abbrev pub Finds : {S X : Type 0} → Sight S → S → S → Result X Fault → List ℕ → (Readings → X) →
+    Type 0
+Finds sight old new result customer wanted = sight.is_clean new → sight.is_ours old →
+    IfOk result (λ x. x ≡ wanted (read_tables customer (sight.tables old)))
 
 -- the same, where the tables were sound
-abbrev pub FindsSound : {S X : Type 0} → Sight S → S → S → Result X Fault → List ℕ → (Readings → X) → Type 0
-FindsSound sight old new result customer wanted = sight.is_clean new → sight.is_ours old → Sound (sight.tables old) → IfOk result (λ x. x ≡ wanted (read_tables customer (sight.tables old)))
+abbrev pub FindsSound : {S X : Type 0} → Sight S → S → S → Result X Fault → List ℕ → (Readings → X)
+    → Type 0
+FindsSound sight old new result customer wanted = sight.is_clean new → sight.is_ours old →
+    Sound (sight.tables old) → IfOk result (λ x. x ≡ wanted
+    (read_tables customer (sight.tables old)))
 
 -- the count of faults after one more: at the greatest number of 64 bits it stays
 abbrev pub one_more : ℕ → ℕ
 one_more n = min (n + 1) (2 ^ 64 - 1)
 
--- Disk and Closed are counted, each once, and nothing else is; a shelf that was closed answers Closed alone, and Closed
--- closes; no call finds out about the schema. `was` and `is` say whether the shelf is closed, and `m` and `n` are its
--- counts of faults, before the call and after it.
+-- Disk and Closed are counted, each once, and nothing else is; a shelf that was closed answers
+-- Closed alone, and Closed closes; no call finds out about the schema. `was` and `is` say whether
+-- the shelf is closed, and `m` and `n` are its counts of faults, before the call and after it.
 abbrev pub IsTallied : {X : Type 0} → Bool → Bool → ℕ → ℕ → Result X Fault → Type 0
 IsTallied was is m n (Ok x) = (was ≡ false) × (is ≡ false) × (n ≡ m)
 IsTallied was is m n (Err WantOfMemory) = (was ≡ false) × (is ≡ false) × (n ≡ m)
@@ -65,20 +72,28 @@ IsTallied was is m n (Err BadSchema) = ⊥
 IsTallied was is m n (Err Closed) = (is ≡ true) × (n ≡ one_more m)
 
 -- What a call that reads keeps.
-pub record Keeps {S X : Type 0} (sight : Sight S) (old new : S) (result : Result X Fault) : Type 0 where
-  -- the tables
-  pub same : sight.is_clean new → sight.is_ours old → sight.is_closed new ≡ false → sight.tables new ≡ sight.tables old
-  -- the rows stay those of the tables; after Closed nothing is said of them
-  pub ours : sight.is_clean new → sight.is_ours old → sight.is_closed new ≡ false → sight.is_ours new
-  -- what is clean now was clean
-  pub quiet : sight.is_clean new → sight.is_clean old
-  pub tally : IsTallied (sight.is_closed old) (sight.is_closed new) (sight.fault_count old) (sight.fault_count new) result
-  pub cause : IfErr result sight.may_answer
+pub record Keeps {S X : Type 0} (sight : Sight S) (old new : S) (result : Result X Fault) : Type 0
+  where
+    -- the tables
+    pub same : sight.is_clean new → sight.is_ours old → sight.is_closed new ≡ false →
+        sight.tables new ≡ sight.tables old
+    -- the rows stay those of the tables; after Closed nothing is said of them
+    pub ours : sight.is_clean new → sight.is_ours old → sight.is_closed new ≡ false →
+        sight.is_ours new
+    -- what is clean now was clean
+    pub quiet : sight.is_clean new → sight.is_clean old
+    pub tally : IsTallied (sight.is_closed old) (sight.is_closed new) (sight.fault_count old)
+        (sight.fault_count new) result
+    pub cause : IfErr result sight.may_answer
 
 -- What a call that changes keeps: the tables where it ends in a fault; and the rest as above.
-pub record KeepsOnErr {S X : Type 0} (sight : Sight S) (old new : S) (result : Result X Fault) : Type 0 where
-  pub none : sight.is_clean new → sight.is_ours old → sight.is_closed new ≡ false → OnErr result (sight.tables new ≡ sight.tables old)
-  pub ours : sight.is_clean new → sight.is_ours old → sight.is_closed new ≡ false → sight.is_ours new
+pub record KeepsOnErr {S X : Type 0} (sight : Sight S) (old new : S) (result : Result X Fault)
+    : Type 0 where
+  pub none : sight.is_clean new → sight.is_ours old → sight.is_closed new ≡ false →
+      OnErr result (sight.tables new ≡ sight.tables old)
+  pub ours : sight.is_clean new → sight.is_ours old → sight.is_closed new ≡ false →
+      sight.is_ours new
   pub quiet : sight.is_clean new → sight.is_clean old
-  pub tally : IsTallied (sight.is_closed old) (sight.is_closed new) (sight.fault_count old) (sight.fault_count new) result
+  pub tally : IsTallied (sight.is_closed old) (sight.is_closed new) (sight.fault_count old)
+      (sight.fault_count new) result
   pub cause : IfErr result sight.may_answer

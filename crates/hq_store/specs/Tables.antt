@@ -15,11 +15,13 @@ use Rattle.hq_queue.specs.declared.message.Pending.{Pending}
 use Rattle.hq_queue.specs.declared.message.QueueState.{QueueState}
 use Rattle.hq_store.specs.declared.account.Account.{Account}
 use Rattle.hq_store.specs.declared.change.Change.{Change}
-use Rattle.hq_store.specs.declared.change.Change.TheVariants.{PutHead, PutMessage, DropMessage, PutLine, DropLine, PutMark, AddNotice, DropNoticesBelow}
+use Rattle.hq_store.specs.declared.change.Change.TheVariants.{PutHead, PutMessage, DropMessage}
+use Rattle.hq_store.specs.declared.change.Change.TheVariants.{PutLine, DropLine, PutMark, AddNotice}
+use Rattle.hq_store.specs.declared.change.Change.TheVariants.{DropNoticesBelow}
 use Rattle.hq_store.specs.declared.mark.Mark.{Mark}
 use Rattle.hq_store.specs.declared.notice.Notice.{Notice}
 use Rattle.hq_queue.specs.declared.kind.Kind.{Kind}
-use Rattle.hq_tables.specs.Owned.{by_both, part_of, map_values, given}
+use Rattle.hq_owned.specs.Owned.{by_both, part_of, map_values, given}
 
 -- names and texts in the order of their bytes
 abbrev pub text_cmp : List ℕ → List ℕ → Ordering
@@ -65,14 +67,29 @@ pub record Noted : Type 0 where
   pub status : List ℕ
 
 abbrev pub noted_of : Notice → Noted
-noted_of n = record { kind = n.kind; serial = n.serial; at = n.at; to = n.to; human = n.human; status = n.status }
+noted_of n = record {
+  kind = n.kind;
+  serial = n.serial;
+  at = n.at;
+  to = n.to;
+  human = n.human;
+  status = n.status;
+}
 
 -- the notice of a number
 abbrev pub notice_of : ℕ × Noted → Notice
-notice_of e = record { number = e.0; kind = e.1.kind; serial = e.1.serial; at = e.1.at; to = e.1.to; human = e.1.human; status = e.1.status }
+notice_of e = record {
+  number = e.0;
+  kind = e.1.kind;
+  serial = e.1.serial;
+  at = e.1.at;
+  to = e.1.to;
+  human = e.1.human;
+  status = e.1.status;
+}
 
--- a customer's state: its head, its messages by serial, the actions of its lines by pattern, its imports by label, and its
--- notices by number
+-- a customer's state: its head, its messages by serial, the actions of its lines by pattern, its
+-- imports by label, and its notices by number
 pub record State : Type 0 where
   pub head : Head
   pub messages : FinMap nat_cmp Message
@@ -82,11 +99,21 @@ pub record State : Type 0 where
 
 -- the head of a customer of whom nothing is kept yet: both next numbers are 1
 abbrev pub opening_head : Head
-opening_head = record { next_serial = 1; next_notice = 1; tally = record { accepted = 0; delivered = 0; failed = 0; deleted = 0; expired = 0 } }
+opening_head = record {
+  next_serial = 1;
+  next_notice = 1;
+  tally = record { accepted = 0; delivered = 0; failed = 0; deleted = 0; expired = 0 };
+}
 
 -- a customer of whom nothing is kept yet
 abbrev pub opening : State
-opening = record { head = opening_head; messages = empty; lines = empty; marks = empty; notices = empty }
+opening = record {
+  head = opening_head;
+  messages = empty;
+  lines = empty;
+  marks = empty;
+  notices = empty;
+}
 
 -- a change of one customer's state; a message stands at its serial, and an import at its label
 abbrev pub change : Change → State → State
@@ -96,7 +123,9 @@ change (DropMessage serial) s = record s { messages = remove s.messages serial }
 change (PutLine line) s = record s { lines = insert s.lines line.pattern line.action }
 change (DropLine pattern) s = record s { lines = remove s.lines pattern }
 change (PutMark mark) s = record s { marks = insert s.marks mark.label mark }
-change (AddNotice notice) s = record s { notices = insert s.notices notice.number (noted_of notice) }
+change (AddNotice notice) s = record s {
+  notices = insert s.notices notice.number (noted_of notice);
+}
 change (DropNoticesBelow number) s = record s { notices = retain_keys s.notices (nat_le number) }
 
 -- all changes in order
@@ -117,8 +146,8 @@ pub record Row : Type 0 where
   pub attempts : ℕ
   pub warned : Bool
 
--- every key begins with the customer's name; recipients have a table of their own, by serial and place, and so have the
--- reasons of messages on hold, by serial
+-- every key begins with the customer's name; recipients have a table of their own, by serial and
+-- place, and so have the reasons of messages on hold, by serial
 pub record Tables : Type 0 where
   pub heads : FinMap text_cmp Account
   pub messages : FinMap message_cmp Row
@@ -130,15 +159,44 @@ pub record Tables : Type 0 where
 
 -- tables of nobody
 abbrev pub no_tables : Tables
-no_tables = record { heads = empty; messages = empty; recipients = empty; holds = empty; lines = empty; marks = empty; notices = empty }
+no_tables = record {
+  heads = empty;
+  messages = empty;
+  recipients = empty;
+  holds = empty;
+  lines = empty;
+  marks = empty;
+  notices = empty;
+}
 
 -- the row of a message
 abbrev pub row_of : Message → Row
-row_of m = record { sender = m.sender; spool = m.spool; size = m.size; arrival = m.arrival; state = m.state; next_try = m.next_try; attempts = m.attempts; warned = m.warned }
+row_of m = record {
+  sender = m.sender;
+  spool = m.spool;
+  size = m.size;
+  arrival = m.arrival;
+  state = m.state;
+  next_try = m.next_try;
+  attempts = m.attempts;
+  warned = m.warned;
+}
 
 -- the message of a row, its serial, its reason and its recipients
 abbrev pub message_of : ℕ → Row → List ℕ → List Pending → Message
-message_of serial r reason ps = record { serial = serial; sender = r.sender; spool = r.spool; size = r.size; arrival = r.arrival; state = r.state; reason = reason; next_try = r.next_try; attempts = r.attempts; warned = r.warned; pending = ps }
+message_of serial r reason ps = record {
+  serial = serial;
+  sender = r.sender;
+  spool = r.spool;
+  size = r.size;
+  arrival = r.arrival;
+  state = r.state;
+  reason = reason;
+  next_try = r.next_try;
+  attempts = r.attempts;
+  warned = r.warned;
+  pending = ps;
+}
 
 -- the recipients of a customer's message, in order of place
 unfoldable pub pending_of : List ℕ → ℕ → FinMap recipient_cmp Pending → List Pending
@@ -149,22 +207,29 @@ unfoldable pub reason_of : List ℕ → ℕ → FinMap message_cmp (List ℕ) �
 reason_of customer serial hs = unwrap_or (get hs (customer, serial)) []
 
 -- this reason of the message, instead of the one that it had; an empty one is not kept
-unfoldable pub give_reason : List ℕ → ℕ → List ℕ → FinMap message_cmp (List ℕ) → FinMap message_cmp (List ℕ)
+unfoldable pub give_reason : List ℕ → ℕ → List ℕ → FinMap message_cmp (List ℕ) →
+    FinMap message_cmp (List ℕ)
 give_reason customer serial [] hs = remove hs (customer, serial)
 give_reason customer serial (b ∷ reason) hs = insert hs (customer, serial) (b ∷ reason)
 
 -- a row of messages with its reason and its recipients
-abbrev pub joined : List ℕ → FinMap recipient_cmp Pending → FinMap message_cmp (List ℕ) → ℕ → Row → Message
-joined customer rs hs serial r = message_of serial r (reason_of customer serial hs) (pending_of customer serial rs)
+abbrev pub joined : List ℕ → FinMap recipient_cmp Pending → FinMap message_cmp (List ℕ) → ℕ → Row →
+    Message
+joined customer rs hs serial r =
+    message_of serial r (reason_of customer serial hs) (pending_of customer serial rs)
 
 -- recipients put at the places from i on
-abbrev pub place_all : List ℕ → ℕ → ℕ → List Pending → FinMap recipient_cmp Pending → FinMap recipient_cmp Pending
+abbrev pub place_all : List ℕ → ℕ → ℕ → List Pending → FinMap recipient_cmp Pending →
+    FinMap recipient_cmp Pending
 place_all customer serial i [] rs = rs
-place_all customer serial i (p ∷ ps) rs = place_all customer serial (suc i) ps (insert rs (customer, (serial, i)) p)
+place_all customer serial i (p ∷ ps) rs =
+    place_all customer serial (suc i) ps (insert rs (customer, (serial, i)) p)
 
 -- these recipients, at the places 1, 2, .., instead of all that the message had
-unfoldable pub deal : List ℕ → ℕ → List Pending → FinMap recipient_cmp Pending → FinMap recipient_cmp Pending
-deal customer serial ps rs = place_all customer serial 1 ps (retain_keys rs (λ k. not (eq_by_cmp text_cmp customer k.0 && eq_by_cmp nat_cmp serial k.1.0)))
+unfoldable pub deal : List ℕ → ℕ → List Pending → FinMap recipient_cmp Pending →
+    FinMap recipient_cmp Pending
+deal customer serial ps rs = place_all customer serial 1 ps
+    (retain_keys rs (λ k. not (eq_by_cmp text_cmp customer k.0 && eq_by_cmp nat_cmp serial k.1.0)))
 
 -- ---- how much a customer keeps, beside its head
 
@@ -173,7 +238,11 @@ abbrev pub with_message : ℕ → Counts → Counts
 with_message size n = record { messages = n.messages + 1; bytes = n.bytes + size; lines = n.lines }
 
 abbrev pub without_message : ℕ → Counts → Counts
-without_message size n = record { messages = n.messages - 1; bytes = n.bytes - size; lines = n.lines }
+without_message size n = record {
+  messages = n.messages - 1;
+  bytes = n.bytes - size;
+  lines = n.lines;
+}
 
 abbrev pub with_line : Counts → Counts
 with_line n = record { messages = n.messages; bytes = n.bytes; lines = n.lines + 1 }
@@ -183,7 +252,14 @@ without_line n = record { messages = n.messages; bytes = n.bytes; lines = n.line
 
 -- a head row of whom nothing is kept yet
 abbrev pub opening_account : Account
-opening_account = record { head = opening_head; counts = record { messages = 0; bytes = 0; lines = 0 } }
+opening_account = record {
+  head = opening_head;
+  counts = record {
+    messages = 0;
+    bytes = 0;
+    lines = 0;
+  };
+}
 
 -- the customer's head row; that of a customer of whom nothing is kept, where it has none
 abbrev pub account : FinMap text_cmp Account → List ℕ → Account
@@ -198,12 +274,15 @@ unfoldable pub headed : List ℕ → Head → FinMap text_cmp Account → FinMap
 headed customer head heads = insert heads customer (record (account heads customer) { head = head })
 
 -- the heads with the counts of one customer changed: the head stays
-unfoldable pub counted : (Counts → Counts) → List ℕ → FinMap text_cmp Account → FinMap text_cmp Account
+unfoldable pub counted : (Counts → Counts) → List ℕ → FinMap text_cmp Account →
+    FinMap text_cmp Account
 counted f customer heads = insert heads customer (recounted f (account heads customer))
 
 -- the heads once the message of a serial is not counted any more; the same, where there is none
 abbrev pub uncounted_message : List ℕ → ℕ → Tables → FinMap text_cmp Account
-uncounted_message customer serial t = given t.heads (λ (r : Row). counted (without_message r.size) customer t.heads) (get t.messages (customer, serial))
+uncounted_message customer serial t = given t.heads
+    (λ (r : Row). counted (without_message r.size) customer t.heads)
+    (get t.messages (customer, serial))
 
 -- of the keys that begin with the customer's name, those that pass a test; and all others
 abbrev pub left_of : {K : Type 0} → List ℕ → (K → Bool) → List ℕ × K → Bool
@@ -225,16 +304,22 @@ write customer (DropMessage serial) t = record t {
   holds = give_reason customer serial [] t.holds;
 }
 write customer (PutLine line) t = record t {
-  heads = given (counted with_line customer t.heads) (λ _. t.heads) (get t.lines (customer, line.pattern));
+  heads = given (counted with_line customer t.heads) (λ _. t.heads)
+      (get t.lines (customer, line.pattern));
   lines = insert t.lines (customer, line.pattern) line.action;
 }
 write customer (DropLine pattern) t = record t {
-  heads = given t.heads (λ _. counted without_line customer t.heads) (get t.lines (customer, pattern));
+  heads = given t.heads (λ _. counted without_line customer t.heads)
+      (get t.lines (customer, pattern));
   lines = remove t.lines (customer, pattern);
 }
 write customer (PutMark mark) t = record t { marks = insert t.marks (customer, mark.label) mark }
-write customer (AddNotice notice) t = record t { notices = insert t.notices (customer, notice.number) (noted_of notice) }
-write customer (DropNoticesBelow number) t = record t { notices = retain_keys t.notices (left_of customer (nat_le number)) }
+write customer (AddNotice notice) t = record t {
+  notices = insert t.notices (customer, notice.number) (noted_of notice);
+}
+write customer (DropNoticesBelow number) t = record t {
+  notices = retain_keys t.notices (left_of customer (nat_le number));
+}
 
 -- all changes in order
 abbrev pub write_all : List ℕ → List Change → Tables → Tables
@@ -245,7 +330,8 @@ write_all customer (c ∷ cs) t = write_all customer cs (write customer c t)
 abbrev pub own : List ℕ → Tables → State
 own customer t = record {
   head = (account t.heads customer).head;
-  messages = map_values (joined customer t.recipients t.holds) (part_of text_cmp customer t.messages);
+  messages = map_values (joined customer t.recipients t.holds)
+      (part_of text_cmp customer t.messages);
   lines = part_of text_cmp customer t.lines;
   marks = part_of text_cmp customer t.marks;
   notices = part_of text_cmp customer t.notices;

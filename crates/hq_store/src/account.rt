@@ -1,7 +1,8 @@
 //! What a head row keeps of a customer.
 
 ghost use Rattle.std.specs.Prelude.{◌≡◌, IfSome};
-ghost use Rattle.hq_store.specs.Tables.{opening_account, recounted, with_message, without_message, with_line, without_line};
+ghost use Rattle.hq_store.specs.Tables.{opening_account, recounted, with_message, without_message};
+ghost use Rattle.hq_store.specs.Tables.{with_line, without_line};
 
 use hq_queue::{Counts, Head, Tally};
 

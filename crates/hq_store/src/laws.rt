@@ -4,7 +4,8 @@
 ghost use Rattle.std.specs.Prelude.{◌≡◌, ◌≢◌, ℕ, List, None};
 ghost use Rattle.hq_access.specs.declared.pattern.Class.{Class};
 ghost use Rattle.hq_store.specs.declared.change.Change.{Change};
-ghost use Rattle.hq_store.specs.Tables.{Tables, account, opening, no_tables, own, change_all, write_all};
+ghost use Rattle.hq_store.specs.Tables.{Tables, account, opening, no_tables, own, change_all};
+ghost use Rattle.hq_store.specs.Tables.{write_all};
 ghost use Rattle.hq_store.specs.Readings.{read_state, read_tables, told};
 ghost use Rattle.hq_store.specs.Sound.{AreCounted, Shaped, Sound, SoundState};
 ghost use Rattle.hq_store.specs.Fits.{AllFit};

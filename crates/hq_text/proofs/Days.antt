@@ -1,11 +1,13 @@
 -- The day that comes so many days after 1 January 1970 has that day number.
-use Rattle.std.proofs.Common.{◌≡◌, ℕ, zero, suc, ◌+◌, ◌*◌, ◌<◌, ◌≤◌, Bool, true, false, cond, pos, refl, sym, ap, subst, ◌∙◌, arith, nat_lt}
+use Rattle.std.proofs.Common.{◌≡◌, ℕ, zero, suc, ◌+◌, ◌*◌, ◌<◌, ◌≤◌, Bool, true, false, cond, pos}
+use Rattle.std.proofs.Common.{refl, sym, ap, subst, ◌∙◌, arith, nat_lt}
 use Rattle.std.proofs.lemmas.Bool.Decides.{nat_tests}
 use Rattle.jiff_core.specs.Calendar.{days_in_month, days_from_civil}
 use Rattle.jiff_core.specs.Date.{epoch_day}
 use Rattle.jiff_core.specs.declared.civil.date.Date.{Date}
 use Rattle.jiff_core.proofs.CalendarLemmas.{days_in_month_bounds}
-use Rattle.jiff_core.proofs.DateLemmas.{days_from_civil-day, days_from_civil-next_month, days_from_civil-next_year, epoch_day_injective}
+use Rattle.jiff_core.proofs.DateLemmas.{days_from_civil-day, days_from_civil-next_month}
+use Rattle.jiff_core.proofs.DateLemmas.{days_from_civil-next_year, epoch_day_injective}
 use Rattle.jiff_core.proofs.StandardFacts.{known_days}
 use Rattle.jiff_core.proofs.SignedLemmas.{signed_arith}
 use Rattle.hq_text.specs.Dates.{Civil, next_day, civil}
@@ -22,8 +24,11 @@ pub record IsDay (n : ℕ) (c : Civil) : Type 0 where
 next_is : (n : ℕ) (c : Civil) → IsDay n c → IsDay (suc n) (next_day c)
 next_is n c h = by (nat_lt c.day (days_in_month (pos c.year) c.month)) refl (nat_lt c.month 12) refl
   where
-    by : (v : Bool) → nat_lt c.day (days_in_month (pos c.year) c.month) ≡ v → (w : Bool) → nat_lt c.month 12 ≡ w
-        → IsDay (suc n) (cond v (record { year = c.year; month = c.month; day = c.day + 1 }) (cond w (record { year = c.year; month = c.month + 1; day = 1 }) (record { year = c.year + 1; month = 1; day = 1 })))
+    by : (v : Bool) → nat_lt c.day (days_in_month (pos c.year) c.month) ≡ v → (w : Bool) →
+        nat_lt c.month 12 ≡ w
+        → IsDay (suc n) (cond v (record { year = c.year; month = c.month; day = c.day + 1 })
+        (cond w (record { year = c.year; month = c.month + 1; day = 1 })
+        (record { year = c.year + 1; month = 1; day = 1 })))
     by true e w f =
         let lt : c.day < days_in_month (pos c.year) c.month = grind (arith, nat_tests) in
         let long = days_in_month_bounds (pos c.year) c.month in
@@ -34,7 +39,12 @@ next_is n c h = by (nat_lt c.day (days_in_month (pos c.year) c.month)) refl (nat
           day_high = omega arith;
           year_low = h.year_low;
           near = omega (arith, h.near);
-          number = omega (arith, signed_arith, days_from_civil-day (pos c.year) c.month c.day (c.day + 1) h.day_low (omega arith), h.number);
+          number = omega (
+            arith,
+            signed_arith,
+            days_from_civil-day (pos c.year) c.month c.day (c.day + 1) h.day_low (omega arith),
+            h.number,
+          );
         }
     by false e true f =
         let lt : c.month < 12 = grind (arith, nat_tests) in
@@ -49,7 +59,12 @@ next_is n c h = by (nat_lt c.day (days_in_month (pos c.year) c.month)) refl (nat
           day_high = omega arith;
           year_low = h.year_low;
           near = omega (arith, h.near);
-          number = omega (arith, signed_arith, days_from_civil-next_month (pos c.year) c.month c.day h.month_low last, h.number);
+          number = omega (
+            arith,
+            signed_arith,
+            days_from_civil-next_month (pos c.year) c.month c.day h.month_low last,
+            h.number,
+          );
         }
     by false e false f =
         let ge12 : 12 ≤ c.month = grind (arith, nat_tests) in
@@ -57,7 +72,9 @@ next_is n c h = by (nat_lt c.day (days_in_month (pos c.year) c.month)) refl (nat
         let m12 : c.month ≡ 12 = omega (arith, h.month_high) in
         let last : c.day ≡ days_in_month (pos c.year) c.month = omega (arith, h.day_high) in
         let d31 : c.day ≡ 31 = last ∙ ap (days_in_month (pos c.year)) m12 in
-        let before : days_from_civil (pos c.year) 12 31 ≡ pos n = subst (λ d. days_from_civil (pos c.year) 12 d ≡ pos n) d31 (subst (λ m. days_from_civil (pos c.year) m c.day ≡ pos n) m12 h.number) in
+        let before : days_from_civil (pos c.year) 12 31 ≡ pos n =
+        subst (λ d. days_from_civil (pos c.year) 12 d ≡ pos n) d31
+        (subst (λ m. days_from_civil (pos c.year) m c.day ≡ pos n) m12 h.number) in
         record {
           month_low = omega arith;
           month_high = omega arith;
@@ -65,16 +82,31 @@ next_is n c h = by (nat_lt c.day (days_in_month (pos c.year) c.month)) refl (nat
           day_high = omega arith;
           year_low = omega (arith, h.year_low);
           near = omega (arith, h.near);
-          number = omega (arith, signed_arith, days_from_civil-next_year (pos c.year) (pos (c.year + 1)) (omega (arith, signed_arith)) (omega (arith, signed_arith)), before);
+          number = omega (
+            arith,
+            signed_arith,
+            days_from_civil-next_year (pos c.year) (pos (c.year + 1))
+                (omega (arith, signed_arith)) (omega (arith, signed_arith)),
+            before,
+          );
         }
 
 pub civil_is : (n : ℕ) → IsDay n (civil n)
 unfolding civil
-civil_is zero = record { month_low = omega arith; month_high = omega arith; day_low = omega arith; day_high = omega arith; year_low = omega arith; near = omega arith; number = known_days.0 }
+civil_is zero = record {
+  month_low = omega arith;
+  month_high = omega arith;
+  day_low = omega arith;
+  day_high = omega arith;
+  year_low = omega arith;
+  near = omega arith;
+  number = known_days.0;
+}
 civil_is (suc n) = next_is n (civil n) (civil_is n)
 
 -- the date with that day number is that day
-pub parts_of : (n : ℕ) (d : Date) → n < 100000 → epoch_day d ≡ pos n → (d.year ≡ pos (civil n).year) × (d.month ≡ (civil n).month) × (d.day ≡ (civil n).day)
+pub parts_of : (n : ℕ) (d : Date) → n < 100000 → epoch_day d ≡ pos n → (d.year ≡ pos (civil n).year)
+    × (d.month ≡ (civil n).month) × (d.day ≡ (civil n).day)
 parts_of n d lt e =
     let h = civil_is n in
     let low : (civil n).year ≤ 9999 = omega (arith, h.near, h.month_low) in

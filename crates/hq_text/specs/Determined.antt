@@ -26,7 +26,8 @@ pub record AreValues (host : List ℕ) (m : Message) (told : List Told) : Type 0
   pub told_are : IsTrue (list_all is_told told)
 
 -- two notices that tell the same of the same message
-pub record AreAlike (host other_host : List ℕ) (m n : Message) (kind other_kind : Kind) (told others : List Told) : Type 0 where
+pub record AreAlike (host other_host : List ℕ) (m n : Message) (kind other_kind : Kind)
+    (told others : List Told) : Type 0 where
   pub same_host : host ≡ other_host
   pub same_serial : m.serial ≡ n.serial
   pub same_arrival : m.arrival ≡ n.arrival

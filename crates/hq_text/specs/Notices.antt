@@ -1,6 +1,7 @@
--- The texts of a notice (bounce(5)): for programs the body of message/delivery-status (RFC 3464, 2.1), for people a
--- text of this product's own.
-use Rattle.std.specs.Prelude.{ℕ, ◌+◌, ◌==◌, List, [], ◌∷◌, ◌++◌, length, map, Option, None, Some, codes, if◌then◌else◌}
+-- The texts of a notice (bounce(5)): for programs the body of message/delivery-status (RFC 3464,
+-- 2.1), for people a text of this product's own.
+use Rattle.std.specs.Prelude.{ℕ, ◌+◌, ◌==◌, List, [], ◌∷◌, ◌++◌, length, map, Option, None, Some}
+use Rattle.std.specs.Prelude.{codes, if◌then◌else◌}
 use Rattle.std.specs.List.{flat_map}
 use Rattle.hq_base.specs.Moments.{no_later}
 use Rattle.hq_base.specs.Serials.{serial_text}
@@ -37,7 +38,8 @@ action Delay = codes "delayed"
 
 -- RFC 3464, 2.3.6; where the remote server said something
 unfoldable pub diagnostic_lines : List ℕ → List (List ℕ)
-diagnostic_lines text = if length text == 0 then [] else (codes "Diagnostic-Code: x-desk; " ++ text) ∷ []
+diagnostic_lines text = if length text == 0 then [] else (codes "Diagnostic-Code: x-desk; " ++ text)
+    ∷ []
 
 -- RFC 3464, 2.3.9; in the notice of a delay alone
 unfoldable pub retry_lines : Option (List ℕ) → List (List ℕ)
@@ -54,7 +56,8 @@ recipient_lines kind until t =
     (diagnostic_lines t.text ++ retry_lines until)
 
 unfoldable pub status_lines : List ℕ → Message → Kind → List Told → List (List ℕ)
-status_lines host m kind told = message_lines host m ++ flat_map (recipient_lines kind (retry_date kind m.arrival)) told
+status_lines host m kind told = message_lines host m
+    ++ flat_map (recipient_lines kind (retry_date kind m.arrival)) told
 
 unfoldable pub status_text : List ℕ → Message → Kind → List Told → List ℕ
 status_text host m kind told = text_of crlf (status_lines host m kind told)

@@ -1,5 +1,6 @@
 -- The queue report, in the manner of postqueue(1), -p. Its columns are this product's own.
-use Rattle.std.specs.Prelude.{ℕ, ◌+◌, ◌-◌, ◌==◌, List, [], ◌∷◌, ◌++◌, length, replicate, count_by, Option, None, Some, codes, decimal, if◌then◌else◌}
+use Rattle.std.specs.Prelude.{ℕ, ◌+◌, ◌-◌, ◌==◌, List, [], ◌∷◌, ◌++◌, length, replicate, count_by}
+use Rattle.std.specs.Prelude.{Option, None, Some, codes, decimal, if◌then◌else◌}
 use Rattle.std.specs.List.{flat_map, sum_by}
 use Rattle.hq_base.specs.Serials.{serial_text}
 use Rattle.hq_envelope.specs.declared.address.Sender.{Sender}
@@ -20,7 +21,8 @@ abbrev pub right_in : ℕ → List ℕ → List ℕ
 right_in places text = replicate (places - length text) 32 ++ text
 
 unfoldable pub header : List ℕ
-header = left_in 10 (codes "Queue ID") ++ codes "  " ++ right_in 10 (codes "Size") ++ codes " " ++ left_in 31 (codes "Arrival") ++ codes " " ++ codes "Sender/Recipient"
+header = left_in 10 (codes "Queue ID") ++ codes "  " ++ right_in 10 (codes "Size") ++ codes " "
+    ++ left_in 31 (codes "Arrival") ++ codes " " ++ codes "Sender/Recipient"
 
 unfoldable pub shown_sender : Sender → List ℕ
 shown_sender Null = codes "<>"
@@ -35,7 +37,8 @@ unfoldable pub left_columns : Message → List ℕ
 left_columns m = serial_text m.serial ++ mark m.state ++ codes " " ++ right_in 10 (decimal m.size)
 
 unfoldable pub message_line : Message → List ℕ
-message_line m = left_columns m ++ codes " " ++ date_text m.arrival ++ codes " " ++ shown_sender m.sender
+message_line m = left_columns m ++ codes " " ++ date_text m.arrival ++ codes " "
+    ++ shown_sender m.sender
 
 -- why a message is on hold
 abbrev pub hold_line : List ℕ → List ℕ
@@ -66,7 +69,8 @@ message_lines m = top_lines m ++ flat_map recipient_lines m.pending
 
 -- how many messages there are, their bytes together, and how many are on hold
 unfoldable pub summary : ℕ → ℕ → ℕ → List ℕ
-summary queued bytes held = codes "-- " ++ decimal queued ++ codes " queued, " ++ decimal bytes ++ codes " bytes, " ++ decimal held ++ codes " on hold"
+summary queued bytes held = codes "-- " ++ decimal queued ++ codes " queued, " ++ decimal bytes
+    ++ codes " bytes, " ++ decimal held ++ codes " on hold"
 
 abbrev pub bytes_of : List Message → ℕ
 bytes_of messages = sum_by (λ (m : Message). m.size) messages
@@ -76,7 +80,8 @@ held_of messages = count_by (λ (m : Message). is_on_hold m.state) messages
 
 unfoldable pub report_lines : List Message → List (List ℕ)
 report_lines [] = codes "Mail queue is empty" ∷ []
-report_lines (m ∷ ms) = header ∷ (flat_map message_lines (m ∷ ms) ++ summary (length (m ∷ ms)) (bytes_of (m ∷ ms)) (held_of (m ∷ ms)) ∷ [])
+report_lines (m ∷ ms) = header ∷ (flat_map message_lines (m ∷ ms)
+    ++ summary (length (m ∷ ms)) (bytes_of (m ∷ ms)) (held_of (m ∷ ms)) ∷ [])
 
 unfoldable pub report_text : List Message → List ℕ
 report_text messages = text_of lf (report_lines messages)
@@ -118,4 +123,5 @@ with_message m w = record {
 
 -- the last line: how many messages there are, their bytes together, and how many are on hold
 abbrev pub last_lines : ℕ → ℕ → ℕ → List (List ℕ)
-last_lines queued bytes held = if queued == 0 then codes "Mail queue is empty" ∷ [] else summary queued bytes held ∷ []
+last_lines queued bytes held = if queued == 0 then codes "Mail queue is empty" ∷ [] else
+    summary queued bytes held ∷ []

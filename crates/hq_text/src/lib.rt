@@ -11,8 +11,8 @@
 mod dates;
 pub mod laws;
 mod notices;
-mod reports;
+mod queue_report;
 
 pub use dates::date_text;
 pub use notices::{human_text, status_text};
-pub use reports::{Report, report_text};
+pub use queue_report::{Report, report_text};

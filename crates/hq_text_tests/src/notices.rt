@@ -1,5 +1,6 @@
 //! The two texts of a notice, byte for byte. Expected values are the product's worked examples; the
-//! three status texts named first stand in `tests/examples/notices` too, where they are read by others.
+//! three status texts named first stand in `tests/examples/notices` too, where they are read by
+//! others.
 
 use crate::fixture::{ARRIVAL, Recipient, host, message, told};
 use hq_envelope::Moment;

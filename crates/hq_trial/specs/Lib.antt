@@ -1,3 +1,2 @@
 pub mod Trials
 pub mod Shelves
-pub mod Texts

@@ -1,7 +1,8 @@
--- What a shelf that fails as told does with its calls: it counts them, fails those that it is told to, and
--- remembers the faults that it answered.
+-- What a shelf that fails as told does with its calls: it counts them, fails those that it is told
+-- to, and remembers the faults that it answered.
 -- Inner: it serves proofs alone, and no promise rests on it.
-use Rattle.std.specs.Prelude.{ℕ, ◌==◌, nat_le, true, false, if◌then◌else◌, Option, Some, None, Result, Ok, Err}
+use Rattle.std.specs.Prelude.{ℕ, ◌==◌, nat_le, true, false, if◌then◌else◌, Option, Some, None}
+use Rattle.std.specs.Prelude.{Result, Ok, Err}
 use Rattle.hq_base.specs.declared.failure.Fault.{Fault}
 use Rattle.hq_base.specs.declared.failure.Fault.TheVariants.{WantOfMemory, Disk, BadSchema, Closed}
 use Rattle.hq_store.specs.Shelves.{one_more}

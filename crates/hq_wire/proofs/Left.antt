@@ -20,7 +20,8 @@ use Rattle.hq_wire.specs.Replies.{SeenReply, reply_of, status_of}
 use Rattle.hq_requests.specs.declared.directory.Directory.{Directory}
 
 -- an answer with another status than 200 is a refusal
-refusal_tells : (answer : Answer) → status_of (answer_number answer) ≢ 200 → tells_no_change answer ≡ true
+refusal_tells : (answer : Answer) → status_of (answer_number answer) ≢ 200 →
+    tells_no_change answer ≡ true
 unfolding status_of
 refusal_tells (Refused refusal) other = refl
 refusal_tells _ other = absurd (other refl)
@@ -29,23 +30,34 @@ module _ (may : Fault → Type 0) (host : List ℕ) (d : Directory) (t t' : Tabl
   abbrev done_by : List ℕ → Call → Answer × Tables
   done_by name call = shared host (entry_of d name) t at call
 
-  called : (name : List ℕ) (call : Call) → status_of (answer_number (done_by name call).0) ≢ 200 → (done_by name call).1 ≡ t
+  called : (name : List ℕ) (call : Call) → status_of (answer_number (done_by name call).0) ≢ 200 →
+      (done_by name call).1 ≡ t
   called name call other =
       let entry = entry_of d name in
-      ap (λ (cs : List Change). write_all entry.name cs t) (no_changes host entry (read_tables entry.name t) at call (refusal_tells (done_by name call).0 other))
+      ap (λ (cs : List Change). write_all entry.name cs t)
+      (no_changes host entry (read_tables entry.name t) at call
+      (refusal_tells (done_by name call).0 other))
 
-  pub left_by_others : (asked : Result Asked Refusal) (r : SeenReply) → MayReplyTo may host d t at asked r t' → r.status ≢ 200 → t' ≡ t
+  pub left_by_others : (asked : Result Asked Refusal) (r : SeenReply) →
+      MayReplyTo may host d t at asked r t' → r.status ≢ 200 → t' ≡ t
   left_by_others (Err refusal) r h other = h.1
   left_by_others (Ok (CallOf name call)) r h other = ⊎_elim
-      (λ (did : (r ≡ reply_of (done_by name call).0) × (t' ≡ (done_by name call).1)). did.1 ∙ called name call (λ same. other (ap (λ (x : SeenReply). x.status) did.0 ∙ same)))
-      (λ (struck : (fault : Fault) × ((fault ≡ no_memory) ⊎ may fault) × IsStruck fault t r t'). struck.2.1) h
+      (λ (did : (r ≡ reply_of (done_by name call).0) × (t' ≡ (done_by name call).1)). did.1
+      ∙ called name call (λ same. other (ap (λ (x : SeenReply). x.status) did.0 ∙ same)))
+      (λ (struck : (fault : Fault) × ((fault ≡ no_memory) ⊎ may fault) × IsStruck fault t r t').
+      struck.2.1) h
   left_by_others (Ok SweepOfAll) r h other = ⊎_elim
-      (λ (did : Sweeps may host d t at r t'). absurd (other (ap (λ (x : SeenReply). x.status) did.reply)))
+      (λ (did : Sweeps may host d t at r t'). absurd
+      (other (ap (λ (x : SeenReply). x.status) did.reply)))
       (λ (struck : IsStruck no_memory t r t'). struck.1) h
 
-  pub left_by_reading : (name : List ℕ) (call : Call) (r : SeenReply) → MayReplyTo may host d t at (Ok (CallOf name call)) r t' → only_reads call ≡ true → t' ≡ t
+  pub left_by_reading : (name : List ℕ) (call : Call) (r : SeenReply) →
+      MayReplyTo may host d t at (Ok (CallOf name call)) r t' → only_reads call ≡ true → t' ≡ t
   left_by_reading name call r h reads =
       let entry = entry_of d name in
       ⊎_elim
-      (λ (did : (r ≡ reply_of (done_by name call).0) × (t' ≡ (done_by name call).1)). did.1 ∙ ap (λ (cs : List Change). write_all entry.name cs t) (reading_has_none host entry (read_tables entry.name t) at call reads))
-      (λ (struck : (fault : Fault) × ((fault ≡ no_memory) ⊎ may fault) × IsStruck fault t r t'). struck.2.1) h
+      (λ (did : (r ≡ reply_of (done_by name call).0) × (t' ≡ (done_by name call).1)). did.1
+      ∙ ap (λ (cs : List Change). write_all entry.name cs t)
+      (reading_has_none host entry (read_tables entry.name t) at call reads))
+      (λ (struck : (fault : Fault) × ((fault ≡ no_memory) ⊎ may fault) × IsStruck fault t r t').
+      struck.2.1) h

@@ -1,5 +1,6 @@
 -- Every reply is one line, where the names of the customers are names.
-use Rattle.std.proofs.Common.{◌≡◌, ◌⊎◌, ⊎_elim, ℕ, Bool, true, false, List, [], ◌∷◌, ◌++◌, map, drop, Option, Some, None, Result, Ok, Err, refl, sym, ap, ◌∙◌, arith}
+use Rattle.std.proofs.Common.{◌≡◌, ◌⊎◌, ⊎_elim, ℕ, Bool, true, false, List, [], ◌∷◌, ◌++◌, map}
+use Rattle.std.proofs.Common.{drop, Option, Some, None, Result, Ok, Err, refl, sym, ap, ◌∙◌, arith}
 use Rattle.std.specs.Prelude.{◌&&◌, nat_le, nat_lt, length, codes}
 use Rattle.std.specs.List.{flat_map, list_all}
 use Rattle.std.specs.Cmp.Derive.{both_true}
@@ -20,7 +21,8 @@ use Rattle.hq_json.proofs.OneLine.{answer_one_line, both_one_line}
 use Rattle.hq_requests.specs.Calls.{Asked, CallOf, SweepOfAll}
 use Rattle.hq_requests.specs.Directories.{entry_of, names_of}
 use Rattle.hq_wire.specs.Exchanges.{AllDone, EndsAt, InPart, IsStruck, MayReplyTo, Sweeps, of_part}
-use Rattle.hq_wire.specs.Replies.{Part, SeenReply, Stop, closing, fault_text, for_customer, joined, part_of, reply_of, reply_of_fault, stopped_text}
+use Rattle.hq_wire.specs.Replies.{Part, SeenReply, Stop, closing, fault_text, for_customer, joined}
+use Rattle.hq_wire.specs.Replies.{part_text, reply_of, reply_of_fault, stopped_text}
 use Rattle.hq_requests.specs.declared.directory.Directory.{Directory}
 
 first : (a b : Bool) → (a && b) ≡ true → a ≡ true
@@ -38,10 +40,13 @@ name_byte b h = grind (arith, nat_tests)
 
 name_bytes : (bytes : List ℕ) → list_all is_name_byte bytes ≡ true → is_one_line bytes ≡ true
 name_bytes [] h = refl
-name_bytes (b ∷ bs) h = both_true (name_byte b (first (is_name_byte b) (list_all is_name_byte bs) h)) (name_bytes bs (second (is_name_byte b) (list_all is_name_byte bs) h))
+name_bytes (b ∷ bs) h = both_true
+    (name_byte b (first (is_name_byte b) (list_all is_name_byte bs) h))
+    (name_bytes bs (second (is_name_byte b) (list_all is_name_byte bs) h))
 
 name_one : (name : List ℕ) → is_name name ≡ true → is_one_line name ≡ true
-name_one name h = name_bytes name (second (nat_lt 0 (length name) && nat_le (length name) 32) (list_all is_name_byte name) h)
+name_one name h = name_bytes name (second (nat_lt 0 (length name) && nat_le (length name) 32)
+    (list_all is_name_byte name) h)
 
 -- ---- what a customer is told
 
@@ -49,10 +54,14 @@ behind_first : (xs : List ℕ) → is_one_line xs ≡ true → is_one_line (drop
 behind_first [] h = refl
 behind_first (x ∷ xs) h = second (is_in_line x) (is_one_line xs) h
 
-customer_one : (name object : List ℕ) → is_name name ≡ true → is_one_line object ≡ true → is_one_line (for_customer name object) ≡ true
+customer_one : (name object : List ℕ) → is_name name ≡ true → is_one_line object ≡ true →
+    is_one_line (for_customer name object) ≡ true
 customer_one name object known h =
-    let opened : is_one_line (codes "{\"customer\":\"" ++ name) ≡ true = both_one_line (codes "{\"customer\":\"") name refl (name_one name known) in
-    both_one_line (codes "{\"customer\":\"" ++ name ++ codes "\",") (drop 1 object) (both_one_line (codes "{\"customer\":\"" ++ name) (codes "\",") opened refl) (behind_first object h)
+    let opened : is_one_line (codes "{\"customer\":\"" ++ name) ≡ true =
+    both_one_line (codes "{\"customer\":\"") name refl (name_one name known) in
+    both_one_line (codes "{\"customer\":\"" ++ name ++ codes "\",") (drop 1 object)
+    (both_one_line (codes "{\"customer\":\"" ++ name) (codes "\",") opened refl)
+    (behind_first object h)
 
 fault_one : (fault : Fault) → is_one_line (fault_text fault) ≡ true
 fault_one WantOfMemory = refl
@@ -76,50 +85,85 @@ abbrev behind_comma : Part → List ℕ
 behind_comma p = 44 ∷ p.text
 
 module _ (host : List ℕ) (d : Directory) (at : ℕ) where
-  part_one : (t : Tables) (p : Part) → is_name p.customer ≡ true → InPart p.text ≡ InPart (part_of p.customer (shared host (entry_of d p.customer) t at Sweep).0) → is_one_line p.text ≡ true
+  part_one : (t : Tables) (p : Part) → is_name p.customer ≡ true →
+      InPart p.text ≡ InPart (part_text p.customer
+      (shared host (entry_of d p.customer) t at Sweep).0)
+      → is_one_line p.text ≡ true
   part_one t p known told =
       let answer = (shared host (entry_of d p.customer) t at Sweep).0 in
-      ap is_one_line (same_part p.text (part_of p.customer answer) told) ∙ customer_one p.customer (answer_text answer) known (answer_one_line answer)
+      ap is_one_line (same_part p.text (part_text p.customer answer) told)
+      ∙ customer_one p.customer (answer_text answer) known (answer_one_line answer)
 
-  behind_one : (t t' : Tables) (ps : List Part) → list_all is_name (map whose ps) ≡ true → AllDone host d t (map (of_part at) ps) t' → is_one_line (flat_map behind_comma ps) ≡ true
+  behind_one : (t t' : Tables) (ps : List Part) → list_all is_name (map whose ps) ≡ true →
+      AllDone host d t (map (of_part at) ps) t' → is_one_line (flat_map behind_comma ps) ≡ true
   behind_one t t' [] known done = refl
   behind_one t t' (p ∷ ps) known done =
       let this = first (is_name p.customer) (list_all is_name (map whose ps)) known in
       let rest = second (is_name p.customer) (list_all is_name (map whose ps)) known in
-      both_one_line (44 ∷ p.text) (flat_map behind_comma ps) (part_one t p this done.0) (behind_one (shared host (entry_of d p.customer) t at Sweep).1 t' ps rest done.1)
+      both_one_line (44 ∷ p.text) (flat_map behind_comma ps) (part_one t p this done.0)
+      (behind_one (shared host (entry_of d p.customer) t at Sweep).1 t' ps rest done.1)
 
-  joined_one : (t t' : Tables) (ps : List Part) → list_all is_name (map whose ps) ≡ true → AllDone host d t (map (of_part at) ps) t' → is_one_line (joined ps) ≡ true
+  joined_one : (t t' : Tables) (ps : List Part) → list_all is_name (map whose ps) ≡ true →
+      AllDone host d t (map (of_part at) ps) t' → is_one_line (joined ps) ≡ true
   joined_one t t' [] known done = refl
   joined_one t t' (p ∷ ps) known done =
       let this = first (is_name p.customer) (list_all is_name (map whose ps)) known in
       let rest = second (is_name p.customer) (list_all is_name (map whose ps)) known in
-      both_one_line p.text (flat_map behind_comma ps) (part_one t p this done.0) (behind_one (shared host (entry_of d p.customer) t at Sweep).1 t' ps rest done.1)
+      both_one_line p.text (flat_map behind_comma ps) (part_one t p this done.0)
+      (behind_one (shared host (entry_of d p.customer) t at Sweep).1 t' ps rest done.1)
 
-  stopped_one : (may : Fault → Type 0) (left : List (List ℕ)) (stopped : Option Stop) → list_all is_name left ≡ true → EndsAt may left stopped → is_one_line (stopped_text stopped) ≡ true
+  stopped_one : (may : Fault → Type 0) (left : List (List ℕ)) (stopped : Option Stop) →
+      list_all is_name left ≡ true → EndsAt may left stopped →
+      is_one_line (stopped_text stopped) ≡ true
   stopped_one may left None known ends = refl
   stopped_one may left (Some stop) known ends =
       let more = ends.1.0 in
-      customer_one stop.customer (fault_text stop.fault) (first (is_name stop.customer) (list_all is_name more) (ap (list_all is_name) (sym ends.1.1) ∙ known)) (fault_one stop.fault)
+      customer_one stop.customer (fault_text stop.fault)
+      (first (is_name stop.customer) (list_all is_name more)
+      (ap (list_all is_name) (sym ends.1.1) ∙ known)) (fault_one stop.fault)
 
-  module _ (may : Fault → Type 0) (t t' : Tables) (names : list_all is_name (names_of d) ≡ true) where
-    swept_one : (r : SeenReply) → Sweeps may host d t at r t' → is_one_line r.body ≡ true
-    swept_one r did =
-        let known : (list_all is_name (map whose r.parts) && list_all is_name did.left) ≡ true = sym (list_all-append is_name (map whose r.parts) did.left) ∙ ap (list_all is_name) (sym did.order) ∙ names in
-        let parts = joined_one t t' r.parts (first (list_all is_name (map whose r.parts)) (list_all is_name did.left) known) did.done in
-        let stop = stopped_one may did.left r.stopped (second (list_all is_name (map whose r.parts)) (list_all is_name did.left) known) did.ends in
-        let end : is_one_line (closing r.stopped) ≡ true = both_one_line (codes "],\"stopped\":" ++ stopped_text r.stopped) (codes "}") (both_one_line (codes "],\"stopped\":") (stopped_text r.stopped) refl stop) refl in
-        ap (λ (x : SeenReply). is_one_line x.body) did.reply ∙ both_one_line (codes "{\"done\":[" ++ joined r.parts) (closing r.stopped) (both_one_line (codes "{\"done\":[") (joined r.parts) refl parts) end
+  module _ (may : Fault → Type 0) (t t' : Tables) (names : list_all is_name (names_of d) ≡ true)
+    where
+      swept_one : (r : SeenReply) → Sweeps may host d t at r t' → is_one_line r.body ≡ true
+      swept_one r did =
+          let known : (list_all is_name (map whose r.parts) && list_all is_name did.left) ≡ true =
+          sym (list_all-append is_name (map whose r.parts) did.left)
+          ∙ ap (list_all is_name) (sym did.order) ∙ names in
+          let parts = joined_one t t' r.parts
+          (first (list_all is_name (map whose r.parts)) (list_all is_name did.left) known)
+          did.done in
+          let stop = stopped_one may did.left r.stopped
+          (second (list_all is_name (map whose r.parts)) (list_all is_name did.left) known)
+          did.ends in
+          let end : is_one_line (closing r.stopped) ≡ true = both_one_line (codes "],\"stopped\":"
+          ++ stopped_text r.stopped) (codes "}") (both_one_line (codes "],\"stopped\":")
+          (stopped_text r.stopped) refl stop) refl in
+          ap (λ (x : SeenReply). is_one_line x.body) did.reply
+          ∙ both_one_line (codes "{\"done\":[" ++ joined r.parts) (closing r.stopped)
+          (both_one_line (codes "{\"done\":[") (joined r.parts) refl parts) end
 
-    pub reply_one_line_of : (asked : Result Asked Refusal) (r : SeenReply) → MayReplyTo may host d t at asked r t' → is_one_line r.body ≡ true
-    reply_one_line_of (Err refusal) r h = ⊎_elim
-        (λ (told : r ≡ reply_of (Refused refusal)). ap (λ (x : SeenReply). is_one_line x.body) told ∙ answer_one_line (Refused refusal))
-        (λ (struck : r ≡ reply_of_fault no_memory). ap (λ (x : SeenReply). is_one_line x.body) struck ∙ struck_one no_memory) h.0
-    reply_one_line_of (Ok (CallOf name call)) r h = ⊎_elim
-        (λ (did : (r ≡ reply_of (shared host (entry_of d name) t at call).0) × (t' ≡ (shared host (entry_of d name) t at call).1)). ap (λ (x : SeenReply). is_one_line x.body) did.0 ∙ answer_one_line (shared host (entry_of d name) t at call).0)
-        (λ (struck : (fault : Fault) × ((fault ≡ no_memory) ⊎ may fault) × IsStruck fault t r t'). ap (λ (x : SeenReply). is_one_line x.body) struck.2.0 ∙ struck_one struck.0) h
-    reply_one_line_of (Ok SweepOfAll) r h = ⊎_elim
-        (λ (did : Sweeps may host d t at r t'). swept_one r did)
-        (λ (struck : IsStruck no_memory t r t'). ap (λ (x : SeenReply). is_one_line x.body) struck.0 ∙ struck_one no_memory) h
+      pub reply_one_line_of : (asked : Result Asked Refusal) (r : SeenReply) →
+          MayReplyTo may host d t at asked r t' → is_one_line r.body ≡ true
+      reply_one_line_of (Err refusal) r h = ⊎_elim
+          (λ (told : r ≡ reply_of (Refused refusal)). ap
+          (λ (x : SeenReply). is_one_line x.body) told
+          ∙ answer_one_line (Refused refusal))
+          (λ (struck : r ≡ reply_of_fault no_memory). ap (λ (x : SeenReply). is_one_line x.body)
+          struck ∙ struck_one no_memory) h.0
+      reply_one_line_of (Ok (CallOf name call)) r h = ⊎_elim
+          (λ (did : (r ≡ reply_of (shared host (entry_of d name) t at call).0)
+          × (t' ≡ (shared host (entry_of d name) t at call).1)). ap
+          (λ (x : SeenReply). is_one_line x.body) did.0
+          ∙ answer_one_line (shared host (entry_of d name) t at call).0)
+          (λ (struck : (fault : Fault) × ((fault ≡ no_memory) ⊎ may fault) × IsStruck fault t r t').
+          ap (λ (x : SeenReply). is_one_line x.body) struck.2.0 ∙ struck_one struck.0) h
+      reply_one_line_of (Ok SweepOfAll) r h = ⊎_elim
+          (λ (did : Sweeps may host d t at r t'). swept_one r did)
+          (λ (struck : IsStruck no_memory t r t'). ap (λ (x : SeenReply). is_one_line x.body)
+          struck.0
+          ∙ struck_one no_memory) h
 
-pub reply_one_line : (may : Fault → Type 0) (host : List ℕ) (d : Directory) (t t' : Tables) (at : ℕ) → list_all is_name (names_of d) ≡ true → (asked : Result Asked Refusal) (r : SeenReply) → MayReplyTo may host d t at asked r t' → is_one_line r.body ≡ true
+pub reply_one_line : (may : Fault → Type 0) (host : List ℕ) (d : Directory) (t t' : Tables) (at : ℕ)
+    → list_all is_name (names_of d) ≡ true → (asked : Result Asked Refusal) (r : SeenReply) →
+    MayReplyTo may host d t at asked r t' → is_one_line r.body ≡ true
 reply_one_line may host d t t' at names = reply_one_line_of host d at may t t' names

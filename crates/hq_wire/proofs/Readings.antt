@@ -1,5 +1,7 @@
 -- The bytes of the reply to a sweep of all are read in one way.
-use Rattle.std.proofs.Common.{◌≡◌, ℕ, Bool, true, false, ◌==◌, ◌&&◌, if◌then◌else◌, List, [], ◌∷◌, ◌++◌, map, get_or, take, drop, codes, Option, Some, None, Result, Ok, Err, inl, inr, refl, sym, ap, ◌∙◌, append_assoc}
+use Rattle.std.proofs.Common.{◌≡◌, ℕ, Bool, true, false, ◌==◌, ◌&&◌, if◌then◌else◌, List, [], ◌∷◌}
+use Rattle.std.proofs.Common.{◌++◌, map, get_or, take, drop, codes, Option, Some, None, Result, Ok}
+use Rattle.std.proofs.Common.{Err, inl, inr, refl, sym, ap, ◌∙◌, append_assoc}
 use Rattle.std.specs.List.{flat_map, list_all}
 use Rattle.std.proofs.lemmas.Bool.{false≢true}
 use Rattle.std.proofs.lemmas.List.{append_cancel_left}
@@ -11,11 +13,14 @@ use Rattle.hq_store.specs.Tables.{Tables}
 use Rattle.hq_calls.specs.declared.call.Call.{Call}
 use Rattle.hq_requests.specs.Calls.{Asked, CallOf, SweepOfAll}
 use Rattle.hq_wire.specs.Exchanges.{EndsAt, IsRefused, MayReplyTo, Sweeps}
-use Rattle.hq_wire.specs.Replies.{AreObjects, Closes, Part, SeenReply, Stop, closing, fault_text, for_customer, is_inside, joined, opening, plain, reply_of_fault, stopped_text, swept_reply}
+use Rattle.hq_wire.specs.Replies.{AreObjects, Closes, Part, SeenReply, Stop, closing, fault_text}
+use Rattle.hq_wire.specs.Replies.{for_customer, is_inside, joined, opening, plain, reply_of_fault}
+use Rattle.hq_wire.specs.Replies.{stopped_text, swept_reply}
 use Rattle.hq_requests.specs.declared.directory.Directory.{Directory}
 use Rattle.hq_wire.proofs.Swept.{customer_of_part}
 
-cons : {X : Type 0} (a b : X) (xs ys : List X) → ◌≡◌ {A = List X} (a ∷ xs) (b ∷ ys) → (a ≡ b) × (xs ≡ ys)
+cons : {X : Type 0} (a b : X) (xs ys : List X) → ◌≡◌ {A = List X} (a ∷ xs) (b ∷ ys) → (a ≡ b)
+    × (xs ≡ ys)
 cons a b xs ys e = (cc, cc)
 
 both : (a b : Bool) → a && b ≡ true → (a ≡ true) × (b ≡ true)
@@ -27,21 +32,30 @@ not_brace : (b : ℕ) → is_inside b ≡ true → b ≡ 125 → ⊥
 not_brace b h e = false≢true (ap is_inside (sym e) ∙ h)
 
 -- what is inside of the braces ends at the first closing one
-inside_apart : (xs ys more others : List ℕ) → list_all is_inside xs ≡ true → list_all is_inside ys ≡ true → xs ++ 125 ∷ more ≡ ys ++ 125 ∷ others → (xs ≡ ys) × (more ≡ others)
+inside_apart : (xs ys more others : List ℕ) → list_all is_inside xs ≡ true →
+    list_all is_inside ys ≡ true → xs ++ 125 ∷ more ≡ ys ++ 125 ∷ others → (xs ≡ ys)
+    × (more ≡ others)
 inside_apart [] [] more others h k e = (refl, (cons _ _ _ _ e).1)
-inside_apart [] (y ∷ ys) more others h k e = absurd (not_brace y (both (is_inside y) (list_all is_inside ys) k).0 (sym (cons _ _ _ _ e).0))
-inside_apart (x ∷ xs) [] more others h k e = absurd (not_brace x (both (is_inside x) (list_all is_inside xs) h).0 (cons _ _ _ _ e).0)
+inside_apart [] (y ∷ ys) more others h k e =
+    absurd (not_brace y (both (is_inside y) (list_all is_inside ys) k).0 (sym (cons _ _ _ _ e).0))
+inside_apart (x ∷ xs) [] more others h k e =
+    absurd (not_brace x (both (is_inside x) (list_all is_inside xs) h).0 (cons _ _ _ _ e).0)
 inside_apart (x ∷ xs) (y ∷ ys) more others h k e =
     let same = cons _ _ _ _ e in
-    let rest = inside_apart xs ys more others (both (is_inside x) (list_all is_inside xs) h).1 (both (is_inside y) (list_all is_inside ys) k).1 same.1 in
+    let rest = inside_apart xs ys more others (both (is_inside x) (list_all is_inside xs) h).1
+    (both (is_inside y) (list_all is_inside ys) k).1 same.1 in
     (ap (λ c. c ∷ xs) same.0 ∙ ap (λ zs. y ∷ zs) rest.0, rest.1)
 
 -- so does an object
-object_apart : (x y more others : List ℕ) → Closes x → Closes y → x ++ more ≡ y ++ others → (x ≡ y) × (more ≡ others)
+object_apart : (x y more others : List ℕ) → Closes x → Closes y → x ++ more ≡ y ++ others → (x ≡ y)
+    × (more ≡ others)
 object_apart x y more others h k e =
-    let open_x : x ++ more ≡ h.before ++ 125 ∷ more = ap (λ z. z ++ more) h.text_is ∙ append_assoc h.before (125 ∷ []) more in
-    let open_y : y ++ others ≡ k.before ++ 125 ∷ others = ap (λ z. z ++ others) k.text_is ∙ append_assoc k.before (125 ∷ []) others in
-    let same = inside_apart h.before k.before more others h.inside k.inside (sym open_x ∙ e ∙ open_y) in
+    let open_x : x ++ more ≡ h.before ++ 125 ∷ more = ap (λ z. z ++ more) h.text_is
+    ∙ append_assoc h.before (125 ∷ []) more in
+    let open_y : y ++ others ≡ k.before ++ 125 ∷ others = ap (λ z. z ++ others) k.text_is
+    ∙ append_assoc k.before (125 ∷ []) others in
+    let same = inside_apart h.before k.before more others h.inside k.inside (sym open_x ∙ e
+    ∙ open_y) in
     (h.text_is ∙ ap (λ z. z ++ 125 ∷ []) same.0 ∙ sym k.text_is, same.1)
 
 abbrev text_of_part : Part → List ℕ
@@ -51,7 +65,9 @@ abbrev behind_comma : Part → List ℕ
 behind_comma p = 44 ∷ p.text
 
 -- parts that stand behind others, up to the bracket
-others_apart : (ps qs : List Part) (more others : List ℕ) → AreObjects ps → AreObjects qs → flat_map behind_comma ps ++ 93 ∷ more ≡ flat_map behind_comma qs ++ 93 ∷ others → (map text_of_part ps ≡ map text_of_part qs) × (more ≡ others)
+others_apart : (ps qs : List Part) (more others : List ℕ) → AreObjects ps → AreObjects qs →
+    flat_map behind_comma ps ++ 93 ∷ more ≡ flat_map behind_comma qs ++ 93 ∷ others →
+    (map text_of_part ps ≡ map text_of_part qs) × (more ≡ others)
 others_apart [] [] more others h k e = (refl, (cons _ _ _ _ e).1)
 others_apart [] (q ∷ qs) more others h k e = absurd (bracket e)
   where
@@ -62,8 +78,11 @@ others_apart (p ∷ ps) [] more others h k e = absurd (bracket e)
     bracket : (behind_comma p ++ flat_map behind_comma ps) ++ 93 ∷ more ≡ 93 ∷ others → ⊥
     bracket e = cc
 others_apart (p ∷ ps) (q ∷ qs) more others h k e =
-    let here : (p.text ++ flat_map behind_comma ps) ++ 93 ∷ more ≡ (q.text ++ flat_map behind_comma qs) ++ 93 ∷ others = (cons _ _ _ _ e).1 in
-    let same = object_apart p.text q.text _ _ h.0.1 k.0.1 (sym (append_assoc p.text (flat_map behind_comma ps) (93 ∷ more)) ∙ here ∙ append_assoc q.text (flat_map behind_comma qs) (93 ∷ others)) in
+    let here : (p.text ++ flat_map behind_comma ps) ++ 93
+    ∷ more ≡ (q.text ++ flat_map behind_comma qs) ++ 93 ∷ others = (cons _ _ _ _ e).1 in
+    let same = object_apart p.text q.text _ _ h.0.1 k.0.1
+    (sym (append_assoc p.text (flat_map behind_comma ps) (93 ∷ more)) ∙ here
+    ∙ append_assoc q.text (flat_map behind_comma qs) (93 ∷ others)) in
     let rest = others_apart ps qs more others h.1 k.1 same.1 in
     (ap (λ z. z ∷ map text_of_part ps) same.0 ∙ ap (λ zs. q.text ∷ zs) rest.0, rest.1)
 
@@ -72,22 +91,32 @@ begins_apart [] more others begins e = two begins
   where
     two : ◌≡◌ {A = List ℕ} [] (123 ∷ []) → ⊥
     two e = cc
-begins_apart (x ∷ q) more others begins e = false≢true (ap (λ n. n == 123) ((cons _ _ _ _ e).0 ∙ (cons _ _ _ _ begins).0))
+begins_apart (x ∷ q) more others begins e = false≢true (ap (λ n. n == 123) ((cons _ _ _ _ e).0
+    ∙ (cons _ _ _ _ begins).0))
 
 -- all parts, up to the bracket
-parts_apart : (ps qs : List Part) (more others : List ℕ) → AreObjects ps → AreObjects qs → joined ps ++ 93 ∷ more ≡ joined qs ++ 93 ∷ others → (map text_of_part ps ≡ map text_of_part qs) × (more ≡ others)
+parts_apart : (ps qs : List Part) (more others : List ℕ) → AreObjects ps → AreObjects qs → joined ps
+    ++ 93 ∷ more ≡ joined qs ++ 93 ∷ others → (map text_of_part ps ≡ map text_of_part qs)
+    × (more ≡ others)
 parts_apart [] [] more others h k e = (refl, (cons _ _ _ _ e).1)
-parts_apart [] (q ∷ qs) more others h k e = absurd (begins_apart q.text more _ k.0.0 (e ∙ append_assoc q.text (flat_map behind_comma qs) (93 ∷ others)))
-parts_apart (p ∷ ps) [] more others h k e = absurd (begins_apart p.text others _ h.0.0 (sym e ∙ append_assoc p.text (flat_map behind_comma ps) (93 ∷ more)))
+parts_apart [] (q ∷ qs) more others h k e =
+    absurd (begins_apart q.text more _ k.0.0 (e
+    ∙ append_assoc q.text (flat_map behind_comma qs) (93 ∷ others)))
+parts_apart (p ∷ ps) [] more others h k e =
+    absurd (begins_apart p.text others _ h.0.0 (sym e
+    ∙ append_assoc p.text (flat_map behind_comma ps) (93 ∷ more)))
 parts_apart (p ∷ ps) (q ∷ qs) more others h k e =
-    let same = object_apart p.text q.text _ _ h.0.1 k.0.1 (sym (append_assoc p.text (flat_map behind_comma ps) (93 ∷ more)) ∙ e ∙ append_assoc q.text (flat_map behind_comma qs) (93 ∷ others)) in
+    let same = object_apart p.text q.text _ _ h.0.1 k.0.1
+    (sym (append_assoc p.text (flat_map behind_comma ps) (93 ∷ more)) ∙ e
+    ∙ append_assoc q.text (flat_map behind_comma qs) (93 ∷ others)) in
     let rest = others_apart ps qs more others h.1 k.1 same.1 in
     (ap (λ z. z ∷ map text_of_part ps) same.0 ∙ ap (λ zs. q.text ∷ zs) rest.0, rest.1)
 
 -- ---- whose parts they are
 
 -- the first names of one list, as many on both sides
-named : (ps qs : List Part) (ls ms : List (List ℕ)) → map text_of_part ps ≡ map text_of_part qs → map customer_of_part ps ++ ls ≡ map customer_of_part qs ++ ms → (ps ≡ qs) × (ls ≡ ms)
+named : (ps qs : List Part) (ls ms : List (List ℕ)) → map text_of_part ps ≡ map text_of_part qs →
+    map customer_of_part ps ++ ls ≡ map customer_of_part qs ++ ms → (ps ≡ qs) × (ls ≡ ms)
 named [] [] ls ms same e = (refl, e)
 named [] (q ∷ qs) ls ms same e = absurd (none_more same)
   where
@@ -107,7 +136,8 @@ named (p ∷ ps) (q ∷ qs) ls ms same e =
 
 -- the fault of a number's last digit
 abbrev fault_at : ℕ → Fault
-fault_at digit = if digit == 48 then WantOfMemory else (if digit == 49 then Disk else (if digit == 50 then BadSchema else Closed))
+fault_at digit = if digit == 48 then WantOfMemory else
+    (if digit == 49 then Disk else (if digit == 50 then BadSchema else Closed))
 
 told_by : (f : Fault) (more : List ℕ) → fault_at (get_or (drop 1 (fault_text f) ++ more) 9 0) ≡ f
 told_by WantOfMemory more = refl
@@ -115,34 +145,57 @@ told_by Disk more = refl
 told_by BadSchema more = refl
 told_by Closed more = refl
 
-faults_apart : (f g : Fault) (more : List ℕ) → drop 1 (fault_text f) ++ more ≡ drop 1 (fault_text g) ++ more → f ≡ g
-faults_apart f g more e = sym (told_by f more) ∙ ap (λ xs. fault_at (get_or xs 9 0)) e ∙ told_by g more
+faults_apart : (f g : Fault) (more : List ℕ) → drop 1 (fault_text f) ++ more ≡ drop 1 (fault_text g)
+    ++ more → f ≡ g
+faults_apart f g more e = sym (told_by f more) ∙ ap (λ xs. fault_at (get_or xs 9 0)) e
+    ∙ told_by g more
 
-stops_apart : (may : Fault → Type 0) (mights : Fault → Type 0) (ls ms : List (List ℕ)) (s t : Option Stop) → ls ≡ ms → EndsAt may ls s → EndsAt mights ms t → stopped_text s ++ codes "}" ≡ stopped_text t ++ codes "}" → s ≡ t
+stops_apart : (may : Fault → Type 0) (mights : Fault → Type 0) (ls ms : List (List ℕ))
+    (s t : Option Stop) → ls ≡ ms → EndsAt may ls s → EndsAt mights ms t → stopped_text s
+    ++ codes "}" ≡ stopped_text t ++ codes "}" → s ≡ t
 stops_apart may mights ls ms None None same h k e = refl
-stops_apart may mights ls ms None (Some t) same h k e = absurd (false≢true (ap (λ xs. get_or xs 0 0 == 123) e))
-stops_apart may mights ls ms (Some s) None same h k e = absurd (false≢true (ap (λ xs. get_or xs 0 0 == 123) (sym e)))
+stops_apart may mights ls ms None (Some t) same h k e =
+    absurd (false≢true (ap (λ xs. get_or xs 0 0 == 123) e))
+stops_apart may mights ls ms (Some s) None same h k e =
+    absurd (false≢true (ap (λ xs. get_or xs 0 0 == 123) (sym e)))
 stops_apart may mights ls ms (Some s) (Some t) same h k e =
     let customer : s.customer ≡ t.customer = (cons _ _ _ _ (sym h.1.1 ∙ same ∙ k.1.1)).0 in
     let before : List ℕ = codes "{\"customer\":\"" ++ t.customer ++ codes "\"," in
-    let told : for_customer t.customer (fault_text s.fault) ++ codes "}" ≡ for_customer t.customer (fault_text t.fault) ++ codes "}" = ap (λ c. for_customer c (fault_text s.fault) ++ codes "}") (sym customer) ∙ e in
-    let rest = append_cancel_left before _ _ (sym (append_assoc before (drop 1 (fault_text s.fault)) (codes "}")) ∙ told ∙ append_assoc before (drop 1 (fault_text t.fault)) (codes "}")) in
-    (λ i. Some (record { customer = customer i; fault = faults_apart s.fault t.fault (codes "}") rest i }))
+    let told : for_customer t.customer (fault_text s.fault) ++ codes "}" ≡ for_customer t.customer
+    (fault_text t.fault) ++ codes "}" = ap (λ c. for_customer c (fault_text s.fault)
+    ++ codes "}") (sym customer) ∙ e in
+    let rest = append_cancel_left before _ _
+    (sym (append_assoc before (drop 1 (fault_text s.fault)) (codes "}")) ∙ told
+    ∙ append_assoc before (drop 1 (fault_text t.fault)) (codes "}")) in
+    (λ i. Some (record {
+      customer = customer i;
+      fault = faults_apart s.fault t.fault (codes "}")
+          rest i;
+    }))
 
 -- ---- the law
 
 -- of two sweeps of all under one directory
-sweeps_apart : (may mights : Fault → Type 0) (host name : List ℕ) (d : Directory) (at moment : ℕ) (t t' u u' : Tables) (r q : SeenReply) → Sweeps may host d t at r t' → Sweeps mights name d u moment q u' → r.body ≡ q.body → r ≡ q
+sweeps_apart : (may mights : Fault → Type 0) (host name : List ℕ) (d : Directory) (at moment : ℕ)
+    (t t' u u' : Tables) (r q : SeenReply) → Sweeps may host d t at r t' →
+    Sweeps mights name d u moment q u' → r.body ≡ q.body → r ≡ q
 sweeps_apart may mights host name d at moment t t' u u' r q one other e =
-    let same : (opening ++ joined r.parts) ++ closing r.stopped ≡ (opening ++ joined q.parts) ++ closing q.stopped = sym (ap (λ (x : SeenReply). x.body) one.reply) ∙ e ∙ ap (λ (x : SeenReply). x.body) other.reply in
-    let behind = append_cancel_left opening _ _ (sym (append_assoc opening (joined r.parts) (closing r.stopped)) ∙ same ∙ append_assoc opening (joined q.parts) (closing q.stopped)) in
-    let texts = parts_apart r.parts q.parts (drop 1 (closing r.stopped)) (drop 1 (closing q.stopped)) one.objects other.objects behind in
+    let same : (opening ++ joined r.parts) ++ closing r.stopped ≡ (opening ++ joined q.parts)
+    ++ closing q.stopped = sym (ap (λ (x : SeenReply). x.body) one.reply) ∙ e
+    ∙ ap (λ (x : SeenReply). x.body) other.reply in
+    let behind = append_cancel_left opening _ _
+    (sym (append_assoc opening (joined r.parts) (closing r.stopped)) ∙ same
+    ∙ append_assoc opening (joined q.parts) (closing q.stopped)) in
+    let texts = parts_apart r.parts q.parts (drop 1 (closing r.stopped))
+    (drop 1 (closing q.stopped)) one.objects other.objects behind in
     let names = named r.parts q.parts one.left other.left texts.0 (sym one.order ∙ other.order) in
-    let stops = stops_apart may mights one.left other.left r.stopped q.stopped names.1 one.ends other.ends (ap (drop 11) texts.1) in
+    let stops = stops_apart may mights one.left other.left r.stopped q.stopped names.1 one.ends
+    other.ends (ap (drop 11) texts.1) in
     one.reply ∙ (λ i. swept_reply (names.0 i) (stops i)) ∙ sym other.reply
 
 -- a reply that is no sweep's has no parts
-refusal_plain : (refusal : Refusal) (r : SeenReply) → IsRefused refusal r → r ≡ plain r.status r.body
+refusal_plain : (refusal : Refusal) (r : SeenReply) → IsRefused refusal r →
+    r ≡ plain r.status r.body
 unfolding reply_of_fault
 refusal_plain refusal r (inl is) = is ∙ sym (ap (λ (x : SeenReply). plain x.status x.body) is)
 refusal_plain refusal r (inr is) = is ∙ sym (ap (λ (x : SeenReply). plain x.status x.body) is)
@@ -151,19 +204,33 @@ fault_plain : (fault : Fault) (r : SeenReply) → r ≡ reply_of_fault fault →
 unfolding reply_of_fault
 fault_plain fault r is = is ∙ sym (ap (λ (x : SeenReply). plain x.status x.body) is)
 
-no_fault : (fault : Fault) (r q : SeenReply) → r ≡ swept_reply r.parts r.stopped → q ≡ reply_of_fault fault → r.status ≡ q.status → ⊥
+no_fault : (fault : Fault) (r q : SeenReply) → r ≡ swept_reply r.parts r.stopped →
+    q ≡ reply_of_fault fault → r.status ≡ q.status → ⊥
 unfolding reply_of_fault
-no_fault fault r q one other e = false≢true (ap (λ n. n == 503) (sym (ap (λ (x : SeenReply). x.status) one) ∙ e ∙ ap (λ (x : SeenReply). x.status) other))
+no_fault fault r q one other e = false≢true (ap (λ n. n == 503)
+    (sym (ap (λ (x : SeenReply). x.status) one) ∙ e ∙ ap (λ (x : SeenReply). x.status) other))
 
-module _ (may mights : Fault → Type 0) (host name : List ℕ) (d : Directory) (t t' u u' : Tables) (at moment : ℕ) where
-  call_plain : (might : Fault → Type 0) (h : List ℕ) (v v' : Tables) (when : ℕ) (c : List ℕ) (call : Call) (r : SeenReply) → MayReplyTo might h d v when (Ok (CallOf c call)) r v' → r ≡ plain r.status r.body
-  call_plain might h v v' when c call r (inl done) = done.0 ∙ sym (ap (λ (x : SeenReply). plain x.status x.body) done.0)
+module _ (may mights : Fault → Type 0) (host name : List ℕ) (d : Directory) (t t' u u' : Tables)
+    (at moment : ℕ) where
+  call_plain : (might : Fault → Type 0) (h : List ℕ) (v v' : Tables) (when : ℕ) (c : List ℕ)
+      (call : Call) (r : SeenReply) → MayReplyTo might h d v when (Ok (CallOf c call)) r v' →
+      r ≡ plain r.status r.body
+  call_plain might h v v' when c call r (inl done) = done.0
+      ∙ sym (ap (λ (x : SeenReply). plain x.status x.body) done.0)
   call_plain might h v v' when c call r (inr struck) = fault_plain struck.0 r struck.2.0
 
-  pub one_reading : (asked : Result Asked Refusal) (r q : SeenReply) → MayReplyTo may host d t at asked r t' → MayReplyTo mights name d u moment asked q u' → r.status ≡ q.status → r.body ≡ q.body → r ≡ q
-  one_reading (Err refusal) r q one other status body = refusal_plain refusal r one.0 ∙ (λ i. plain (status i) (body i)) ∙ sym (refusal_plain refusal q other.0)
-  one_reading (Ok (CallOf c call)) r q one other status body = call_plain may host t t' at c call r one ∙ (λ i. plain (status i) (body i)) ∙ sym (call_plain mights name u u' moment c call q other)
-  one_reading (Ok SweepOfAll) r q (inl one) (inl other) status body = sweeps_apart may mights host name d at moment t t' u u' r q one other body
-  one_reading (Ok SweepOfAll) r q (inl one) (inr other) status body = absurd (no_fault no_memory r q one.reply other.0 status)
-  one_reading (Ok SweepOfAll) r q (inr one) (inl other) status body = absurd (no_fault no_memory q r other.reply one.0 (sym status))
+  pub one_reading : (asked : Result Asked Refusal) (r q : SeenReply) →
+      MayReplyTo may host d t at asked r t' → MayReplyTo mights name d u moment asked q u' →
+      r.status ≡ q.status → r.body ≡ q.body → r ≡ q
+  one_reading (Err refusal) r q one other status body = refusal_plain refusal r one.0
+      ∙ (λ i. plain (status i) (body i)) ∙ sym (refusal_plain refusal q other.0)
+  one_reading (Ok (CallOf c call)) r q one other status body =
+      call_plain may host t t' at c call r one ∙ (λ i. plain (status i) (body i))
+      ∙ sym (call_plain mights name u u' moment c call q other)
+  one_reading (Ok SweepOfAll) r q (inl one) (inl other) status body =
+      sweeps_apart may mights host name d at moment t t' u u' r q one other body
+  one_reading (Ok SweepOfAll) r q (inl one) (inr other) status body =
+      absurd (no_fault no_memory r q one.reply other.0 status)
+  one_reading (Ok SweepOfAll) r q (inr one) (inl other) status body =
+      absurd (no_fault no_memory q r other.reply one.0 (sym status))
   one_reading (Ok SweepOfAll) r q (inr one) (inr other) status body = one.0 ∙ sym other.0

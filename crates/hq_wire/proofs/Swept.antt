@@ -1,5 +1,7 @@
 -- A sweep of all customers, one after the other.
-use Rattle.std.proofs.Common.{◌≡◌, ◌⊎◌, inl, inr, ℕ, zero, suc, length, get_or, take, drop, ◌+◌, ◌-◌, ◌^◌, ◌<◌, ◌≤◌, Bool, true, false, cond, not, List, [], ◌∷◌, ◌++◌, map, Some, None, Ok, Err, refl, sym, ap, ◌∙◌, subst, arith}
+use Rattle.std.proofs.Common.{◌≡◌, ◌⊎◌, inl, inr, ℕ, zero, suc, length, get_or, take, drop, ◌+◌}
+use Rattle.std.proofs.Common.{◌-◌, ◌^◌, ◌<◌, ◌≤◌, Bool, true, false, cond, not, List, [], ◌∷◌, ◌++◌}
+use Rattle.std.proofs.Common.{map, Some, None, Ok, Err, refl, sym, ap, ◌∙◌, subst, arith}
 use Rattle.std.specs.List.{flat_map}
 use Rattle.std.proofs.lemmas.List.{map-append}
 use Rattle.std.proofs.lemmas.List.Concat.{flat_map-append}
@@ -17,7 +19,8 @@ use Rattle.hq_desk.specs.declared.desk.Rendered.{Rendered}
 use Rattle.hq_requests.specs.Calls.{SweepOfAll}
 use Rattle.hq_requests.specs.Directories.{entry_of, names_of}
 use Rattle.hq_wire.specs.Exchanges.{AllDone, Exchanged, InPart, StopsClosed, of_part}
-use Rattle.hq_wire.specs.Replies.{AreObjects, IsObject, Part, is_memory, joined, opening, part_of, separated, swept_reply}
+use Rattle.hq_wire.specs.Replies.{AreObjects, IsObject, Part, is_memory, joined, opening, part_text}
+use Rattle.hq_wire.specs.Replies.{separated, swept_reply}
 use Rattle.hq_requests.specs.declared.directory.Directory.{Directory}
 use Rattle.hq_wire.proofs.Alone.{all_done_on}
 use Rattle.hq_wire.proofs.Exchanging.{stay_put, stay_on, stop_closes, tells_none}
@@ -40,17 +43,22 @@ abbrev behind_comma : Part → List ℕ
 behind_comma p = 44 ∷ p.text
 
 -- one more part
-joined_more : (ps : List Part) (p : Part) → joined (ps ++ p ∷ []) ≡ joined ps ++ separated (has_none ps) p.text
+joined_more : (ps : List Part) (p : Part) → joined (ps ++ p ∷ []) ≡ joined ps
+    ++ separated (has_none ps) p.text
 joined_more [] p = on_end p.text
 joined_more (x ∷ ps) p =
-    let more : flat_map behind_comma (ps ++ p ∷ []) ≡ flat_map behind_comma ps ++ behind_comma p = flat_map-append behind_comma ps (p ∷ []) ∙ ap (λ ys. flat_map behind_comma ps ++ ys) (on_end (behind_comma p)) in
-    ap (λ ys. x.text ++ ys) more ∙ sym (in_threes x.text (flat_map behind_comma ps) (behind_comma p))
+    let more : flat_map behind_comma (ps ++ p ∷ []) ≡ flat_map behind_comma ps ++ behind_comma p =
+    flat_map-append behind_comma ps (p ∷ []) ∙ ap (λ ys. flat_map behind_comma ps ++ ys)
+    (on_end (behind_comma p)) in
+    ap (λ ys. x.text ++ ys) more
+    ∙ sym (in_threes x.text (flat_map behind_comma ps) (behind_comma p))
 
 none_more : (ps : List Part) (p : Part) → has_none (ps ++ p ∷ []) ≡ false
 none_more [] p = refl
 none_more (x ∷ ps) p = refl
 
-more_objects : (ps : List Part) (p : Part) → AreObjects ps → IsObject p.text → AreObjects (ps ++ p ∷ [])
+more_objects : (ps : List Part) (p : Part) → AreObjects ps → IsObject p.text →
+    AreObjects (ps ++ p ∷ [])
 more_objects [] p before object = (object, tt)
 more_objects (x ∷ ps) p before object = (before.0, more_objects ps p before.1 object)
 
@@ -61,13 +69,16 @@ differ e = absurd (not_so e) where
   not_so : false ≡ true → ⊥
   not_so e = cc
 
-was_open : (fault : Fault) (was is : Bool) (m n : ℕ) → IsTallied {X = Rendered} was is m n (Err fault) → is ≡ false → was ≡ false
+was_open : (fault : Fault) (was is : Bool) (m n : ℕ) →
+    IsTallied {X = Rendered} was is m n (Err fault) → is ≡ false → was ≡ false
 was_open WantOfMemory was is m n h open_ = h.0
 was_open Disk was is m n h open_ = h.0
 was_open BadSchema was is m n h open_ = absurd h
 was_open Closed was is m n h open_ = differ (sym open_ ∙ h.0)
 
-tells_closed : (fault : Fault) (was is : Bool) (m n : ℕ) (name : List ℕ) → IsTallied {X = Rendered} was is m n (Err fault) → is ≡ true → StopsClosed (Some (record { customer = name; fault = fault }))
+tells_closed : (fault : Fault) (was is : Bool) (m n : ℕ) (name : List ℕ) →
+    IsTallied {X = Rendered} was is m n (Err fault) → is ≡ true →
+    StopsClosed (Some (record { customer = name; fault = fault }))
 tells_closed WantOfMemory was is m n name h closed = differ (sym h.1 ∙ closed)
 tells_closed Disk was is m n name h closed = differ (sym h.1 ∙ closed)
 tells_closed BadSchema was is m n name h closed = absurd h
@@ -76,7 +87,8 @@ tells_closed Closed was is m n name h closed = (name, refl)
 one_more_is : (m n : ℕ) → n ≡ one_more m → n < 2 ^ 64 - 1 → 1 + m ≤ n
 one_more_is m n h small = grind arith
 
-counts : (fault : Fault) (was is : Bool) (m n : ℕ) → IsTallied {X = Rendered} was is m n (Err fault) → n < 2 ^ 64 - 1 → cond (not (is_memory fault)) 1 0 + m ≤ n
+counts : (fault : Fault) (was is : Bool) (m n : ℕ) → IsTallied {X = Rendered} was is m n (Err fault)
+    → n < 2 ^ 64 - 1 → cond (not (is_memory fault)) 1 0 + m ≤ n
 counts WantOfMemory was is m n h small = let same = h.2 in omega (arith, same)
 counts Disk was is m n h small = one_more_is m n h.2 small
 counts BadSchema was is m n h small = absurd h
@@ -92,12 +104,14 @@ module _ {S : Type 0} (sight : Sight S) (d : Directory) (at : ℕ) where
   tables = (on sight).tables
 
   -- The customers of these names are done, and their parts stand in the body.
-  pub record SoFar (old : Desk S) (names : List (List ℕ)) (new : Desk S) (body : List ℕ) (is_first : Bool) : Type 0 where
+  pub record SoFar (old : Desk S) (names : List (List ℕ)) (new : Desk S) (body : List ℕ)
+      (is_first : Bool) : Type 0 where
     pub parts : List Part
     pub text : body ≡ opening ++ joined parts
     pub first : is_first ≡ has_none parts
     pub whose : map customer_of_part parts ≡ names
-    pub done : OnOpenSound (on sight) old new (AllDone (host_of old) d (tables old) (map (of_part at) parts) (tables new))
+    pub done : OnOpenSound (on sight) old new
+        (AllDone (host_of old) d (tables old) (map (of_part at) parts) (tables new))
     pub sound : OnOpenSound (on sight) old new (Sound (tables new))
     pub stays : Stays (on sight) old new
     pub tally : (on sight).fault_count new ≡ (on sight).fault_count old
@@ -119,38 +133,58 @@ module _ {S : Type 0} (sight : Sight S) (d : Directory) (at : ℕ) where
   }
 
   -- the call of one customer was done
-  pub one_more_done : (old mid new : Desk S) (names : List (List ℕ)) (body longer : List ℕ) (is_first : Bool) (entry : Entry) (rendered : Rendered)
+  pub one_more_done : (old mid new : Desk S) (names : List (List ℕ)) (body longer : List ℕ)
+      (is_first : Bool) (entry : Entry) (rendered : Rendered)
       → SoFar old names mid body is_first
       → entry ≡ entry_of d entry.name
       → longer ≡ body ++ separated is_first rendered.bytes.items
-      → OnSound (on sight) mid new (IsRendered (part_of entry.name) (stepped (on sight) mid entry at Sweep).0 rendered)
+      → OnSound (on sight) mid new (IsRendered (part_text entry.name)
+      (stepped (on sight) mid entry at Sweep).0 rendered)
       → OnSound (on sight) mid new (tables new ≡ (stepped (on sight) mid entry at Sweep).1)
       → OnOpenSound (on sight) mid new (Sound (tables new))
       → KeepsOnErr (on sight) mid new (Ok rendered)
       → host_of new ≡ host_of mid
       → IsObject rendered.bytes.items
       → SoFar old (names ++ entry.name ∷ []) new longer false
-  one_more_done old mid new names body longer is_first entry rendered before known put answer made sound kept host object =
+  one_more_done old mid new names body longer is_first entry rendered before known put answer made
+      sound kept host object =
       let p : Part = record { customer = entry.name; text = rendered.bytes.items } in
       let was_open = kept.tally.0 in
-      let keeps : Stays (on sight) mid new = record { ours = kept.ours; quiet = kept.quiet; stays_open = λ open_. was_open; host = host } in
-      let step : List ℕ → Entry → Type 0 = λ h e. (InPart p.text ≡ InPart (part_of entry.name (shared h e (tables mid) at Sweep).0)) × (tables new ≡ (shared h e (tables mid) at Sweep).1) in
+      let keeps : Stays (on sight) mid new =
+      record {
+        ours = kept.ours;
+        quiet = kept.quiet;
+        stays_open = λ open_. was_open;
+        host = host;
+      } in
+      let step : List ℕ → Entry → Type 0 =
+      λ h e. (InPart p.text ≡ InPart (part_text entry.name (shared h e (tables mid) at Sweep).0))
+      × (tables new ≡ (shared h e (tables mid) at Sweep).1) in
       record {
         parts = before.parts ++ p ∷ [];
-        text = put ∙ (λ i. before.text i ++ separated (before.first i) p.text) ∙ in_threes opening (joined before.parts) (separated (has_none before.parts) p.text) ∙ ap (λ ys. opening ++ ys) (sym (joined_more before.parts p));
+        text = put ∙ (λ i. before.text i ++ separated (before.first i) p.text)
+            ∙ in_threes opening (joined before.parts) (separated (has_none before.parts) p.text)
+            ∙ ap (λ ys. opening ++ ys) (sym (joined_more before.parts p));
         first = sym (none_more before.parts p);
-        whose = map-append customer_of_part before.parts (p ∷ []) ∙ ap (λ ns. ns ++ entry.name ∷ []) before.whose;
+        whose = map-append customer_of_part before.parts (p ∷ [])
+            ∙ ap (λ ns. ns ++ entry.name ∷ []) before.whose;
         done = λ clean ours open_ sound.
             let then = kept.quiet clean in
             let rows = before.stays.ours then ours was_open in
             let fit = before.sound then ours was_open sound in
             let told = answer clean rows fit in
-            let this : step (host_of old) (entry_of d entry.name) = subst (λ h. step h (entry_of d entry.name)) before.stays.host (subst (λ e. step (host_of mid) e) known (ap InPart told.1, made clean rows fit)) in
-            subst (λ ds. AllDone (host_of old) d (tables old) ds (tables new)) (sym (map-append (of_part at) before.parts (p ∷ [])))
-            (all_done_on (host_of old) d (tables old) (tables mid) (tables new) (map (of_part at) before.parts) (of_part at p ∷ []) (before.done then ours was_open sound) this);
+            let this : step (host_of old) (entry_of d entry.name) =
+            subst (λ h. step h (entry_of d entry.name)) before.stays.host
+            (subst (λ e. step (host_of mid) e) known (ap InPart told.1, made clean rows fit)) in
+            subst (λ ds. AllDone (host_of old) d (tables old) ds (tables new))
+            (sym (map-append (of_part at) before.parts (p ∷ [])))
+            (all_done_on (host_of old) d (tables old) (tables mid) (tables new)
+            (map (of_part at) before.parts) (of_part at p ∷ []) (before.done then
+            ours was_open sound) this);
         sound = λ clean ours open_ fit.
             let then = kept.quiet clean in
-            sound clean (before.stays.ours then ours was_open) open_ (before.sound then ours was_open fit);
+            sound clean (before.stays.ours then ours was_open) open_ (before.sound then
+            ours was_open fit);
         stays = stay_on (on sight) old mid new before.stays keeps;
         tally = kept.tally.2 ∙ before.tally;
         objects = more_objects before.parts p before.objects object;
@@ -158,7 +192,10 @@ module _ {S : Type 0} (sight : Sight S) (d : Directory) (at : ℕ) where
       }
 
   -- all customers were done
-  pub done_by_all : (old new : Desk S) (names : List (List ℕ)) (body : List ℕ) (is_first : Bool) (so_far : SoFar old names new body is_first) → names ≡ names_of d → Exchanged sight d old (record { at = at; called = Ok SweepOfAll }) (swept_reply so_far.parts None) new
+  pub done_by_all : (old new : Desk S) (names : List (List ℕ)) (body : List ℕ) (is_first : Bool)
+      (so_far : SoFar old names new body is_first) → names ≡ names_of d →
+      Exchanged sight d old (record { at = at; called = Ok SweepOfAll })
+      (swept_reply so_far.parts None) new
   done_by_all old new names body is_first so_far all = record {
     replied = λ clean ours open_ sound. inl (record {
       left = [];
@@ -178,20 +215,25 @@ module _ {S : Type 0} (sight : Sight S) (d : Directory) (at : ℕ) where
     all_left [] = refl
     all_left (x ∷ xs) = ap (λ ys. x ∷ ys) (all_left xs)
 
-    either : (names ≡ []) ⊎ ((on sight).is_closed new ≡ false) → (on sight).is_closed new ≡ true → names_of d ≡ []
+    either : (names ≡ []) ⊎ ((on sight).is_closed new ≡ false) → (on sight).is_closed new ≡ true →
+        names_of d ≡ []
     either (inl none) closed = sym all ∙ none
     either (inr open_) closed = differ (sym open_ ∙ closed)
 
   -- a fault stopped it at a customer
-  pub stopped_at : (old mid new : Desk S) (names : List (List ℕ)) (body : List ℕ) (is_first : Bool) (name : List ℕ) (more : List (List ℕ)) (fault : Fault) (so_far : SoFar old names mid body is_first)
+  pub stopped_at : (old mid new : Desk S) (names : List (List ℕ)) (body : List ℕ) (is_first : Bool)
+      (name : List ℕ) (more : List (List ℕ)) (fault : Fault)
+      (so_far : SoFar old names mid body is_first)
       → names_of d ≡ names ++ name ∷ more
       → OnOpenSound (on sight) mid new (Sound (tables new))
       → KeepsOnErr {X = Rendered} (on sight) mid new (Err fault)
       → host_of new ≡ host_of mid
-      → Exchanged sight d old (record { at = at; called = Ok SweepOfAll }) (swept_reply so_far.parts (Some (record { customer = name; fault = fault }))) new
+      → Exchanged sight d old (record { at = at; called = Ok SweepOfAll })
+      (swept_reply so_far.parts (Some (record { customer = name; fault = fault }))) new
   stopped_at old mid new names body is_first name more fault so_far all sound kept host =
       let opens = was_open fault _ _ _ _ kept.tally in
-      let keeps : Stays (on sight) mid new = record { ours = kept.ours; quiet = kept.quiet; stays_open = opens; host = host } in
+      let keeps : Stays (on sight) mid new =
+      record { ours = kept.ours; quiet = kept.quiet; stays_open = opens; host = host } in
       record {
         replied = λ clean ours open_ fit.
             let then = kept.quiet clean in
@@ -199,7 +241,9 @@ module _ {S : Type 0} (sight : Sight S) (d : Directory) (at : ℕ) where
             inl (record {
               left = name ∷ more;
               order = all ∙ ap (λ ns. ns ++ name ∷ more) (sym so_far.whose);
-              done = subst (λ t. AllDone (host_of old) d (tables old) (map (of_part at) so_far.parts) t) (sym (kept.none clean rows open_)) (so_far.done then ours (opens open_) fit);
+              done = subst (λ t. AllDone (host_of old) d (tables old)
+                  (map (of_part at) so_far.parts) t) (sym (kept.none clean rows open_))
+                  (so_far.done then ours (opens open_) fit);
               ends = (kept.cause, (more, refl));
               objects = so_far.objects;
               reply = refl;
@@ -208,13 +252,17 @@ module _ {S : Type 0} (sight : Sight S) (d : Directory) (at : ℕ) where
         closed = stop_closes fault _ _ _ _ so_far.parts name kept.tally;
         sound = λ clean ours open_ fit.
             let then = kept.quiet clean in
-            sound clean (so_far.stays.ours then ours (opens open_)) open_ (so_far.sound then ours (opens open_) fit);
+            sound clean (so_far.stays.ours then ours (opens open_)) open_ (so_far.sound then
+            ours (opens open_) fit);
         stays = stay_on (on sight) old mid new so_far.stays keeps;
-        counted = λ small. let told = counts fault _ _ _ _ kept.tally small in let same = so_far.tally in subst (λ n. cond (not (is_memory fault)) 1 0 + n ≤ (on sight).fault_count new) same told;
+        counted = λ small. let told = counts fault _ _ _ _ kept.tally small in let same =
+            so_far.tally in subst (λ n. cond (not (is_memory fault)) 1 0 + n ≤
+            (on sight).fault_count new) same told;
       }
 
 -- a list at a place of it
-pub split_at : {A B : Type 0} (f : A → B) (xs : List A) (i : ℕ) (x : A) → i < length xs → x ≡ get_or xs i x → map f xs ≡ map f (take i xs) ++ f x ∷ map f (drop (suc i) xs)
+pub split_at : {A B : Type 0} (f : A → B) (xs : List A) (i : ℕ) (x : A) → i < length xs →
+    x ≡ get_or xs i x → map f xs ≡ map f (take i xs) ++ f x ∷ map f (drop (suc i) xs)
 split_at f [] i x below is = absurd (omega arith)
 split_at f (y ∷ ys) zero x below is = ap (λ z. f z ∷ map f ys) (sym is)
 split_at f (y ∷ ys) (suc i) x below is = ap (λ zs. f y ∷ zs) (split_at f ys i x (omega arith) is)

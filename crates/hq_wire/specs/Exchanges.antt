@@ -1,5 +1,7 @@
 -- One exchange: what may be replied, and what is left.
-use Rattle.std.specs.Prelude.{◌≡◌, ◌⊎◌, ℕ, ◌+◌, ◌-◌, ◌^◌, ◌<◌, ◌≤◌, ◌==◌, Bool, true, false, List, [], ◌∷◌, ◌++◌, map, Option, None, Some, Result, Ok, Err, if◌then◌else◌}
+use Rattle.std.specs.Prelude.{◌≡◌, ◌⊎◌, ℕ, ◌+◌, ◌-◌, ◌^◌, ◌<◌, ◌≤◌, ◌==◌, Bool, true, false, List}
+use Rattle.std.specs.Prelude.{[], ◌∷◌, ◌++◌, map, Option, None, Some, Result, Ok, Err}
+use Rattle.std.specs.Prelude.{if◌then◌else◌}
 use Rattle.hq_base.specs.Refusals.{no_memory}
 use Rattle.hq_base.specs.declared.failure.Fault.{Fault}
 use Rattle.hq_base.specs.declared.failure.Fault.TheVariants.{Closed}
@@ -16,9 +18,10 @@ use Rattle.hq_calls.specs.declared.call.Call.TheVariants.{Sweep}
 use Rattle.hq_desk.specs.declared.desk.Desk.{Desk}
 use Rattle.hq_requests.specs.Calls.{Asked, CallOf, SweepOfAll, call_of}
 use Rattle.hq_requests.specs.Directories.{entry_of, names_of}
-use Rattle.hq_wire.specs.Replies.{SeenReply, Part, Stop, AreObjects, part_of, reply_of, reply_of_fault, swept_reply, tells_store}
+use Rattle.hq_wire.specs.Replies.{SeenReply, Part, Stop, AreObjects, part_text, reply_of}
+use Rattle.hq_wire.specs.Replies.{reply_of_fault, swept_reply, tells_store}
 use Rattle.hq_requests.specs.declared.directory.Directory.{Directory}
-use Rattle.hq_requests.specs.declared.asked.Exchange.{Exchange}
+use Rattle.hq_requests.specs.declared.exchanges.Exchange.{Exchange}
 
 -- What was asked: when, and what, or the refusal that no call was made for.
 pub record Ask : Type 0 where
@@ -46,7 +49,7 @@ pub data Told : Type 0 where
 -- an answer as it is told
 abbrev pub told_as : Bool → List ℕ → Answer → Told
 told_as false name answer = Whole (reply_of answer)
-told_as true name answer = InPart (part_of name answer)
+told_as true name answer = InPart (part_text name answer)
 
 -- A call of a customer that was done, and what the customer was told.
 pub record Deed : Type 0 where
@@ -58,13 +61,20 @@ pub record Deed : Type 0 where
   pub told : Told
 
 abbrev pub of_part : ℕ → Part → Deed
-of_part at part = record { customer = part.customer; at = at; call = Sweep; in_part = true; told = InPart part.text }
+of_part at part = record {
+  customer = part.customer;
+  at = at;
+  call = Sweep;
+  in_part = true;
+  told = InPart part.text;
+}
 
--- What one exchange did. A call that was answered 503, the status of faults alone, was not done; of a sweep of all the
--- calls were done that have their parts.
+-- What one exchange did. A call that was answered 503, the status of faults alone, was not done; of
+-- a sweep of all the calls were done that have their parts.
 abbrev pub deeds_of : ℕ → Result Asked Refusal → SeenReply → List Deed
 deeds_of at (Err refusal) r = []
-deeds_of at (Ok (CallOf name call)) r = if r.status == 503 then [] else record { customer = name; at = at; call = call; in_part = false; told = Whole r } ∷ []
+deeds_of at (Ok (CallOf name call)) r = if r.status == 503 then [] else
+    record { customer = name; at = at; call = call; in_part = false; told = Whole r } ∷ []
 deeds_of at (Ok SweepOfAll) r = map (of_part at) r.parts
 
 -- Each by the shared step, from the tables that the one before it left.
@@ -79,10 +89,13 @@ AllDone host d t (deed ∷ deeds) t' =
 -- A sweep of all ends with the last customer; or at the first of those that are left, by a fault.
 abbrev pub EndsAt : (Fault → Type 0) → List (List ℕ) → Option Stop → Type 0
 EndsAt may left None = left ≡ []
-EndsAt may left (Some stop) = ((stop.fault ≡ no_memory) ⊎ may stop.fault) × ((more : List (List ℕ)) × (left ≡ stop.customer ∷ more))
+EndsAt may left (Some stop) = ((stop.fault ≡ no_memory) ⊎ may stop.fault)
+    × ((more : List (List ℕ)) × (left ≡ stop.customer ∷ more))
 
--- A sweep of all: the first customers of the directory are done, each in its turn, and nothing else is.
-pub record Sweeps (may : Fault → Type 0) (host : List ℕ) (d : Directory) (t : Tables) (at : ℕ) (r : SeenReply) (t' : Tables) : Type 0 where
+-- A sweep of all: the first customers of the directory are done, each in its turn, and nothing else
+-- is.
+pub record Sweeps (may : Fault → Type 0) (host : List ℕ) (d : Directory) (t : Tables) (at : ℕ)
+    (r : SeenReply) (t' : Tables) : Type 0 where
   pub left : List (List ℕ)
   pub order : names_of d ≡ map (λ (part : Part). part.customer) r.parts ++ left
   pub done : AllDone host d t (map (of_part at) r.parts) t'
@@ -91,41 +104,55 @@ pub record Sweeps (may : Fault → Type 0) (host : List ℕ) (d : Directory) (t 
   pub objects : AreObjects r.parts
   pub reply : r ≡ swept_reply r.parts r.stopped
 
--- From the tables t, what was asked may get the reply r and leave the tables t': a refusal, which changes nothing; or
--- the shared step's answer and its tables; or, in place of either, a fault that changes nothing. So of a sweep of all,
--- in whose place want of memory may be told.
-abbrev pub MayReplyTo : (Fault → Type 0) → List ℕ → Directory → Tables → ℕ → Result Asked Refusal → SeenReply → Tables → Type 0
+-- From the tables t, what was asked may get the reply r and leave the tables t': a refusal, which
+-- changes nothing; or the shared step's answer and its tables; or, in place of either, a fault that
+-- changes nothing. So of a sweep of all, in whose place want of memory may be told.
+abbrev pub MayReplyTo : (Fault → Type 0) → List ℕ → Directory → Tables → ℕ → Result Asked Refusal →
+    SeenReply → Tables → Type 0
 MayReplyTo may host d t at (Err refusal) r t' = IsRefused refusal r × (t' ≡ t)
 MayReplyTo may host d t at (Ok (CallOf name call)) r t' =
     let done = shared host (entry_of d name) t at call in
-    ((r ≡ reply_of done.0) × (t' ≡ done.1)) ⊎ ((fault : Fault) × ((fault ≡ no_memory) ⊎ may fault) × IsStruck fault t r t')
-MayReplyTo may host d t at (Ok SweepOfAll) r t' = Sweeps may host d t at r t' ⊎ IsStruck no_memory t r t'
+    ((r ≡ reply_of done.0) × (t' ≡ done.1)) ⊎ ((fault : Fault) × ((fault ≡ no_memory) ⊎ may fault)
+    × IsStruck fault t r t')
+MayReplyTo may host d t at (Ok SweepOfAll) r t' = Sweeps may host d t at r t'
+    ⊎ IsStruck no_memory t r t'
 
-abbrev pub MayReply : (Fault → Type 0) → List ℕ → Directory → Tables → Ask → SeenReply → Tables → Type 0
+abbrev pub MayReply : (Fault → Type 0) → List ℕ → Directory → Tables → Ask → SeenReply → Tables →
+    Type 0
 MayReply may host d t a r t' = MayReplyTo may host d t a.at a.called r t'
 
 -- a sweep of all was stopped by 93
 abbrev pub StopsClosed : Option Stop → Type 0
-StopsClosed stopped = (customer : List ℕ) × (stopped ≡ Some (record { customer = customer; fault = Closed }))
+StopsClosed stopped = (customer : List ℕ) × (stopped ≡ Some
+    (record { customer = customer; fault = Closed }))
 
 -- the reply tells 93, whole or as what stopped a sweep of all
 abbrev pub TellsClosed : SeenReply → Type 0
 TellsClosed r = (r ≡ reply_of_fault Closed) ⊎ StopsClosed r.stopped
 
--- Whatever the store is: a refusal is told, and the desk stays as it is; and where the store is closed after a call, the
--- reply tells this, or want of memory; and so of a sweep of all, unless there is no customer.
-abbrev pub RepliesAnyway : {S : Type 0} → Sight (Desk S) → Directory → Desk S → Result Asked Refusal → SeenReply → Desk S → Type 0
+-- Whatever the store is: a refusal is told, and the desk stays as it is; and where the store is
+-- closed after a call, the reply tells this, or want of memory; and so of a sweep of all, unless
+-- there is no customer.
+abbrev pub RepliesAnyway : {S : Type 0} → Sight (Desk S) → Directory → Desk S → Result Asked Refusal
+    → SeenReply → Desk S → Type 0
 RepliesAnyway sight d old (Err refusal) r new = IsRefused refusal r × (new ≡ old)
-RepliesAnyway sight d old (Ok (CallOf name call)) r new = sight.is_closed new ≡ true → (r ≡ reply_of_fault Closed) ⊎ (r ≡ reply_of_fault no_memory)
-RepliesAnyway sight d old (Ok SweepOfAll) r new = sight.is_closed new ≡ true → StopsClosed r.stopped ⊎ ((r ≡ reply_of_fault no_memory) ⊎ (names_of d ≡ []))
+RepliesAnyway sight d old (Ok (CallOf name call)) r new = sight.is_closed new ≡ true →
+    (r ≡ reply_of_fault Closed) ⊎ (r ≡ reply_of_fault no_memory)
+RepliesAnyway sight d old (Ok SweepOfAll) r new = sight.is_closed new ≡ true → StopsClosed r.stopped
+    ⊎ ((r ≡ reply_of_fault no_memory) ⊎ (names_of d ≡ []))
 
 -- What one exchange does to a desk, by what is seen of its shelf.
-pub record Exchanged {S : Type 0} (sight : Sight S) (d : Directory) (old : Desk S) (a : Ask) (r : SeenReply) (new : Desk S) : Type 0 where
-  pub replied : OnOpenSound (on sight) old new (MayReply sight.may_answer (host_of old) d ((on sight).tables old) a r ((on sight).tables new))
+pub record Exchanged {S : Type 0} (sight : Sight S) (d : Directory) (old : Desk S) (a : Ask)
+    (r : SeenReply) (new : Desk S) : Type 0 where
+  pub replied : OnOpenSound (on sight) old new
+      (MayReply sight.may_answer (host_of old) d ((on sight).tables old) a r
+      ((on sight).tables new))
   pub anyway : RepliesAnyway (on sight) d old a.called r new
   -- 93 is told only where the store is closed then
   pub closed : TellsClosed r → (on sight).is_closed new ≡ true
   pub sound : OnOpenSound (on sight) old new (Sound ((on sight).tables new))
   pub stays : Stays (on sight) old new
-  -- 91 and 93 are told only where the shelf counted a fault, as long as its count does not stand still
-  pub counted : (on sight).fault_count new < 2 ^ 64 - 1 → (if tells_store r then 1 else 0) + (on sight).fault_count old ≤ (on sight).fault_count new
+  -- 91 and 93 are told only where the shelf counted a fault, as long as its count does not stand
+  -- still
+  pub counted : (on sight).fault_count new < 2 ^ 64 - 1 →
+      (if tells_store r then 1 else 0) + (on sight).fault_count old ≤ (on sight).fault_count new

@@ -1,5 +1,7 @@
 -- What is replied: a status and the bytes of a body.
-use Rattle.std.specs.Prelude.{ℕ, ⊤, ◌≡◌, ◌==◌, ◌&&◌, ◌||◌, Bool, true, false, not, nat_le, List, [], ◌∷◌, ◌++◌, take, drop, Option, None, Some, bytes_eq, codes, count_by, if◌then◌else◌}
+use Rattle.std.specs.Prelude.{ℕ, ⊤, ◌≡◌, ◌==◌, ◌&&◌, ◌||◌, Bool, true, false, not, nat_le, List, []}
+use Rattle.std.specs.Prelude.{◌∷◌, ◌++◌, take, drop, Option, None, Some, bytes_eq, codes, count_by}
+use Rattle.std.specs.Prelude.{if◌then◌else◌}
 use Rattle.std.specs.List.{flat_map, list_all}
 use Rattle.hq_base.specs.declared.failure.Fault.{Fault}
 use Rattle.hq_base.specs.declared.failure.Fault.TheVariants.{WantOfMemory, Disk, BadSchema, Closed}
@@ -46,7 +48,8 @@ IsSent reply r = (r.status ≡ reply.status) × (r.body ≡ body_bytes reply.bod
 abbrev pub is_missing : ℕ → Bool
 is_missing n = n == 4 || (nat_le 10 n && nat_le n 13)
 
--- it does not agree with what is kept: an attempt too far ahead, a quota, spent numbers, a used label
+-- it does not agree with what is kept: an attempt too far ahead, a quota, spent numbers, a used
+-- label
 abbrev pub is_conflict : ℕ → Bool
 is_conflict n = n == 30 || (nat_le 40 n && nat_le n 44) || n == 52
 
@@ -83,8 +86,8 @@ abbrev pub for_customer : List ℕ → List ℕ → List ℕ
 for_customer name object = codes "{\"customer\":\"" ++ name ++ codes "\"," ++ drop 1 object
 
 -- what a customer is told of its answer, as a part
-abbrev pub part_of : List ℕ → Answer → List ℕ
-part_of name a = for_customer name (answer_text a)
+abbrev pub part_text : List ℕ → Answer → List ℕ
+part_text name a = for_customer name (answer_text a)
 
 -- a part behind others has a comma before it
 abbrev pub separated : Bool → List ℕ → List ℕ
@@ -110,7 +113,13 @@ closing stopped = codes "],\"stopped\":" ++ stopped_text stopped ++ codes "}"
 
 -- the reply to a sweep of all
 abbrev pub swept_reply : List Part → Option Stop → SeenReply
-swept_reply parts stopped = record { status = 200; body = opening ++ joined parts ++ closing stopped; parts = parts; stopped = stopped }
+swept_reply parts stopped = record {
+  status = 200;
+  body = opening ++ joined parts
+      ++ closing stopped;
+  parts = parts;
+  stopped = stopped;
+}
 
 -- ---- what the bytes of such a reply tell
 
@@ -142,9 +151,11 @@ abbrev pub stops_by_store : Option Stop → Bool
 stops_by_store None = false
 stops_by_store (Some stop) = not (is_memory stop.fault)
 
--- the reply tells a fault that is not want of memory, whole or as what stopped a sweep: one that the store counts
+-- the reply tells a fault that is not want of memory, whole or as what stopped a sweep: one that
+-- the store counts
 abbrev pub tells_store : SeenReply → Bool
-tells_store r = (r.status == 503 && not (bytes_eq r.body (fault_text WantOfMemory))) || stops_by_store r.stopped
+tells_store r = (r.status == 503 && not (bytes_eq r.body (fault_text WantOfMemory)))
+    || stops_by_store r.stopped
 
 -- how many replies do
 abbrev pub store_faults : List SeenReply → ℕ

@@ -1,5 +1,6 @@
 -- Whole runs: the desk's, and that of one customer's machine on that customer's share of the calls.
-use Rattle.std.specs.Prelude.{◌≡◌, ℕ, ◌+◌, ◌-◌, ◌^◌, ◌<◌, ◌≤◌, Bool, List, [], ◌∷◌, ◌++◌, map, filter}
+use Rattle.std.specs.Prelude.{◌≡◌, ℕ, ◌+◌, ◌-◌, ◌^◌, ◌<◌, ◌≤◌, Bool, List, [], ◌∷◌, ◌++◌, map}
+use Rattle.std.specs.Prelude.{filter}
 use Rattle.std.specs.List.{AllZip}
 use Rattle.std.specs.Ordering.{eq_by_cmp}
 use Rattle.hq_base.specs.Turns.{InTurn}
@@ -19,7 +20,8 @@ use Rattle.hq_wire.specs.declared.reply.Reply.{Reply}
 use Rattle.hq_requests.specs.declared.directory.Directory.{Directory}
 
 -- what was asked, the replies to it in order, and the tables before and after
-abbrev pub AllReplied : (Fault → Type 0) → List ℕ → Directory → Tables → List Ask → List SeenReply → Tables → Type 0
+abbrev pub AllReplied : (Fault → Type 0) → List ℕ → Directory → Tables → List Ask → List SeenReply →
+    Tables → Type 0
 AllReplied may host d t asks rs t' = InTurn (MayReply may host d) t asks rs t'
 
 -- ---- one customer's share
@@ -65,32 +67,44 @@ told_in c _ _ = []
 
 -- ---- the headline
 
--- For every customer there is its machine, started from its own state and given its share of the calls alone: the
--- customer hears what that machine answers, and what is kept of it is the state that the machine is left in.
-pub record Alone (host : List ℕ) (d : Directory) (asks : List Ask) (rs : List SeenReply) (t t' : Tables) : Type 0 where
-  pub replies : (c : List ℕ) → heard c asks rs ≡ told_in c (share c asks rs) (answers host (entry_of d c) (own c t) (calls_in (share c asks rs)))
-  pub state : (c : List ℕ) → own c t' ≡ state_after host (entry_of d c) (own c t) (calls_in (share c asks rs))
+-- For every customer there is its machine, started from its own state and given its share of the
+-- calls alone: the customer hears what that machine answers, and what is kept of it is the state
+-- that the machine is left in.
+pub record Alone (host : List ℕ) (d : Directory) (asks : List Ask) (rs : List SeenReply)
+    (t t' : Tables) : Type 0 where
+  pub replies : (c : List ℕ) → heard c asks rs ≡ told_in c (share c asks rs)
+      (answers host (entry_of d c) (own c t) (calls_in (share c asks rs)))
+  pub state : (c : List ℕ) → own c t' ≡ state_after host (entry_of d c) (own c t)
+      (calls_in (share c asks rs))
 
 -- What many exchanges do to a desk, by what is seen of its shelf.
-pub record Served {S : Type 0} (sight : Sight S) (d : Directory) (old : Desk S) (asks : List Ask) (rs : List SeenReply) (new : Desk S) : Type 0 where
+pub record Served {S : Type 0} (sight : Sight S) (d : Directory) (old : Desk S) (asks : List Ask)
+    (rs : List SeenReply) (new : Desk S) : Type 0 where
   -- one after the other, each as one exchange does
   pub each : InTurn (Exchanged sight d) old asks rs new
   -- the headline
-  pub alone : OnOpenSound (on sight) old new (Alone (host_of old) d asks rs ((on sight).tables old) ((on sight).tables new))
+  pub alone : OnOpenSound (on sight) old new
+      (Alone (host_of old) d asks rs ((on sight).tables old) ((on sight).tables new))
   pub sound : OnOpenSound (on sight) old new (Sound ((on sight).tables new))
   pub stays : Stays (on sight) old new
-  -- 91 and 93 are told at most as often as the shelf counted a fault, as long as its count does not stand still
-  pub counted : (on sight).fault_count new < 2 ^ 64 - 1 → store_faults rs + (on sight).fault_count old ≤ (on sight).fault_count new
+  -- 91 and 93 are told at most as often as the shelf counted a fault, as long as its count does not
+  -- stand still
+  pub counted : (on sight).fault_count new < 2 ^ 64 - 1 →
+      store_faults rs + (on sight).fault_count old ≤ (on sight).fault_count new
 
--- What one exchange does to a desk, with the reply as it is sent; and the headline, of one exchange.
-pub record RepliesSo {S : Type 0} (sight : Sight S) (d : Directory) (old : Desk S) (a : Ask) (reply : Reply) (new : Desk S) : Type 0 where
+-- What one exchange does to a desk, with the reply as it is sent; and the headline, of one
+-- exchange.
+pub record RepliesSo {S : Type 0} (sight : Sight S) (d : Directory) (old : Desk S) (a : Ask)
+    (reply : Reply) (new : Desk S) : Type 0 where
   pub told : SeenReply
   pub sent : IsSent reply told
   pub done : Exchanged sight d old a told new
-  pub alone : OnOpenSound (on sight) old new (Alone (host_of old) d (a ∷ []) (told ∷ []) ((on sight).tables old) ((on sight).tables new))
+  pub alone : OnOpenSound (on sight) old new (Alone (host_of old) d (a ∷ []) (told ∷ [])
+      ((on sight).tables old) ((on sight).tables new))
 
 -- the same of many, one after the other
-pub record RunsSo {S : Type 0} (sight : Sight S) (d : Directory) (old : Desk S) (asks : List Ask) (replies : List Reply) (new : Desk S) : Type 0 where
+pub record RunsSo {S : Type 0} (sight : Sight S) (d : Directory) (old : Desk S) (asks : List Ask)
+    (replies : List Reply) (new : Desk S) : Type 0 where
   pub told : List SeenReply
   pub sent : AllZip IsSent replies told
   pub served : Served sight d old asks told new

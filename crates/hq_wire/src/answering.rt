@@ -43,8 +43,8 @@ fn call_reply<S: Shelf + Drop>(
     call: Call,
 ) -> Reply
     ensures { (d : Directory) → entry.now ≡ entry_of d entry.now.name
-        → Exchanged S.sight d desk.old (record { at = at; called = Ok (CallOf entry.now.name call) })
-        (seen result) desk.new }
+        → Exchanged S.sight d desk.old
+        (record { at = at; called = Ok (CallOf entry.now.name call) }) (seen result) desk.new }
 {
     match desk.act(alloc, at, entry, call, &Json) {
         Ok(rendered) => Reply {

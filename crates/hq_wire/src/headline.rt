@@ -15,7 +15,7 @@ use std::alloc::{AllocError, Allocator, Global};
 ///
 /// To every customer the replies to the calls made by or for it, and what is kept of it afterwards,
 /// are those of the machine of one customer, started from its own state and given its share of the
-/// calls alone, whatever other calls come between. Calls that are answered 503 are struck out.
+/// calls alone, whatever other calls come between. A call that is answered 503 does not count.
 ///
 /// Room for all replies is taken first from `room`; where it is refused, nothing was done.
 pub fn run<S: Shelf + Drop, A: Allocator>(

@@ -1,7 +1,8 @@
 //! Replies: statuses and bodies.
 
 ghost use Rattle.std.specs.Prelude.{◌≡◌, not};
-ghost use Rattle.hq_wire.specs.Replies.{status_of, fault_text, reply_of_fault, seen, body_bytes, tells_store, is_memory};
+ghost use Rattle.hq_wire.specs.Replies.{status_of, fault_text, reply_of_fault, seen, body_bytes};
+ghost use Rattle.hq_wire.specs.Replies.{tells_store, is_memory};
 
 use hq_envelope::Fault;
 

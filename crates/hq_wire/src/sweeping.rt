@@ -1,10 +1,12 @@
 //! A sweep of all customers: each by a call of its own, and all told in one reply.
 
-ghost use Rattle.std.specs.Prelude.{◌≡◌, ◌+◌, ◌*◌, ◌≤◌, ◌++◌, true, Ok, Some, None, length, drop, vec_len, vec_capacity, IfOk, IfSome};
+ghost use Rattle.std.specs.Prelude.{◌≡◌, ◌+◌, ◌*◌, ◌≤◌, ◌++◌, true, Ok, Some, None, length, drop};
+ghost use Rattle.std.specs.Prelude.{vec_len, vec_capacity, IfOk, IfSome};
 ghost use Rattle.std.specs.List.{list_all};
 ghost use Rattle.hq_requests.specs.Calls.{SweepOfAll};
 ghost use Rattle.hq_wire.specs.Exchanges.{Exchanged};
-ghost use Rattle.hq_wire.specs.Replies.{SeenReply, IsSent, Closes, is_inside, for_customer, fault_text, separated, opening, closing};
+ghost use Rattle.hq_wire.specs.Replies.{SeenReply, IsSent, Closes, is_inside, for_customer};
+ghost use Rattle.hq_wire.specs.Replies.{fault_text, separated, opening, closing};
 
 use crate::reply::{Body, Reply, fault_reply, fault_text};
 use hq_desk::{Answer, Call, Desk, Render};
@@ -89,16 +91,17 @@ struct PartText<'n> {
 
 impl Render for PartText<'_> {
     ghost use Rattle.std.specs.Prelude.{◌≤◌, length};
-    ghost use Rattle.hq_wire.specs.Replies.{IsObject, part_of};
+    ghost use Rattle.hq_wire.specs.Replies.{IsObject, part_text};
 
-    ghost text = { λ part answer. part_of part.name.now answer };
+    ghost text = { λ part answer. part_text part.name.now answer };
 
     ghost fits = { λ _ bytes. (length bytes ≤ 139) × IsObject bytes };
 
     fn render(&self, alloc: Global, answer: &Answer) -> Result<Vec<u8>, AllocError> {
         let told = Json.render(alloc, answer)?;
         let bytes = part_bytes(alloc, self.name, told.as_slice())?;
-        // So is every answer to a sweep: checked here, it is known of the part whatever the store is.
+        // So is every answer to a sweep: checked here, it is known of the part whatever the store
+        // is.
         if bytes.len() > PART_BYTES || !closes_last(bytes.as_slice()) {
             return Err(AllocError);
         }

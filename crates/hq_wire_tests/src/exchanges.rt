@@ -3,16 +3,8 @@
 use crate::relay::{
     asked, desk_over, directory_under, exchange_of, expect_first_reply, expect_rows,
 };
-use hq_desk::Desk;
-use hq_envelope::{Fail as Failure, Name};
 use hq_lists::ListShelf;
-use hq_queue::{Head, Tally};
-use hq_store::{Change, Shelf};
-use std::alloc::Global;
 use std::test::Fail;
-
-/// The greatest serial: 2^40 - 1.
-const LAST_SERIAL: u64 = 1_099_511_627_775;
 
 const BAD_JSON: &str = "400 {\"error\":7,\"name\":\"BadJson\"}";
 
@@ -83,50 +75,6 @@ fn a_body_of_several_lines(rt: HostRuntime) -> Result<(), Fail> {
             "200 {\"id\":\"0000000001\",\"recipients\":[\"b@c\"],\"refused\":[],\
              \"state\":\"incoming\",\"verdict\":\"queued\"}",
         )],
-    )
-}
-
-fn nearly_spent() -> Head {
-    Head {
-        next_serial: LAST_SERIAL,
-        next_notice: 1,
-        tally: Tally {
-            accepted: 0,
-            delivered: 0,
-            failed: 0,
-            deleted: 0,
-            expired: 0,
-        },
-    }
-}
-
-/// A desk on which acme has used all serials but the last.
-fn nearly_spent_desk(alloc: Global) -> Result<Desk<ListShelf>, Failure> {
-    let mut shelf = ListShelf::new(alloc);
-    let acme = Name::parse(alloc, "acme")?;
-    shelf.apply(&acme, &[Change::PutHead(nearly_spent())])?;
-    desk_over(alloc, shelf)
-}
-
-#[test]
-fn the_last_serial(rt: HostRuntime) -> Result<(), Fail> {
-    let mut desk = nearly_spent_desk(rt.alloc())?;
-    expect_rows(
-        &rt,
-        &mut desk,
-        &[
-            (
-                "POST /relay/submit/acme relaykey00000001 {\"spool\":\"s1\",\
-                 \"sender\":\"ann@a.example\",\"recipients\":[\"bob@far.example\"],\"size\":900}",
-                "200 {\"id\":\"FFFFFFFFFF\",\"recipients\":[\"bob@far.example\"],\"refused\":[],\
-                 \"state\":\"incoming\",\"verdict\":\"queued\"}",
-            ),
-            (
-                "POST /relay/submit/acme relaykey00000001 {\"spool\":\"s2\",\
-                 \"sender\":\"ann@a.example\",\"recipients\":[\"bob@far.example\"],\"size\":900}",
-                "409 {\"error\":43,\"name\":\"SerialsSpent\"}",
-            ),
-        ],
     )
 }
 

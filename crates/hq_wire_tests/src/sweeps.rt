@@ -1,33 +1,15 @@
 //! Sweeps of all customers.
 
-use crate::relay::{asked, desk_over, directory, line_of};
+use crate::relay::{desk_over, expect_at};
 use hq_desk::Desk;
-use hq_envelope::{Moment, Name};
+use hq_envelope::Name;
 use hq_lists::ListShelf;
 use hq_queue::{Head, Tally};
 use hq_sql_shelf::SqlShelf;
 use hq_store::{Change, Shelf};
 use hq_trial::{FailingShelf, Failure as Plan};
-use hq_wire::exchange;
 use std::process::Abort;
 use std::test::Fail;
-
-const START: u64 = 1_767_225_600;
-
-fn expect_at<S: Shelf + Drop>(
-    rt: &(impl Abort + AllocGlobal),
-    desk: &mut Desk<S>,
-    seconds: u64,
-    line: &str,
-    want: &str,
-) -> Result<(), Fail> {
-    let directory = directory(rt)?;
-    let mut asked = asked(rt.alloc(), line)?;
-    asked.at = Moment::new(START.saturating_add(seconds)).ok_or("no moment")?;
-    let reply = exchange(rt.alloc(), desk, &directory, &asked);
-    assert_eq!(rt; line_of(rt.alloc(), &reply)?.as_str(), want);
-    Ok(())
-}
 
 const QUEUED: &str = "200 {\"id\":\"0000000001\",\"recipients\":[\"bob@far.example\"],\
     \"refused\":[],\"state\":\"incoming\",\"verdict\":\"queued\"}";

@@ -73,8 +73,8 @@ infixl 10 ◌>>=◌
 abbrev pub ◌>>=◌ : {A B : Type 0} → Option A → (A → Option B) → Option B
 found >>= next = option_and_then next found
 
--- the values of the options of each word, the first of each, in the written order; all but the store of a server or of a
--- batch, and the customer of a sweep, are there
+-- the values of the options of each word, the first of each, in the written order; all but the
+-- store of a server or of a batch, and the customer of a sweep, are there
 abbrev pub serve_in : List Row → Option ServeGiven
 serve_in rows = do
   directory ← first_of (codes "directory") rows
@@ -100,7 +100,12 @@ batch_in rows = do
   directory ← first_of (codes "directory") rows
   host ← first_of (codes "host") rows
   relay_key ← first_of (codes "relay-key") rows
-  Some (record { directory = directory; host = host; relay_key = relay_key; store = first_of (codes "store") rows })
+  Some (record {
+    directory = directory;
+    host = host;
+    relay_key = relay_key;
+    store = first_of (codes "store") rows;
+  })
 
 abbrev pub queue_in : List Row → Option QueueGiven
 queue_in rows = do
@@ -116,7 +121,13 @@ import_in rows = do
   customer ← first_of (codes "customer") rows
   label ← first_of (codes "label") rows
   file ← first_of (codes "file") rows
-  Some (record { directory = directory; store = store; customer = customer; label = label; file = file })
+  Some (record {
+    directory = directory;
+    store = store;
+    customer = customer;
+    label = label;
+    file = file;
+  })
 
 abbrev pub sweep_in : List Row → Option SweepGiven
 sweep_in rows = do
@@ -124,7 +135,13 @@ sweep_in rows = do
   host ← first_of (codes "host") rows
   store ← first_of (codes "store") rows
   at ← first_of (codes "at") rows
-  Some (record { directory = directory; host = host; store = store; customer = first_of (codes "customer") rows; at = at })
+  Some (record {
+    directory = directory;
+    host = host;
+    store = store;
+    customer = first_of (codes "customer") rows;
+    at = at;
+  })
 
 abbrev pub migrate_in : List Row → Option MigrateGiven
 migrate_in rows = do
@@ -203,9 +220,11 @@ sweep_at at s = record {
   at = at;
 }
 
--- A sweep is what it is given, at the moment that is named; there is none where an option is missing or names no moment.
+-- A sweep is what it is given, at the moment that is named; there is none where an option is
+-- missing or names no moment.
 abbrev pub SweepIs : Option SweepGiven → Option Sweep → Type 0
-SweepIs (Some given) (Some sweep) = (given ≡ sweep_at given.at sweep) × IsMoment given.at (Some sweep.at)
+SweepIs (Some given) (Some sweep) = (given ≡ sweep_at given.at sweep)
+    × IsMoment given.at (Some sweep.at)
 SweepIs (Some given) None = IsMoment given.at None
 SweepIs None (Some sweep) = ⊥
 SweepIs None None = ⊤
@@ -231,12 +250,15 @@ HasNumbers given s =
 
 -- three numbers are named
 abbrev pub NamesNumbers : ServeGiven → Type 0
-NamesNumbers given = NamesANumber given.count × NamesANumber given.idle_timeout × NamesANumber given.request_timeout
+NamesNumbers given = NamesANumber given.count × NamesANumber given.idle_timeout
+    × NamesANumber given.request_timeout
 
--- A server is what it is given, with the numbers that are named; there is none where an option is missing or names none.
+-- A server is what it is given, with the numbers that are named; there is none where an option is
+-- missing or names none.
 abbrev pub ServeIs : Option ServeGiven → Option Serve → Type 0
 ServeIs (Some given) (Some serve) =
-    (given ≡ serve_with given.count given.idle_timeout given.request_timeout serve) × HasNumbers given serve
+    (given ≡ serve_with given.count given.idle_timeout given.request_timeout serve)
+    × HasNumbers given serve
 ServeIs (Some given) None = NamesNumbers given → ⊥
 ServeIs None (Some serve) = ⊥
 ServeIs None None = ⊤
@@ -268,10 +290,11 @@ HasAFault words = (kind : ErrorKind) × (kind ≢ DisplayHelp) × Faults kind wo
 abbrev pub IsTaken : List Text → Type 0
 IsTaken words = fault_of program words ≡ []
 
--- Words ask for this: none for the built-in customers; others that `clap` takes for what they give; and else there is a
--- fault, which is told.
+-- Words ask for this: none for the built-in customers; others that `clap` takes for what they give;
+-- and else there is a fault, which is told.
 abbrev pub Says : List Text → Words → Type 0
 Says words Builtin = words ≡ []
 Says words (OfWord it) = (words ≢ []) × IsTaken words × Asks (given_by words) (Some it)
 Says words (Help told) = (words ≢ []) × Faults DisplayHelp words
-Says words (Refused told) = (words ≢ []) × (HasAFault words ⊎ (IsTaken words × Asks (given_by words) None))
+Says words (Refused told) = (words ≢ []) × (HasAFault words
+    ⊎ (IsTaken words × Asks (given_by words) None))

@@ -1,5 +1,5 @@
--- The words that the program takes, as `clap` has commands: six words, with options that take one value each. What `clap`
--- makes of words is said by its own definitions.
+-- The words that the program takes, as `clap` has commands: six words, with options that take one
+-- value each. What `clap` makes of words is said by its own definitions.
 use Rattle.std.specs.Prelude.{Bool, true, false, ℕ, List, [], ◌∷◌, codes, Some}
 use Rattle.clap.specs.Simple.{App, Shape, new_app, new_rule, new_shape, with_subcommand}
 use Rattle.clap.specs.Walk.{Rule, Text}
@@ -7,7 +7,11 @@ use Rattle.clap.specs.declared.builder.value_parser.ValueParser.TheVariants.{Uns
 
 -- an option `--NAME` with one value
 abbrev pub option_rule : Text → Bool → Rule
-option_rule name is_required = record (new_rule name) { long = Some name; value_names = 1; required = is_required }
+option_rule name is_required = record (new_rule name) {
+  long = Some name;
+  value_names = 1;
+  required = is_required;
+}
 
 -- an option that is asked for
 abbrev pub needed : Text → Rule
@@ -31,13 +35,17 @@ word_shape name rules = record (new_shape name) { rules = rules }
 
 abbrev pub serve_shape : Shape
 serve_shape = word_shape (codes "serve")
-    (needed (codes "directory") ∷ needed (codes "host") ∷ needed (codes "relay-key") ∷ option_rule (codes "store") false
-    ∷ default_rule (codes "listen") (codes "127.0.0.1:8025") ∷ number_rule (codes "count") (codes "1000000") 1000000
-    ∷ number_rule (codes "idle-timeout") (codes "30") 3600 ∷ number_rule (codes "request-timeout") (codes "30") 3600 ∷ [])
+    (needed (codes "directory") ∷ needed (codes "host") ∷ needed (codes "relay-key")
+    ∷ option_rule (codes "store") false
+    ∷ default_rule (codes "listen") (codes "127.0.0.1:8025")
+    ∷ number_rule (codes "count") (codes "1000000") 1000000
+    ∷ number_rule (codes "idle-timeout") (codes "30") 3600
+    ∷ number_rule (codes "request-timeout") (codes "30") 3600 ∷ [])
 
 abbrev pub batch_shape : Shape
 batch_shape = word_shape (codes "batch")
-    (needed (codes "directory") ∷ needed (codes "host") ∷ needed (codes "relay-key") ∷ option_rule (codes "store") false ∷ [])
+    (needed (codes "directory") ∷ needed (codes "host") ∷ needed (codes "relay-key")
+    ∷ option_rule (codes "store") false ∷ [])
 
 abbrev pub queue_shape : Shape
 queue_shape = word_shape (codes "queue")
@@ -45,12 +53,14 @@ queue_shape = word_shape (codes "queue")
 
 abbrev pub import_shape : Shape
 import_shape = word_shape (codes "import")
-    (needed (codes "directory") ∷ needed (codes "store") ∷ needed (codes "customer") ∷ needed (codes "label")
+    (needed (codes "directory") ∷ needed (codes "store") ∷ needed (codes "customer")
+    ∷ needed (codes "label")
     ∷ needed (codes "file") ∷ [])
 
 abbrev pub sweep_shape : Shape
 sweep_shape = word_shape (codes "sweep")
-    (needed (codes "directory") ∷ needed (codes "host") ∷ needed (codes "store") ∷ option_rule (codes "customer") false
+    (needed (codes "directory") ∷ needed (codes "host") ∷ needed (codes "store")
+    ∷ option_rule (codes "customer") false
     ∷ moment_rule ∷ [])
 
 abbrev pub migrate_shape : Shape
@@ -58,8 +68,10 @@ migrate_shape = word_shape (codes "migrate") (needed (codes "store") ∷ [])
 
 -- the program and its words
 abbrev pub with_words : App
-with_words = with_subcommand (with_subcommand (with_subcommand (with_subcommand (with_subcommand (with_subcommand
-    (new_app (codes "hq_main")) serve_shape) batch_shape) queue_shape) import_shape) sweep_shape) migrate_shape
+with_words = with_subcommand
+    (with_subcommand (with_subcommand (with_subcommand (with_subcommand (with_subcommand
+    (new_app (codes "hq_main")) serve_shape) batch_shape) queue_shape) import_shape) sweep_shape)
+    migrate_shape
 
 -- they stand behind the program's name, and one of them is there or help is asked for
 abbrev pub program : App

@@ -5,7 +5,8 @@ ghost use Rattle.clap.specs.Simple.{app_of, shape_of};
 ghost use Rattle.clap.specs.Walk.{rule_of};
 ghost use Rattle.clap.specs.declared.builder.command.Command.TheViews.{out-Command};
 ghost use Rattle.hq_words.specs.Program.{option_rule, default_rule, number_rule, moment_rule};
-ghost use Rattle.hq_words.specs.Program.{serve_shape, batch_shape, queue_shape, import_shape, sweep_shape, migrate_shape, program};
+ghost use Rattle.hq_words.specs.Program.{serve_shape, batch_shape, queue_shape, import_shape};
+ghost use Rattle.hq_words.specs.Program.{sweep_shape, migrate_shape, program};
 
 use crate::texts::*;
 use clap::{Arg, Command, value_parser};

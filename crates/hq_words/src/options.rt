@@ -3,8 +3,10 @@
 ghost use Rattle.std.specs.Prelude.{◌≡◌, option_map};
 ghost use Rattle.clap.specs.Matches.{found_of};
 ghost use Rattle.clap.specs.Walk.{first_of, rows_of};
-ghost use Rattle.hq_words.specs.Asked.{IsMoment, IsNumber, given_of, import_of, migrate_of, queue_of};
-ghost use Rattle.hq_words.specs.Asked.{serve_in, batch_in, queue_in, import_in, sweep_in, migrate_in};
+ghost use Rattle.hq_words.specs.Asked.{IsMoment, IsNumber, given_of, import_of, migrate_of};
+ghost use Rattle.hq_words.specs.Asked.{queue_of};
+ghost use Rattle.hq_words.specs.Asked.{serve_in, batch_in, queue_in, import_in, sweep_in};
+ghost use Rattle.hq_words.specs.Asked.{migrate_in};
 ghost use Rattle.hq_words.specs.Asked.{ServeIs, SweepIs};
 
 use clap::ArgMatches;

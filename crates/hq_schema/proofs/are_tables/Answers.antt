@@ -7,5 +7,7 @@ use Rattle.hq_schema.proofs.are_tables.Goals as goal
 pub returns-then-tables-shapes : goal.returns-then-tables-shapes
 returns-then-tables-shapes c =
     same_from_all c.all.new.self _ _ _ _ c.all.ensures.ran
-    (YieldsList-from_zip (YieldsList-from_slice c.args.tables.now cc) (yields_seen table_of (YieldsList-from_slice c.args.shapes.now cc)))
-    (as_long _ c.args.tables.now c.args.shapes.now (search rules)) (λ x q k. search (rules, tests)) (λ x q k. search (rules, tests))
+    (YieldsList-from_zip (YieldsList-from_slice c.args.tables.now cc)
+    (yields_seen table_of (YieldsList-from_slice c.args.shapes.now cc)))
+    (as_long _ c.args.tables.now c.args.shapes.now (search rules)) (λ x q k. search (rules, tests))
+    (λ x q k. search (rules, tests))

@@ -1,4 +1,5 @@
-use Rattle.std.proofs.Common.{◌≡◌, ◌≢◌, ℕ, Bool, true, false, ◌&&◌, List, [], ◌∷◌, refl, sym, ap, arith, eqb}
+use Rattle.std.proofs.Common.{◌≡◌, ◌≢◌, ℕ, Bool, true, false, ◌&&◌, List, [], ◌∷◌, refl, sym, ap}
+use Rattle.std.proofs.Common.{arith, eqb}
 use Rattle.std.proofs.lemmas.Bool.Decides.{nat_tests}
 use Rattle.hq_envelope.specs.Addresses.{is_domain}
 use Rattle.hq_access.specs.Patterns.{is_subdomains}
@@ -9,7 +10,8 @@ no_dot_first : (text : List ℕ) → ((rest : List ℕ) → text ≢ 46 ∷ rest
 no_dot_first [] none = refl
 no_dot_first (b ∷ bytes) none = by (eqb b 46) refl where
   by : (t : Bool) → eqb b 46 ≡ t → (t && is_domain bytes) ≡ false
-  by true e = let is : b ≡ 46 = grind (arith, nat_tests) in absurd (none bytes (ap (λ x. x ∷ bytes) is))
+  by true e = let is : b ≡ 46 = grind (arith, nat_tests) in
+      absurd (none bytes (ap (λ x. x ∷ bytes) is))
   by false e = refl
 
 pub returns-in-None : goal.returns-in-None

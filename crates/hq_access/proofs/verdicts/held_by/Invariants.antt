@@ -3,4 +3,5 @@ use Rattle.hq_access.specs.Verdicts.{found_in, held_by}
 use Rattle.hq_access.proofs.verdicts.held_by.Given as goal
 
 abbrev pub invariant-loop-recipient : goal.invariant-loop-recipient
-invariant-loop-recipient l = option_map (λ x. x.now) l.first ≡ held_by (found_in (option_map (λ a. a.now) l.found) (take l.recipient-index l.recipients))
+invariant-loop-recipient l = option_map (λ x. x.now) l.first ≡ held_by
+    (found_in (option_map (λ a. a.now) l.found) (take l.recipient-index l.recipients))

@@ -8,5 +8,9 @@ use Rattle.hq_access.proofs.verdicts.is_discarded.Goals as goal
 
 pub returns-else-discards : goal.returns-else-discards
 returns-else-discards c =
-    let any : c.any.result ≡ list_any (λ (r : Recipient). discards r.1) c.args.recipients.now = any_from_yields_List (λ (r : Recipient). discards r.1) _ _ c.any.result c.any.ensures.ran (YieldsList-from_slice c.args.recipients.now cc) (λ x b q k. search (rules, tests)) in
-    any ∙ sym (discards_kept c.args.recipients.now) ∙ ap (λ b. b || list_any discards (map (λ (r : Recipient). r.1) (kept_in c.args.recipients.now))) (sym c.if-discards.false ∙ c.discards.ensures)
+    let any : c.any.result ≡ list_any (λ (r : Recipient). discards r.1) c.args.recipients.now =
+    any_from_yields_List (λ (r : Recipient). discards r.1) _ _ c.any.result c.any.ensures.ran
+    (YieldsList-from_slice c.args.recipients.now cc) (λ x b q k. search (rules, tests)) in
+    any ∙ sym (discards_kept c.args.recipients.now) ∙ ap (λ b. b
+    || list_any discards (map (λ (r : Recipient). r.1) (kept_in c.args.recipients.now)))
+    (sym c.if-discards.false ∙ c.discards.ensures)

@@ -8,7 +8,9 @@ tells : {S : Type 0} (lines : S → List Line) → Tells (ListGets lines) (λ l.
 tells lines old new class key answer asked = (asked.0, ap (λ l. action_at (lines l)) asked.1)
 
 pub returns-clause-found : goal.returns-clause-found
-returns-clause-found c = c.lookup.ensures.found (λ l. action_at l.lines.items) (tells (λ l. l.lines.items))
+returns-clause-found c = c.lookup.ensures.found (λ l. action_at l.lines.items)
+    (tells (λ l. l.lines.items))
 
 pub returns-clause-same : goal.returns-clause-same
-returns-clause-same c = c.lookup.ensures.same (λ l. action_at l.lines.items) (tells (λ l. l.lines.items))
+returns-clause-same c = c.lookup.ensures.same (λ l. action_at l.lines.items)
+    (tells (λ l. l.lines.items))

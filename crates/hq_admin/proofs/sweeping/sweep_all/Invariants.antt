@@ -6,7 +6,8 @@ use Rattle.hq_admin.proofs.sweeping.sweep_all.Given as goal
 
 abbrev pub invariant-loop-customer : goal.invariant-loop-customer
 invariant-loop-customer g l = record {
-  so_far : SoFar g.S.Shelf.sight l.at (record { shelf = l.fn.shelf; host = l.fn.host }) (map entry_of (take l.customer-index l.customers)) l.told.items l.desk;
+  so_far : SoFar g.S.Shelf.sight l.at (record { shelf = l.fn.shelf; host = l.fn.host })
+      (map entry_of (take l.customer-index l.customers)) l.told.items l.desk;
   count : vec_len l.told ≡ l.customer-index;
   room : length l.customers ≤ vec_capacity l.told;
 }

@@ -4,4 +4,5 @@ use Rattle.hq_attempts.proofs.sweeps.how_many.Given as goal
 
 -- those of the rows so far
 abbrev pub invariant-loop-row : goal.invariant-loop-row
-invariant-loop-row l = (l.count ≡ how_many l.made (take l.row-index l.rows)) × (l.count ≤ l.row-index)
+invariant-loop-row l = (l.count ≡ how_many l.made (take l.row-index l.rows))
+    × (l.count ≤ l.row-index)

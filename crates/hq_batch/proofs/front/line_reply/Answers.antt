@@ -13,5 +13,8 @@ returns-in-None g c =
     let d = c.args.directory.now in
     let desk = c.args.desk.now in
     let r = seen c.refusal_reply.result in
-    subst (λ asked. RepliesSo sight d desk (ask_in d asked) c.refusal_reply.result desk) c.in-None.ensures
-    (told_once sight d desk desk (ask_in d None) c.refusal_reply.result r (refl, refl) (refused sight d desk 0 BadRequest r c.refusal_reply.ensures.told c.refusal_reply.ensures.store))
+    subst (λ asked. RepliesSo sight d desk (ask_in d asked) c.refusal_reply.result desk)
+    c.in-None.ensures
+    (told_once sight d desk desk (ask_in d None) c.refusal_reply.result r (refl, refl)
+    (refused sight d desk 0 BadRequest r c.refusal_reply.ensures.told
+    c.refusal_reply.ensures.store))

@@ -13,7 +13,8 @@ pub returns-in-Ok : goal.returns-in-Ok
 returns-in-Ok g c =
     let d = c.args.directory.now in
     let is = c.in-Ok.ensures in
-    subst (λ (a : ℕ × Result Asked Refusal). RepliesSo g.S.Shelf.sight d c.args.desk.now (record { at = a.0; called = a.1 }) c.exchange.result c.exchange.new.desk)
+    subst (λ (a : ℕ × Result Asked Refusal). RepliesSo g.S.Shelf.sight d c.args.desk.now
+    (record { at = a.0; called = a.1 }) c.exchange.result c.exchange.new.desk)
     (λ i. (is.0 i, call_from d (is.1 i) (is.2 i) (is.3 i) (is.4 i)))
     c.exchange.ensures
 
@@ -22,4 +23,7 @@ returns-in-Err g c =
     let d = c.args.directory.now in
     let ask = ask_in d (Some (shown c.args.line.now)) in
     let r = seen c.fault_reply.result in
-    told_once g.S.Shelf.sight d c.args.desk.now c.args.desk.now ask c.fault_reply.result r (refl, refl) (no_room g.S.Shelf.sight d c.args.desk.now ask r c.fault_reply.ensures.told)
+    told_once g.S.Shelf.sight d c.args.desk.now c.args.desk.now ask c.fault_reply.result r (
+      refl,
+      refl,
+    ) (no_room g.S.Shelf.sight d c.args.desk.now ask r c.fault_reply.ensures.told)

@@ -5,4 +5,5 @@ use Rattle.hq_bodies.proofs.reading.is_known.Given as goal
 -- the names that are left decide
 abbrev pub invariant-loop-known : goal.invariant-loop-known
 invariant-loop-known l =
-    list_any (bytes_eq l.name) (map (λ n. n.now) (drop l.known-index l.names)) ≡ list_any (bytes_eq l.name) (map (λ n. n.now) l.names)
+    list_any (bytes_eq l.name) (map (λ n. n.now) (drop l.known-index l.names)) ≡ list_any
+    (bytes_eq l.name) (map (λ n. n.now) l.names)

@@ -6,4 +6,5 @@ use Rattle.hq_bodies.proofs.reading.texts.Given as goal
 -- the texts so far, and those of the values that are left
 abbrev pub invariant-loop-value : goal.invariant-loop-value
 invariant-loop-value l =
-    option_map (λ rest. map string_bytes l.found.items ++ rest) (texts_of (items_view (drop l.value-index l.values))) ≡ texts_of (items_view l.values)
+    option_map (λ rest. map string_bytes l.found.items ++ rest)
+    (texts_of (items_view (drop l.value-index l.values))) ≡ texts_of (items_view l.values)

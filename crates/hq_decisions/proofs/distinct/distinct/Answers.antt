@@ -8,5 +8,6 @@ use Rattle.hq_decisions.proofs.distinct.distinct.Goals as goal
 pub loop-address-preserved : goal.loop-address-preserved
 loop-address-preserved c =
     c.in_ok-add_new.ensures
-    ∙ ap (λ kept. kept ++ (if list_any (λ known. same_address known c.in-Some.address) kept then [] else c.in-Some.address ∷ [])) c.loop-address.invariant
+    ∙ ap (λ kept. kept ++ (if list_any (λ known. same_address known c.in-Some.address) kept then
+    [] else c.in-Some.address ∷ [])) c.loop-address.invariant
     ∙ sym (distinct_more c.loop-address.yielded c.in-Some.address)

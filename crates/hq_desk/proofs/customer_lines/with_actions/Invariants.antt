@@ -8,4 +8,5 @@ use Rattle.hq_desk.proofs.customer_lines.with_actions.Given as goal
 abbrev pub invariant-loop-recipient : goal.invariant-loop-recipient
 invariant-loop-recipient g l = g.S.Shelf.sight.is_closed l.fn.shelf ≡ false
     → Keeps (with_memory g.S.Shelf.sight) l.fn.shelf l.shelf (Ok l.found.items)
-    × Finds g.S.Shelf.sight l.fn.shelf l.shelf (Ok l.found.items) l.fn.customer (λ rows. map (with_action rows) l.yielded)
+    × Finds g.S.Shelf.sight l.fn.shelf l.shelf (Ok l.found.items) l.fn.customer
+    (λ rows. map (with_action rows) l.yielded)

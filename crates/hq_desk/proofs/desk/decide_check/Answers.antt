@@ -19,12 +19,17 @@ returns-clause-found g c = λ clean ours.
     let found : c.if-counts-eq0.found ≡ found_for (read_tables name t) c.args.class c.args.who.now =
     elim c.if-counts-eq0.branch [
       | then-counts-eq0 w ↦
-          let none : (read_tables name t).counts.lines ≡ 0 = sym (ap (λ n. n.lines) (first.found (subst sight.is_clean w.shelf-is clean) ours)) ∙ w.if-counts-eq0.true in
+          let none : (read_tables name t).counts.lines ≡ 0 =
+          sym (ap (λ n. n.lines) (first.found (subst sight.is_clean w.shelf-is clean) ours))
+          ∙ w.if-counts-eq0.true in
           w.found-is ∙ sym (nobody_found name t c.args.class c.args.who.now none)
       | else-counts-eq0+in_ok-found w ↦
           let kept = w.in_ok-found.ensures.kept first.kept.tally.1 in
           let looked = w.in_ok-found.ensures.found first.kept.tally.1 in
-          w.found-is ∙ finds_on (with_memory sight) _ _ _ _ _ name (λ rows. found_for rows c.args.class c.args.who.now) (keeps_more sight _ _ _ first.kept) kept looked (subst sight.is_clean w.shelf-is clean) ours
+          w.found-is ∙ finds_on (with_memory sight) _ _ _ _ _ name
+          (λ rows. found_for rows c.args.class c.args.who.now)
+          (keeps_more sight _ _ _ first.kept) kept looked
+          (subst sight.is_clean w.shelf-is clean) ours
     ] in
     let keys = c.from_vec-keys.ensures ∙ c.in_ok-keys_of.ensures in
     c.tell.ensures ∙ (λ i. tell (answer.Checked (keys i) (found i)))

@@ -9,5 +9,6 @@ returns-then-branch-eq0-clause-found g c = λ clean ours.
     let name = c.args.entry.now.name in
     let t = g.S.Shelf.sight.tables c.args.shelf.now in
     let pattern = c.args.pattern in
-    let none : (read_tables name t).counts.lines ≡ 0 = sym (ap (λ n. n.lines) (c.in_ok-counts.ensures.found clean ours)) ∙ c.if-branch-eq0.true in
+    let none : (read_tables name t).counts.lines ≡ 0 =
+    sym (ap (λ n. n.lines) (c.in_ok-counts.ensures.found clean ours)) ∙ c.if-branch-eq0.true in
     c.refuse.ensures ∙ sym (ap (drop_line pattern) (no_line name t pattern.0 pattern.1 none))

@@ -10,6 +10,9 @@ returns-in-Some-clause-found g c = λ clean ours.
     let rows = read_tables name (g.S.Shelf.sight.tables c.args.shelf.now) in
     let first = c.in_ok-counts.ensures in
     let then = c.in_ok-known.ensures in
-    let known = finds_on g.S.Shelf.sight _ _ _ _ _ name (λ rows. rows.line c.class.result c.in_ok-key.key) first.kept then.kept then.found clean ours in
+    let known = finds_on g.S.Shelf.sight _ _ _ _ _ name
+    (λ rows. rows.line c.class.result c.in_ok-key.key) first.kept then.kept then.found clean
+    ours in
     c.in_ok-put_over.ensures
-    ∙ ap (put_line c.args.entry.now.quota.lines rows.counts.lines c.args.line) (sym c.in-Some.is ∙ known ∙ (λ i. rows.line (c.class.ensures i) (c.in_ok-key.ensures i)))
+    ∙ ap (put_line c.args.entry.now.quota.lines rows.counts.lines c.args.line) (sym c.in-Some.is
+    ∙ known ∙ (λ i. rows.line (c.class.ensures i) (c.in_ok-key.ensures i)))

@@ -12,9 +12,12 @@ returns-clause-found g c = λ clean ours sound.
     let rows = read_tables name (sight.tables c.args.shelf.now) in
     let first = c.in_ok-message.ensures in
     let then = c.in_ok-head.ensures in
-    let head : c.in_ok-head.head ≡ rows.head = finds_on sight _ _ _ _ _ name (λ rows. rows.head) first.kept then.kept then.found clean ours in
-    let found : rows.message c.args.serial ≡ Some c.in-Some.message = sym (first.found (then.kept.quiet clean) ours) ∙ c.in-Some.is in
+    let head : c.in_ok-head.head ≡ rows.head = finds_on sight _ _ _ _ _ name (λ rows. rows.head)
+    first.kept then.kept then.found clean ours in
+    let found : rows.message c.args.serial ≡ Some c.in-Some.message =
+    sym (first.found (then.kept.quiet clean) ours) ∙ c.in-Some.is in
     let next = (sound.states name).shaped.next_serial in
-    c.in_ok-decision.ensures (subst (λ (h : Head). 0 < h.next_serial) (sym head) next.0) (subst (λ (h : Head). h.next_serial ≤ 2 ^ 40) (sym head) next.1)
+    c.in_ok-decision.ensures (subst (λ (h : Head). 0 < h.next_serial) (sym head) next.0)
+    (subst (λ (h : Head). h.next_serial ≤ 2 ^ 40) (sym head) next.1)
     ∙ ap (λ (h : Head). rules.requeue_with h c.args.at c.in-Some.message) head
     ∙ ap (rules.requeue rows.head c.args.at) (sym found)

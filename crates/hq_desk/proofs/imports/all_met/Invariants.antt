@@ -8,4 +8,5 @@ use Rattle.hq_desk.proofs.imports.all_met.Given as goal
 abbrev pub invariant-loop-line : goal.invariant-loop-line
 invariant-loop-line g l = g.S.Shelf.sight.is_closed l.fn.shelf ≡ false
     → Keeps (with_memory g.S.Shelf.sight) l.fn.shelf l.shelf (Ok l.found.items)
-    × Finds g.S.Shelf.sight l.fn.shelf l.shelf (Ok l.found.items) l.fn.customer (λ rows. map (met rows) l.yielded)
+    × Finds g.S.Shelf.sight l.fn.shelf l.shelf (Ok l.found.items) l.fn.customer
+    (λ rows. map (met rows) l.yielded)

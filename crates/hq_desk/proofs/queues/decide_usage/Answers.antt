@@ -15,6 +15,10 @@ returns-clause-found g c = λ clean ours sound.
     let first = c.in_ok-head.ensures in
     let then = c.in_ok-counts.ensures in
     let head : c.in_ok-head.head ≡ rows.head = first.found (then.kept.quiet clean) ours in
-    let counts : c.in_ok-counts.counts ≡ rows.counts = finds_on sight _ _ _ _ _ name (λ rows. rows.counts) first.kept then.kept then.found clean ours in
-    let told : AreTold rows.head rows.messages = subst (λ (r : Readings). AreTold r.head r.messages) (sym (same_readings name t)) (sound.states name).conserved in
-    c.usage.ensures rows.messages (subst (λ (h : Head). AreTold h rows.messages) (sym head) told) ∙ (λ i. usage (head i) (counts i) rows.messages)
+    let counts : c.in_ok-counts.counts ≡ rows.counts = finds_on sight _ _ _ _ _ name
+    (λ rows. rows.counts) first.kept then.kept then.found clean ours in
+    let told : AreTold rows.head rows.messages =
+    subst (λ (r : Readings). AreTold r.head r.messages) (sym (same_readings name t))
+    (sound.states name).conserved in
+    c.usage.ensures rows.messages (subst (λ (h : Head). AreTold h rows.messages) (sym head) told)
+    ∙ (λ i. usage (head i) (counts i) rows.messages)

@@ -8,4 +8,5 @@ pub returns-clause-found : goal.returns-clause-found
 returns-clause-found g c = λ clean ours sound.
     let name = c.args.entry.now.name in
     let t = g.S.Shelf.sight.tables c.args.shelf.now in
-    c.due_page.ensures ∙ ap (λ ms. due_page (filter (is_due c.args.at) ms)) (c.in_ok-messages.ensures.found clean ours ∙ whole name t c.args.after sound)
+    c.due_page.ensures ∙ ap (λ ms. due_page (filter (is_due c.args.at) ms))
+    (c.in_ok-messages.ensures.found clean ours ∙ whole name t c.args.after sound)

@@ -12,6 +12,10 @@ returns-clause-found g c = λ clean ours sound.
     let rows = read_tables name (sight.tables c.args.shelf.now) in
     let first = c.in_ok-messages.ensures in
     let then = c.in_ok-head.ensures in
-    let head : c.in_ok-head.head ≡ rows.head = finds_on sight _ _ _ _ _ name (λ rows. rows.head) first.kept then.kept then.found clean ours in
-    let messages : c.in_ok-messages.messages ≡ rows.messages = first.found (then.kept.quiet clean) ours ∙ whole name (sight.tables c.args.shelf.now) None sound in
-    c.in_ok-decision.ensures ∙ (λ i. sweep c.args.host.now c.args.entry.now c.args.at (head i) (messages i))
+    let head : c.in_ok-head.head ≡ rows.head = finds_on sight _ _ _ _ _ name (λ rows. rows.head)
+    first.kept then.kept then.found clean ours in
+    let messages : c.in_ok-messages.messages ≡ rows.messages =
+    first.found (then.kept.quiet clean) ours ∙ whole name (sight.tables c.args.shelf.now) None
+    sound in
+    c.in_ok-decision.ensures ∙ (λ i. sweep c.args.host.now c.args.entry.now c.args.at (head i)
+    (messages i))

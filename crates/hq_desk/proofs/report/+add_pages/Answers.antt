@@ -1,4 +1,5 @@
-use Rattle.std.proofs.Common.{◌≡◌, ◌++◌, ◌+◌, ◌-◌, ◌*◌, ◌≤◌, List, Some, None, length, take, drop, sym, ap, subst, ◌∙◌, arith}
+use Rattle.std.proofs.Common.{◌≡◌, ◌++◌, ◌+◌, ◌-◌, ◌*◌, ◌≤◌, List, Some, None, length, take, drop}
+use Rattle.std.proofs.Common.{sym, ap, subst, ◌∙◌, arith}
 use Rattle.std.specs.Prelude.{OnOk}
 use Rattle.std.proofs.lemmas.List.{take_all}
 use Rattle.hq_queue.specs.declared.message.Message.{Message}
@@ -20,18 +21,25 @@ returns-clause-added g t c = λ clean ours sound before e few.
     let before_it = c.add_pages.ensures.kept.quiet clean in
     let same = first.kept.same before_it ours first.kept.tally.1 in
     let page : c.in_ok-page.page ≡ take 100 xs = first.found before_it ours in
-    let last : last_serial (take 100 xs) ≡ Some c.in-Some.last = sym (c.last_serial.ensures ∙ ap last_serial (c.as_slice-2.ensures ∙ page)) ∙ c.in-Some.is in
-    let next : after_serial (Some c.in-Some.last) (read_tables name (sight.tables c.messages.new.self)).messages ≡ drop 100 xs =
-    ap (λ tables. after_serial (Some c.in-Some.last) (read_tables name tables).messages) same ∙ behind_page c.args.after 100 ms c.in-Some.last (messages_rise name tables sound) last in
-    let so_far = c.in_ok-add_all.ensures before e ∙ ap (λ ys. written (before ++ ys)) (c.as_slice.ensures ∙ page) in
+    let last : last_serial (take 100 xs) ≡ Some c.in-Some.last =
+    sym (c.last_serial.ensures ∙ ap last_serial (c.as_slice-2.ensures ∙ page)) ∙ c.in-Some.is in
+    let next : after_serial (Some c.in-Some.last)
+    (read_tables name (sight.tables c.messages.new.self)).messages ≡ drop 100 xs =
+    ap (λ tables. after_serial (Some c.in-Some.last) (read_tables name tables).messages) same
+    ∙ behind_page c.args.after 100 ms c.in-Some.last (messages_rise name tables sound) last in
+    let so_far = c.in_ok-add_all.ensures before e ∙ ap (λ ys. written (before ++ ys))
+    (c.as_slice.ensures ∙ page) in
     let some = c.if-more-eq0.false in
     let fewer = fewer_behind xs _ c.args.more next (omega arith) few in
-    let rest = c.add_pages.ensures.added clean (first.kept.ours before_it ours first.kept.tally.1) (subst Sound (sym same) sound) (before ++ take 100 xs) so_far fewer in
-    subst (λ ys. OnOk c.add_pages.result (c.add_pages.new.report ≡ written ys)) (ap (λ ys. (before ++ take 100 xs) ++ ys) next ∙ pages_on before xs 100) rest
+    let rest = c.add_pages.ensures.added clean (first.kept.ours before_it ours first.kept.tally.1)
+    (subst Sound (sym same) sound) (before ++ take 100 xs) so_far fewer in
+    subst (λ ys. OnOk c.add_pages.result (c.add_pages.new.report ≡ written ys))
+    (ap (λ ys. (before ++ take 100 xs) ++ ys) next ∙ pages_on before xs 100) rest
 
 pub returns-then-more-eq0-clause-added : goal.returns-then-more-eq0-clause-added
 returns-then-more-eq0-clause-added g t c = λ clean ours sound before e few.
-    let ms = (read_tables c.args.entry.now.name (g.S.Shelf.sight.tables c.args.shelf.now)).messages in
+    let ms =
+    (read_tables c.args.entry.now.name (g.S.Shelf.sight.tables c.args.shelf.now)).messages in
     let xs = after_serial c.args.after ms in
     let none = c.if-more-eq0.true in
     let page = c.in_ok-page.ensures.found clean ours ∙ take_all 100 xs (omega arith) in
@@ -39,9 +47,13 @@ returns-then-more-eq0-clause-added g t c = λ clean ours sound before e few.
 
 pub returns-in_default-clause-added : goal.returns-in_default-clause-added
 returns-in_default-clause-added g t c = λ clean ours sound before e few.
-    let ms = (read_tables c.args.entry.now.name (g.S.Shelf.sight.tables c.args.shelf.now)).messages in
+    let ms =
+    (read_tables c.args.entry.now.name (g.S.Shelf.sight.tables c.args.shelf.now)).messages in
     let xs = after_serial c.args.after ms in
     let page : c.in_ok-page.page ≡ take 100 xs = c.in_ok-page.ensures.found clean ours in
-    let last : last_serial (take 100 xs) ≡ None = sym (c.last_serial.ensures ∙ ap last_serial (c.as_slice-2.ensures ∙ page)) ∙ c.in_default.is in
+    let last : last_serial (take 100 xs) ≡ None =
+    sym (c.last_serial.ensures ∙ ap last_serial (c.as_slice-2.ensures ∙ page))
+    ∙ c.in_default.is in
     let none = no_page 99 xs last in
-    c.in_ok-add_all.ensures before e ∙ ap (λ ys. written (before ++ ys)) (c.as_slice.ensures ∙ page ∙ ap (take 100) none ∙ sym none)
+    c.in_ok-add_all.ensures before e ∙ ap (λ ys. written (before ++ ys)) (c.as_slice.ensures ∙ page
+    ∙ ap (take 100) none ∙ sym none)

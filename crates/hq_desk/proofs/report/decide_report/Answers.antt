@@ -12,6 +12,7 @@ returns-clause-found g c = λ clean ours sound.
     let name = c.args.entry.now.name in
     let t = g.S.Shelf.sight.tables c.args.shelf.now in
     let ms = (read_tables name t).messages in
-    let added = c.in_ok-add_pages.ensures.added clean ours sound [] c.new-report.ensures (few_messages name t sound) in
+    let added = c.in_ok-add_pages.ensures.added clean ours sound [] c.new-report.ensures
+    (few_messages name t sound) in
     let written = c.in_ok-finish.ensures ms added in
     c.tell.ensures ∙ ap (λ text. tell (answer.Reported text)) (c.new-text.ensures ∙ written)

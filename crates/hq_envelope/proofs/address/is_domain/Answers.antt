@@ -6,4 +6,6 @@ use Rattle.hq_envelope.proofs.address.is_domain.Goals as goal
 
 pub returns : goal.returns
 returns c =
-    all_from_yields_List is_domain_label _ _ _ c.all.ensures.ran (YieldsList-from_str_split 46 c.args.text.now (lit< tt) c.split.ensures.text c.split.ensures.has_more c.split.ensures.pattern) (λ x b q k. search (rules, tests))
+    all_from_yields_List is_domain_label _ _ _ c.all.ensures.ran
+    (YieldsList-from_str_split 46 c.args.text.now (lit< tt) c.split.ensures.text
+    c.split.ensures.has_more c.split.ensures.pattern) (λ x b q k. search (rules, tests))

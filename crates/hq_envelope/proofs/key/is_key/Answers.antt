@@ -7,5 +7,6 @@ use Rattle.hq_envelope.proofs.key.is_key.Goals as goal
 
 pub returns-then-text-le-MOST_KEY_BYTES : goal.returns-then-text-le-MOST_KEY_BYTES
 returns-then-text-le-MOST_KEY_BYTES c =
-    let e = all_from_yields_List is_key_byte _ _ c.all.result c.all.ensures.ran (YieldsList-from_slice c.args.text.now cc) (λ x b q k. search (rules, tests)) in
+    let e = all_from_yields_List is_key_byte _ _ c.all.result c.all.ensures.ran
+    (YieldsList-from_slice c.args.text.now cc) (λ x b q k. search (rules, tests)) in
     grind (arith, nat_tests)

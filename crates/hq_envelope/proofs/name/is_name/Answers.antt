@@ -7,5 +7,6 @@ use Rattle.hq_envelope.proofs.name.is_name.Goals as goal
 
 pub returns-then-text-le-NAME_BYTES : goal.returns-then-text-le-NAME_BYTES
 returns-then-text-le-NAME_BYTES c =
-    let e = all_from_yields_List is_name_byte _ _ c.all.result c.all.ensures.ran (YieldsList-from_slice c.args.text.now cc) (λ x b q k. search (rules, tests)) in
+    let e = all_from_yields_List is_name_byte _ _ c.all.result c.all.ensures.ran
+    (YieldsList-from_slice c.args.text.now cc) (λ x b q k. search (rules, tests)) in
     grind (arith, nat_tests)

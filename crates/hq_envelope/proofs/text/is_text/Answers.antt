@@ -7,5 +7,6 @@ use Rattle.hq_envelope.proofs.text.is_text.Goals as goal
 
 pub returns-then-text-le-TEXT_BYTES : goal.returns-then-text-le-TEXT_BYTES
 returns-then-text-le-TEXT_BYTES c =
-    let e = all_from_yields_List is_text_byte _ _ c.all.result c.all.ensures.ran (YieldsList-from_slice c.args.text.now cc) (λ x b q k. search (rules, tests)) in
+    let e = all_from_yields_List is_text_byte _ _ c.all.result c.all.ensures.ran
+    (YieldsList-from_slice c.args.text.now cc) (λ x b q k. search (rules, tests)) in
     grind (arith, nat_tests)

@@ -4,4 +4,5 @@ use Rattle.hq_import.proofs.Enough.{customers_enough}
 use Rattle.hq_import.proofs.directory.directory_of.Goals as goal
 
 pub returns-clause-customers : goal.returns-clause-customers
-returns-clause-customers c = subst (λ read. Reads (seen_by (λ v. v.items) c.first_customers.result) read) (customers_enough c.args.file.now) c.first_customers.ensures.customers
+returns-clause-customers c = subst (λ read. Reads (seen_by (λ v. v.items) c.first_customers.result)
+    read) (customers_enough c.args.file.now) c.first_customers.ensures.customers

@@ -10,7 +10,8 @@ abbrev pub invariant-loop-row : goal.invariant-loop-row
 invariant-loop-row l =
     (rest : List ℕ)
     × (source_of (λ s. Some s.now) l.row-iterator.rdr ≡ Some rest)
-    × (map fields_of l.records.items ++ records_from l.row-iterator.rdr.state [] [] rest ≡ records_in l.fn.file)
+    × (map fields_of l.records.items ++ records_from l.row-iterator.rdr.state [] [] rest ≡
+    records_in l.fn.file)
     × (l.row-iterator.rdr.trim ≡ NoTrim)
     × Ready l.row-iterator.rdr
     × (0 < l.row-iterator.left)

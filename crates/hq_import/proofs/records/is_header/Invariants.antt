@@ -6,6 +6,8 @@ use Rattle.hq_import.proofs.records.is_header.Given as goal
 -- the names that are left decide
 abbrev pub invariant-loop-place : goal.invariant-loop-place
 invariant-loop-place l = record {
-  left : pointwise bytes_eq (map (λ n. n.now) (drop l.place l.names)) (drop l.place (fields_of l.header)) ≡ pointwise bytes_eq (map (λ n. n.now) l.names) (fields_of l.header);
+  left : pointwise bytes_eq (map (λ n. n.now) (drop l.place l.names))
+      (drop l.place (fields_of l.header)) ≡ pointwise bytes_eq (map (λ n. n.now) l.names)
+      (fields_of l.header);
   same : length (fields_of l.header) ≡ length l.names;
 }

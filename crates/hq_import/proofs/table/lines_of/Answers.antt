@@ -4,4 +4,5 @@ use Rattle.hq_import.proofs.Enough.{lines_enough}
 use Rattle.hq_import.proofs.table.lines_of.Goals as goal
 
 pub returns-clause-lines : goal.returns-clause-lines
-returns-clause-lines c = subst (λ read. Reads (seen_by (λ v. v.items) c.first_lines.result) read) (lines_enough c.args.file.now) c.first_lines.ensures.lines
+returns-clause-lines c = subst (λ read. Reads (seen_by (λ v. v.items) c.first_lines.result) read)
+    (lines_enough c.args.file.now) c.first_lines.ensures.lines

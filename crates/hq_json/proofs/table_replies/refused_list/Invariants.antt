@@ -6,4 +6,5 @@ use Rattle.hq_json.proofs.table_replies.refused_list.Given as goal
 -- the values so far, and those of what is left
 abbrev pub invariant-loop-refused : goal.invariant-loop-refused
 invariant-loop-refused l =
-    map view l.values.items ++ map refused_entry (drop l.refused-index l.list) ≡ map refused_entry l.list
+    map view l.values.items ++ map refused_entry (drop l.refused-index l.list) ≡ map refused_entry
+    l.list

@@ -6,4 +6,5 @@ use Rattle.hq_list_tables.proofs.holds.drop_hold.Goals as goal
 
 pub returns : goal.returns
 unfolding give_reason
-returns c = ap holds_of c.drop_row.ensures ∙ hold_drop c.args.rows.now.items c.args.customer.now c.args.serial
+returns c = ap holds_of c.drop_row.ensures
+    ∙ hold_drop c.args.rows.now.items c.args.customer.now c.args.serial

@@ -6,5 +6,9 @@ use Rattle.hq_list_tables.proofs.holds.set_hold.Goals as goal
 
 pub returns : goal.returns
 returns c =
-    let row : List ℕ → List ℕ → HoldRow = λ customer reason. record { customer = customer; serial = c.args.serial; reason = reason } in
-    ap holds_of (c.in_ok-push.ensures.items ∙ (λ i. c.drop_row.ensures i ++ row (c.in_ok-copy.ensures i) (c.in_ok-copy-2.ensures i) ∷ [])) ∙ hold_put c.args.rows.now.items (row c.args.customer.now c.args.reason.now)
+    let row : List ℕ → List ℕ → HoldRow =
+    λ customer reason. record { customer = customer; serial = c.args.serial; reason = reason }
+    in
+    ap holds_of (c.in_ok-push.ensures.items ∙ (λ i. c.drop_row.ensures i
+    ++ row (c.in_ok-copy.ensures i) (c.in_ok-copy-2.ensures i) ∷ []))
+    ∙ hold_put c.args.rows.now.items (row c.args.customer.now c.args.reason.now)

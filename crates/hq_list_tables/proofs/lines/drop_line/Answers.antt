@@ -5,7 +5,10 @@ use Rattle.hq_rows.proofs.Keys.{line_drop, unique_line_drop}
 use Rattle.hq_list_tables.proofs.lines.drop_line.Goals as goal
 
 pub returns-clause-table : goal.returns-clause-table
-returns-clause-table c = ap lines_of c.drop_row.ensures ∙ line_drop c.args.rows.now.items c.args.customer.now c.args.pattern.now
+returns-clause-table c = ap lines_of c.drop_row.ensures
+    ∙ line_drop c.args.rows.now.items c.args.customer.now c.args.pattern.now
 
 pub returns-clause-unique : goal.returns-clause-unique
-returns-clause-unique c u = subst AreUniqueLines (sym c.drop_row.ensures) (unique_line_drop c.args.rows.now.items c.args.customer.now c.args.pattern.now u)
+returns-clause-unique c u =
+    subst AreUniqueLines (sym c.drop_row.ensures)
+    (unique_line_drop c.args.rows.now.items c.args.customer.now c.args.pattern.now u)

@@ -8,6 +8,10 @@ use Rattle.hq_list_tables.proofs.lines.has_line.Goals as goal
 
 pub returns : goal.returns
 returns c =
-    c.is_some.ensures ∙ sym (is_some_map (λ row. row.now) c.find_line.result) ∙ ap is_some c.find_line.ensures
-    ∙ (λ i. is_some (list.find (is_line c.args.customer.now (c.class.ensures i, c.as_str.ensures i)) c.args.rows.now))
-    ∙ sym (is_some_map line_row_value (list.find (is_line c.args.customer.now c.args.pattern.now) c.args.rows.now)) ∙ ap is_some (line_found c.args.rows.now c.args.customer.now c.args.pattern.now)
+    c.is_some.ensures ∙ sym (is_some_map (λ row. row.now) c.find_line.result)
+    ∙ ap is_some c.find_line.ensures
+    ∙ (λ i. is_some (list.find (is_line c.args.customer.now (c.class.ensures i, c.as_str.ensures i))
+    c.args.rows.now))
+    ∙ sym (is_some_map line_row_value
+    (list.find (is_line c.args.customer.now c.args.pattern.now) c.args.rows.now))
+    ∙ ap is_some (line_found c.args.rows.now c.args.customer.now c.args.pattern.now)

@@ -7,5 +7,8 @@ use Rattle.hq_list_tables.proofs.marks.put_mark.Goals as goal
 
 pub returns : goal.returns
 returns c =
-    let row : List ℕ → Mark → MarkRow = λ customer mark. record { customer = customer; mark = mark } in
-    ap marks_of (c.in_ok-push.ensures.items ∙ (λ i. c.drop_row.ensures i ++ row (c.in_ok-copy.ensures i) (c.in_ok-copy-2.ensures i) ∷ [])) ∙ mark_put c.args.rows.now.items (row c.args.customer.now c.args.mark.now)
+    let row : List ℕ → Mark → MarkRow = λ customer mark. record { customer = customer; mark = mark }
+    in
+    ap marks_of (c.in_ok-push.ensures.items ∙ (λ i. c.drop_row.ensures i
+    ++ row (c.in_ok-copy.ensures i) (c.in_ok-copy-2.ensures i) ∷ []))
+    ∙ mark_put c.args.rows.now.items (row c.args.customer.now c.args.mark.now)

@@ -10,7 +10,12 @@ use Rattle.hq_list_tables.proofs.notices.page_in.Goals as goal
 pub returns : goal.returns
 returns c u =
     c.from_vec.ensures ∙ c.truncate.ensures.items
-    ∙ ap (take c.args.limit) (notices_are c.args.customer.now c.args.after c.args.rows.now c.sort_unstable_by.new.self.items u
-    (subst (λ xs. IsPermutation xs c.sort_unstable_by.new.self.items) c.in_ok-notices.ensures c.sort_unstable_by.ensures.permutation)
-    (c.sort_unstable_by.ensures.sorted (λ a b. is_lt (by_number a b)) (ranks_by nat_cmp_total (λ (n : Notice). n.number))
-    (always_returns_same _ (λ a r. is_lt r ≡ is_lt (by_number a.0.now a.1.0.now)) _ (λ a r f' k. search rules))))
+    ∙ ap (take c.args.limit)
+    (notices_are c.args.customer.now c.args.after c.args.rows.now
+    c.sort_unstable_by.new.self.items u
+    (subst (λ xs. IsPermutation xs c.sort_unstable_by.new.self.items) c.in_ok-notices.ensures
+    c.sort_unstable_by.ensures.permutation)
+    (c.sort_unstable_by.ensures.sorted (λ a b. is_lt (by_number a b))
+    (ranks_by nat_cmp_total (λ (n : Notice). n.number))
+    (always_returns_same _ (λ a r. is_lt r ≡ is_lt (by_number a.0.now a.1.0.now)) _
+    (λ a r f' k. search rules))))

@@ -6,5 +6,7 @@ use Rattle.hq_list_tables.proofs.recipients.add_rows.Given as goal
 abbrev pub invariant-loop-recipient : goal.invariant-loop-recipient
 invariant-loop-recipient l = record {
   place : l.place ≡ l.recipient-index + 1;
-  left : l.rows.items ++ recipient_rows l.customer l.serial l.place (drop l.recipient-index l.pending) ≡ l.fn.rows.items ++ recipient_rows l.customer l.serial 1 l.pending;
+  left : l.rows.items ++ recipient_rows l.customer l.serial l.place
+      (drop l.recipient-index l.pending) ≡ l.fn.rows.items
+      ++ recipient_rows l.customer l.serial 1 l.pending;
 }

@@ -6,10 +6,14 @@ use Rattle.hq_list_tables.proofs.recipients.put_recipients.Goals as goal
 
 pub returns-clause-table : goal.returns-clause-table
 returns-clause-table c =
-    ap recipients_of (c.in_ok-add_rows.ensures ∙ ap (λ rows. rows ++ recipient_rows c.args.customer.now c.args.serial 1 c.args.pending.now) c.drop_rows.ensures)
+    ap recipients_of (c.in_ok-add_rows.ensures ∙ ap (λ rows. rows
+    ++ recipient_rows c.args.customer.now c.args.serial 1 c.args.pending.now)
+    c.drop_rows.ensures)
     ∙ dealt_table c.args.customer.now c.args.serial c.args.pending.now c.args.rows.now.items
 
 pub returns-clause-dealt : goal.returns-clause-dealt
 returns-clause-dealt c all =
-    subst AreDealt (sym (c.in_ok-add_rows.ensures ∙ ap (λ rows. rows ++ recipient_rows c.args.customer.now c.args.serial 1 c.args.pending.now) c.drop_rows.ensures))
+    subst AreDealt (sym (c.in_ok-add_rows.ensures ∙ ap (λ rows. rows
+    ++ recipient_rows c.args.customer.now c.args.serial 1 c.args.pending.now)
+    c.drop_rows.ensures))
     (dealt_rows c.args.customer.now c.args.serial c.args.pending.now c.args.rows.now.items all)

@@ -4,4 +4,5 @@ use Rattle.hq_rows.specs.Lookups.{is_head}
 use Rattle.hq_lists.proofs.heads.drop_head.Goals as goal
 
 pub returns : goal.returns
-returns c = filter_same _ (λ row. not (is_head c.args.customer.now row)) _ (λ x b f' k. search rules) _ _ c.retain.ensures.filtered
+returns c = filter_same _ (λ row. not (is_head c.args.customer.now row)) _
+    (λ x b f' k. search rules) _ _ c.retain.ensures.filtered

@@ -5,4 +5,6 @@ use Rattle.hq_main.proofs.Plain.{plain, serves}
 use Rattle.hq_main.proofs.command.serve_lists.Goals as goal
 
 pub returns : goal.returns
-returns g c = run_ends_as (ServesOver plain c.in_ok-settings.settings c.new-shelf.result) Serves _ (serves c.in_ok-settings.settings c.in_ok-settings.ensures c.new-shelf.result c.new-shelf.ensures) _ _ c.serve.result c.serve.ensures
+returns g c = run_ends_as (ServesOver plain c.in_ok-settings.settings c.new-shelf.result) Serves _
+    (serves c.in_ok-settings.settings c.in_ok-settings.ensures c.new-shelf.result
+    c.new-shelf.ensures) _ _ c.serve.result c.serve.ensures

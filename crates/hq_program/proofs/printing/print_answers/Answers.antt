@@ -12,12 +12,17 @@ loop-rendered-preserved g c =
     let told = c.args.told.now in
     let item = c.rendered-item.result in
     let contents = g.W.Write.contents in
-    let more : take (i + 1) told ≡ take i told ++ item ∷ [] = take_more told i item c.loop-rendered-test.true ∙ ap (λ x. take i told ++ x ∷ []) (sym c.rendered-item.is) in
-    let printed = one_more contents (take i told) item (contents c.args.output.now) c.loop-rendered.output c.print_answer.new.output c.loop-rendered.status c.in_ok-print_answer.field-0 c.loop-rendered.invariant c.in_ok-print_answer.ensures in
+    let more : take (i + 1) told ≡ take i told ++ item ∷ [] =
+    take_more told i item c.loop-rendered-test.true ∙ ap (λ x. take i told ++ x ∷ [])
+    (sym c.rendered-item.is) in
+    let printed = one_more contents (take i told) item (contents c.args.output.now)
+    c.loop-rendered.output c.print_answer.new.output c.loop-rendered.status
+    c.in_ok-print_answer.field-0 c.loop-rendered.invariant c.in_ok-print_answer.ensures in
     rw more (rw c.max-status.ensures printed)
 
 pub returns : goal.returns
 returns g c =
-    let all : take c.loop-rendered.rendered-index c.args.told.now ≡ c.args.told.now = take_all c.loop-rendered.rendered-index c.args.told.now (omega arith) in
+    let all : take c.loop-rendered.rendered-index c.args.told.now ≡ c.args.told.now =
+    take_all c.loop-rendered.rendered-index c.args.told.now (omega arith) in
     let so_far = rw all at c.loop-rendered.invariant in
     (so_far.status_is, so_far.written)

@@ -12,11 +12,20 @@ returns-in_err-batch g c =
     let d = c.args.settings.directory in
     let old = c.new-desk.result in
     let new = c.batch.new.desk in
-    let less : (c.batch.new.reader ≡ c.args.input.now) × (c.batch.new.writer ≡ c.args.output.now) × (new ≡ old) → (c.batch.new.reader ≡ c.args.input.now) × (c.batch.new.writer ≡ c.args.output.now) = λ same. (same.0, same.1) in
+    let less : (c.batch.new.reader ≡ c.args.input.now) × (c.batch.new.writer ≡ c.args.output.now)
+    × (new ≡ old) → (c.batch.new.reader ≡ c.args.input.now)
+    × (c.batch.new.writer ≡ c.args.output.now) = λ same. (same.0, same.1) in
     rw (told.1, told.2) (
       c.in_err-batch.field-0.0,
       refl,
-      ends_as (λ asked lines. Replied g.S.Shelf.sight d old asked lines new) (ServesOver g.S.Shelf.sight c.args.settings c.args.shelf)
-          (λ asked lines p. record { old = old; host_is = c.new-desk.ensures.host; shelf_is = c.new-desk.ensures.shelf; new = new; replied = p })
+      ends_as (λ asked lines. Replied g.S.Shelf.sight d old asked lines new)
+          (ServesOver g.S.Shelf.sight c.args.settings c.args.shelf)
+          (λ asked lines p. record {
+            old = old;
+            host_is = c.new-desk.ensures.host;
+            shelf_is = c.new-desk.ensures.shelf;
+            new = new;
+            replied = p;
+          })
           less _ _ (Err c.in_err-batch.field-0.0) c.in_err-batch.ensures,
     )

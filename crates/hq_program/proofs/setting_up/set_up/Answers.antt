@@ -6,6 +6,11 @@ use Rattle.hq_program.proofs.setting_up.set_up.Goals as goal
 
 pub returns : goal.returns
 returns c =
-    let relay : relay_in c.args.host.now c.args.relay_key.now ≡ Ok (relay_seen c.in_ok-relay.relay) = search rules in
-    let set : settings_of (relay_seen c.in_ok-relay.relay) c.in_ok-file.file.items ≡ Ok (settings_seen c.in_ok-new.field-0) = search rules in
-    (c.in_ok-file.file.items, ap (λ read. read >>= (λ relay. settings_of relay c.in_ok-file.file.items)) relay ∙ set)
+    let relay : relay_in c.args.host.now c.args.relay_key.now ≡ Ok (relay_seen c.in_ok-relay.relay)
+    = search rules in
+    let set : settings_of (relay_seen c.in_ok-relay.relay) c.in_ok-file.file.items ≡ Ok
+    (settings_seen c.in_ok-new.field-0) = search rules in (
+      c.in_ok-file.file.items,
+      ap (λ read. read >>=
+          (λ relay. settings_of relay c.in_ok-file.file.items)) relay ∙ set,
+    )

@@ -8,10 +8,12 @@ use Rattle.hq_routes.proofs.Paths.new.Goals as goal
 
 pub invariant_of-result : goal.invariant_of-result
 invariant_of-result c = record {
-  whole = ap (rename (λ e. e.value)) (c.in_ok-add_all.ensures.added ∙ ap (added_all (map (λ e. (e.0.now, e.1)) PATHS)) c.new-router.ensures) ∙ rows_are;
+  whole = ap (rename (λ e. e.value)) (c.in_ok-add_all.ensures.added
+      ∙ ap (added_all (map (λ e. (e.0.now, e.1)) PATHS)) c.new-router.ensures) ∙ rows_are;
 }
 
 pub returns-in_err-add_all : goal.returns-in_err-add_all
 returns-in_err-add_all c =
     let q = err_from_is_err_and c.from_residual.result c.from_residual.ensures.1 in
-    rw (q.1, q.2) (c.in_err-add_all.ensures.fault (ap (can_add_all (map (λ e. (e.0.now, e.1)) PATHS)) c.new-router.ensures ∙ can_add_paths))
+    rw (q.1, q.2) (c.in_err-add_all.ensures.fault (ap
+    (can_add_all (map (λ e. (e.0.now, e.1)) PATHS)) c.new-router.ensures ∙ can_add_paths))

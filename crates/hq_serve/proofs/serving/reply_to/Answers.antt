@@ -5,17 +5,37 @@ use Rattle.hq_serve.proofs.Connected.{of_nothing, of_refusal, of_request}
 use Rattle.hq_serve.proofs.serving.reply_to.Goals as goal
 
 pub returns-in-Nothing : goal.returns-in-Nothing
-returns-in-Nothing g c = λ a b h. (None, tt, of_nothing g.S.Shelf.sight c.args.directory.now c.args.at a b c.args.desk.now (subst (InputIs a b) c.in-Nothing.is h))
+returns-in-Nothing g c = λ a b h. (
+  None,
+  tt,
+  of_nothing g.S.Shelf.sight c.args.directory.now c.args.at a b c.args.desk.now
+      (subst (InputIs a b) c.in-Nothing.is h),
+)
 
 pub returns-in-Refused : goal.returns-in-Refused
 returns-in-Refused g c = λ a b h.
-    let r = seen c.refusal_reply.result in
-    (Some r, (refl, refl), of_refusal g.S.Shelf.sight c.args.directory.now c.args.at a b c.args.desk.now c.in-Refused.refusal r (subst (InputIs a b) c.in-Refused.is h) c.refusal_reply.ensures.told c.refusal_reply.ensures.store)
+    let r = seen c.refusal_reply.result in (
+      Some r,
+      (refl, refl),
+      of_refusal g.S.Shelf.sight c.args.directory.now c.args.at a b
+          c.args.desk.now c.in-Refused.refusal r (subst (InputIs a b) c.in-Refused.is h)
+          c.refusal_reply.ensures.told c.refusal_reply.ensures.store,
+    )
 
 pub returns-in-NoRoom : goal.returns-in-NoRoom
-returns-in-NoRoom g c = λ a b h. (Some (seen c.fault_reply.result), (refl, refl), inr (subst (InputIs a b) c.in-NoRoom.is h, ap Some c.fault_reply.ensures.told, refl))
+returns-in-NoRoom g c = λ a b h. (
+  Some (seen c.fault_reply.result),
+  (refl, refl),
+  inr (subst (InputIs a b) c.in-NoRoom.is h, ap Some c.fault_reply.ensures.told, refl),
+)
 
 pub returns-in-Request : goal.returns-in-Request
 returns-in-Request g c = λ a b h.
-    let so = c.exchange.ensures in
-    (Some so.told, so.sent, of_request g.S.Shelf.sight c.args.directory.now c.args.at a b c.args.desk.now (shown c.in-Request.message) c.exchange_of-asked.result so.told c.exchange.new.desk (subst (InputIs a b) c.in-Request.is h) c.exchange_of-asked.ensures so.done)
+    let so = c.exchange.ensures in (
+      Some so.told,
+      so.sent,
+      of_request g.S.Shelf.sight c.args.directory.now c.args.at a b
+          c.args.desk.now (shown c.in-Request.request) c.exchange_of-asked.result so.told
+          c.exchange.new.desk (subst (InputIs a b) c.in-Request.is h) c.exchange_of-asked.ensures
+          so.done,
+    )

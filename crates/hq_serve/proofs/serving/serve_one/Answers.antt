@@ -15,4 +15,5 @@ returns-in-Ok-write_reply g c =
 pub returns : goal.returns
 returns g c =
     let so = c.in-Some.ensures _ _ c.in-Ok.ensures.told in
-    is_some g.S.Shelf.sight c.args.directory.now c.args.at _ _ c.args.desk.now c.in-Some.reply so.0 c.reply_to.new.desk so.1 so.2
+    is_some g.S.Shelf.sight c.args.directory.now c.args.at _ _ c.args.desk.now c.in-Some.reply so.0
+    c.reply_to.new.desk so.1 so.2

@@ -5,11 +5,15 @@ use Rattle.hq_sql.proofs.Texts.{head_read_text, head_read_known}
 use Rattle.hq_sql.proofs.heads.query.Goals as goal
 
 pub returns-in_err-rows-clause-kept : goal.returns-in_err-rows-clause-kept
-returns-in_err-rows-clause-kept g c = query_failed _ _ head_read_text _ head_read_known.plain c.in_err-rows.ensures.survives _ _ c.from_residual.ensures.0 c.in_err-rows.ensures.err
+returns-in_err-rows-clause-kept g c = query_failed _ _ head_read_text _ head_read_known.plain
+    c.in_err-rows.ensures.survives _ _ c.from_residual.ensures.0 c.in_err-rows.ensures.err
 
 pub returns-clause-found : goal.returns-clause-found
 returns-clause-found g c clean desk =
-    account_got (state g.S.Store c.args.conn.now) (state g.S.Store c.query_all.new.self) c.args.customer.now c.in_ok-rows.rows.items desk (rw c.customer-params.ensures at (c.in_ok-rows.ensures.ok clean))
+    account_got (state g.S.Store c.args.conn.now) (state g.S.Store c.query_all.new.self)
+    c.args.customer.now c.in_ok-rows.rows.items desk
+    (rw c.customer-params.ensures at (c.in_ok-rows.ensures.ok clean))
 
 pub returns-clause-kept : goal.returns-clause-kept
-returns-clause-kept g c = query_answered _ _ head_read_text _ head_read_known.plain c.in_ok-rows.ensures.survives c.in_ok-rows.rows.items _ c.in_ok-rows.ensures.ok
+returns-clause-kept g c = query_answered _ _ head_read_text _ head_read_known.plain
+    c.in_ok-rows.ensures.survives c.in_ok-rows.rows.items _ c.in_ok-rows.ensures.ok

@@ -10,15 +10,19 @@ use Rattle.hq_sql.proofs.lent.walk.Goals as goal
 pub returns-in_err-rows-clause-kept : goal.returns-in_err-rows-clause-kept
 returns-in_err-rows-clause-kept g c query =
     let refused = rw c.in_err-rows.was at c.query.follows.holds-at-none in
-    query_failed _ _ c.args.sql.now (bound c.args.params.now) query.plain refused.survives _ _ c.from_residual.ensures.0 refused.err
+    query_failed _ _ c.args.sql.now (bound c.args.params.now) query.plain refused.survives _ _
+    c.from_residual.ensures.0 refused.err
 
 pub returns-in_default-clause-found : goal.returns-in_default-clause-found
 returns-in_default-clause-found g c query clean desk =
     let moved = c.next.follows.holds-at-none in
     let now = c.next.follows.lender-at-none.conn.now in
     let late : HasCleanDisk (state g.S.Store now) = search rules in
-    let all : TakesAll g.T.Taker.takes c.args.sql.now (bound c.args.params.now) (state g.S.Store c.args.conn.now) (state g.S.Store now) c.args.taker c.rows.taker =
-    all_taken g.S.Store g.T.Taker.takes c.args.sql.now (bound c.args.params.now) (state g.S.Store c.args.conn.now) c.rows.rows.conn.now c.args.taker c.rows.taker c.rows.invariant.walks now moved.survives
+    let all : TakesAll g.T.Taker.takes c.args.sql.now (bound c.args.params.now)
+    (state g.S.Store c.args.conn.now) (state g.S.Store now) c.args.taker c.rows.taker =
+    all_taken g.S.Store g.T.Taker.takes c.args.sql.now (bound c.args.params.now)
+    (state g.S.Store c.args.conn.now) c.rows.rows.conn.now c.args.taker c.rows.taker
+    c.rows.invariant.walks now moved.survives
     (λ clean. rw (c.in_ok-row.was, c.in_default.is) at (moved.ok clean)) query late desk in
     search rules
 
@@ -28,6 +32,10 @@ rows-preserved g c =
     record {
       same_reference = moved.same_reference ∙ c.rows.invariant.same_reference;
       walks =
-          went_on g.S.Store g.T.Taker.takes c.args.sql.now (bound c.args.params.now) (state g.S.Store c.args.conn.now) c.rows.rows.conn.now c.args.taker c.rows.taker c.rows.invariant.walks c.next.follows.lender-at-none.conn.now moved.survives
-          c.in-Some.row.now c.take.new.self (λ clean. rw (c.in_ok-row.was, c.in-Some.is) at (moved.ok clean)) (λ clean. rw c.in_ok-row.was at (moved.same clean)) c.in_ok-take.ensures;
+          went_on g.S.Store g.T.Taker.takes c.args.sql.now (bound c.args.params.now)
+          (state g.S.Store c.args.conn.now) c.rows.rows.conn.now c.args.taker c.rows.taker
+          c.rows.invariant.walks c.next.follows.lender-at-none.conn.now moved.survives
+          c.in-Some.row.now c.take.new.self (λ clean. rw (c.in_ok-row.was, c.in-Some.is) at
+          (moved.ok clean)) (λ clean. rw c.in_ok-row.was at (moved.same clean))
+          c.in_ok-take.ensures;
     }

@@ -9,8 +9,10 @@ returns-in_err-file c = (Err c.in_err-file.field-0.0, c.in_err-file.ensures, sea
 
 pub returns-in_err-customer_in : goal.returns-in_err-customer_in
 returns-in_err-customer_in c =
-    let told : c.from_residual-in_err-customer_in.result ≡ Err (Desk c.in_err-customer_in.field-0.0) = search rules in
-    let fails : Fails c.in_err-customer_in.field-0.0 (entry_in c.in_ok-file.file.items c.args.name.now) = search rules in
+    let told : c.from_residual-in_err-customer_in.result ≡ Err (Desk c.in_err-customer_in.field-0.0)
+    = search rules in
+    let fails : Fails c.in_err-customer_in.field-0.0
+    (entry_in c.in_ok-file.file.items c.args.name.now) = search rules in
     (Ok c.in_ok-file.file.items, tt, rw told fails)
 
 pub returns : goal.returns

@@ -6,13 +6,49 @@ pub returns-in_err-host : goal.returns-in_err-host
 returns-in_err-host c = (Err (Desk c.in_err-host.field-0.0), c.in_err-host.ensures, search rules)
 
 pub returns-in_err-entry : goal.returns-in_err-entry
-returns-in_err-entry c = (Ok c.in_ok-host.host, c.in_ok-host.ensures, (Err c.in_err-entry.field-0.0, c.in_err-entry.ensures, search rules))
+returns-in_err-entry c = (
+  Ok c.in_ok-host.host,
+  c.in_ok-host.ensures,
+  (Err c.in_err-entry.field-0.0, c.in_err-entry.ensures, search rules),
+)
 
 pub returns-in_err-label : goal.returns-in_err-label
-returns-in_err-label c = (Ok c.in_ok-host.host, c.in_ok-host.ensures, (Ok c.in_ok-entry.entry, c.in_ok-entry.ensures, (Err (Desk c.in_err-label.field-0.0), c.in_err-label.ensures, search rules)))
+returns-in_err-label c = (
+  Ok c.in_ok-host.host,
+  c.in_ok-host.ensures,
+  (
+    Ok c.in_ok-entry.entry,
+    c.in_ok-entry.ensures,
+    (Err (Desk c.in_err-label.field-0.0), c.in_err-label.ensures, search rules),
+  ),
+)
 
 pub returns-in_err-lines : goal.returns-in_err-lines
-returns-in_err-lines c = (Ok c.in_ok-host.host, c.in_ok-host.ensures, (Ok c.in_ok-entry.entry, c.in_ok-entry.ensures, (Ok c.in_ok-label.label, c.in_ok-label.ensures, (Err c.in_err-lines.field-0.0, c.in_err-lines.ensures, search rules))))
+returns-in_err-lines c = (
+  Ok c.in_ok-host.host,
+  c.in_ok-host.ensures,
+  (
+    Ok c.in_ok-entry.entry,
+    c.in_ok-entry.ensures,
+    (
+      Ok c.in_ok-label.label,
+      c.in_ok-label.ensures,
+      (Err c.in_err-lines.field-0.0, c.in_err-lines.ensures, search rules),
+    ),
+  ),
+)
 
 pub returns : goal.returns
-returns c = (Ok c.in_ok-host.host, c.in_ok-host.ensures, (Ok c.in_ok-entry.entry, c.in_ok-entry.ensures, (Ok c.in_ok-label.label, c.in_ok-label.ensures, (Ok c.in_ok-lines.lines.items, tt, search rules))))
+returns c = (
+  Ok c.in_ok-host.host,
+  c.in_ok-host.ensures,
+  (
+    Ok c.in_ok-entry.entry,
+    c.in_ok-entry.ensures,
+    (
+      Ok c.in_ok-label.label,
+      c.in_ok-label.ensures,
+      (Ok c.in_ok-lines.lines.items, tt, search rules),
+    ),
+  ),
+)

@@ -6,7 +6,15 @@ pub returns-in_err-host : goal.returns-in_err-host
 returns-in_err-host c = (Err (Desk c.in_err-host.field-0.0), c.in_err-host.ensures, search rules)
 
 pub returns-in_err-entry : goal.returns-in_err-entry
-returns-in_err-entry c = (Ok c.in_ok-host.host, c.in_ok-host.ensures, (Err c.in_err-entry.field-0.0, c.in_err-entry.ensures, search rules))
+returns-in_err-entry c = (
+  Ok c.in_ok-host.host,
+  c.in_ok-host.ensures,
+  (Err c.in_err-entry.field-0.0, c.in_err-entry.ensures, search rules),
+)
 
 pub returns : goal.returns
-returns c = (Ok c.in_ok-host.host, c.in_ok-host.ensures, (Ok c.in_ok-entry.entry, c.in_ok-entry.ensures, search rules))
+returns c = (
+  Ok c.in_ok-host.host,
+  c.in_ok-host.ensures,
+  (Ok c.in_ok-entry.entry, c.in_ok-entry.ensures, search rules),
+)

@@ -9,8 +9,10 @@ returns-in_err-file c = (Err c.in_err-file.field-0.0, c.in_err-file.ensures, sea
 
 pub returns-in_err-directory_of : goal.returns-in_err-directory_of
 returns-in_err-directory_of c =
-    let told : c.from_residual-in_err-directory_of.result ≡ Err (Desk c.in_err-directory_of.field-0.0) = search rules in
-    let fails : Fails c.in_err-directory_of.field-0.0 (customers_in c.in_ok-file.file.items) = search rules in
+    let told : c.from_residual-in_err-directory_of.result ≡ Err
+    (Desk c.in_err-directory_of.field-0.0) = search rules in
+    let fails : Fails c.in_err-directory_of.field-0.0 (customers_in c.in_ok-file.file.items) =
+    search rules in
     (Ok c.in_ok-file.file.items, tt, rw told fails)
 
 pub returns : goal.returns

@@ -8,5 +8,7 @@ pub returns-clause-made : goal.returns-clause-made
 returns-clause-made g c clean desk =
     let mid = state g.S.Store c.remove.new.conn in
     let new = state g.S.Store c.insert.new.conn in
-    let gone = c.in_ok-remove.ensures.made (clean_before mid new c.in_ok-insert.ensures.kept.quiet clean) desk in
-    anew holds_table (state g.S.Store c.args.conn.now) mid new (c.args.customer.now, c.args.key) c.args.reason.now gone (c.in_ok-insert.ensures.made clean)
+    let gone = c.in_ok-remove.ensures.made
+    (clean_before mid new c.in_ok-insert.ensures.kept.quiet clean) desk in
+    anew holds_table (state g.S.Store c.args.conn.now) mid new (c.args.customer.now, c.args.key)
+    c.args.reason.now gone (c.in_ok-insert.ensures.made clean)

@@ -9,14 +9,19 @@ use Rattle.hq_sql.proofs.Walking.{pushed_all}
 use Rattle.hq_sql_lines.proofs.line_pages.following.Goals as goal
 
 pub returns-in_err-taken-clause-kept : goal.returns-in_err-taken-clause-kept
-returns-in_err-taken-clause-kept g c = keeps_err _ _ _ _ c.from_residual-in_err-taken.ensures.0 (c.in_err-taken.ensures.kept (record { plain = lines_after_known.plain }))
+returns-in_err-taken-clause-kept g c = keeps_err _ _ _ _ c.from_residual-in_err-taken.ensures.0
+    (c.in_err-taken.ensures.kept (record { plain = lines_after_known.plain }))
 
 pub returns-clause-found : goal.returns-clause-found
 returns-clause-found g c clean desk =
-    let all = rw (c.lines_after-params.ensures c.args.limit c.in_ok-most.ensures) at (c.in_ok-taken.ensures.found (record { plain = lines_after_known.plain }) clean desk) in
-    c.from_vec.ensures ∙ pushed_all (λ (it : TakenLines). it.lines.items) line_in all.rows _ c.in_ok-taken.taken all.taken
+    let all = rw (c.lines_after-params.ensures c.args.limit c.in_ok-most.ensures) at
+    (c.in_ok-taken.ensures.found (record { plain = lines_after_known.plain }) clean desk) in
+    c.from_vec.ensures ∙ pushed_all (λ (it : TakenLines). it.lines.items) line_in all.rows _
+    c.in_ok-taken.taken all.taken
     ∙ ap (λ l. l ++ lines_in all.rows) c.new-lines.ensures.items
-    ∙ after_shown (state g.S.Store c.args.conn.now) (state g.S.Store c.walk.new.conn) c.args.customer.now c.args.last.now c.args.limit all.rows desk all.shown
+    ∙ after_shown (state g.S.Store c.args.conn.now) (state g.S.Store c.walk.new.conn)
+    c.args.customer.now c.args.last.now c.args.limit all.rows desk all.shown
 
 pub returns-clause-kept : goal.returns-clause-kept
-returns-clause-kept g c = keeps_ok _ _ c.in_ok-taken.taken _ (c.in_ok-taken.ensures.kept (record { plain = lines_after_known.plain }))
+returns-clause-kept g c = keeps_ok _ _ c.in_ok-taken.taken _
+    (c.in_ok-taken.ensures.kept (record { plain = lines_after_known.plain }))

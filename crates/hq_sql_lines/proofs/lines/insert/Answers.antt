@@ -9,12 +9,18 @@ use Rattle.hq_sql_lines.proofs.Texts.{line_insert_text, line_insert_known}
 use Rattle.hq_sql_lines.proofs.lines.insert.Goals as goal
 
 pub returns-in_err-execute-clause-kept : goal.returns-in_err-execute-clause-kept
-returns-in_err-execute-clause-kept g c = write_failed _ _ line_insert_text _ _ line_insert_known refl c.in_err-execute.ensures.survives _ c.in_err-execute.ensures.runs
+returns-in_err-execute-clause-kept g c = write_failed _ _ line_insert_text _ _ line_insert_known
+    refl c.in_err-execute.ensures.survives _ c.in_err-execute.ensures.runs
 
 pub returns-clause-made : goal.returns-clause-made
 returns-clause-made g c clean desk free =
-    let bound = c.line-params.ensures ∙ (λ i. Text c.args.customer.now ∷ Text (class_name (c.class.ensures i)) ∷ Text (c.as_str.ensures i) ∷ Text ((c.as_str-2.ensures.value ∙ c.in_ok-action.ensures) i) ∷ []) in
-    line_inserted (state g.S.Store c.args.conn.now) (state g.S.Store c.execute.new.self) (line_row c.args.customer.now c.args.line.now) _ desk free (rw bound at (c.in_ok-execute.ensures.runs clean))
+    let bound = c.line-params.ensures ∙ (λ i. Text c.args.customer.now
+    ∷ Text (class_name (c.class.ensures i)) ∷ Text (c.as_str.ensures i)
+    ∷ Text ((c.as_str-2.ensures.value ∙ c.in_ok-action.ensures) i) ∷ []) in
+    line_inserted (state g.S.Store c.args.conn.now) (state g.S.Store c.execute.new.self)
+    (line_row c.args.customer.now c.args.line.now) _ desk free
+    (rw bound at (c.in_ok-execute.ensures.runs clean))
 
 pub returns-clause-kept : goal.returns-clause-kept
-returns-clause-kept g c = write_done _ _ line_insert_text _ _ line_insert_known refl c.in_ok-execute.ensures.survives _ c.in_ok-execute.ensures.runs
+returns-clause-kept g c = write_done _ _ line_insert_text _ _ line_insert_known refl
+    c.in_ok-execute.ensures.survives _ c.in_ok-execute.ensures.runs

@@ -11,15 +11,20 @@ use Rattle.hq_sql_messages.proofs.OnMessages.{page_bare}
 use Rattle.hq_sql_messages.proofs.messages.page.Goals as goal
 
 pub returns-in_err-taken-clause-kept : goal.returns-in_err-taken-clause-kept
-returns-in_err-taken-clause-kept g c = keeps_err _ _ _ _ c.from_residual-in_err-taken.ensures.0 (c.in_err-taken.ensures.kept (record { plain = message_page_known.plain }))
+returns-in_err-taken-clause-kept g c = keeps_err _ _ _ _ c.from_residual-in_err-taken.ensures.0
+    (c.in_err-taken.ensures.kept (record { plain = message_page_known.plain }))
 
 pub returns-clause-found : goal.returns-clause-found
 returns-clause-found g c clean desk =
     let old = state g.S.Store c.args.conn.now in
-    let all = rw (c.page-params.ensures c.args.limit c.in_ok-most.ensures) at (c.in_ok-taken.ensures.found (record { plain = message_page_known.plain }) clean desk) in
+    let all = rw (c.page-params.ensures c.args.limit c.in_ok-most.ensures) at
+    (c.in_ok-taken.ensures.found (record { plain = message_page_known.plain }) clean desk) in
     pushed_all (λ (it : TakenMessages). it.page.items) bare all.rows _ c.in_ok-taken.taken all.taken
     ∙ ap (λ l. l ++ map bare all.rows) c.new-page.ensures.items
-    ∙ page_bare c.args.after c.args.limit c.args.customer.now (tables_in old.now) all.rows (page_shown old (state g.S.Store c.walk.new.conn) c.args.customer.now c.args.after c.args.limit all.rows desk all.shown)
+    ∙ page_bare c.args.after c.args.limit c.args.customer.now (tables_in old.now) all.rows
+    (page_shown old (state g.S.Store c.walk.new.conn) c.args.customer.now c.args.after
+    c.args.limit all.rows desk all.shown)
 
 pub returns-clause-kept : goal.returns-clause-kept
-returns-clause-kept g c = keeps_ok _ _ c.in_ok-taken.taken _ (c.in_ok-taken.ensures.kept (record { plain = message_page_known.plain }))
+returns-clause-kept g c = keeps_ok _ _ c.in_ok-taken.taken _
+    (c.in_ok-taken.ensures.kept (record { plain = message_page_known.plain }))

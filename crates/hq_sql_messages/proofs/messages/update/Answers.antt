@@ -7,11 +7,15 @@ use Rattle.hq_sql_messages.proofs.OnMessages.{message_updated}
 use Rattle.hq_sql_messages.proofs.messages.update.Goals as goal
 
 pub returns-in_err-count-clause-kept : goal.returns-in_err-count-clause-kept
-returns-in_err-count-clause-kept g c = write_failed _ _ message_update_text _ _ message_update_known refl c.in_err-count.ensures.survives _ c.in_err-count.ensures.runs
+returns-in_err-count-clause-kept g c = write_failed _ _ message_update_text _ _ message_update_known
+    refl c.in_err-count.ensures.survives _ c.in_err-count.ensures.runs
 
 pub returns-clause-made : goal.returns-clause-made
 returns-clause-made g c clean desk =
-    message_updated (state g.S.Store c.args.conn.now) (state g.S.Store c.execute.new.self) (message_row c.args.customer.now c.args.message.now) c.message-params.ensures.back _ desk (rw c.message-params.ensures.columns at (c.in_ok-count.ensures.runs clean))
+    message_updated (state g.S.Store c.args.conn.now) (state g.S.Store c.execute.new.self)
+    (message_row c.args.customer.now c.args.message.now) c.message-params.ensures.back _ desk
+    (rw c.message-params.ensures.columns at (c.in_ok-count.ensures.runs clean))
 
 pub returns-clause-kept : goal.returns-clause-kept
-returns-clause-kept g c = write_done _ _ message_update_text _ _ message_update_known refl c.in_ok-count.ensures.survives _ c.in_ok-count.ensures.runs
+returns-clause-kept g c = write_done _ _ message_update_text _ _ message_update_known refl
+    c.in_ok-count.ensures.survives _ c.in_ok-count.ensures.runs

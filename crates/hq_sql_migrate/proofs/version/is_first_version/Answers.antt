@@ -6,6 +6,7 @@ use Rattle.hq_sql_migrate.proofs.version.is_first_version.Goals as goal
 
 pub returns-clause-found : goal.returns-clause-found
 returns-clause-found g c clean has =
-    tells (state g.S.Store c.args.conn.now) (state g.S.Store c.versions.new.conn) c.in_ok-rows.rows.items c.is_one.result (c.in_ok-rows.ensures.found clean has)
+    tells (state g.S.Store c.args.conn.now) (state g.S.Store c.versions.new.conn)
+    c.in_ok-rows.rows.items c.is_one.result (c.in_ok-rows.ensures.found clean has)
     (λ yes. subst ShowsFirst c.as_slice.ensures.value (c.is_one.ensures.0 yes))
     (λ is. c.is_one.ensures.1 (subst ShowsFirst (sym c.as_slice.ensures.value) is))

@@ -6,11 +6,16 @@ use Rattle.hq_sql_notices.proofs.Texts.{below_text, below_known}
 use Rattle.hq_sql_notices.proofs.notices.drop_below.Goals as goal
 
 pub returns-in_err-execute-clause-kept : goal.returns-in_err-execute-clause-kept
-returns-in_err-execute-clause-kept g c = write_failed _ _ below_text _ _ below_known refl c.in_err-execute.ensures.survives _ c.in_err-execute.ensures.runs
+returns-in_err-execute-clause-kept g c = write_failed _ _ below_text _ _ below_known refl
+    c.in_err-execute.ensures.survives _ c.in_err-execute.ensures.runs
 
 pub returns-clause-made : goal.returns-clause-made
 returns-clause-made g c clean desk =
-    below_deleted (state g.S.Store c.args.conn.now) (state g.S.Store c.execute.new.self) (c.args.customer.now, c.args.number) _ desk (rw (c.key-params.ensures c.args.number c.in_ok-column.ensures) at (c.in_ok-execute.ensures.runs clean))
+    below_deleted (state g.S.Store c.args.conn.now) (state g.S.Store c.execute.new.self)
+    (c.args.customer.now, c.args.number) _ desk
+    (rw (c.key-params.ensures c.args.number c.in_ok-column.ensures) at
+    (c.in_ok-execute.ensures.runs clean))
 
 pub returns-clause-kept : goal.returns-clause-kept
-returns-clause-kept g c = write_done _ _ below_text _ _ below_known refl c.in_ok-execute.ensures.survives _ c.in_ok-execute.ensures.runs
+returns-clause-kept g c = write_done _ _ below_text _ _ below_known refl
+    c.in_ok-execute.ensures.survives _ c.in_ok-execute.ensures.runs

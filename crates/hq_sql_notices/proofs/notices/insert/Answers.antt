@@ -7,12 +7,16 @@ use Rattle.hq_sql_notices.proofs.Texts.{notice_insert_text, notice_insert_known}
 use Rattle.hq_sql_notices.proofs.notices.insert.Goals as goal
 
 pub returns-in_err-execute-clause-kept : goal.returns-in_err-execute-clause-kept
-returns-in_err-execute-clause-kept g c = write_failed _ _ notice_insert_text _ _ notice_insert_known refl c.in_err-execute.ensures.survives _ c.in_err-execute.ensures.runs
+returns-in_err-execute-clause-kept g c = write_failed _ _ notice_insert_text _ _ notice_insert_known
+    refl c.in_err-execute.ensures.survives _ c.in_err-execute.ensures.runs
 
 pub returns-clause-made : goal.returns-clause-made
 returns-clause-made g c clean desk free =
     let bound = c.notice-params.ensures c.in_ok-numbers.ensures in
-    notice_inserted (state g.S.Store c.args.conn.now) (state g.S.Store c.execute.new.self) (notice_row c.args.customer.now c.args.notice.now) _ desk free (rw bound at (c.in_ok-execute.ensures.runs clean))
+    notice_inserted (state g.S.Store c.args.conn.now) (state g.S.Store c.execute.new.self)
+    (notice_row c.args.customer.now c.args.notice.now) _ desk free
+    (rw bound at (c.in_ok-execute.ensures.runs clean))
 
 pub returns-clause-kept : goal.returns-clause-kept
-returns-clause-kept g c = write_done _ _ notice_insert_text _ _ notice_insert_known refl c.in_ok-execute.ensures.survives _ c.in_ok-execute.ensures.runs
+returns-clause-kept g c = write_done _ _ notice_insert_text _ _ notice_insert_known refl
+    c.in_ok-execute.ensures.survives _ c.in_ok-execute.ensures.runs

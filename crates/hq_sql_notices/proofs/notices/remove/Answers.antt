@@ -6,11 +6,16 @@ use Rattle.hq_sql_notices.proofs.Texts.{notice_delete_text, notice_delete_known}
 use Rattle.hq_sql_notices.proofs.notices.remove.Goals as goal
 
 pub returns-in_err-execute-clause-kept : goal.returns-in_err-execute-clause-kept
-returns-in_err-execute-clause-kept g c = write_failed _ _ notice_delete_text _ _ notice_delete_known refl c.in_err-execute.ensures.survives _ c.in_err-execute.ensures.runs
+returns-in_err-execute-clause-kept g c = write_failed _ _ notice_delete_text _ _ notice_delete_known
+    refl c.in_err-execute.ensures.survives _ c.in_err-execute.ensures.runs
 
 pub returns-clause-made : goal.returns-clause-made
 returns-clause-made g c clean desk =
-    notice_deleted (state g.S.Store c.args.conn.now) (state g.S.Store c.execute.new.self) (c.args.customer.now, c.args.number) _ desk (rw (c.key-params.ensures c.args.number c.in_ok-column.ensures) at (c.in_ok-execute.ensures.runs clean))
+    notice_deleted (state g.S.Store c.args.conn.now) (state g.S.Store c.execute.new.self)
+    (c.args.customer.now, c.args.number) _ desk
+    (rw (c.key-params.ensures c.args.number c.in_ok-column.ensures) at
+    (c.in_ok-execute.ensures.runs clean))
 
 pub returns-clause-kept : goal.returns-clause-kept
-returns-clause-kept g c = write_done _ _ notice_delete_text _ _ notice_delete_known refl c.in_ok-execute.ensures.survives _ c.in_ok-execute.ensures.runs
+returns-clause-kept g c = write_done _ _ notice_delete_text _ _ notice_delete_known refl
+    c.in_ok-execute.ensures.survives _ c.in_ok-execute.ensures.runs

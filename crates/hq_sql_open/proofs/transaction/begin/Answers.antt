@@ -5,10 +5,13 @@ use Rattle.hq_sql_open.proofs.Transactions.{begun, begin_keeps}
 use Rattle.hq_sql_open.proofs.transaction.begin.Goals as goal
 
 pub returns-in_err-execute-clause-kept : goal.returns-in_err-execute-clause-kept
-returns-in_err-execute-clause-kept g c = begin_keeps _ _ _ c.in_err-execute.ensures.survives (λ clean. on_err _ (execute_left _ _ _ _ _ (c.in_err-execute.ensures.runs clean)))
+returns-in_err-execute-clause-kept g c = begin_keeps _ _ _ c.in_err-execute.ensures.survives
+    (λ clean. on_err _ (execute_left _ _ _ _ _ (c.in_err-execute.ensures.runs clean)))
 
 pub returns-clause-begun : goal.returns-clause-begun
-returns-clause-begun g c clean = begun (state g.S.Store c.args.conn.now) (state g.S.Store c.execute.new.self) _ (c.in_ok-execute.ensures.runs clean)
+returns-clause-begun g c clean =
+    begun (state g.S.Store c.args.conn.now) (state g.S.Store c.execute.new.self) _
+    (c.in_ok-execute.ensures.runs clean)
 
 pub returns-clause-kept : goal.returns-clause-kept
 returns-clause-kept g c = begin_keeps _ _ (Ok tt) c.in_ok-execute.ensures.survives (λ clean. tt)

@@ -9,14 +9,23 @@ use Rattle.hq_sql_queue.proofs.OnHolds.{page_held}
 use Rattle.hq_sql_queue.proofs.giving.reasons.Goals as goal
 
 pub returns-in_err-given-clause-kept : goal.returns-in_err-given-clause-kept
-returns-in_err-given-clause-kept g c = keeps_err _ _ _ _ c.from_residual.ensures.0 (c.in_err-given.ensures.kept (record { plain = holds_between_known.plain }))
+returns-in_err-given-clause-kept g c = keeps_err _ _ _ _ c.from_residual.ensures.0
+    (c.in_err-given.ensures.kept (record { plain = holds_between_known.plain }))
 
 pub returns-clause-found : goal.returns-clause-found
 returns-clause-found g c spans rise clean desk =
     let old = state g.S.Store c.args.conn.now in
-    let all = rw c.between-params.ensures at (c.in_ok-given.ensures.found (record { plain = holds_between_known.plain }) clean desk) in
-    page_held (λ (it : Giving). it.page.items) (λ (it : Giving). it.place) c.args.customer.now (tables_in old.now) c.args.low c.args.high all.rows (record { alloc = c.args.alloc; page = c.args.page; place = 0 }) c.in_ok-given.given rise spans refl
-    (holds_shown old (state g.S.Store c.walk.new.conn) c.args.customer.now c.args.low c.args.high all.rows desk all.shown) all.taken
+    let all = rw c.between-params.ensures at
+    (c.in_ok-given.ensures.found (record { plain = holds_between_known.plain }) clean desk) in
+    page_held (λ (it : Giving). it.page.items) (λ (it : Giving). it.place) c.args.customer.now
+    (tables_in old.now) c.args.low c.args.high all.rows (record {
+      alloc = c.args.alloc;
+      page = c.args.page;
+      place = 0;
+    }) c.in_ok-given.given rise spans refl
+    (holds_shown old (state g.S.Store c.walk.new.conn) c.args.customer.now c.args.low c.args.high
+    all.rows desk all.shown) all.taken
 
 pub returns-clause-kept : goal.returns-clause-kept
-returns-clause-kept g c = keeps_ok _ _ c.in_ok-given.given _ (c.in_ok-given.ensures.kept (record { plain = holds_between_known.plain }))
+returns-clause-kept g c = keeps_ok _ _ c.in_ok-given.given _
+    (c.in_ok-given.ensures.kept (record { plain = holds_between_known.plain }))

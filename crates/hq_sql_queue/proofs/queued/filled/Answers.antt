@@ -18,7 +18,13 @@ returns-clause-found g c spans rise clean desk =
     let page = c.args.page.items in
     let first = c.in_ok-dealt.ensures.kept in
     let second = c.in_ok-given.ensures.kept in
-    let dealt = first_found old between new _ _ first second (c.in_ok-dealt.ensures.found spans rise) clean desk in
-    let same : serials_of c.in_ok-dealt.dealt.items ≡ serials_of page = ap serials_of dealt ∙ dealt_serials customer t page in
-    finds_both old between new _ _ first second (λ t. map (with_held customer t) c.in_ok-dealt.dealt.items) (λ given. given.items) (c.in_ok-given.ensures.found (spans_kept page c.in_ok-dealt.dealt.items c.args.low c.args.high same spans) (subst Rise (sym same) rise)) clean desk
-    ∙ ap (map (with_held customer t)) dealt ∙ map-map (with_held customer t) (with_dealt customer t) page
+    let dealt = first_found old between new _ _ first second
+    (c.in_ok-dealt.ensures.found spans rise) clean desk in
+    let same : serials_of c.in_ok-dealt.dealt.items ≡ serials_of page = ap serials_of dealt
+    ∙ dealt_serials customer t page in
+    finds_both old between new _ _ first second
+    (λ t. map (with_held customer t) c.in_ok-dealt.dealt.items) (λ given. given.items)
+    (c.in_ok-given.ensures.found (spans_kept page c.in_ok-dealt.dealt.items c.args.low
+    c.args.high same spans) (subst Rise (sym same) rise)) clean desk
+    ∙ ap (map (with_held customer t)) dealt
+    ∙ map-map (with_held customer t) (with_dealt customer t) page

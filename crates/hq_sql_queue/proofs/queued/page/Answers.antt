@@ -12,7 +12,8 @@ pub returns-in-None-clause-found : goal.returns-in-None-clause-found
 returns-in-None-clause-found g c clean desk =
     let t = tables_in (state g.S.Store c.args.conn.now).now in
     let none = ap length (sym c.as_slice.ensures.value) ∙ c.in-None.ensures.none refl in
-    c.from_vec.ensures ∙ none_dealt (with_parts c.args.customer.now t) c.in_ok-page.page.items none ∙ ap (map (with_parts c.args.customer.now t)) (c.in_ok-page.ensures.found clean desk)
+    c.from_vec.ensures ∙ none_dealt (with_parts c.args.customer.now t) c.in_ok-page.page.items none
+    ∙ ap (map (with_parts c.args.customer.now t)) (c.in_ok-page.ensures.found clean desk)
     ∙ page_whole c.args.customer.now t c.args.after c.args.limit
 
 pub returns-in_ok-filled-in-Some-clause-found : goal.returns-in_ok-filled-in-Some-clause-found
@@ -24,7 +25,12 @@ returns-in_ok-filled-in-Some-clause-found g c clean desk =
     let first = c.in_ok-page.ensures.kept in
     let second = c.in_ok-filled-in-Some.ensures.kept in
     let bare = first_found old between new _ _ first second c.in_ok-page.ensures.found clean desk in
-    let rise = subst (λ (page : List Message). Rise (serials_of page)) (sym bare) (page_rises c.args.customer.now c.args.after c.args.limit t) in
+    let rise = subst (λ (page : List Message). Rise (serials_of page)) (sym bare)
+    (page_rises c.args.customer.now c.args.after c.args.limit t) in
     c.from_vec-in-Some.ensures
-    ∙ finds_both old between new _ _ first second (λ t. map (with_parts c.args.customer.now t) c.in_ok-page.page.items) (λ filled. filled.items) (c.in_ok-filled-in-Some.ensures.found (spans_same _ _ _ _ c.as_slice.ensures.value c.in-Some.ensures.some) rise) clean desk
-    ∙ ap (map (with_parts c.args.customer.now t)) bare ∙ page_whole c.args.customer.now t c.args.after c.args.limit
+    ∙ finds_both old between new _ _ first second
+    (λ t. map (with_parts c.args.customer.now t) c.in_ok-page.page.items)
+    (λ filled. filled.items) (c.in_ok-filled-in-Some.ensures.found
+    (spans_same _ _ _ _ c.as_slice.ensures.value c.in-Some.ensures.some) rise) clean desk
+    ∙ ap (map (with_parts c.args.customer.now t)) bare
+    ∙ page_whole c.args.customer.now t c.args.after c.args.limit

@@ -7,5 +7,7 @@ use Rattle.hq_sql_recipients.proofs.recipients.pending.Goals as goal
 
 pub returns-clause-found : goal.returns-clause-found
 returns-clause-found g c clean desk =
-    IfOk-weaker c.all.result _ _ (λ all h. h ∙ ap (map (λ r. recipient_value (recipient_shown r))) c.as_slice.ensures.value
-    ∙ pending_shown c.args.customer.now c.args.serial _ c.in_ok-rows.rows.items (c.in_ok-rows.ensures.found clean desk)) c.all.ensures
+    IfOk-weaker c.all.result _ _ (λ all h. h
+    ∙ ap (map (λ r. recipient_value (recipient_shown r))) c.as_slice.ensures.value
+    ∙ pending_shown c.args.customer.now c.args.serial _ c.in_ok-rows.rows.items
+    (c.in_ok-rows.ensures.found clean desk)) c.all.ensures

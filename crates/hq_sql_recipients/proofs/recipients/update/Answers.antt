@@ -7,12 +7,16 @@ use Rattle.hq_sql_recipients.proofs.OnRecipients.{recipient_updated}
 use Rattle.hq_sql_recipients.proofs.recipients.update.Goals as goal
 
 pub returns-in_err-count-clause-kept : goal.returns-in_err-count-clause-kept
-returns-in_err-count-clause-kept g c = write_failed _ _ recipient_update_text _ _ recipient_update_known refl c.in_err-count.ensures.survives _ c.in_err-count.ensures.runs
+returns-in_err-count-clause-kept g c = write_failed _ _ recipient_update_text _ _
+    recipient_update_known refl c.in_err-count.ensures.survives _ c.in_err-count.ensures.runs
 
 pub returns-clause-made : goal.returns-clause-made
 returns-clause-made g c clean desk =
     let bound = c.columns-params.ensures.columns in
-    recipient_updated (state g.S.Store c.args.conn.now) (state g.S.Store c.execute.new.self) (recipient_row c.args.customer.now c.args.serial c.args.place c.args.recipient.now) _ desk c.columns-params.ensures.back (rw bound at (c.in_ok-count.ensures.runs clean))
+    recipient_updated (state g.S.Store c.args.conn.now) (state g.S.Store c.execute.new.self)
+    (recipient_row c.args.customer.now c.args.serial c.args.place c.args.recipient.now) _ desk
+    c.columns-params.ensures.back (rw bound at (c.in_ok-count.ensures.runs clean))
 
 pub returns-clause-kept : goal.returns-clause-kept
-returns-clause-kept g c = write_done _ _ recipient_update_text _ _ recipient_update_known refl c.in_ok-count.ensures.survives _ c.in_ok-count.ensures.runs
+returns-clause-kept g c = write_done _ _ recipient_update_text _ _ recipient_update_known refl
+    c.in_ok-count.ensures.survives _ c.in_ok-count.ensures.runs

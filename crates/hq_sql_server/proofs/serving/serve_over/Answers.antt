@@ -1,6 +1,6 @@
 use Rattle.std.proofs.Common.{inr, subst}
-use Rattle.hq_listener.specs.Listening.{DoesSome, left_of}
-use Rattle.hq_listener.proofs.Runs.{of_coming}
+use Rattle.hq_serve.specs.Listening.{DoesSome, left_of}
+use Rattle.hq_serve.proofs.Runs.{of_coming}
 use Rattle.hq_sql_server.proofs.serving.serve_over.Goals as goal
 
 pub returns : goal.returns
@@ -14,6 +14,10 @@ returns g c =
         host_is = c.new-desk.ensures.host;
         shelf_is = c.new-desk.ensures.shelf;
         new = c.serve_on.new.desk;
-        served = subst (λ n. DoesSome g.S.Shelf.sight directory n c.new-desk.result c.serve_on.new.desk) c.new-connections.ensures (of_coming g.S.Shelf.sight directory (left_of c.new-connections.result) (left_of c.serve_on.new.connections) c.serve_on.result c.new-desk.result c.serve_on.new.desk c.serve_on.ensures);
+        served = subst (λ n. DoesSome g.S.Shelf.sight directory n c.new-desk.result
+            c.serve_on.new.desk) c.new-connections.ensures
+            (of_coming g.S.Shelf.sight directory (left_of c.new-connections.result)
+            (left_of c.serve_on.new.connections) c.serve_on.result c.new-desk.result
+            c.serve_on.new.desk c.serve_on.ensures);
       },
     )

@@ -10,8 +10,12 @@ use Rattle.hq_sql_shelf.proofs.accounts.count_message.Goals as goal
 
 pub returns-clause-made : goal.returns-clause-made
 returns-clause-made g c clean desk =
-    let was = clean_before (state g.S.Store c.account.new.conn) (state g.S.Store c.put.new.conn) c.in_ok-put.ensures.kept.quiet clean in
+    let was = clean_before (state g.S.Store c.account.new.conn) (state g.S.Store c.put.new.conn)
+    c.in_ok-put.ensures.kept.quiet clean in
     let same = c.in_ok-kept.ensures.kept.same was desk in
     let t : Tables = tables_in (state g.S.Store c.args.conn.now).now in
-    made_after (with_account c.args.customer.now c.in-Some.more) _ _ _ _ same (c.in_ok-put.ensures.made clean (desk_after _ _ same desk))
-    (ap (λ h. record t { heads = h }) (is_counted (with_message c.args.size) c.args.customer.now t.heads c.in_ok-kept.kept c.in-Some.more (c.in_ok-kept.ensures.found was desk) c.in-Some.ensures))
+    made_after (with_account c.args.customer.now c.in-Some.more) _ _ _ _ same
+    (c.in_ok-put.ensures.made clean (desk_after _ _ same desk))
+    (ap (λ h. record t { heads = h })
+    (is_counted (with_message c.args.size) c.args.customer.now t.heads c.in_ok-kept.kept
+    c.in-Some.more (c.in_ok-kept.ensures.found was desk) c.in-Some.ensures))

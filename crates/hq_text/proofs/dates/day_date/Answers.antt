@@ -7,7 +7,8 @@ use Rattle.jiff_core.specs.declared.civil.date.Date.{Date}
 use Rattle.jiff_core.proofs.StandardFacts.{known_days}
 use Rattle.hq_text.proofs.dates.day_date.Goals as goal
 
-start : (d : Date) → d.year ≡ pos 1970 → pos d.month ≡ pos 1 → pos d.day ≡ pos 1 → epoch_day d ≡ pos 0
+start : (d : Date) → d.year ≡ pos 1970 → pos d.month ≡ pos 1 → pos d.day ≡ pos 1 →
+    epoch_day d ≡ pos 0
 start d y m e =
     let month : d.month ≡ 1 = cc in
     let day : d.day ≡ 1 = cc in
@@ -20,7 +21,8 @@ returns c =
     let f8 : FitsSigned w64 c.from-days.result = rw n (omega (arith, signed_arith)) in
     let only = simp to_z-of_z at c.days.ensures in
     let first = start c.date.result c.date.ensures.0 c.date.ensures.1 c.date.ensures.2 in
-    c.in-Ok.ensures.value ∙ (date_add-days c.date.result c.from-days.result c.days.result only ∙ omega (arith, signed_arith))
+    c.in-Ok.ensures.value ∙ (date_add-days c.date.result c.from-days.result c.days.result only
+    ∙ omega (arith, signed_arith))
 
 pub unreachable-requires : goal.unreachable-requires
 unreachable-requires c =
@@ -29,5 +31,7 @@ unreachable-requires c =
     let f8 : FitsSigned w64 c.from-days.result = rw n (omega (arith, signed_arith)) in
     let only = simp to_z-of_z at c.days.ensures in
     let first = start c.date.result c.date.ensures.0 c.date.ensures.1 c.date.ensures.2 in
-    let day : IsEpochDay (epoch_day c.date.result +ℤ c.from-days.result) = (omega (arith, signed_arith), omega (arith, signed_arith)) in
-    false≢true (c.in-Err.ensures.succeeds.1 ((can_add-days c.date.result c.from-days.result c.days.result only).1 day))
+    let day : IsEpochDay (epoch_day c.date.result +ℤ c.from-days.result) =
+    (omega (arith, signed_arith), omega (arith, signed_arith)) in
+    false≢true (c.in-Err.ensures.succeeds.1
+    ((can_add-days c.date.result c.from-days.result c.days.result only).1 day))

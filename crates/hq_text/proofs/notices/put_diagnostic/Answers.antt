@@ -7,11 +7,14 @@ use Rattle.hq_text.proofs.notices.put_diagnostic.Goals as goal
 pub returns-then-is_empty : goal.returns-then-is_empty
 unfolding diagnostic_lines
 returns-then-is_empty c =
-    let silent : (length c.args.said.now == 0) ≡ true = sym c.is_empty.ensures ∙ c.if-is_empty.true in
+    let silent : (length c.args.said.now == 0) ≡ true = sym c.is_empty.ensures
+    ∙ c.if-is_empty.true in
     rw silent (no_line crlf _)
 
 pub returns : goal.returns
 unfolding diagnostic_lines
 returns c =
-    let spoke : (length c.args.said.now == 0) ≡ false = sym c.is_empty.ensures ∙ c.if-is_empty.false in
-    rw spoke (field_then crlf _ _ _ (codes "Diagnostic-Code: x-desk; ") _ _ _ c.in_ok-put_field.ensures refl (no_line crlf _))
+    let spoke : (length c.args.said.now == 0) ≡ false = sym c.is_empty.ensures
+    ∙ c.if-is_empty.false in
+    rw spoke (field_then crlf _ _ _ (codes "Diagnostic-Code: x-desk; ") _ _ _
+    c.in_ok-put_field.ensures refl (no_line crlf _))

@@ -7,6 +7,9 @@ use Rattle.hq_text.proofs.notices.put_message.Goals as goal
 pub returns : goal.returns
 unfolding message_lines
 returns c =
-    field_then crlf _ _ _ (codes "Reporting-MTA: dns; ") _ _ _ c.in_ok-put_field.ensures c.as_str.ensures
-    (field_then crlf _ _ _ (codes "Arrival-Date: ") _ _ _ c.in_ok-put_field-2.ensures (c.as_str-2.ensures.value ∙ c.in_ok-arrival.ensures)
-    (field_then crlf _ _ _ (codes "X-Desk-Queue-Id: ") _ _ _ c.in_ok-put_field-3.ensures (c.as_str-3.ensures.value ∙ c.in_ok-id.ensures) (no_line crlf _)))
+    field_then crlf _ _ _ (codes "Reporting-MTA: dns; ") _ _ _ c.in_ok-put_field.ensures
+    c.as_str.ensures
+    (field_then crlf _ _ _ (codes "Arrival-Date: ") _ _ _ c.in_ok-put_field-2.ensures
+    (c.as_str-2.ensures.value ∙ c.in_ok-arrival.ensures)
+    (field_then crlf _ _ _ (codes "X-Desk-Queue-Id: ") _ _ _ c.in_ok-put_field-3.ensures
+    (c.as_str-3.ensures.value ∙ c.in_ok-id.ensures) (no_line crlf _)))

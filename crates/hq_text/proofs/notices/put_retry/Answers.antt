@@ -10,4 +10,6 @@ returns-in-None c = rw c.in-None.is (no_line crlf _)
 
 pub returns-in_ok-put_field-in-Some : goal.returns-in_ok-put_field-in-Some
 unfolding retry_lines
-returns-in_ok-put_field-in-Some c = rw c.in-Some.is (field_then crlf _ _ _ (codes "Will-Retry-Until: ") _ _ _ c.in_ok-put_field-in-Some.ensures refl (no_line crlf _))
+returns-in_ok-put_field-in-Some c = rw c.in-Some.is
+    (field_then crlf _ _ _ (codes "Will-Retry-Until: ") _ _ _ c.in_ok-put_field-in-Some.ensures refl
+    (no_line crlf _))

@@ -5,4 +5,5 @@ use Rattle.hq_text.proofs.notices.status_text.Goals as goal
 
 pub loop-one-preserved : goal.loop-one-preserved
 loop-one-preserved c =
-    one_more crlf _ _ _ _ c.args.told.now c.loop-one.one-index c.one-item.result (omega arith) c.one-item.is c.loop-one.invariant c.in_ok-put_recipient.ensures
+    one_more crlf _ _ _ _ c.args.told.now c.loop-one.one-index c.one-item.result (omega arith)
+    c.one-item.is c.loop-one.invariant c.in_ok-put_recipient.ensures

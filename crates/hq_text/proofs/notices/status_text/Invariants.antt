@@ -7,4 +7,6 @@ use Rattle.hq_text.proofs.notices.status_text.Given as goal
 
 abbrev pub invariant-loop-one : goal.invariant-loop-one
 invariant-loop-one l =
-    string_bytes l.text ≡ text_of crlf (message_lines l.host l.message ++ flat_map (recipient_lines l.kind (option_map (λ date. date.now) l.until)) (take l.one-index l.told))
+    string_bytes l.text ≡ text_of crlf (message_lines l.host l.message
+    ++ flat_map (recipient_lines l.kind (option_map (λ date. date.now) l.until))
+    (take l.one-index l.told))

@@ -16,9 +16,13 @@ returns-in-Ok-CallOf g c =
     let old = c.args.desk.now in
     let new = c.call_reply.new.desk in
     let r = seen c.call_reply.result in
-    let called : call_of d x ≡ Ok (CallOf c.in-Ok-CallOf.entry.now.name c.in-Ok-CallOf.call) = c.in-Ok-CallOf.ensures.call ∙ (λ i. Ok (asked_seen (c.in-Ok-CallOf.field-0-is i))) in
-    let done = c.call_reply.ensures d (subst (IsKnown d) c.in-Ok-CallOf.field-0-is c.in-Ok-CallOf.ensures.known) in
-    told_once sight d old new (ask_of d x) c.call_reply.result r (refl, refl) (subst (λ (asked : Result Asked Refusal). Exchanged sight d old (record { at = x.at; called = asked }) r new) (sym called) done)
+    let called : call_of d x ≡ Ok (CallOf c.in-Ok-CallOf.entry.now.name c.in-Ok-CallOf.call) =
+    c.in-Ok-CallOf.ensures.call ∙ (λ i. Ok (asked_seen (c.in-Ok-CallOf.field-0-is i))) in
+    let done = c.call_reply.ensures d
+    (subst (IsKnown d) c.in-Ok-CallOf.field-0-is c.in-Ok-CallOf.ensures.known) in
+    told_once sight d old new (ask_of d x) c.call_reply.result r (refl, refl)
+    (subst (λ (asked : Result Asked Refusal). Exchanged sight d old
+    (record { at = x.at; called = asked }) r new) (sym called) done)
 
 pub returns-in-Ok-SweepOfAll : goal.returns-in-Ok-SweepOfAll
 returns-in-Ok-SweepOfAll g c =
@@ -28,8 +32,11 @@ returns-in-Ok-SweepOfAll g c =
     let old = c.args.desk.now in
     let new = c.sweep_all.new.desk in
     let so = c.sweep_all.ensures in
-    let called : call_of d x ≡ Ok SweepOfAll = c.in-Ok-SweepOfAll.ensures.call ∙ (λ i. Ok (asked_seen (c.in-Ok-SweepOfAll.field-0-is i))) in
-    told_once sight d old new (ask_of d x) c.sweep_all.result so.0 so.1 (subst (λ (asked : Result Asked Refusal). Exchanged sight d old (record { at = x.at; called = asked }) so.0 new) (sym called) so.2)
+    let called : call_of d x ≡ Ok SweepOfAll = c.in-Ok-SweepOfAll.ensures.call
+    ∙ (λ i. Ok (asked_seen (c.in-Ok-SweepOfAll.field-0-is i))) in
+    told_once sight d old new (ask_of d x) c.sweep_all.result so.0 so.1
+    (subst (λ (asked : Result Asked Refusal). Exchanged sight d old
+    (record { at = x.at; called = asked }) so.0 new) (sym called) so.2)
 
 pub returns-in-Err-Refused : goal.returns-in-Err-Refused
 returns-in-Err-Refused g c =
@@ -38,8 +45,14 @@ returns-in-Err-Refused g c =
     let x = c.args.exchange.now in
     let desk = c.args.desk.now in
     let r = seen c.refusal_reply.result in
-    let called : call_of d x ≡ Err c.in-Err-Refused.refusal = subst (λ e. Fails e (call_of d x)) c.in-Err-Refused.field-0-is c.in-Err-Refused.ensures.call in
-    told_once sight d desk desk (ask_of d x) c.refusal_reply.result r (refl, refl) (subst (λ (asked : Result Asked Refusal). Exchanged sight d desk (record { at = x.at; called = asked }) r desk) (sym called) (refused sight d desk x.at c.in-Err-Refused.refusal r c.refusal_reply.ensures.told c.refusal_reply.ensures.store))
+    let called : call_of d x ≡ Err c.in-Err-Refused.refusal =
+    subst (λ e. Fails e (call_of d x)) c.in-Err-Refused.field-0-is c.in-Err-Refused.ensures.call
+    in
+    told_once sight d desk desk (ask_of d x) c.refusal_reply.result r (refl, refl)
+    (subst (λ (asked : Result Asked Refusal). Exchanged sight d desk
+    (record { at = x.at; called = asked }) r desk) (sym called)
+    (refused sight d desk x.at c.in-Err-Refused.refusal r c.refusal_reply.ensures.told
+    c.refusal_reply.ensures.store))
 
 pub returns-in-Err-Fault : goal.returns-in-Err-Fault
 returns-in-Err-Fault g c =
@@ -48,4 +61,6 @@ returns-in-Err-Fault g c =
     let desk = c.args.desk.now in
     let r = seen c.fault_reply.result in
     told_once g.S.Shelf.sight d desk desk (ask_of d x) c.fault_reply.result r (refl, refl)
-    (no_room g.S.Shelf.sight d desk (ask_of d x) r (c.fault_reply.ensures.told ∙ ap reply_of_fault (subst (λ e. Fails e (call_of d x)) c.in-Err-Fault.field-0-is c.in-Err-Fault.ensures.call)))
+    (no_room g.S.Shelf.sight d desk (ask_of d x) r (c.fault_reply.ensures.told
+    ∙ ap reply_of_fault (subst (λ e. Fails e (call_of d x)) c.in-Err-Fault.field-0-is
+    c.in-Err-Fault.ensures.call)))

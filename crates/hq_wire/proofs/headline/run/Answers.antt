@@ -26,13 +26,21 @@ loop-item-preserved g c =
     let so = c.exchange-reply.ensures in
     let was = c.loop-item.invariant.each in
     let told = was.0 ++ so.told ∷ [] in
-    let asked : map (ask_of d) (take (i + 1) xs) ≡ map (ask_of d) (take i xs) ++ ask_of d item ∷ [] = ap (map (ask_of d)) (take_more xs i item c.loop-item-test.true ∙ ap (λ x. take i xs ++ x ∷ []) (sym c.item-item.is)) ∙ map-append (ask_of d) (take i xs) (item ∷ []) in
-    let more : InTurn step c.args.desk.now (map (ask_of d) (take i xs) ++ ask_of d item ∷ []) told c.exchange-reply.new.desk = turns_on step _ _ _ _ _ _ _ was.2 (one_turn step _ _ (ask_of d item) so.told so.done) in
+    let asked : map (ask_of d) (take (i + 1) xs) ≡ map (ask_of d) (take i xs) ++ ask_of d item
+    ∷ [] = ap (map (ask_of d)) (take_more xs i item c.loop-item-test.true
+    ∙ ap (λ x. take i xs ++ x ∷ []) (sym c.item-item.is))
+    ∙ map-append (ask_of d) (take i xs) (item ∷ []) in
+    let more : InTurn step c.args.desk.now (map (ask_of d) (take i xs) ++ ask_of d item ∷ []) told
+    c.exchange-reply.new.desk = turns_on step _ _ _ _ _ _ _ was.2
+    (one_turn step _ _ (ask_of d item) so.told so.done) in
     record {
       each = (
         told,
-        subst (λ rs. AllZip IsSent rs told) (sym c.push_reserved.ensures.items) (all_zipped_more IsSent c.loop-item.replies.items was.0 c.exchange-reply.result so.told was.1 so.sent),
-        subst (λ asks. InTurn step c.args.desk.now asks told c.exchange-reply.new.desk) (sym asked) more,
+        subst (λ rs. AllZip IsSent rs told) (sym c.push_reserved.ensures.items)
+            (all_zipped_more IsSent c.loop-item.replies.items was.0 c.exchange-reply.result so.told
+            was.1 so.sent),
+        subst (λ asks. InTurn step c.args.desk.now asks told c.exchange-reply.new.desk) (sym asked)
+            more,
       );
       count = omega (arith, c.push_reserved.ensures.len);
       room = omega (arith, c.push_reserved.ensures.capacity);
@@ -46,5 +54,7 @@ returns-clause-served g c =
       told = was.0;
       sent = was.1;
       served = served g.S.Shelf.sight d _ _ _ was.0
-          (subst (λ xs. InTurn (Exchanged g.S.Shelf.sight d) c.args.desk.now (map (ask_of d) xs) was.0 c.loop-item.desk) (take_all c.loop-item.item-index c.args.exchanges.now (omega arith)) was.2);
+          (subst (λ xs. InTurn (Exchanged g.S.Shelf.sight d) c.args.desk.now (map (ask_of d) xs)
+          was.0 c.loop-item.desk) (take_all c.loop-item.item-index c.args.exchanges.now
+          (omega arith)) was.2);
     }

@@ -1,4 +1,5 @@
-use Rattle.std.proofs.Common.{◌≡◌, ◌≤◌, ◌+◌, ◌++◌, ◌∷◌, [], List, ℕ, suc, true, false, Ok, Some, None, length, map, take, drop, refl, sym, ap, ◌∙◌, subst, arith}
+use Rattle.std.proofs.Common.{◌≡◌, ◌≤◌, ◌+◌, ◌++◌, ◌∷◌, [], List, ℕ, suc, true, false, Ok, Some}
+use Rattle.std.proofs.Common.{None, length, map, take, drop, refl, sym, ap, ◌∙◌, subst, arith}
 use Rattle.std.proofs.lemmas.List.{take_all, take_more, map-append}
 use Rattle.hq_queue.specs.Customers.{are_customers}
 use Rattle.hq_requests.specs.Calls.{SweepOfAll}
@@ -11,12 +12,17 @@ use Rattle.hq_wire.proofs.sweeping.sweep_all.Goals as goal
 
 pub returns-in_default : goal.returns-in_default
 returns-in_default g c =
-    let r = seen c.fault_reply.result in
-    (r, (refl, refl), no_room g.S.Shelf.sight c.args.directory.now c.args.desk.now (record { at = c.args.at; called = Ok SweepOfAll }) r c.fault_reply.ensures.told)
+    let r = seen c.fault_reply.result in (
+      r,
+      (refl, refl),
+      no_room g.S.Shelf.sight c.args.directory.now c.args.desk.now
+          (record { at = c.args.at; called = Ok SweepOfAll }) r c.fault_reply.ensures.told,
+    )
 
 pub loop-customer-init : goal.loop-customer-init
 loop-customer-init g c = record {
-  so_far = none_yet g.S.Shelf.sight c.args.directory.now c.args.at c.args.desk.now c.in-Some.body.items c.in-Some.ensures.opened;
+  so_far = none_yet g.S.Shelf.sight c.args.directory.now c.args.at c.args.desk.now
+      c.in-Some.body.items c.in-Some.ensures.opened;
   room = omega (arith, c.in-Some.ensures.room);
 }
 
@@ -30,15 +36,35 @@ loop-customer-preserved g c =
     let name = item.entry.name in
     let so_far = c.loop-customer.invariant.so_far in
     let is_first = c.loop-customer.is_first in
-    let apart : are_customers xs ≡ true = ap are_customers c.customers-customers.ensures ∙ d.apart in
-    let known : item.entry ≡ entry_of d name = sym (entry_at xs i item item apart c.loop-customer-test.true c.customer-item.is) ∙ ap (λ cs. entry_in cs name) c.customers-customers.ensures in
-    let put : c.put_part.new.body.items ≡ c.loop-customer.body.items ++ separated is_first c.in-Ok.rendered.bytes.items = c.put_part.ensures.items ∙ ap (λ part. c.loop-customer.body.items ++ separated is_first part) c.as_slice.ensures.value in
-    let more : map name_of (take (i + 1) xs) ≡ map name_of (take i xs) ++ name ∷ [] = ap (map name_of) (take_more xs i item c.loop-customer-test.true ∙ ap (λ x. take i xs ++ x ∷ []) (sym c.customer-item.is)) ∙ map-append name_of (take i xs) (item ∷ []) in
-    let short : length c.as_slice.result.now ≤ 139 = subst (λ (part : List ℕ). length part ≤ 139) (sym c.as_slice.ensures.value) c.in-Ok.ensures.fits.0 in
+    let apart : are_customers xs ≡ true = ap are_customers c.customers-customers.ensures
+    ∙ d.apart in
+    let known : item.entry ≡ entry_of d name =
+    sym (entry_at xs i item item apart c.loop-customer-test.true c.customer-item.is)
+    ∙ ap (λ cs. entry_in cs name) c.customers-customers.ensures in
+    let put : c.put_part.new.body.items ≡ c.loop-customer.body.items
+    ++ separated is_first c.in-Ok.rendered.bytes.items = c.put_part.ensures.items
+    ∙ ap (λ part. c.loop-customer.body.items ++ separated is_first part)
+    c.as_slice.ensures.value in
+    let more : map name_of (take (i + 1) xs) ≡ map name_of (take i xs) ++ name ∷ [] =
+    ap (map name_of) (take_more xs i item c.loop-customer-test.true ∙ ap (λ x. take i xs ++ x
+    ∷ []) (sym c.customer-item.is)) ∙ map-append name_of (take i xs) (item ∷ []) in
+    let short : length c.as_slice.result.now ≤ 139 = subst (λ (part : List ℕ). length part ≤ 139)
+    (sym c.as_slice.ensures.value) c.in-Ok.ensures.fits.0 in
     record {
-      so_far = subst (λ names. SoFar sight d c.args.at c.args.desk.now names c.act.new.self c.put_part.new.body.items false) (sym more)
-          (one_more_done sight d c.args.at c.args.desk.now c.loop-customer.desk c.act.new.self (map name_of (take i xs)) c.loop-customer.body.items c.put_part.new.body.items is_first item.entry c.in-Ok.rendered so_far known put c.in-Ok.ensures.answer c.in-Ok.ensures.tables c.in-Ok.ensures.sound c.in-Ok.ensures.kept c.in-Ok.ensures.host c.in-Ok.ensures.fits.1);
-      room = omega (arith, c.put_part.ensures.len, c.put_part.ensures.room, c.loop-customer.invariant.room, short);
+      so_far = subst (λ names. SoFar sight d c.args.at c.args.desk.now names c.act.new.self
+          c.put_part.new.body.items false) (sym more)
+          (one_more_done sight d c.args.at c.args.desk.now c.loop-customer.desk c.act.new.self
+          (map name_of (take i xs)) c.loop-customer.body.items c.put_part.new.body.items
+          is_first item.entry c.in-Ok.rendered so_far known put c.in-Ok.ensures.answer
+          c.in-Ok.ensures.tables c.in-Ok.ensures.sound c.in-Ok.ensures.kept c.in-Ok.ensures.host
+          c.in-Ok.ensures.fits.1);
+      room = omega (
+        arith,
+        c.put_part.ensures.len,
+        c.put_part.ensures.room,
+        c.loop-customer.invariant.room,
+        short,
+      );
     }
 
 pub returns-in-Err : goal.returns-in-Err
@@ -49,10 +75,15 @@ returns-in-Err g c =
     let item = c.customer-item.result in
     let so_far = c.loop-customer.invariant.so_far in
     let stop : Stop = record { customer = item.entry.name; fault = c.in-Err.fault } in
-    let all : names_of d ≡ map name_of (take i xs) ++ item.entry.name ∷ map name_of (drop (suc i) xs) = ap (map name_of) (sym c.customers-customers.ensures) ∙ split_at name_of xs i item c.loop-customer-test.true c.customer-item.is in (
+    let all : names_of d ≡ map name_of (take i xs) ++ item.entry.name
+    ∷ map name_of (drop (suc i) xs) = ap (map name_of) (sym c.customers-customers.ensures)
+    ∙ split_at name_of xs i item c.loop-customer-test.true c.customer-item.is in (
       swept_reply so_far.parts (Some stop),
       (refl, sym (c.put_stop.ensures ∙ ap (λ body. body ++ closing (Some stop)) so_far.text)),
-      stopped_at g.S.Shelf.sight d c.args.at c.args.desk.now c.loop-customer.desk c.act.new.self (map name_of (take i xs)) c.loop-customer.body.items c.loop-customer.is_first item.entry.name (map name_of (drop (suc i) xs)) c.in-Err.fault so_far all c.in-Err.ensures.sound c.in-Err.ensures.kept c.in-Err.ensures.host,
+      stopped_at g.S.Shelf.sight d c.args.at c.args.desk.now c.loop-customer.desk c.act.new.self
+          (map name_of (take i xs)) c.loop-customer.body.items c.loop-customer.is_first
+          item.entry.name (map name_of (drop (suc i) xs)) c.in-Err.fault so_far all
+          c.in-Err.ensures.sound c.in-Err.ensures.kept c.in-Err.ensures.host,
     )
 
 pub returns : goal.returns
@@ -61,8 +92,10 @@ returns g c =
     let i = c.loop-customer.customer-index in
     let xs = c.customers-customers.result.now in
     let so_far = c.loop-customer.invariant.so_far in
-    let all : map name_of (take i xs) ≡ names_of d = ap (map name_of) (take_all i xs (omega arith) ∙ c.customers-customers.ensures) in (
+    let all : map name_of (take i xs) ≡ names_of d =
+    ap (map name_of) (take_all i xs (omega arith) ∙ c.customers-customers.ensures) in (
       swept_reply so_far.parts None,
       (refl, sym (c.put_all_done.ensures ∙ ap (λ body. body ++ closing None) so_far.text)),
-      done_by_all g.S.Shelf.sight d c.args.at c.args.desk.now c.loop-customer.desk (map name_of (take i xs)) c.loop-customer.body.items c.loop-customer.is_first so_far all,
+      done_by_all g.S.Shelf.sight d c.args.at c.args.desk.now c.loop-customer.desk
+          (map name_of (take i xs)) c.loop-customer.body.items c.loop-customer.is_first so_far all,
     )

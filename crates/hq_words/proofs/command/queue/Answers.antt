@@ -8,17 +8,25 @@ use Rattle.hq_words.proofs.command.queue.Goals as goal
 
 pub returns-clause-shape : goal.returns-clause-shape
 returns-clause-shape c =
-    let bare : app_of c.after_help.result ≡ new_app (codes "queue") = ap app_of_fields c.after_help.ensures ∙ ap app_of_fields c.about.ensures ∙ c.new.ensures.app in
+    let bare : app_of c.after_help.result ≡ new_app (codes "queue") =
+    ap app_of_fields c.after_help.ensures ∙ ap app_of_fields c.about.ensures
+    ∙ c.new.ensures.app in
     let directory : rule_of c.option.result ≡ needed (codes "directory") = search rules in
     let store : rule_of c.option-2.result ≡ needed (codes "store") = search rules in
     let customer : rule_of c.option-3.result ≡ needed (codes "customer") = search rules in
     let one = c.in_ok-arg.ensures.shape c.option.ensures.local ∙ ap₂ with_rule bare directory in
     let two = c.in_ok-arg-2.ensures.shape c.option-2.ensures.local ∙ ap₂ with_rule one store in
-    IfOk-weaker c.arg-3.result _ _ (λ made added. ap (λ (a : App). a.top) (added.shape c.option-3.ensures.local ∙ ap₂ with_rule two customer)) c.arg-3.ensures
+    IfOk-weaker c.arg-3.result _ _ (λ made added. ap (λ (a : App). a.top)
+    (added.shape c.option-3.ensures.local ∙ ap₂ with_rule two customer)) c.arg-3.ensures
 
 pub returns-clause-local : goal.returns-clause-local
 returns-clause-local c =
-    let bare : (out-Command c.after_help.result).has_globals ≡ false = ap (λ f. f.has_globals) c.after_help.ensures ∙ ap (λ f. f.has_globals) c.about.ensures ∙ c.new.ensures.local in
-    let one = c.in_ok-arg.ensures.globals ∙ ap₂ (λ (x y : Bool). x || y) bare c.option.ensures.local in
-    let two = c.in_ok-arg-2.ensures.globals ∙ ap₂ (λ (x y : Bool). x || y) one c.option-2.ensures.local in
-    IfOk-weaker c.arg-3.result _ _ (λ made added. added.globals ∙ ap₂ (λ (x y : Bool). x || y) two c.option-3.ensures.local) c.arg-3.ensures
+    let bare : (out-Command c.after_help.result).has_globals ≡ false =
+    ap (λ f. f.has_globals) c.after_help.ensures ∙ ap (λ f. f.has_globals) c.about.ensures
+    ∙ c.new.ensures.local in
+    let one = c.in_ok-arg.ensures.globals ∙ ap₂ (λ (x y : Bool). x || y) bare c.option.ensures.local
+    in
+    let two = c.in_ok-arg-2.ensures.globals ∙ ap₂ (λ (x y : Bool). x || y) one
+    c.option-2.ensures.local in
+    IfOk-weaker c.arg-3.result _ _ (λ made added. added.globals ∙ ap₂ (λ (x y : Bool). x || y) two
+    c.option-3.ensures.local) c.arg-3.ensures

@@ -6,6 +6,8 @@ use Rattle.hq_access.proofs.pattern.Pattern.parse.Goals as goal
 
 pub invariant_of-result : goal.invariant_of-result
 invariant_of-result c =
-    let is_folded : c.new-key.result ≡ folded c.args.text.now = c.new-key.ensures ∙ c.in_ok-folded.ensures.ok in
-    let fits = ap (λ t. is_pattern c.args.class t) (c.new-key.ensures ∙ sym c.as_str.ensures.value) ∙ sym c.is_pattern.ensures ∙ c.if-not-is_pattern.false in
+    let is_folded : c.new-key.result ≡ folded c.args.text.now = c.new-key.ensures
+    ∙ c.in_ok-folded.ensures.ok in
+    let fits = ap (λ t. is_pattern c.args.class t) (c.new-key.ensures ∙ sym c.as_str.ensures.value)
+    ∙ sym c.is_pattern.ensures ∙ c.if-not-is_pattern.false in
     (ap folded is_folded ∙ folded_twice c.args.text.now ∙ sym is_folded, fits)

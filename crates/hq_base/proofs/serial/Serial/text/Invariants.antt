@@ -3,4 +3,8 @@ use Rattle.hq_base.specs.Serials.{hex_text}
 use Rattle.hq_base.proofs.serial.Serial.text.Given as goal
 
 abbrev pub invariant-loop-i : goal.invariant-loop-i
-invariant-loop-i l = record { written : hex_text (10 - l.i) l.rest ++ drop (10 - l.i) l.text ≡ hex_text 10 l.fn.self; long : length l.text ≡ 10 }
+invariant-loop-i l = record {
+  written : hex_text (10 - l.i) l.rest
+      ++ drop (10 - l.i) l.text ≡ hex_text 10 l.fn.self;
+  long : length l.text ≡ 10;
+}

@@ -7,5 +7,15 @@ pub returns : goal.returns
 returns g c =
     let line = reply_line (seen c.line_reply-reply.result) in
     let so = c.line_reply-reply.ensures in
-    let same : line ≡ reply_line so.told = sym (λ i. three_digits (so.sent.0 i) ++ 32 ∷ so.sent.1 i ++ 10 ∷ []) in
-    (line, record { directory = refl; same_desk = refl; reply = so.told; line_is = same; done = so.done }, c.write_reply.ensures)
+    let same : line ≡ reply_line so.told = sym (λ i. three_digits (so.sent.0 i) ++ 32 ∷ so.sent.1 i
+    ++ 10 ∷ []) in (
+      line,
+      record {
+        directory = refl;
+        same_desk = refl;
+        reply = so.told;
+        line_is = same;
+        done = so.done;
+      },
+      c.write_reply.ensures,
+    )

@@ -12,20 +12,42 @@ returns-clause-sound g c = λ clean ours open_ sound.
     let name = c.args.entry.now.name in
     let t = g.S.Shelf.sight.tables c.args.self.now.shelf in
     let decided = c.in_ok-decision.ensures.found before ours sound in
-    let same = c.in_ok-decision.ensures.kept.same before ours c.in_ok-decision.ensures.kept.tally.1 in
-    let made = c.in_ok-apply.ensures.made clean (c.in_ok-decision.ensures.kept.ours before ours c.in_ok-decision.ensures.kept.tally.1) in
+    let same =
+    c.in_ok-decision.ensures.kept.same before ours c.in_ok-decision.ensures.kept.tally.1 in
+    let made = c.in_ok-apply.ensures.made clean
+    (c.in_ok-decision.ensures.kept.ours before ours c.in_ok-decision.ensures.kept.tally.1) in
     subst Sound
-    (sym (made ∙ ap (λ changes. write_all name changes (g.S.Shelf.sight.tables c.decide.new.shelf)) c.as_slice.ensures ∙ (λ i. write_all name ((decided i).changes) (same i))))
+    (sym (made ∙ ap (λ changes. write_all name changes (g.S.Shelf.sight.tables c.decide.new.shelf))
+    c.as_slice.ensures ∙ (λ i. write_all name ((decided i).changes) (same i))))
     (shared_sound c.args.self.now.host c.args.entry.now t c.args.at c.args.call sound)
 
 pub returns-in_err-apply-clause-kept : goal.returns-in_err-apply-clause-kept
 returns-in_err-apply-clause-kept g c =
-    let fault = err_from_is_err_and c.from_residual-in_err-apply.result c.from_residual-in_err-apply.ensures.1 in
-    let both = changes_on g.S.Shelf.sight _ _ _ _ c.in_err-apply.field-0.0 c.from_residual-in_err-apply.result (fault.1 ∙ ap Err fault.2) c.in_ok-decision.ensures.kept c.in_err-apply.ensures.kept in
-    record { none = both.none; ours = both.ours; quiet = both.quiet; tally = both.tally; cause = both.cause }
+    let fault =
+    err_from_is_err_and c.from_residual-in_err-apply.result
+    c.from_residual-in_err-apply.ensures.1 in
+    let both = changes_on g.S.Shelf.sight _ _ _ _ c.in_err-apply.field-0.0
+    c.from_residual-in_err-apply.result (fault.1 ∙ ap Err fault.2) c.in_ok-decision.ensures.kept
+    c.in_err-apply.ensures.kept in
+    record {
+      none = both.none;
+      ours = both.ours;
+      quiet = both.quiet;
+      tally = both.tally;
+      cause = both.cause;
+    }
 
 pub returns-in_err-bytes-clause-kept : goal.returns-in_err-bytes-clause-kept
 returns-in_err-bytes-clause-kept g c =
-    let fault = err_from_is_err_and c.from_residual-in_err-bytes.result c.from_residual-in_err-bytes.ensures.1 in
-    let kept = no_memory_on g.S.Shelf.sight _ _ _ c.from_residual-in_err-bytes.result (fault.1 ∙ ap Err fault.2) c.in_ok-decision.ensures.kept in
-    record { none = kept.none; ours = kept.ours; quiet = kept.quiet; tally = kept.tally; cause = kept.cause }
+    let fault =
+    err_from_is_err_and c.from_residual-in_err-bytes.result
+    c.from_residual-in_err-bytes.ensures.1 in
+    let kept = no_memory_on g.S.Shelf.sight _ _ _ c.from_residual-in_err-bytes.result (fault.1
+    ∙ ap Err fault.2) c.in_ok-decision.ensures.kept in
+    record {
+      none = kept.none;
+      ours = kept.ours;
+      quiet = kept.quiet;
+      tally = kept.tally;
+      cause = kept.cause;
+    }

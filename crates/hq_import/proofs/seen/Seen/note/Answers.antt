@@ -7,5 +7,8 @@ use Rattle.hq_import.proofs.seen.Seen.note.Goals as goal
 pub returns-clause-noted : goal.returns-clause-noted
 returns-clause-noted c other =
     let text = c.in_ok-text.ensures.ok in
-    let updates = btree_set_updates_text (string_bytes c.in_ok-text.text) c.args.self.now.texts c.insert.new.self true c.in_ok-insert.ensures.updates other in
-    noted_text c.args.text.now other (has other c.args.self.now) _ (updates ∙ ap (λ t. cond (bytes_eq t other) true (has other c.args.self.now)) text)
+    let updates =
+    btree_set_updates_text (string_bytes c.in_ok-text.text) c.args.self.now.texts
+    c.insert.new.self true c.in_ok-insert.ensures.updates other in
+    noted_text c.args.text.now other (has other c.args.self.now) _ (updates
+    ∙ ap (λ t. cond (bytes_eq t other) true (has other c.args.self.now)) text)

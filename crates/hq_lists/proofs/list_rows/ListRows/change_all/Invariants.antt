@@ -7,6 +7,7 @@ use Rattle.hq_lists.proofs.list_rows.ListRows.change_all.Given as goal
 -- what is left to change leads to the end
 abbrev pub invariant-loop-change : goal.invariant-loop-change
 invariant-loop-change l = record {
-  made : write_all l.customer (drop l.change-index l.changes) (tables_of l.self) ≡ write_all l.customer l.changes (tables_of l.fn.self);
+  made : write_all l.customer (drop l.change-index l.changes) (tables_of l.self) ≡ write_all
+      l.customer l.changes (tables_of l.fn.self);
   order : AreInOrder l.fn.self → AreInOrder l.self;
 }

@@ -7,5 +7,7 @@ use Rattle.hq_requests.proofs.directory.Directory.by_customer.Goals as goal
 pub returns-else-for_relay-clause-entry : goal.returns-else-for_relay-clause-entry
 returns-else-for_relay-clause-entry c =
     let customer = c.in-Some.customer.now in
-    let found : find (has_key c.args.key.now) c.args.self.now.customers ≡ Some customer = sym (c.in-Some.ensures ∙ ap (find (has_key c.args.key.now)) c.as_slice.ensures) in
-    sym (entry_found (has_key c.args.key.now) c.args.self.now.customers customer c.args.self.now.apart found)
+    let found : find (has_key c.args.key.now) c.args.self.now.customers ≡ Some customer =
+    sym (c.in-Some.ensures ∙ ap (find (has_key c.args.key.now)) c.as_slice.ensures) in
+    sym (entry_found (has_key c.args.key.now) c.args.self.now.customers customer
+    c.args.self.now.apart found)

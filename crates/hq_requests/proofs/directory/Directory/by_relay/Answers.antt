@@ -7,5 +7,7 @@ use Rattle.hq_requests.proofs.directory.Directory.by_relay.Goals as goal
 pub returns-in-Some-clause-entry : goal.returns-in-Some-clause-entry
 returns-in-Some-clause-entry c =
     let customer = c.in-Some.customer.now in
-    let found : find (has_name c.args.segment.now) c.args.self.now.customers ≡ Some customer = sym (c.in-Some.ensures ∙ ap (find (has_name c.args.segment.now)) c.as_slice.ensures) in
-    sym (entry_found (has_name c.args.segment.now) c.args.self.now.customers customer c.args.self.now.apart found)
+    let found : find (has_name c.args.segment.now) c.args.self.now.customers ≡ Some customer =
+    sym (c.in-Some.ensures ∙ ap (find (has_name c.args.segment.now)) c.as_slice.ensures) in
+    sym (entry_found (has_name c.args.segment.now) c.args.self.now.customers customer
+    c.args.self.now.apart found)

@@ -12,7 +12,8 @@ settled s fresh = record { is_open = fresh.is_open; mode = fresh.autocommit; now
 pub returns-in-Ok-adopt : goal.returns-in-Ok-adopt
 returns-in-Ok-adopt c =
     let fresh = c.in-Ok.ensures.empty in
-    let it = c.in-Ok-adopt.ensures.opened (memory_is_clean c.in-Ok-adopt.shelf.conn) (settled (state over_memory c.in-Ok.conn) fresh.0) in
+    let it = c.in-Ok-adopt.ensures.opened (memory_is_clean c.in-Ok-adopt.shelf.conn)
+    (settled (state over_memory c.in-Ok.conn) fresh.0) in
     let empty = it.empty (inl fresh.2) in
     record { ours = empty.0; empty = empty.1; fresh = c.in-Ok-adopt.ensures.fresh; cause = tt }
 
@@ -20,6 +21,7 @@ pub returns-clause-cause : goal.returns-clause-cause
 returns-clause-cause c =
     let fresh = c.in-Ok.ensures.empty in
     let clean = memory_is_clean c.in-Err.field-0-1 in (
-      λ bad. (c.in-Err.ensures.refused clean (settled (state over_memory c.in-Ok.conn) fresh.0) bad).0.0 (inl fresh.2),
+      λ bad. (c.in-Err.ensures.refused clean (settled (state over_memory c.in-Ok.conn) fresh.0)
+          bad).0.0 (inl fresh.2),
       λ closed. absurd (let no = c.in-Err.ensures.gone clean closed in cc),
     )

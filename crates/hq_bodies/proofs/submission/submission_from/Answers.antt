@@ -1,0 +1,29 @@
+use Rattle.std.proofs.Common.{◌≡◌, Ok, List, ℕ, IsTrue, length, map, string_bytes, sym, ap, subst}
+use Rattle.std.proofs.Common.{◌∙◌}
+use Rattle.hq_calls.specs.Limits.{is_recipient_count}
+use Rattle.hq_bodies.specs.Submissions.{addresses_in, shown}
+use Rattle.hq_bodies.proofs.Submitted.{texts_read, submission_taken}
+use Rattle.hq_bodies.proofs.submission.submission_from.Goals as goal
+
+pub invariant_of-result : goal.invariant_of-result
+invariant_of-result c =
+    let fields = shown c.args.fields.now in
+    let read : addresses_in fields.recipients.texts ≡ Ok c.in_ok-recipients.recipients.items =
+    ap (λ texts. addresses_in (map (λ text. string_bytes text) texts))
+    (sym c.as_slice.ensures.value) ∙ c.in_ok-recipients.ensures in
+    record {
+      number = subst (λ (xs : List (List ℕ)). IsTrue (is_recipient_count (length xs)))
+          (sym (c.from_vec.ensures
+          ∙ texts_read fields.recipients.texts c.in_ok-recipients.recipients.items read))
+          fields.recipients.number;
+      limit = fields.size.limit;
+    }
+
+pub returns : goal.returns
+returns c =
+    let fields = shown c.args.fields.now in
+    let read : addresses_in fields.recipients.texts ≡ Ok c.in_ok-recipients.recipients.items =
+    ap (λ texts. addresses_in (map (λ text. string_bytes text) texts))
+    (sym c.as_slice.ensures.value) ∙ c.in_ok-recipients.ensures in
+    submission_taken fields _ _ _ _ _ _ c.in_ok-spool.ensures c.in_ok-sender.ensures read
+    c.from_vec.ensures

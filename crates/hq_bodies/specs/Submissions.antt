@@ -1,0 +1,109 @@
+-- The body of a submission: {"spool", "sender", "recipients", "size"}.
+use Rattle.std.specs.Prelude.{ℕ, List, [], ◌∷◌, IsTrue, Result, Ok, codes, length, map}
+use Rattle.std.specs.Prelude.{string_bytes}
+use Rattle.serde_json.specs.Data.{Data}
+use Rattle.serde_json.specs.Find.{as_object}
+use Rattle.hq_base.specs.Readers.{◌>>=◌, guard, or_refuse, passes}
+use Rattle.hq_base.specs.declared.failure.Refusal.{Refusal}
+use Rattle.hq_base.specs.declared.failure.Refusal.TheVariants.{BadJson, BadField}
+use Rattle.hq_envelope.specs.Addresses.{address_in}
+use Rattle.hq_envelope.specs.Senders.{sender_in}
+use Rattle.hq_envelope.specs.Words.{spool_in}
+use Rattle.hq_calls.specs.Limits.{is_recipient_count, is_size}
+use Rattle.hq_calls.specs.declared.call.Submission.{Submission}
+use Rattle.hq_bodies.specs.Reading.{json_of, has_only_members, text_at, number_at, texts_at}
+use Rattle.hq_bodies.specs.declared.members.MessageSize.{MessageSize}
+use Rattle.hq_bodies.specs.declared.members.RecipientTexts.{RecipientTexts}
+use Rattle.hq_bodies.specs.declared.members.SubmissionTexts.{SubmissionTexts}
+
+-- 1 to 100 texts
+pub record Recipients : Type 0 where
+  pub texts : List (List ℕ)
+  pub number : IsTrue (is_recipient_count (length texts))
+
+-- a number of bytes within its limit
+pub record Size : Type 0 where
+  pub bytes : ℕ
+  pub limit : IsTrue (is_size bytes)
+
+-- the members as they stand
+pub record Fields : Type 0 where
+  pub spool : List ℕ
+  pub sender : List ℕ
+  pub recipients : Recipients
+  pub size : Size
+
+abbrev pub names : List (List ℕ)
+names = codes "spool" ∷ codes "sender" ∷ codes "recipients" ∷ codes "size" ∷ []
+
+unfoldable pub recipients_of : Data → Result Recipients Refusal
+recipients_of d = do
+  texts ← or_refuse BadField (texts_at (codes "recipients") d)
+  number ← passes (is_recipient_count (length texts)) BadField
+  Ok (record { texts = texts; number = number })
+
+-- a member that is a number of 64 bits
+abbrev pub bytes_at : Data → Result ℕ Refusal
+bytes_at d = or_refuse BadField (number_at (codes "size") 0 18446744073709551615 d)
+
+-- within its limit
+unfoldable pub size_of : Data → Result Size Refusal
+size_of d = do
+  bytes ← bytes_at d
+  limit ← passes (is_size bytes) BadField
+  Ok (record { bytes = bytes; limit = limit })
+
+-- each member of its kind and in its range, and no other
+unfoldable pub fields_of : Data → Result Fields Refusal
+fields_of d = do
+  known ← guard (has_only_members names (as_object d)) BadField
+  spool ← or_refuse BadField (text_at (codes "spool") d)
+  sender ← or_refuse BadField (text_at (codes "sender") d)
+  recipients ← recipients_of d
+  size ← size_of d
+  Ok (record { spool = spool; sender = sender; recipients = recipients; size = size })
+
+-- each text is an address
+abbrev pub addresses_in : List (List ℕ) → Result (List (List ℕ)) Refusal
+addresses_in [] = Ok []
+addresses_in (text ∷ texts) = do
+  address ← address_in text
+  rest ← addresses_in texts
+  Ok (address ∷ rest)
+
+-- the values, in the order of the members; an address is its text
+unfoldable pub submission_of : Fields → Result Submission Refusal
+submission_of fields = do
+  spool ← spool_in fields.spool
+  sender ← sender_in fields.sender
+  recipients ← addresses_in fields.recipients.texts
+  Ok (record {
+    spool = spool;
+    sender = sender;
+    recipients = fields.recipients.texts;
+    size = fields.size.bytes;
+    number = fields.recipients.number;
+    limit = fields.size.limit;
+  })
+
+-- JSON, then the members, then their values
+unfoldable pub read_submission : List ℕ → Result Submission Refusal
+read_submission bytes = do
+  d ← or_refuse BadJson (json_of bytes)
+  fields ← fields_of d
+  submission_of fields
+
+-- the members as the code holds them
+abbrev pub shown_recipients : RecipientTexts → Recipients
+shown_recipients r = record { texts = map string_bytes r.texts.items; number = r.number }
+
+abbrev pub shown_size : MessageSize → Size
+shown_size s = record { bytes = s.bytes; limit = s.limit }
+
+abbrev pub shown : SubmissionTexts → Fields
+shown t = record {
+  spool = t.spool.now;
+  sender = t.sender.now;
+  recipients = shown_recipients t.recipients;
+  size = shown_size t.size;
+}

@@ -1,0 +1,111 @@
+//! The body of a submission.
+
+ghost use Rattle.std.specs.Prelude.{map as map_list, string_bytes};
+ghost use Rattle.serde_json.specs.View.{view};
+ghost use Rattle.hq_base.specs.Readers.{Reads, seen_by};
+ghost use Rattle.hq_bodies.specs.Submissions.{recipients_of, size_of, fields_of, addresses_in};
+ghost use Rattle.hq_bodies.specs.Submissions.{submission_of, read_submission, shown_recipients};
+ghost use Rattle.hq_bodies.specs.Submissions.{shown_size, shown};
+
+use crate::members::{MessageSize, RecipientTexts, SubmissionTexts};
+use crate::reading::{has_only, json_value, number_member, text_member, texts_member};
+use hq_calls::Submission;
+use hq_envelope::{Address, Fail, Items, Refusal, Sender, Spool};
+use serde_json::Value;
+use std::alloc::Global;
+
+/// The most recipients of a submission.
+const MOST_RECIPIENTS: usize = 100;
+
+/// The most bytes of a message.
+const MOST_BYTES: u64 = 2_147_483_647;
+
+/// The texts of the recipients, or 8 `BadField`.
+#[tactic(auto, unfolding(crate::specs::Submissions::recipients_of))]
+fn recipients_in(alloc: Global, value: &Value) -> Result<RecipientTexts, Fail>
+    ensures { Reads (seen_by shown_recipients result) (recipients_of (view value.now)) }
+{
+    let texts = texts_member(alloc, value, "recipients")?;
+    if !(1..=MOST_RECIPIENTS).contains(&texts.len()) {
+        return Err(Fail::Refused(Refusal::BadField));
+    }
+    Ok(RecipientTexts { texts })
+}
+
+/// The size of the message, or 8 `BadField`.
+#[tactic(auto, unfolding(crate::specs::Submissions::size_of))]
+fn size_in(value: &Value) -> Result<MessageSize, Fail>
+    ensures { Reads (seen_by shown_size result) (size_of (view value.now)) }
+{
+    let bytes = number_member(value, "size", 0, u64::MAX).ok_or(Refusal::BadField)?;
+    if bytes > MOST_BYTES {
+        return Err(Fail::Refused(Refusal::BadField));
+    }
+    Ok(MessageSize {
+        bytes: bytes as u32,
+    })
+}
+
+/// The members of a submission, or 8 `BadField`.
+#[tactic(auto, unfolding(crate::specs::Submissions::fields_of))]
+fn fields_in(alloc: Global, value: &Value) -> Result<SubmissionTexts<'_>, Fail>
+    ensures { Reads (seen_by shown result) (fields_of (view value.now)) }
+{
+    let known = match value.as_object() {
+        Some(map) => has_only(map, &["spool", "sender", "recipients", "size"]),
+        None => false,
+    };
+    if !known {
+        return Err(Fail::Refused(Refusal::BadField));
+    }
+    let spool = text_member(value, "spool").ok_or(Refusal::BadField)?;
+    let sender = text_member(value, "sender").ok_or(Refusal::BadField)?;
+    let recipients = recipients_in(alloc, value)?;
+    let size = size_in(value)?;
+    Ok(SubmissionTexts {
+        spool,
+        sender,
+        recipients,
+        size,
+    })
+}
+
+/// The addresses of texts, or 20 `BadAddress`.
+fn read_addresses(alloc: Global, texts: &[String]) -> Result<Vec<Address>, Fail>
+    ensures { Reads (seen_by (λ v. v.items) result)
+        (addresses_in (map_list string_bytes texts.now)) }
+{
+    let mut addresses = Vec::new(alloc);
+    for text in texts {
+        addresses.push(Address::parse(alloc, text.as_str())?)?;
+    }
+    Ok(addresses)
+}
+
+/// The values of a submission's members.
+#[tactic(auto, unfolding(crate::specs::Submissions::submission_of))]
+fn submission_from(alloc: Global, fields: &SubmissionTexts<'_>) -> Result<Submission, Fail>
+    ensures { Reads result (submission_of (shown fields.now)) }
+{
+    let spool = Spool::parse(alloc, fields.spool)?;
+    let sender = Sender::parse(alloc, fields.sender)?;
+    let recipients = read_addresses(alloc, fields.recipients.texts.as_slice())?;
+    Ok(Submission {
+        spool,
+        sender,
+        recipients: Items::from_vec(recipients),
+        size: fields.size.bytes,
+    })
+}
+
+/// Reads the body of a submission: 7 `BadJson` where it is not JSON, 8 `BadField` where a member is
+/// missing, unknown, of the wrong kind or out of range, then 23 and 20 for the values in the order
+/// spool, sender, recipients.
+#[tactic(auto, unfolding(crate::specs::Submissions::read_submission))]
+pub fn read_submission(alloc: Global, body: &[u8]) -> Result<Submission, Fail>
+    ensures { Reads result (read_submission body.now) }
+{
+    let value = json_value(alloc, body)?;
+    let fields = fields_in(alloc, &value)?;
+    submission_from(alloc, &fields)
+}

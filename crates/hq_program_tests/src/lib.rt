@@ -1,9 +1,0 @@
-//! The tests of what the program has over any shelf, over the public calls: a batch over readers
-//! and writers in memory, some of which fail, and what is told of its end. What it replies to lines
-//! stands in `tests/examples/`; what it does with words and files is tried by `tests/words`.
-#![tactic(auto)]
-
-#[cfg(test)]
-mod serving;
-#[cfg(test)]
-mod telling;

@@ -1,0 +1,7 @@
+use Rattle.std.proofs.Common.{◌≡◌, take}
+use Rattle.hq_queue.specs.Attempts as rules
+use Rattle.hq_queue.proofs.reporting.failed.Given as goal
+
+abbrev pub invariant-loop-recipient : goal.invariant-loop-recipient
+invariant-loop-recipient l = l.failed.items ≡ rules.failed l.outcomes
+    (take l.recipient-index l.recipients)

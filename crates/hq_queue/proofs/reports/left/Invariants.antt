@@ -1,6 +1,0 @@
-use Rattle.std.proofs.Common.{◌≡◌, take}
-use Rattle.hq_queue.specs.Attempts as rules
-use Rattle.hq_queue.proofs.reports.left.Given as goal
-
-abbrev pub invariant-loop-recipient : goal.invariant-loop-recipient
-invariant-loop-recipient l = l.left.items ≡ rules.left l.outcomes (take l.recipient-index l.recipients)

@@ -1,0 +1,46 @@
+//! The connections that are still to come to a listening socket.
+
+ghost use Rattle.std.specs.Prelude.{◌≡◌};
+ghost use Rattle.hq_serve.specs.Listening.{left_of, Accepts};
+
+use std::io;
+use std::net::{TcpListener, TcpStream};
+
+/// A listening socket, and how many connections are still to come to it: one less for each that is
+/// accepted, and nothing else changes that number.
+#[derive(Drop)]
+pub struct Connections {
+    listener: TcpListener,
+    left: u32,
+}
+
+impl Connections {
+    /// So many connections of a socket.
+    pub fn new(listener: TcpListener, count: u32) -> Connections
+        ensures { left_of result ≡ count }
+    {
+        Connections {
+            listener,
+            left: count,
+        }
+    }
+
+    /// How many are still to come.
+    pub fn left(&self) -> u32
+        ensures { result ≡ left_of self.now }
+    {
+        self.left
+    }
+
+    /// The next one; `None` where no more are to come. An error tells that none could be accepted.
+    pub(crate) fn accept(&mut self) -> io::Result<Option<TcpStream>>
+        ensures { Accepts self.old self.new result }
+    {
+        if self.left == 0 {
+            return Ok(None);
+        }
+        let (stream, _) = self.listener.accept()?;
+        self.left -= 1;
+        Ok(Some(stream))
+    }
+}

@@ -1,0 +1,6 @@
+//! One connection with the desk.
+
+mod faults;
+mod limits;
+mod responses;
+mod served;

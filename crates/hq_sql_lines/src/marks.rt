@@ -1,0 +1,91 @@
+//! The table of marks: the imports of all customers.
+
+ghost use Rattle.std.specs.Prelude.{option_map, slice_get};
+ghost use Rattle.std.specs.FinMap.{get};
+ghost use Rattle.sqlite.specs.Held.{state};
+ghost use Rattle.hq_rows.specs.Listed.{mark_value};
+ghost use Rattle.hq_sql.specs.Kept.{Shows, Finds, Makes, Inserts, Keeps, KeepsCommitted};
+ghost use Rattle.hq_sql.specs.Rows.{mark_shown};
+ghost use Rattle.hq_sql_lines.specs.Marks.{mark_row, with_mark, without_mark};
+
+use crate::{bind, decode};
+use hq_envelope::{Label, Name};
+use hq_store::Mark;
+use sqlite::{Alter, Connection, Error, Row};
+use std::alloc::Global;
+
+fn query<S: Alter>(
+    conn: &mut Connection<S>,
+    customer: &Name,
+    label: &Label,
+) -> Result<Vec<Row>, Error>
+    ensures found { Shows (state S.Store conn.old) (state S.Store conn.new) result
+        (λ rows. option_map (λ r. mark_value (mark_shown r)) (slice_get rows.items 0))
+        (λ t. get t.marks (customer.now, label.now)) }
+    ensures kept { Keeps (state S.Store conn.old) (state S.Store conn.new) result }
+{
+    let params = bind::mark_key(customer, label);
+    let rows = conn.query_all(
+        "SELECT customer, label, digest, added, changed, same FROM marks \
+         WHERE customer = ?1 AND label = ?2",
+        &params,
+    )?;
+    Ok(rows)
+}
+
+/// The customer's mark of this label.
+pub fn mark<S: Alter>(
+    alloc: Global,
+    conn: &mut Connection<S>,
+    customer: &Name,
+    label: &Label,
+) -> Result<Option<Mark>, Error>
+    ensures found { Finds (state S.Store conn.old) (state S.Store conn.new) result
+        (λ t. get t.marks (customer.now, label.now)) }
+    ensures kept { Keeps (state S.Store conn.old) (state S.Store conn.new) result }
+{
+    let rows = query(conn, customer, label)?;
+    decode::first_mark(alloc, rows.as_slice())
+}
+
+/// Drops the mark of a label; nothing where there is none.
+fn remove<S: Alter>(conn: &mut Connection<S>, customer: &Name, label: &Label) -> Result<(), Error>
+    ensures made { Makes (state S.Store conn.old) (state S.Store conn.new) result
+        (without_mark (customer.now, label.now)) }
+    ensures kept { KeepsCommitted (state S.Store conn.old) (state S.Store conn.new) }
+{
+    let params = bind::mark_key(customer, label);
+    conn.execute(
+        "DELETE FROM marks WHERE customer = ?1 AND label = ?2",
+        &params,
+    )?;
+    Ok(())
+}
+
+/// Adds a mark of a new label.
+fn insert<S: Alter>(conn: &mut Connection<S>, customer: &Name, mark: &Mark) -> Result<(), Error>
+    ensures made { Inserts (state S.Store conn.old) (state S.Store conn.new) result
+        (λ t. get t.marks (customer.now, mark.now.label))
+        (with_mark (mark_row customer.now mark.now)) }
+    ensures kept { KeepsCommitted (state S.Store conn.old) (state S.Store conn.new) }
+{
+    let numbers = bind::numbers(mark)?;
+    let params = bind::mark(customer, mark, &numbers);
+    conn.execute(
+        "INSERT INTO marks (customer, label, digest, added, changed, same) \
+         VALUES (?1, ?2, ?3, ?4, ?5, ?6)",
+        &params,
+    )?;
+    Ok(())
+}
+
+/// Sets the mark of its label, in a new row.
+pub fn put<S: Alter>(conn: &mut Connection<S>, customer: &Name, mark: &Mark) -> Result<(), Error>
+    ensures made { Makes (state S.Store conn.old) (state S.Store conn.new) result
+        (with_mark (mark_row customer.now mark.now)) }
+    ensures kept { KeepsCommitted (state S.Store conn.old) (state S.Store conn.new) }
+{
+    remove(conn, customer, &mark.label)?;
+    insert(conn, customer, mark)?;
+    Ok(())
+}

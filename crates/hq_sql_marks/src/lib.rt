@@ -1,7 +1,0 @@
-//! The statements of the store on `sqlite` on the marks of imports, one function each, said of the
-//! tables of all customers as finite maps.
-#![tactic(auto)]
-
-mod bind;
-mod decode;
-pub mod marks;

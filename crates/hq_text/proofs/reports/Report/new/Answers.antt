@@ -1,6 +1,0 @@
-use Rattle.std.proofs.Common.{refl}
-use Rattle.hq_text.proofs.Writing.{begun}
-use Rattle.hq_text.proofs.reports.Report.new.Goals as goal
-
-pub returns : goal.returns
-returns c = begun _ c.new.ensures.bytes refl refl refl

@@ -1,9 +1,0 @@
-use Rattle.std.proofs.Common.{[]}
-use Rattle.hq_text.proofs.Joined.{line_then}
-use Rattle.hq_text.specs.Lines.{lf}
-use Rattle.hq_text.specs.Reports.{top_lines}
-use Rattle.hq_text.proofs.reports.top_text.Goals as goal
-
-pub returns : goal.returns
-unfolding top_lines
-returns c = line_then lf [] _ _ _ _ _ c.in_ok-push_str.ensures.bytes c.in_ok-text.ensures c.in_ok-put_hold.ensures
