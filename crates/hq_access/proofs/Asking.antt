@@ -4,7 +4,8 @@ use Rattle.std.proofs.Common.{Err, IfOk, OnOk, refl, arith, sym, ap, ◌∙◌, 
 use Rattle.hq_base.specs.declared.failure.Fault.{Fault}
 use Rattle.hq_access.specs.declared.action.Action.{Action}
 use Rattle.hq_access.specs.declared.pattern.Class.{Class}
-use Rattle.hq_access.specs.Lookups.{Found, Gets, Goes, Asks, Looks, Tells, first_match, or_next}
+use Rattle.hq_access.specs.Lookups.{Found, Gets, AsksOn, LooksUp, Looks, TellsLines, first_match}
+use Rattle.hq_access.specs.Lookups.{or_next}
 
 module _ {S : Type 0} (gets : Gets S) (class : Class) where
   -- the keys were asked for, and none had a line
@@ -25,25 +26,25 @@ module _ {S : Type 0} (gets : Gets S) (class : Class) where
 
   -- the keys that had none, and then the others
   pub asks_after : (keys more : List (List ℕ)) (old mid : S) (result : Result Found Fault) (new : S)
-      → Passes keys old mid → Asks gets class more mid result new →
-      Asks gets class (keys ++ more) old result new
+      → Passes keys old mid → LooksUp gets class more mid result new →
+      LooksUp gets class (keys ++ more) old result new
   asks_after [] more old mid result new passed asked =
-      subst (λ s. Asks gets class more s result new) passed asked
+      subst (λ s. LooksUp gets class more s result new) passed asked
   asks_after (k ∷ keys) more old mid result new passed asked =
       (Ok None, passed.0, passed.1, asks_after keys more passed.0 mid result new passed.2 asked)
 
-  module _ (lines : S → Class → List ℕ → Option Action) (tells : Tells gets lines) where
+  module _ (lines : S → Class → List ℕ → Option Action) (tells : TellsLines gets lines) where
     -- where asking tells the lines and leaves them, what is found is the first match
     asks_found : (keys : List (List ℕ)) (old : S) (result : Result Found Fault) (new : S) →
-        Asks gets class keys old result new →
+        LooksUp gets class keys old result new →
         IfOk result (λ found. found ≡ first_match (lines old class) keys)
     asks_found [] old result new asked = subst (λ r. IfOk r (λ found. found ≡ None)) (sym asked.0)
         refl
     asks_found (key ∷ keys) old result new asked =
         by asked.0 asked.1 asked.2 asked.3 (λ mid rest. asks_found keys mid result new rest) where
           by : (answer : Result (Option Action) Fault) (mid : S) → gets old class key answer mid →
-              Goes (Asks gets class keys) key answer mid result new →
-              ((mid : S) → Asks gets class keys mid result new →
+              AsksOn (LooksUp gets class keys) key answer mid result new →
+              ((mid : S) → LooksUp gets class keys mid result new →
               IfOk result (λ found. found ≡ first_match (lines mid class) keys)) →
               IfOk result (λ found. found ≡ or_next key (lines old class key)
               (first_match (lines old class) keys))
@@ -64,14 +65,14 @@ module _ {S : Type 0} (gets : Gets S) (class : Class) where
               (further mid goes)
 
     asks_keep : (keys : List (List ℕ)) (old : S) (result : Result Found Fault) (new : S) →
-        Asks gets class keys old result new → OnOk result (lines new ≡ lines old)
+        LooksUp gets class keys old result new → OnOk result (lines new ≡ lines old)
     asks_keep [] old result new asked = subst (λ r. OnOk r (lines new ≡ lines old)) (sym asked.0)
         (ap lines asked.1)
     asks_keep (key ∷ keys) old result new asked =
         by asked.0 asked.1 asked.2 asked.3 (λ mid rest. asks_keep keys mid result new rest) where
           by : (answer : Result (Option Action) Fault) (mid : S) → gets old class key answer mid →
-              Goes (Asks gets class keys) key answer mid result new →
-              ((mid : S) → Asks gets class keys mid result new →
+              AsksOn (LooksUp gets class keys) key answer mid result new →
+              ((mid : S) → LooksUp gets class keys mid result new →
               OnOk result (lines new ≡ lines mid)) →
               OnOk result (lines new ≡ lines old)
           by (Err fault) mid got goes further = subst (λ r. OnOk r (lines new ≡ lines old))
@@ -101,16 +102,17 @@ module _ {S : Type 0} (gets : Gets S) (class : Class) where
   pub looks_until : (keys seen rest : List (List ℕ)) (key : List ℕ)
       (answer : Result (Option Action) Fault) (old mid : S) (result : Result Found Fault) (new : S)
       → seen ++ key ∷ rest ≡ keys → Passes seen old mid → gets mid class key answer new →
-      Goes (Asks gets class rest) key answer new result new → Looks gets class keys old result new
+      AsksOn (LooksUp gets class rest) key answer new result new
+      → Looks gets class keys old result new
   looks_until keys seen rest key answer old mid result new all passed got goes =
-      inr (subst (λ (ks : List (List ℕ)). Asks gets class ks old result new) all
+      inr (subst (λ (ks : List (List ℕ)). LooksUp gets class ks old result new) all
       (asks_after seen (key ∷ rest) old mid result new passed (answer, new, got, goes)))
 
   -- all keys had none
   pub looks_through : (keys seen rest : List (List ℕ)) (old new : S) → seen ++ rest ≡ keys →
       0 ≡ length rest → Passes seen old new → Looks gets class keys old (Ok None) new
   looks_through keys seen [] old new all none passed =
-      inr (subst (λ (ks : List (List ℕ)). Asks gets class ks old (Ok None) new) all
+      inr (subst (λ (ks : List (List ℕ)). LooksUp gets class ks old (Ok None) new) all
       (asks_after seen [] old new (Ok None) new passed (refl, refl)))
   looks_through keys seen (key ∷ rest) old new all none passed = let no : ⊥ = omega arith in
       absurd no

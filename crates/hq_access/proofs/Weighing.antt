@@ -11,7 +11,8 @@ use Rattle.hq_access.specs.declared.action.Action.TheVariants.{Okay, Reject, Def
 use Rattle.hq_access.specs.declared.action.Action.TheVariants.{Hold, Redirect}
 use Rattle.hq_access.specs.declared.verdicts.Refused.{Refused}
 use Rattle.hq_access.specs.Verdicts.{refuses, discards, redirection, holding, refused_one}
-use Rattle.hq_access.specs.Verdicts.{refused_in, kept_in, found_in, first_of, redirect_of, held_by}
+use Rattle.hq_access.specs.Verdicts.{refused_in, not_refused, found_in, first_of, redirect_of}
+use Rattle.hq_access.specs.Verdicts.{held_by}
 
 -- a recipient, with what was found for it
 abbrev pub Recipient : Type 0
@@ -26,17 +27,9 @@ one_more rs i r below is = take_more rs i r below ∙ ap (λ x. take i rs ++ x �
 abbrev pub kept_one : Recipient → List Recipient
 kept_one r = if not (refuses r.1) then r ∷ [] else []
 
-kept_more : (rs : List Recipient) (r : Recipient) → kept_in (rs ++ r ∷ []) ≡ kept_in rs
+kept_more : (rs : List Recipient) (r : Recipient) → not_refused (rs ++ r ∷ []) ≡ not_refused rs
     ++ kept_one r
 kept_more rs r = filter-append (λ x. not (refuses x.1)) rs (r ∷ [])
-
-pub kept_step : (rs : List Recipient) (i : ℕ) (r : Recipient) → i < length rs → r ≡ get_or rs i r →
-    map (λ x. x.0) (kept_in (take (i + 1) rs)) ≡ map (λ x. x.0) (kept_in (take i rs))
-    ++ map (λ x. x.0) (kept_one r)
-kept_step rs i r below is =
-    ap (λ xs. map (λ x. x.0) (kept_in xs)) (one_more rs i r below is)
-    ∙ ap (λ xs. map (λ x. x.0) xs) (kept_more (take i rs) r)
-    ∙ map-append (λ (x : Recipient). x.0) (kept_in (take i rs)) (kept_one r)
 
 pub refused_step : (rs : List Recipient) (i : ℕ) (r : Recipient) → i < length rs → r ≡ get_or rs i r
     → refused_in (take (i + 1) rs) ≡ refused_in (take i rs) ++ cons_option (refused_one r) []
@@ -57,7 +50,7 @@ refused_next rs i r below is one before after is_one is_before is_after =
 found_more : (found : Option Action) (rs : List Recipient) (r : Recipient) →
     found_in found (rs ++ r ∷ []) ≡ found_in found rs ++ map (λ x. x.1) (kept_one r)
 found_more found rs r = ap (λ xs. found ∷ map (λ x. x.1) xs) (kept_more rs r)
-    ∙ ap (λ xs. found ∷ xs) (map-append (λ (x : Recipient). x.1) (kept_in rs) (kept_one r))
+    ∙ ap (λ xs. found ∷ xs) (map-append (λ (x : Recipient). x.1) (not_refused rs) (kept_one r))
 
 -- ---- the last redirection
 
@@ -165,12 +158,12 @@ held_next found rs i r below is first next both is_both is_next is_first =
 
 -- an action that refuses discards nothing
 pub discards_kept : (rs : List Recipient) →
-    list_any discards (map (λ r. r.1) (kept_in rs)) ≡ list_any (λ r. discards r.1) rs
+    list_any discards (map (λ r. r.1) (not_refused rs)) ≡ list_any (λ r. discards r.1) rs
 discards_kept [] = refl
 discards_kept (r ∷ rs) = by r.1 (discards_kept rs) where
-  by : (found : Option Action) → list_any discards (map (λ r. r.1) (kept_in rs)) ≡ list_any
+  by : (found : Option Action) → list_any discards (map (λ r. r.1) (not_refused rs)) ≡ list_any
       (λ r. discards r.1) rs → list_any discards (map (λ r. r.1) (if not (refuses found) then
-      (r.0, found) ∷ kept_in rs else kept_in rs)) ≡ (discards found
+      (r.0, found) ∷ not_refused rs else not_refused rs)) ≡ (discards found
       || list_any (λ r. discards r.1) rs)
   by None further = further
   by (Some (Okay t)) further = further

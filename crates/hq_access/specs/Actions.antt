@@ -41,24 +41,25 @@ abbrev pub is_verb : List ℕ → List ℕ → Bool
 is_verb verb name = str_eq_ignore_ascii_case verb name
 
 -- the text of a verb: at most 1,000 bytes of printable ASCII and spaces
-abbrev pub text_in : List ℕ → Result (List ℕ) Refusal
-text_in argument = checked argument (is_text argument) BadAction
+abbrev pub argument_in : List ℕ → Result (List ℕ) Refusal
+argument_in argument = checked argument (is_text argument) BadAction
 
 -- the address of a verb
-abbrev pub address_in : List ℕ → Result (List ℕ) Refusal
-address_in argument = checked argument (is_address argument) BadAction
+abbrev pub verb_address : List ℕ → Result (List ℕ) Refusal
+verb_address argument = checked argument (is_address argument) BadAction
 
 -- verbs are read without regard to ASCII case
 abbrev pub action_with : List ℕ → List ℕ → Result Action Refusal
 action_with verb argument =
-    if is_verb verb (codes "OK") then seen_by (λ text. Okay text) (text_in argument)
-    else if is_verb verb (codes "REJECT") then seen_by (λ text. Reject text) (text_in argument)
-    else if is_verb verb (codes "DEFER") then seen_by (λ text. Defer text) (text_in argument)
-    else if is_verb verb (codes "DUNNO") then seen_by (λ text. Dunno text) (text_in argument)
-    else if is_verb verb (codes "DISCARD") then seen_by (λ text. Discard text) (text_in argument)
-    else if is_verb verb (codes "HOLD") then seen_by (λ text. Hold text) (text_in argument)
+    if is_verb verb (codes "OK") then seen_by (λ text. Okay text) (argument_in argument)
+    else if is_verb verb (codes "REJECT") then seen_by (λ text. Reject text) (argument_in argument)
+    else if is_verb verb (codes "DEFER") then seen_by (λ text. Defer text) (argument_in argument)
+    else if is_verb verb (codes "DUNNO") then seen_by (λ text. Dunno text) (argument_in argument)
+    else if is_verb verb (codes "DISCARD") then seen_by (λ text. Discard text)
+    (argument_in argument)
+    else if is_verb verb (codes "HOLD") then seen_by (λ text. Hold text) (argument_in argument)
     else if is_verb verb (codes "REDIRECT") then
-    seen_by (λ address. Redirect address) (address_in argument)
+    seen_by (λ address. Redirect address) (verb_address argument)
     else Err BadAction
 
 -- the action that a text is
@@ -68,9 +69,9 @@ action_in text = action_with (verb_of text) (argument_of text)
 -- ---- the written form
 
 -- a verb in capitals, and then a space and the argument, where that is not empty
-abbrev pub written : List ℕ → List ℕ → List ℕ
-written verb [] = verb
-written verb (b ∷ argument) = verb ++ 32 ∷ b ∷ argument
+abbrev pub with_argument : List ℕ → List ℕ → List ℕ
+with_argument verb [] = verb
+with_argument verb (b ∷ argument) = verb ++ 32 ∷ b ∷ argument
 
 abbrev pub verb_text : Action → List ℕ
 verb_text (Okay text) = codes "OK"
@@ -91,4 +92,4 @@ argument_text (Hold text) = text
 argument_text (Redirect address) = address
 
 abbrev pub action_text : Action → List ℕ
-action_text action = written (verb_text action) (argument_text action)
+action_text action = with_argument (verb_text action) (argument_text action)

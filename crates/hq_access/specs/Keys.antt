@@ -20,8 +20,8 @@ base_of local = if nat_lt 0 (plus_at local) && nat_lt (plus_at local) (length lo
     Some (before_first is_plus local) else None
 
 -- the local part, and its base where it has one
-abbrev pub names_of : List ℕ → List (List ℕ)
-names_of local = local ∷ cons_option (base_of local) []
+abbrev pub local_names : List ℕ → List (List ℕ)
+local_names local = local ∷ cons_option (base_of local) []
 
 -- user@domain, and user@ where the domain is left empty
 abbrev pub at : List ℕ → List ℕ → List ℕ
@@ -39,8 +39,8 @@ domain_keys domain = domain ∷ parents (slice_split is_dot domain)
 
 -- the address, its base at the domain, the domain keys, user@, and its base with @
 abbrev pub address_keys : List ℕ → List ℕ → List (List ℕ)
-address_keys local domain = map (at domain) (names_of local) ++ domain_keys domain
-    ++ map (at []) (names_of local)
+address_keys local domain = map (at domain) (local_names local) ++ domain_keys domain
+    ++ map (at []) (local_names local)
 
 -- the null sender has the one key <>
 abbrev pub null_key : List ℕ

@@ -27,28 +27,28 @@ abbrev pub Gets : Type 0 → Type 1
 Gets S = S → Class → List ℕ → Result (Option Action) Fault → S → Type 0
 
 -- what is done after an answer: a line or a fault ends the lookup
-abbrev pub Goes : {S : Type 0} → (S → Result Found Fault → S → Type 0) → List ℕ →
+abbrev pub AsksOn : {S : Type 0} → (S → Result Found Fault → S → Type 0) → List ℕ →
     Result (Option Action) Fault → S → Result Found Fault → S → Type 0
-Goes next key (Ok None) mid result new = next mid result new
-Goes next key (Ok (Some action)) mid result new = (result ≡ Ok (Some (key, action))) × (new ≡ mid)
-Goes next key (Err fault) mid result new = (result ≡ Err fault) × (new ≡ mid)
+AsksOn next key (Ok None) mid result new = next mid result new
+AsksOn next key (Ok (Some action)) mid result new = (result ≡ Ok (Some (key, action))) × (new ≡ mid)
+AsksOn next key (Err fault) mid result new = (result ≡ Err fault) × (new ≡ mid)
 
 -- The keys are asked for in order, each once, and none after the first that has a line or ends in a
 -- fault.
-abbrev pub Asks : {S : Type 0} → Gets S → Class → List (List ℕ) → S → Result Found Fault → S →
+abbrev pub LooksUp : {S : Type 0} → Gets S → Class → List (List ℕ) → S → Result Found Fault → S →
     Type 0
-Asks gets class [] old result new = (result ≡ Ok None) × (new ≡ old)
-Asks {S} gets class (key ∷ keys) old result new = (answer : Result (Option Action) Fault)
+LooksUp gets class [] old result new = (result ≡ Ok None) × (new ≡ old)
+LooksUp {S} gets class (key ∷ keys) old result new = (answer : Result (Option Action) Fault)
     × (mid : S) × gets old class key answer mid
-    × Goes (Asks gets class keys) key answer mid result new
+    × AsksOn (LooksUp gets class keys) key answer mid result new
 
 -- a lookup asks for its keys, or memory ran out before the first
 abbrev pub Looks : {S : Type 0} → Gets S → Class → List (List ℕ) → S → Result Found Fault → S →
     Type 0
 Looks gets class keys old result new = ((result ≡ Err no_memory) × (new ≡ old))
-    ⊎ Asks gets class keys old result new
+    ⊎ LooksUp gets class keys old result new
 
 -- asking tells what these lines are, and leaves them
-abbrev pub Tells : {S : Type 0} → Gets S → (S → Class → List ℕ → Option Action) → Type 0
-Tells {S} gets lines = (old new : S) (class : Class) (key : List ℕ) (answer : Option Action) →
+abbrev pub TellsLines : {S : Type 0} → Gets S → (S → Class → List ℕ → Option Action) → Type 0
+TellsLines {S} gets lines = (old new : S) (class : Class) (key : List ℕ) (answer : Option Action) →
     gets old class key (Ok answer) new → (answer ≡ lines old class key) × (lines new ≡ lines old)

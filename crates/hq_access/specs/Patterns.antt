@@ -1,11 +1,12 @@
 -- Patterns: what a line of an access table is for (access(5), EMAIL ADDRESS PATTERNS).
 use Rattle.std.specs.Prelude.{ℕ, Bool, false, ◌&&◌, ◌||◌, ◌==◌, nat_le, List, [], ◌∷◌, codes}
-use Rattle.std.specs.Prelude.{length, Option, Some, None, Result}
+use Rattle.std.specs.Prelude.{length, if◌then◌else◌, Option, Some, None, Result}
 use Rattle.std.specs.Str.{bytes_eq}
 use Rattle.hq_base.specs.Readers.{checked}
 use Rattle.hq_base.specs.declared.failure.Refusal.{Refusal}
 use Rattle.hq_base.specs.declared.failure.Refusal.TheVariants.{BadPattern}
 use Rattle.hq_envelope.specs.Addresses.{is_dot, is_address, is_domain, is_local, folded, parts_of}
+use Rattle.hq_envelope.specs.Addresses.{most_address_bytes}
 use Rattle.hq_access.specs.Keys.{null_key}
 use Rattle.hq_access.specs.declared.pattern.Class.{Class}
 use Rattle.hq_access.specs.declared.pattern.Class.TheVariants.{SenderSide, RecipientSide}
@@ -14,6 +15,11 @@ use Rattle.hq_access.specs.declared.pattern.Class.TheVariants.{SenderSide, Recip
 abbrev pub class_name : Class → List ℕ
 class_name SenderSide = codes "sender"
 class_name RecipientSide = codes "recipient"
+
+-- the class of a name
+abbrev pub class_in : List ℕ → Option Class
+class_in name = if bytes_eq name (class_name SenderSide) then Some SenderSide else
+    if bytes_eq name (class_name RecipientSide) then Some RecipientSide else None
 
 -- .domain
 abbrev pub is_subdomains : List ℕ → Bool
@@ -36,7 +42,7 @@ is_null RecipientSide text = false
 
 -- user@domain, domain, .domain, user@, or <> for senders; at most 254 bytes
 abbrev pub is_pattern : Class → List ℕ → Bool
-is_pattern class text = nat_le (length text) 254
+is_pattern class text = nat_le (length text) most_address_bytes
     && (is_address text || is_domain text || is_subdomains text || is_user text
     || is_null class text)
 

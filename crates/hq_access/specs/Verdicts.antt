@@ -54,23 +54,23 @@ holding found = None
 
 -- ---- recipients, each with what was found for it
 
-abbrev pub told : Sender → ℕ × List ℕ → Refused
-told who why = record { address = who; code = why.0; text = why.1 }
+abbrev pub refusal_of : Sender → ℕ × List ℕ → Refused
+refusal_of who why = record { address = who; code = why.0; text = why.1 }
 
 abbrev pub refused_one : List ℕ × Option Action → Option Refused
-refused_one recipient = option_map (told (From recipient.0)) (refusal recipient.1)
+refused_one recipient = option_map (refusal_of (From recipient.0)) (refusal recipient.1)
 
 -- those that are refused, in order
 abbrev pub refused_in : List (List ℕ × Option Action) → List Refused
 refused_in recipients = filter_map refused_one recipients
 
 -- the others, in order
-abbrev pub kept_in : List (List ℕ × Option Action) → List (List ℕ × Option Action)
-kept_in recipients = filter (λ r. not (refuses r.1)) recipients
+abbrev pub not_refused : List (List ℕ × Option Action) → List (List ℕ × Option Action)
+not_refused recipients = filter (λ r. not (refuses r.1)) recipients
 
 -- what was found for the sender, and then for the kept recipients in order
 abbrev pub found_in : Option Action → List (List ℕ × Option Action) → List (Option Action)
-found_in sender recipients = sender ∷ map (λ r. r.1) (kept_in recipients)
+found_in sender recipients = sender ∷ map (λ r. r.1) (not_refused recipients)
 
 -- ---- the verdict
 
@@ -88,18 +88,19 @@ held_by found = first_of (filter_map holding found)
 
 -- With no recipient kept the submission is rejected; else any DISCARD discards it; else it is
 -- queued.
-abbrev pub judged : List (List ℕ) → List Refused → List (Option Action) → Verdict
-judged [] refused found = Rejected refused
-judged (k ∷ kept) refused found = if list_any discards found then Discarded refused else
+abbrev pub verdict_on : List (List ℕ) → List Refused → List (Option Action) → Verdict
+verdict_on [] refused found = Rejected refused
+verdict_on (k ∷ kept) refused found = if list_any discards found then Discarded refused else
     Queue (k ∷ kept) refused (redirect_of found) (option_map or_table (held_by found))
 
 -- A rejected sender is refused alone, whatever its recipients are.
 abbrev pub after_sender : Option Refused → Option Action → List (List ℕ × Option Action) → Verdict
 after_sender (Some refused) found recipients = Rejected (refused ∷ [])
-after_sender None found recipients = judged (map (λ r. r.0) (kept_in recipients))
+after_sender None found recipients = verdict_on (map (λ r. r.0) (not_refused recipients))
     (refused_in recipients) (found_in found recipients)
 
 -- by what was found for the sender, the sender, and its recipients with what was found for each
 abbrev pub verdict : Option Action → Sender → List (List ℕ × Option Action) → Verdict
-verdict found sender recipients = after_sender (option_map (told sender) (refusal found)) found
+verdict found sender recipients = after_sender (option_map (refusal_of sender) (refusal found))
+    found
     recipients

@@ -62,7 +62,7 @@ fn is_verb(verb: &str, name: &str) -> bool
 
 /// Reads the text of an action, or refuses it as 25 `BadAction`.
 fn text_argument(alloc: Global, argument: &str) -> Result<Text, Fail>
-    ensures { Reads result (rules.text_in argument.now) }
+    ensures { Reads result (rules.argument_in argument.now) }
 {
     match Text::parse(alloc, argument) {
         Ok(text) => Ok(text),
@@ -73,7 +73,7 @@ fn text_argument(alloc: Global, argument: &str) -> Result<Text, Fail>
 
 /// Reads the address of an action, or refuses it as 25 `BadAction`.
 fn address_argument(alloc: Global, argument: &str) -> Result<Address, Fail>
-    ensures { Reads result (rules.address_in argument.now) }
+    ensures { Reads result (rules.verb_address argument.now) }
 {
     match Address::parse(alloc, argument) {
         Ok(address) => Ok(address),
@@ -106,8 +106,8 @@ fn action_with(alloc: Global, verb: &str, argument: &str) -> Result<Action, Fail
 }
 
 /// A verb, and then a space and the argument where that is not empty.
-fn written(alloc: Global, verb: &str, argument: &str) -> Result<String, AllocError>
-    ensures { IfOk result (λ text. string_bytes text ≡ rules.written verb.now argument.now) }
+fn with_argument(alloc: Global, verb: &str, argument: &str) -> Result<String, AllocError>
+    ensures { IfOk result (λ text. string_bytes text ≡ rules.with_argument verb.now argument.now) }
 {
     if argument.is_empty() {
         String::from_str(alloc, verb)
@@ -131,13 +131,13 @@ impl Action {
         ensures { IfOk result (λ text. string_bytes text ≡ rules.action_text self.now) }
     {
         match self {
-            Action::Okay(text) => written(alloc, "OK", text.as_str()),
-            Action::Reject(text) => written(alloc, "REJECT", text.as_str()),
-            Action::Defer(text) => written(alloc, "DEFER", text.as_str()),
-            Action::Dunno(text) => written(alloc, "DUNNO", text.as_str()),
-            Action::Discard(text) => written(alloc, "DISCARD", text.as_str()),
-            Action::Hold(text) => written(alloc, "HOLD", text.as_str()),
-            Action::Redirect(address) => written(alloc, "REDIRECT", address.as_str()),
+            Action::Okay(text) => with_argument(alloc, "OK", text.as_str()),
+            Action::Reject(text) => with_argument(alloc, "REJECT", text.as_str()),
+            Action::Defer(text) => with_argument(alloc, "DEFER", text.as_str()),
+            Action::Dunno(text) => with_argument(alloc, "DUNNO", text.as_str()),
+            Action::Discard(text) => with_argument(alloc, "DISCARD", text.as_str()),
+            Action::Hold(text) => with_argument(alloc, "HOLD", text.as_str()),
+            Action::Redirect(address) => with_argument(alloc, "REDIRECT", address.as_str()),
         }
     }
 }

@@ -5,7 +5,7 @@ ghost use Rattle.hq_base.specs.declared.failure.Fault.{Fault};
 ghost use Rattle.hq_access.specs.declared.action.Action.{Action};
 ghost use Rattle.hq_access.specs.declared.pattern.Class.{Class};
 ghost use Rattle.hq_access.specs.Keys as rules;
-ghost use Rattle.hq_access.specs.Lookups.{first_match, Looks, Tells};
+ghost use Rattle.hq_access.specs.Lookups.{first_match, Looks, TellsLines};
 
 use crate::action::Action;
 use crate::keys::{LookupKey, keys_of};
@@ -34,10 +34,10 @@ pub fn lookup<L: Lines>(
     who: &Sender,
 ) -> Result<Option<(LookupKey, Action)>, Fault>
     ensures asked { Looks L.gets class (rules.keys_of who.now) lines.old result lines.new }
-    ensures found { (table : L → Class → List ℕ → Option Action) → Tells L.gets table
+    ensures found { (table : L → Class → List ℕ → Option Action) → TellsLines L.gets table
         → IfOk result (λ found. found ≡ first_match (table lines.old class)
         (rules.keys_of who.now)) }
-    ensures same { (table : L → Class → List ℕ → Option Action) → Tells L.gets table
+    ensures same { (table : L → Class → List ℕ → Option Action) → TellsLines L.gets table
         → OnOk result (table lines.new ≡ table lines.old) }
 {
     for key in keys_of(alloc, who)? {

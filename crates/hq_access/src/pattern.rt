@@ -3,7 +3,7 @@
 ghost use Rattle.std.specs.Prelude.{◌≡◌, IfOk};
 ghost use Rattle.hq_base.specs.Readers.{Reads};
 ghost use Rattle.hq_access.specs.Patterns.{class_name, is_subdomains, is_user, is_null, is_pattern};
-ghost use Rattle.hq_access.specs.Patterns.{pattern_in};
+ghost use Rattle.hq_access.specs.Patterns.{class_in, pattern_in};
 
 use crate::action::Action;
 use crate::keys::{LookupKey, NULL_KEY};
@@ -31,6 +31,17 @@ impl Class {
         match self {
             Class::SenderSide => "sender",
             Class::RecipientSide => "recipient",
+        }
+    }
+
+    /// The class of a name; none where no class has it.
+    pub fn named(name: &str) -> Option<Class>
+        ensures { result ≡ class_in name.now }
+    {
+        match name {
+            "sender" => Some(Class::SenderSide),
+            "recipient" => Some(Class::RecipientSide),
+            _ => None,
         }
     }
 }

@@ -143,8 +143,8 @@ fn holding(found: Option<&Action>) -> Option<&Text>
     }
 }
 
-fn told(who: Sender, why: (u16, Text)) -> Refused
-    ensures { result ≡ rules.told who why }
+fn refusal_of(who: Sender, why: (u16, Text)) -> Refused
+    ensures { result ≡ rules.refusal_of who why }
 {
     let (code, text) = why;
     Refused {
@@ -164,7 +164,7 @@ fn refused_one(
     match refusal(alloc, recipient.1.as_ref())? {
         Some(why) => {
             let address = recipient.0.copy(alloc)?;
-            Ok(Some(told(Sender::From(address), why)))
+            Ok(Some(refusal_of(Sender::From(address), why)))
         }
         None => Ok(None),
     }
@@ -187,12 +187,12 @@ fn refused_in(
 }
 
 /// The recipients that are not, in order.
-fn kept_in(
+fn not_refused(
     alloc: Global,
     recipients: &[(Address, Option<Action>)],
 ) -> Result<Vec<Address>, AllocError>
     ensures { IfOk result (λ kept. kept.items
-        ≡ map (λ r. r.0) (rules.kept_in recipients.now)) }
+        ≡ map (λ r. r.0) (rules.not_refused recipients.now)) }
 {
     let mut kept = Vec::new(alloc);
     for recipient in recipients {
@@ -279,12 +279,12 @@ pub fn decide(
         ≡ rules.verdict (option_map (λ a. a.now) found.entry) sender.now recipients.now) }
 {
     if let Some(why) = refusal(alloc, found)? {
-        let refused = vec![in alloc; told(sender.copy(alloc)?, why)]?;
+        let refused = vec![in alloc; refusal_of(sender.copy(alloc)?, why)]?;
         return Ok(Verdict::Rejected {
             refused: Items::from_vec(refused),
         });
     }
-    let kept = kept_in(alloc, recipients)?;
+    let kept = not_refused(alloc, recipients)?;
     let refused = Items::from_vec(refused_in(alloc, recipients)?);
     if kept.is_empty() {
         return Ok(Verdict::Rejected { refused });

@@ -1,6 +1,6 @@
 -- A sweep of customers, one after the other.
 use Rattle.std.proofs.Common.{◌≡◌, ℕ, zero, suc, ◌<◌, false, true, List, [], ◌∷◌, ◌++◌, map, take}
-use Rattle.std.proofs.Common.{drop, length, get_or, Option, Some, None, Ok, Err, refl, sym, ap, ◌∙◌}
+use Rattle.std.proofs.Common.{drop, length, get_or, Ok, Err, refl, sym, ap, ◌∙◌}
 use Rattle.std.proofs.Common.{subst, arith, length-append}
 use Rattle.hq_base.specs.Turns.{InTurn}
 use Rattle.hq_base.proofs.Turns.{turns_on, one_turn}
@@ -10,7 +10,6 @@ use Rattle.hq_queue.specs.declared.account.Entry.{Entry}
 use Rattle.hq_store.specs.Shelves.{Sight, IsTallied, KeepsOnErr, OnSound, OnOpenSound}
 use Rattle.hq_store.specs.Sound.{Sound}
 use Rattle.hq_store.specs.Tables.{Tables}
-use Rattle.hq_calls.specs.Machine.{shared}
 use Rattle.hq_calls.specs.declared.call.Call.TheVariants.{Sweep}
 use Rattle.hq_desk.specs.Desks.{Stays, IsRendered, host_of, on, stepped}
 use Rattle.hq_desk.specs.declared.desk.Desk.{Desk}

@@ -16,7 +16,7 @@ found None = Err NoCustomer
 
 -- the first customer of a directory that has this name, byte for byte: the first fault of the file,
 -- or else 13 where none has
-abbrev pub entry_in : List ℕ → List ℕ → Result Entry Refusal
-entry_in file name = do
+abbrev pub entry_named : List ℕ → List ℕ → Result Entry Refusal
+entry_named file name = do
   customers ← customers_in file
   found (find (has_name name) customers)

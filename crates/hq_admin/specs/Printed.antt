@@ -7,13 +7,13 @@ use Rattle.hq_calls.specs.declared.answer.ImportCounts.{ImportCounts}
 use Rattle.hq_calls.specs.declared.answer.SweepCounts.{SweepCounts}
 
 -- what an import set, on a line
-unfoldable pub imported : ImportCounts → List ℕ
-imported counts = codes "added " ++ decimal counts.added ++ codes ", changed "
+unfoldable pub import_line : ImportCounts → List ℕ
+import_line counts = codes "added " ++ decimal counts.added ++ codes ", changed "
     ++ decimal counts.changed ++ codes ", same " ++ decimal counts.same ++ codes "\n"
 
 -- what a sweep did, on a line
-unfoldable pub swept : SweepCounts → List ℕ
-swept counts = codes "expired " ++ decimal counts.expired ++ codes ", warned "
+unfoldable pub sweep_line : SweepCounts → List ℕ
+sweep_line counts = codes "expired " ++ decimal counts.expired ++ codes ", warned "
     ++ decimal counts.warned ++ codes ", notices " ++ decimal counts.notices ++ codes "\n"
 
 -- the queue report as it is, the counts of an import and of a sweep, a refusal as it is shown, and
@@ -21,6 +21,6 @@ swept counts = codes "expired " ++ decimal counts.expired ++ codes ", warned "
 abbrev pub printed : Answer → List ℕ
 printed (Refused refusal) = refusal_shown refusal
 printed (Reported report) = report
-printed (Imported counts) = imported counts
-printed (Swept counts) = swept counts
+printed (Imported counts) = import_line counts
+printed (Swept counts) = sweep_line counts
 printed _ = []

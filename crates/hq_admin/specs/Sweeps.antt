@@ -28,13 +28,13 @@ IsSwept host at t entry rendered t' =
     IsRendered (printed_of entry.name) (shared host entry t at Sweep).0 rendered
     × (t' ≡ (shared host entry t at Sweep).1)
 
-abbrev pub entry_of : Customer → Entry
-entry_of customer = customer.entry
+abbrev pub customer_entry : Customer → Entry
+customer_entry customer = customer.entry
 
 -- all are swept; or the first of them are, and the next one stopped it by a fault
-abbrev pub EndsAt : (Fault → Type 0) → List Entry → Option Fault → Type 0
-EndsAt may left None = left ≡ []
-EndsAt may left (Some fault) = may fault × ((next : Entry) × (more : List Entry)
+abbrev pub SweepsUpTo : (Fault → Type 0) → List Entry → Option Fault → Type 0
+SweepsUpTo may left None = left ≡ []
+SweepsUpTo may left (Some fault) = may fault × ((next : Entry) × (more : List Entry)
     × (left ≡ next ∷ more))
 
 -- The customers are swept in their order by a desk over this shelf, until a fault; each that is
@@ -47,9 +47,9 @@ pub record SweepsAll {S : Type 0} (sight : Sight S) (shelf : S) (host : List ℕ
   pub new : Desk S
   pub swept : List Entry
   pub left : List Entry
-  pub order : map entry_of customers ≡ swept ++ left
+  pub order : map customer_entry customers ≡ swept ++ left
   pub counted : length done.told.items ≡ length swept
   pub each : OnOpenSound (on sight) old new
       (InTurn (IsSwept host at) ((on sight).tables old) swept done.told.items
       ((on sight).tables new))
-  pub ends : EndsAt (on sight).may_answer left done.stopped
+  pub ends : SweepsUpTo (on sight).may_answer left done.stopped

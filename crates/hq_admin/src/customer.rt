@@ -4,7 +4,7 @@ ghost use Rattle.std.specs.Prelude.{◌≡◌};
 ghost use Rattle.std.specs.List.{find};
 ghost use Rattle.hq_base.specs.Readers.{Reads};
 ghost use Rattle.hq_queue.specs.Customers.{has_name};
-ghost use Rattle.hq_admin.specs.Customers.{entry_in};
+ghost use Rattle.hq_admin.specs.Customers.{entry_named};
 
 use hq_envelope::{Fail, Refusal};
 use hq_import::directory_of;
@@ -31,7 +31,7 @@ fn with_name(customers: Vec<Customer>, name: &str) -> Option<Customer>
 /// first fault, as 53 `BadDirectory`, 54 `DoubledName` or 55 `DoubledKey`; and where it is good, as
 /// 13 `NoCustomer` if no customer has the name. The only other error is want of memory.
 pub fn customer_in(alloc: Global, file: &[u8], name: &str) -> Result<Entry, Fail>
-    ensures { Reads result (entry_in file.now name.now) }
+    ensures { Reads result (entry_named file.now name.now) }
 {
     let customers = directory_of(alloc, file)?;
     match with_name(customers, name) {

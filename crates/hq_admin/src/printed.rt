@@ -8,10 +8,10 @@ use std::alloc::{AllocError, Global};
 use std::fmt::Write;
 
 /// Adds what an import set.
-#[tactic(auto, unfolding(crate::specs::Printed::imported))]
+#[tactic(auto, unfolding(crate::specs::Printed::import_line))]
 fn put_imported(text: &mut String, counts: ImportCounts) -> Result<(), AllocError>
     ensures { OnOk result (string_bytes text.new
-        ≡ string_bytes text.old ++ texts.imported counts) }
+        ≡ string_bytes text.old ++ texts.import_line counts) }
 {
     let ImportCounts {
         added,
@@ -22,9 +22,10 @@ fn put_imported(text: &mut String, counts: ImportCounts) -> Result<(), AllocErro
 }
 
 /// Adds what a sweep did.
-#[tactic(auto, unfolding(crate::specs::Printed::swept))]
+#[tactic(auto, unfolding(crate::specs::Printed::sweep_line))]
 fn put_swept(text: &mut String, counts: SweepCounts) -> Result<(), AllocError>
-    ensures { OnOk result (string_bytes text.new ≡ string_bytes text.old ++ texts.swept counts) }
+    ensures { OnOk result (string_bytes text.new
+        ≡ string_bytes text.old ++ texts.sweep_line counts) }
 {
     let SweepCounts {
         expired,

@@ -21,7 +21,7 @@ fn meet_all(
     at: Moment,
     delay: u64,
 ) -> Result<Vec<(Message, Swept)>, AllocError>
-    ensures { IfOk result (λ rows. rows.items ≡ map (rules.met at delay) messages.items) }
+    ensures { IfOk result (λ rows. rows.items ≡ map (rules.message_met at delay) messages.items) }
 {
     let mut rows = Vec::with_capacity(alloc, messages.len())?;
     for message in messages {
@@ -46,7 +46,7 @@ fn is_made(made: Swept, swept: Swept) -> bool
 
 /// Of how many messages the sweep made this.
 fn how_many(made: Swept, rows: &[(Message, Swept)]) -> u64
-    ensures { result ≡ rules.how_many made rows.now }
+    ensures { result ≡ rules.messages_that made rows.now }
 {
     let mut count = 0;
     for row in rows {
@@ -98,7 +98,7 @@ fn status_told(kind: Kind, status: Option<&Status>) -> Status
 
 /// What is told of a recipient.
 fn told_as(alloc: Global, kind: Kind, pending: &Pending) -> Result<Told, AllocError>
-    ensures { IfOk result (λ told. told ≡ rules.told_as kind pending.now) }
+    ensures { IfOk result (λ told. told ≡ rules.last_told kind pending.now) }
 {
     Ok(Told {
         address: pending.address.copy(alloc)?,
@@ -109,7 +109,7 @@ fn told_as(alloc: Global, kind: Kind, pending: &Pending) -> Result<Told, AllocEr
 
 /// What is told of all recipients of a message.
 fn all_told(alloc: Global, kind: Kind, pending: &[Pending]) -> Result<Vec<Told>, AllocError>
-    ensures { IfOk result (λ told. told.items ≡ map (rules.told_as kind) pending.now) }
+    ensures { IfOk result (λ told. told.items ≡ map (rules.last_told kind) pending.now) }
 {
     let mut told = Vec::with_capacity(alloc, pending.len())?;
     for recipient in pending {
@@ -124,7 +124,7 @@ fn draft_row(
     drafts: &mut Vec<Draft>,
     row: &(Message, Swept),
 ) -> Result<(), AllocError>
-    ensures drafted { OnOk result (drafts.new.items ≡ drafts.old.items ++ rules.told_by row.now) }
+    ensures drafted { OnOk result (drafts.new.items ≡ drafts.old.items ++ rules.drafts_of row.now) }
     ensures kept { OnErr result (drafts.new.items ≡ drafts.old.items) }
 {
     let (message, swept) = row;
@@ -139,7 +139,7 @@ fn draft_row(
 
 /// The notices, in order of serial.
 fn drafts_of(alloc: Global, rows: &[(Message, Swept)]) -> Result<Vec<Draft>, AllocError>
-    ensures { IfOk result (λ drafts. drafts.items ≡ flat_map rules.told_by rows.now) }
+    ensures { IfOk result (λ drafts. drafts.items ≡ flat_map rules.drafts_of rows.now) }
 {
     let mut drafts = Vec::new(alloc);
     for row in rows {

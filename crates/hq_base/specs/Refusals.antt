@@ -117,12 +117,13 @@ refusal_detail (DoubledName row) = Some (codes "row", row)
 refusal_detail (DoubledKey row) = Some (codes "row", row)
 refusal_detail _ = None
 
-abbrev pub shown : ℕ → List ℕ → List ℕ
-shown number name = decimal number ++ codes " " ++ name
+abbrev pub number_and_name : ℕ → List ℕ → List ℕ
+number_and_name number name = decimal number ++ codes " " ++ name
 
 abbrev pub shown_with : ℕ → List ℕ → Option (List ℕ × ℕ) → List ℕ
-shown_with number name None = shown number name
-shown_with number name (Some detail) = shown number name ++ codes " " ++ detail.0 ++ codes " "
+shown_with number name None = number_and_name number name
+shown_with number name (Some detail) = number_and_name number name ++ codes " " ++ detail.0
+    ++ codes " "
     ++ decimal detail.1
 
 -- as a person reads it: the number, the name, and the row or the attempts where it has them
@@ -131,7 +132,7 @@ refusal_shown refusal = shown_with (refusal_number refusal) (refusal_name refusa
     (refusal_detail refusal)
 
 abbrev pub fault_shown : Fault → List ℕ
-fault_shown fault = shown (fault_number fault) (fault_name fault)
+fault_shown fault = number_and_name (fault_number fault) (fault_name fault)
 
 abbrev pub fail_shown : Fail → List ℕ
 fail_shown (Refused refusal) = refusal_shown refusal

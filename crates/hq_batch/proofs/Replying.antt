@@ -9,8 +9,8 @@ use Rattle.hq_wire.specs.Exchanges.{Exchanged}
 use Rattle.hq_wire.specs.Replies.{SeenReply}
 use Rattle.hq_requests.specs.declared.directory.Directory.{Directory}
 use Rattle.hq_wire.proofs.Serving.{served}
-use Rattle.hq_lines.specs.Ends.{Ends}
-use Rattle.hq_lines.specs.Fields.{Request}
+use Rattle.hq_lines.specs.Ends.{InputEnds}
+use Rattle.hq_lines.specs.Fields.{LineRequest}
 use Rattle.hq_lines.specs.Lines.{Streams}
 use Rattle.hq_base.specs.declared.engine.EngineFault.TheVariants.{Read, Write, TooManyReads}
 use Rattle.hq_base.specs.declared.engine.EngineFault.TheVariants.{WantOfMemory}
@@ -21,11 +21,11 @@ use Rattle.hq_batch.specs.declared.front.Front.{Front}
 
 module _ {S : Type 0} (sight : Sight S) where
   -- what the lines got one after the other, as the replies of exchanges
-  abbrev Turns : Directory → Desk S → List (Option Request) → List (List ℕ) → Desk S → Type 0
+  abbrev Turns : Directory → Desk S → List (Option LineRequest) → List (List ℕ) → Desk S → Type 0
   Turns d old asked lines new = (rs : List SeenReply) × (lines ≡ map reply_line rs)
       × InTurn (Exchanged sight d) old (map (ask_in d) asked) rs new
 
-  turns : (old new : Front S) (asked : List (Option Request)) (lines : List (List ℕ)) →
+  turns : (old new : Front S) (asked : List (Option LineRequest)) (lines : List (List ℕ)) →
       InTurn (LineStep sight) old asked lines new →
       Turns old.directory.now old.desk.now asked lines new.desk.now
   turns old new [] [] p = ([], refl, ap (λ f. f.desk.now) p)
@@ -38,7 +38,7 @@ module _ {S : Type 0} (sight : Sight S) where
       (p.1.reply ∷ rest.0, (λ i. p.1.line_is i ∷ rest.1 i), (p.0.desk.now, p.1.done, later))
 
   -- they are served together
-  pub replied : (old new : Front S) (asked : List (Option Request)) (lines : List (List ℕ)) →
+  pub replied : (old new : Front S) (asked : List (Option LineRequest)) (lines : List (List ℕ)) →
       InTurn (LineStep sight) old asked lines new →
       Replied sight old.directory.now old.desk.now asked lines new.desk.now
   replied old new asked lines p =
@@ -49,7 +49,7 @@ module _ {S : Type 0} (sight : Sight S) where
             (map (ask_in old.directory.now) asked) all.0 all.2,
       )
 
-  same_desk : (old new : Front S) (asked : List (Option Request)) (lines : List (List ℕ)) →
+  same_desk : (old new : Front S) (asked : List (Option LineRequest)) (lines : List (List ℕ)) →
       InTurn (LineStep sight) old asked lines new → new.desk.ghost_name ≡ old.desk.ghost_name
   same_desk old new [] [] p = ap (λ f. f.desk.ghost_name) p
   same_desk old new [] (line ∷ lines) p = absurd p
@@ -59,7 +59,7 @@ module _ {S : Type 0} (sight : Sight S) where
   -- however the loop ends, the desk is the one that was lent
   pub lent_desk : {X : Type 0} (old new : Front S) → (X → new ≡ old) →
       (start end : Streams) (result : Result ⊤ EngineFault) →
-      Ends (λ asked lines. InTurn (LineStep sight) old asked lines new) X start end result →
+      InputEnds (λ asked lines. InTurn (LineStep sight) old asked lines new) X start end result →
       new.desk.ghost_name ≡ old.desk.ghost_name
   lent_desk old new same start end (Ok x) p = same_desk old new _ p.0.replies p.0.done_all
   lent_desk old new same start end (Err Read) p = same_desk old new _ p.replies p.done_all

@@ -9,10 +9,10 @@ use Rattle.hq_wire.specs.Exchanges.{Ask}
 use Rattle.hq_wire.specs.Replies.{SeenReply}
 use Rattle.hq_wire.specs.Runs.{Served}
 use Rattle.hq_requests.specs.declared.directory.Directory.{Directory}
-use Rattle.hq_lines.specs.Fields.{Request}
+use Rattle.hq_lines.specs.Fields.{LineRequest}
 
 -- What a line asks: what its exchange asks; a line that cannot be read is refused as 1.
-abbrev pub ask_in : Directory → Option Request → Ask
+abbrev pub ask_in : Directory → Option LineRequest → Ask
 ask_in d None = record { at = 0; called = Err BadRequest }
 ask_in d (Some q) = record { at = q.at; called = call_from d q.method q.path q.key q.body }
 
@@ -26,7 +26,7 @@ reply_line r = three_digits r.status ++ 32 ∷ r.body ++ 10 ∷ []
 
 -- What a batch does with what lines ask for: each is served as an exchange, and the replies are
 -- written as lines.
-abbrev pub Replied : {S : Type 0} → Sight S → Directory → Desk S → List (Option Request) →
+abbrev pub Replied : {S : Type 0} → Sight S → Directory → Desk S → List (Option LineRequest) →
     List (List ℕ) → Desk S → Type 0
 Replied sight d old asked lines new = (replies : List SeenReply) × (lines ≡ map reply_line replies)
     × Served sight d old (map (ask_in d) asked) replies new

@@ -2,9 +2,9 @@
 
 ghost use Rattle.std.specs.Prelude.{◌≡◌, Some, IfOk, string_bytes, option_map};
 ghost use Rattle.hq_wire.specs.Runs.{RepliesSo};
-ghost use Rattle.hq_lines.specs.Fields.{request_in, shown};
+ghost use Rattle.hq_lines.specs.Fields.{request_in, line_request};
 ghost use Rattle.hq_batch.specs.Batches.{ask_in};
-ghost use Rattle.hq_batch.specs.Steps.{IsAsked, LineStep};
+ghost use Rattle.hq_batch.specs.Steps.{IsOfLine, LineStep};
 
 use crate::writing::write_reply;
 use hq_desk::Desk;
@@ -27,7 +27,7 @@ fn own_key(alloc: Global, key: Option<&str>) -> Result<Option<String>, AllocErro
 
 /// The exchange that a line asks for.
 fn exchange_of(alloc: Global, line: &RequestLine<'_>) -> Result<Exchange, AllocError>
-    ensures { IfOk result (λ asked. IsAsked asked (shown line.now)) }
+    ensures { IfOk result (λ asked. IsOfLine asked (line_request line.now)) }
 {
     Ok(Exchange {
         at: line.at,
@@ -46,7 +46,7 @@ fn request_reply<S: Shelf + Drop>(
     line: &RequestLine<'_>,
 ) -> Reply
     ensures { RepliesSo S.sight directory.now desk.old
-        (ask_in directory.now (Some (shown line.now))) result desk.new }
+        (ask_in directory.now (Some (line_request line.now))) result desk.new }
 {
     match exchange_of(alloc, line) {
         Ok(asked) => exchange(alloc, desk, directory, &asked),

@@ -1,7 +1,7 @@
 //! A batch with the desk.
 
 ghost use Rattle.std.specs.Prelude.{◌≡◌};
-ghost use Rattle.hq_lines.specs.Ends.{Ends};
+ghost use Rattle.hq_lines.specs.Ends.{InputEnds};
 ghost use Rattle.hq_batch.specs.Batches.{Replied};
 
 use crate::front::Front;
@@ -21,7 +21,7 @@ fn serve_front<R: Read, W: Write, S: Shelf + Drop>(
     front: &mut Front<'_, S>,
 ) -> Result<(), EngineFault>
     ensures same_reference { front.new.desk.ghost_name ≡ front.old.desk.ghost_name }
-    ensures ended { Ends (λ asked lines. Replied S.sight front.old.directory.now
+    ensures ended { InputEnds (λ asked lines. Replied S.sight front.old.directory.now
         front.old.desk.now asked lines front.new.desk.now)
         ((reader.new ≡ reader.old) × (writer.new ≡ writer.old)
         × (front.new.desk.now ≡ front.old.desk.now))
@@ -54,7 +54,7 @@ pub fn batch<R: Read, W: Write, S: Shelf + Drop>(
     desk: &mut Desk<S>,
     directory: &Directory,
 ) -> Result<(), EngineFault>
-    ensures { Ends (λ asked lines. Replied S.sight directory.now desk.old asked lines desk.new)
+    ensures { InputEnds (λ asked lines. Replied S.sight directory.now desk.old asked lines desk.new)
         ((reader.new ≡ reader.old) × (writer.new ≡ writer.old) × (desk.new ≡ desk.old))
         (record { input = R.remaining reader.old; output = W.contents writer.old })
         (record { input = R.remaining reader.new; output = W.contents writer.new }) result }

@@ -13,7 +13,7 @@ use Rattle.hq_envelope.specs.declared.address.Sender.{Sender}
 use Rattle.hq_calls.specs.Limits.{is_recipient_count, is_size}
 use Rattle.hq_calls.specs.declared.call.Submission.{Submission}
 use Rattle.hq_bodies.specs.Reading.{texts_at}
-use Rattle.hq_bodies.specs.Submissions.{Fields, addresses_in, bytes_at, recipients_of, size_of}
+use Rattle.hq_bodies.specs.Submissions.{Fields, addresses_in, bytes_at, recipients_in, size_of}
 use Rattle.hq_bodies.specs.Submissions.{submission_of}
 
 err_ok : {A : Type 0} (r : Refusal) (a : A) → ◌≡◌ {A = Result A Refusal} (Err r) (Ok a) → ⊥
@@ -54,8 +54,8 @@ failed false r h = refl
 pub recipients_taken : (d : Data) (texts : List (List ℕ))
     (h : IsTrue (is_recipient_count (length texts))) →
     or_refuse BadField (texts_at (codes "recipients") d) ≡ Ok texts →
-    recipients_of d ≡ Ok (record { texts = texts; number = h })
-unfolding recipients_of
+    recipients_in d ≡ Ok (record { texts = texts; number = h })
+unfolding recipients_in
 recipients_taken d texts h read =
     ap (λ r. r >>= (λ found. passes (is_recipient_count (length found)) BadField >>=
     (λ number. Ok (record { texts = found; number = number })))) read
@@ -65,8 +65,8 @@ recipients_taken d texts h read =
 -- any other number is refused
 pub recipients_refused : (d : Data) (texts : List (List ℕ)) →
     is_recipient_count (length texts) ≡ false →
-    or_refuse BadField (texts_at (codes "recipients") d) ≡ Ok texts → recipients_of d ≡ Err BadField
-unfolding recipients_of
+    or_refuse BadField (texts_at (codes "recipients") d) ≡ Ok texts → recipients_in d ≡ Err BadField
+unfolding recipients_in
 recipients_refused d texts h read =
     ap (λ r. r >>= (λ found. passes (is_recipient_count (length found)) BadField >>=
     (λ number. Ok (record { texts = found; number = number })))) read

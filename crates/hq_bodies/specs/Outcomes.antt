@@ -22,6 +22,7 @@ use Rattle.hq_bodies.specs.declared.outcomes.DeliveryTexts.{DeliveryTexts}
 use Rattle.hq_bodies.specs.declared.outcomes.DeliveryTexts.TheVariants.{Delivered, Deferred, Failed}
 use Rattle.hq_bodies.specs.declared.outcomes.OutcomeTexts.{OutcomeTexts}
 use Rattle.hq_bodies.specs.declared.outcomes.ReasonTexts.{ReasonTexts}
+use Rattle.hq_queue.specs.Limits.{most_recipients}
 
 -- ---- the members, each of its kind
 
@@ -49,8 +50,8 @@ delivery_at word d =
 abbrev pub entry_names : List (List ℕ)
 entry_names = codes "recipient" ∷ codes "result" ∷ codes "status" ∷ codes "text" ∷ []
 
-unfoldable pub entry_of : Data → Result OutcomeTexts Refusal
-entry_of d = do
+unfoldable pub outcome_texts : Data → Result OutcomeTexts Refusal
+outcome_texts d = do
   known ← guard (has_only_members entry_names (as_object d)) BadField
   recipient ← or_refuse BadField (text_at (codes "recipient") d)
   word ← or_refuse BadField (text_at (codes "result") d)
@@ -60,7 +61,7 @@ entry_of d = do
 unfoldable pub entries_of : Items → Result (List OutcomeTexts) Refusal
 entries_of no_items = Ok []
 entries_of (item d ds) = do
-  first ← entry_of d
+  first ← outcome_texts d
   rest ← entries_of ds
   Ok (first ∷ rest)
 
@@ -69,7 +70,7 @@ unfoldable pub entries_at : Data → Result (List OutcomeTexts) Refusal
 entries_at d = do
   items ← or_refuse BadField (option_and_then as_array (get (codes "outcomes") d))
   entries ← entries_of items
-  few ← guard (nat_le (length entries) 100) BadField
+  few ← guard (nat_le (length entries) most_recipients) BadField
   Ok entries
 
 abbrev pub report_names : List (List ℕ)

@@ -36,8 +36,8 @@ pub record Fields : Type 0 where
 abbrev pub names : List (List ℕ)
 names = codes "spool" ∷ codes "sender" ∷ codes "recipients" ∷ codes "size" ∷ []
 
-unfoldable pub recipients_of : Data → Result Recipients Refusal
-recipients_of d = do
+unfoldable pub recipients_in : Data → Result Recipients Refusal
+recipients_in d = do
   texts ← or_refuse BadField (texts_at (codes "recipients") d)
   number ← passes (is_recipient_count (length texts)) BadField
   Ok (record { texts = texts; number = number })
@@ -59,7 +59,7 @@ fields_of d = do
   known ← guard (has_only_members names (as_object d)) BadField
   spool ← or_refuse BadField (text_at (codes "spool") d)
   sender ← or_refuse BadField (text_at (codes "sender") d)
-  recipients ← recipients_of d
+  recipients ← recipients_in d
   size ← size_of d
   Ok (record { spool = spool; sender = sender; recipients = recipients; size = size })
 
@@ -100,8 +100,8 @@ shown_recipients r = record { texts = map string_bytes r.texts.items; number = r
 abbrev pub shown_size : MessageSize → Size
 shown_size s = record { bytes = s.bytes; limit = s.limit }
 
-abbrev pub shown : SubmissionTexts → Fields
-shown t = record {
+abbrev pub texts_shown : SubmissionTexts → Fields
+texts_shown t = record {
   spool = t.spool.now;
   sender = t.sender.now;
   recipients = shown_recipients t.recipients;

@@ -1,8 +1,8 @@
 -- The bodies that speak of lines of an access table: of a pattern {"class", "pattern"}, of a line
 -- {"class", "pattern", "action"}, of an address to look up {"class", "address"}, and of a file of
 -- lines {"label", "csv"}.
-use Rattle.std.specs.Prelude.{ℕ, List, [], ◌∷◌, codes, bytes_eq, Option, Some, None}
-use Rattle.std.specs.Prelude.{option_and_then, Result, Ok, if◌then◌else◌}
+use Rattle.std.specs.Prelude.{ℕ, List, [], ◌∷◌, codes, Option}
+use Rattle.std.specs.Prelude.{option_and_then, Result, Ok}
 use Rattle.serde_json.specs.Data.{Data}
 use Rattle.serde_json.specs.Find.{as_object}
 use Rattle.hq_base.specs.Readers.{◌>>=◌, guard, or_refuse, seen_by}
@@ -14,16 +14,11 @@ use Rattle.hq_envelope.specs.Words.{label_in}
 use Rattle.hq_envelope.specs.declared.address.Sender.{Sender}
 use Rattle.hq_envelope.specs.declared.address.Sender.TheVariants.{From}
 use Rattle.hq_access.specs.Actions.{action_in}
-use Rattle.hq_access.specs.Patterns.{class_name, pattern_in}
+use Rattle.hq_access.specs.Patterns.{class_in, pattern_in}
 use Rattle.hq_access.specs.declared.pattern.Class.{Class}
 use Rattle.hq_access.specs.declared.pattern.Class.TheVariants.{SenderSide, RecipientSide}
 use Rattle.hq_access.specs.declared.pattern.Line.{Line}
 use Rattle.hq_bodies.specs.Reading.{json_of, has_only_members, text_at}
-
--- the class of a name
-abbrev pub class_in : List ℕ → Option Class
-class_in name = if bytes_eq name (class_name SenderSide) then Some SenderSide else
-    if bytes_eq name (class_name RecipientSide) then Some RecipientSide else None
 
 -- a member that is the name of a class
 abbrev pub class_at : Data → Option Class

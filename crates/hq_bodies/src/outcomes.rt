@@ -130,9 +130,9 @@ fn delivery_member<'v>(word: &str, value: &'v Value) -> Result<DeliveryTexts<'v>
 }
 
 /// The members of an outcome.
-#[tactic(auto, unfolding(crate::specs::Outcomes::entry_of))]
-fn entry_of(value: &Value) -> Result<OutcomeTexts<'_>, Refusal>
-    ensures { result ≡ bodies.entry_of (view value.now) }
+#[tactic(auto, unfolding(crate::specs::Outcomes::outcome_texts))]
+fn outcome_texts(value: &Value) -> Result<OutcomeTexts<'_>, Refusal>
+    ensures { result ≡ bodies.outcome_texts (view value.now) }
 {
     if !has_only_members(value, &["recipient", "result", "status", "text"]) {
         return Err(Refusal::BadField);
@@ -150,7 +150,7 @@ fn entries_of(alloc: Global, values: &[Value]) -> Result<Vec<OutcomeTexts<'_>>, 
 {
     let mut entries = Vec::new(alloc);
     for value in values {
-        let entry = entry_of(value)?;
+        let entry = outcome_texts(value)?;
         entries.push(entry)?;
     }
     Ok(entries)

@@ -3,9 +3,9 @@
 ghost use Rattle.std.specs.Prelude.{map as map_list, string_bytes};
 ghost use Rattle.serde_json.specs.View.{view};
 ghost use Rattle.hq_base.specs.Readers.{Reads, seen_by};
-ghost use Rattle.hq_bodies.specs.Submissions.{recipients_of, size_of, fields_of, addresses_in};
+ghost use Rattle.hq_bodies.specs.Submissions.{recipients_in, size_of, fields_of, addresses_in};
 ghost use Rattle.hq_bodies.specs.Submissions.{submission_of, read_submission, shown_recipients};
-ghost use Rattle.hq_bodies.specs.Submissions.{shown_size, shown};
+ghost use Rattle.hq_bodies.specs.Submissions.{shown_size, texts_shown};
 
 use crate::members::{MessageSize, RecipientTexts, SubmissionTexts};
 use crate::reading::{has_only, json_value, number_member, text_member, texts_member};
@@ -21,9 +21,9 @@ const MOST_RECIPIENTS: usize = 100;
 const MOST_BYTES: u64 = 2_147_483_647;
 
 /// The texts of the recipients, or 8 `BadField`.
-#[tactic(auto, unfolding(crate::specs::Submissions::recipients_of))]
+#[tactic(auto, unfolding(crate::specs::Submissions::recipients_in))]
 fn recipients_in(alloc: Global, value: &Value) -> Result<RecipientTexts, Fail>
-    ensures { Reads (seen_by shown_recipients result) (recipients_of (view value.now)) }
+    ensures { Reads (seen_by shown_recipients result) (recipients_in (view value.now)) }
 {
     let texts = texts_member(alloc, value, "recipients")?;
     if !(1..=MOST_RECIPIENTS).contains(&texts.len()) {
@@ -49,7 +49,7 @@ fn size_in(value: &Value) -> Result<MessageSize, Fail>
 /// The members of a submission, or 8 `BadField`.
 #[tactic(auto, unfolding(crate::specs::Submissions::fields_of))]
 fn fields_in(alloc: Global, value: &Value) -> Result<SubmissionTexts<'_>, Fail>
-    ensures { Reads (seen_by shown result) (fields_of (view value.now)) }
+    ensures { Reads (seen_by texts_shown result) (fields_of (view value.now)) }
 {
     let known = match value.as_object() {
         Some(map) => has_only(map, &["spool", "sender", "recipients", "size"]),
@@ -85,7 +85,7 @@ fn read_addresses(alloc: Global, texts: &[String]) -> Result<Vec<Address>, Fail>
 /// The values of a submission's members.
 #[tactic(auto, unfolding(crate::specs::Submissions::submission_of))]
 fn submission_from(alloc: Global, fields: &SubmissionTexts<'_>) -> Result<Submission, Fail>
-    ensures { Reads result (submission_of (shown fields.now)) }
+    ensures { Reads result (submission_of (texts_shown fields.now)) }
 {
     let spool = Spool::parse(alloc, fields.spool)?;
     let sender = Sender::parse(alloc, fields.sender)?;

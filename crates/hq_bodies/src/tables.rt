@@ -4,7 +4,7 @@ ghost use Rattle.std.specs.Prelude.{◌≡◌, IfOk};
 ghost use Rattle.serde_json.specs.View.{view};
 ghost use Rattle.hq_base.specs.Readers.{Reads, or_refuse};
 ghost use Rattle.hq_base.specs.declared.failure.Refusal.TheVariants.{BadField};
-ghost use Rattle.hq_bodies.specs.Tables.{class_in, class_at, party_in, read_pattern, read_line};
+ghost use Rattle.hq_bodies.specs.Tables.{class_at, party_in, read_pattern, read_line};
 ghost use Rattle.hq_bodies.specs.Tables.{read_check, read_import};
 
 use crate::reading::{has_only_members, json_value, text_member};
@@ -13,22 +13,11 @@ use hq_envelope::{Address, Fail, Items, Label, Refusal, Sender};
 use serde_json::Value;
 use std::alloc::{AllocError, Global};
 
-/// The class of a name.
-fn class_in(name: &str) -> Option<Class>
-    ensures { result ≡ class_in name.now }
-{
-    match name {
-        "sender" => Some(Class::SenderSide),
-        "recipient" => Some(Class::RecipientSide),
-        _ => None,
-    }
-}
-
 /// The member `class`, where it names one.
 fn class_member(value: &Value) -> Option<Class>
     ensures { result ≡ class_at (view value.now) }
 {
-    text_member(value, "class").and_then(class_in)
+    text_member(value, "class").and_then(Class::named)
 }
 
 /// Who an address is, on one side of a message; or 20 `BadAddress`.

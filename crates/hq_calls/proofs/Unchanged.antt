@@ -6,7 +6,7 @@ use Rattle.std.specs.Prelude.{if◌then◌else◌, ◌==◌, nat_le, nat_lt}
 use Rattle.std.proofs.lemmas.Bool.Decides.{nat_tests}
 use Rattle.std.specs.Str.{bytes_eq}
 use Rattle.sha2.specs.Sha256.{sha256}
-use Rattle.hq_import.specs.Tables.{lines_in}
+use Rattle.hq_import.specs.Tables.{table_lines}
 use Rattle.hq_base.specs.declared.failure.Refusal.{Refusal}
 use Rattle.hq_base.specs.declared.failure.Refusal.TheVariants.{LabelUsed}
 use Rattle.hq_access.specs.declared.action.Action.{Action}
@@ -35,13 +35,14 @@ use Rattle.hq_store.specs.declared.notice.Notice.{Notice}
 use Rattle.hq_calls.specs.AccessLines.{same_action, set, put_line, drop_line}
 use Rattle.hq_calls.specs.Answering.{tell, refuse}
 use Rattle.hq_calls.specs.Decision.{decide}
-use Rattle.hq_calls.specs.Imports.{how_many, met, first_import, import, repeated}
+use Rattle.hq_calls.specs.Imports.{rows_that, line_met, first_import, import, repeated}
 use Rattle.hq_calls.specs.Messages.{moved, show, hold, release, requeue, delete, with_deleted}
 use Rattle.hq_calls.specs.Notices.{carried_out, show_notice}
 use Rattle.hq_calls.specs.Outcomes.{attempted, outcome, outcome_with}
 use Rattle.hq_calls.specs.Queues.{moves_of, move_all, drop, delete_all}
 use Rattle.hq_calls.specs.Submissions.{admit, settled, submit, judged, distinct, receivers}
-use Rattle.hq_calls.specs.Sweeps.{met as met_by, how_many as made, swept_all, is_none_changed}
+use Rattle.hq_calls.specs.Sweeps.{message_met as met_by, messages_that as made, swept_all}
+use Rattle.hq_calls.specs.Sweeps.{is_none_changed}
 use Rattle.hq_calls.specs.Sweeps.{sweep_with, sweep}
 use Rattle.hq_calls.specs.Unchanged.{only_reads, tells_no_change}
 use Rattle.hq_calls.specs.declared.answer.Answer.TheVariants as answer
@@ -150,13 +151,14 @@ first_import_honest : (quota : ℕ) (readings : Readings) (label digest : List �
     (lines : Result (List Line) Refusal) → Honest (first_import quota readings label digest lines)
 first_import_honest quota readings label digest (Err refusal) = λ h. refl
 first_import_honest quota readings label digest (Ok lines) =
-    refused_or (nat_lt quota (readings.counts.lines + how_many Added (map (met readings) lines))) _
+    refused_or (nat_lt quota (readings.counts.lines + rows_that Added
+    (map (line_met readings) lines))) _
     _ (told false _ refl)
 
 import_honest : (quota : ℕ) (readings : Readings) (label file : List ℕ) (mark : Option Mark) →
     Honest (import quota readings label file mark)
 import_honest quota readings label file None =
-    first_import_honest quota readings label (sha256 file) (lines_in file)
+    first_import_honest quota readings label (sha256 file) (table_lines file)
 import_honest quota readings label file (Some mark) = λ h. used_label (sha256 file) mark
 
 -- ---- submissions

@@ -18,6 +18,7 @@ use Rattle.hq_calls.specs.declared.answer.Answer.TheVariants as answer
 use Rattle.hq_calls.specs.declared.answer.LinePut.{LinePut}
 use Rattle.hq_calls.specs.declared.answer.LinePut.TheVariants.{Added, Changed, Same}
 use Rattle.hq_calls.specs.declared.decision.Decision.{Decision}
+use Rattle.hq_calls.specs.Limits.{page_rows}
 
 -- ---- what is found for a sender or a recipient
 
@@ -33,7 +34,7 @@ action_for readings class who = option_map (λ found. found.1) (found_for readin
 
 -- the first hundred, and whether there are more
 abbrev pub line_page : List Line → Decision
-line_page ls = tell (answer.LinesListed (take 100 ls) (nat_lt 100 (length ls)))
+line_page ls = tell (answer.LinesListed (take page_rows ls) (nat_lt page_rows (length ls)))
 
 -- actions that are written the same
 abbrev pub same_action : Action → Action → Bool

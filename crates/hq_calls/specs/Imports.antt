@@ -9,7 +9,7 @@ use Rattle.hq_base.specs.declared.failure.Refusal.{Refusal}
 use Rattle.hq_base.specs.declared.failure.Refusal.TheVariants.{LabelUsed, QuotaLines}
 use Rattle.hq_access.specs.declared.action.Action.{Action}
 use Rattle.hq_access.specs.declared.pattern.Line.{Line}
-use Rattle.hq_import.specs.Tables.{lines_in}
+use Rattle.hq_import.specs.Tables.{table_lines}
 use Rattle.hq_store.specs.Readings.{Readings}
 use Rattle.hq_store.specs.declared.change.Change.{Change}
 use Rattle.hq_store.specs.declared.change.Change.TheVariants.{PutLine, PutMark}
@@ -33,8 +33,8 @@ beside action (Some known) = if same_action known action then Same else Changed
 abbrev pub meets : Readings → Line → LinePut
 meets readings line = beside line.action (readings.line line.pattern.0 line.pattern.1)
 
-abbrev pub met : Readings → Line → Line × LinePut
-met readings line = (line, meets readings line)
+abbrev pub line_met : Readings → Line → Line × LinePut
+line_met readings line = (line, meets readings line)
 
 -- ---- what is counted and kept
 
@@ -45,14 +45,14 @@ is_put Same Same = true
 is_put _ _ = false
 
 -- how many rows did this
-abbrev pub how_many : LinePut → List (Line × LinePut) → ℕ
-how_many put rows = count_by (λ (row : Line × LinePut). is_put put row.1) rows
+abbrev pub rows_that : LinePut → List (Line × LinePut) → ℕ
+rows_that put rows = count_by (λ (row : Line × LinePut). is_put put row.1) rows
 
 abbrev pub counts_of : List (Line × LinePut) → ImportCounts
 counts_of rows = record {
-  added = how_many Added rows;
-  changed = how_many Changed rows;
-  same = how_many Same rows;
+  added = rows_that Added rows;
+  changed = rows_that Changed rows;
+  same = rows_that Same rows;
 }
 
 abbrev pub mark_of : List ℕ → List ℕ → ImportCounts → Mark
@@ -87,7 +87,7 @@ repeated digest mark = if bytes_eq digest mark.digest
 
 -- rows that are taken, where the customer then has as many lines as its quota or fewer
 abbrev pub taken : ℕ → ℕ → List ℕ → List ℕ → List (Line × LinePut) → Decision
-taken quota count label digest rows = if nat_lt quota (count + how_many Added rows) then
+taken quota count label digest rows = if nat_lt quota (count + rows_that Added rows) then
     refuse QuotaLines
     else record {
       answer = answer.Imported (counts_of rows);
@@ -98,10 +98,10 @@ taken quota count label digest rows = if nat_lt quota (count + how_many Added ro
 abbrev pub first_import : ℕ → Readings → List ℕ → List ℕ → Result (List Line) Refusal → Decision
 first_import quota readings label digest (Err refusal) = refuse refusal
 first_import quota readings label digest (Ok lines) =
-    taken quota readings.counts.lines label digest (map (met readings) lines)
+    taken quota readings.counts.lines label digest (map (line_met readings) lines)
 
 -- two files of one SHA-256 digest count as one
 abbrev pub import : ℕ → Readings → List ℕ → List ℕ → Option Mark → Decision
 import quota readings label file (Some mark) = repeated (sha256 file) mark
 import quota readings label file None =
-    first_import quota readings label (sha256 file) (lines_in file)
+    first_import quota readings label (sha256 file) (table_lines file)

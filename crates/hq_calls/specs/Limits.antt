@@ -1,11 +1,15 @@
--- The limits of a submission.
+-- The limits of a submission, and of a page.
 use Rattle.std.specs.Prelude.{ℕ, Bool, nat_le}
-use Rattle.hq_queue.specs.Limits.{is_within}
+use Rattle.hq_queue.specs.Limits.{is_within, most_recipients}
 
 -- 1 to 100 recipients
 abbrev pub is_recipient_count : ℕ → Bool
-is_recipient_count n = is_within 1 100 n
+is_recipient_count n = is_within 1 most_recipients n
 
 -- bytes of its message, at most 2^31 - 1
 abbrev pub is_size : ℕ → Bool
 is_size n = nat_le n 2147483647
+
+-- the most rows of one page: messages, lines, notices, or messages that are due
+abbrev pub page_rows : ℕ
+page_rows = 100

@@ -13,6 +13,7 @@ use Rattle.hq_store.specs.declared.change.Change.TheVariants.{PutHead, PutMessag
 use Rattle.hq_calls.specs.Answering.{tell, refuse}
 use Rattle.hq_calls.specs.declared.answer.Answer.TheVariants as answer
 use Rattle.hq_calls.specs.declared.decision.Decision.{Decision}
+use Rattle.hq_calls.specs.Limits.{page_rows}
 
 -- the message after a move that applies; a move that does not apply changes no message, and no row
 abbrev pub moved : Option Message → Decision
@@ -63,4 +64,4 @@ delete head (Some m) = record {
 
 -- the first hundred, and whether there are more
 abbrev pub page : List Message → Decision
-page ms = tell (answer.Listed (take 100 ms) (nat_lt 100 (length ms)))
+page ms = tell (answer.Listed (take page_rows ms) (nat_lt page_rows (length ms)))

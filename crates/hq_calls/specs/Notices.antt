@@ -20,6 +20,7 @@ use Rattle.hq_calls.specs.declared.answer.Answer.TheVariants as answer
 use Rattle.hq_calls.specs.declared.decision.Decision.{Decision}
 use Rattle.hq_calls.specs.declared.plan.Draft.{Draft}
 use Rattle.hq_calls.specs.declared.plan.Plan.{Plan}
+use Rattle.hq_calls.specs.Limits.{page_rows}
 
 -- ---- to whom it goes
 
@@ -82,4 +83,4 @@ show_notice (Some notice) = tell (answer.NoticeShown notice)
 
 -- the first hundred, and whether there are more
 abbrev pub notice_page : List Notice → Decision
-notice_page ns = tell (answer.NoticesListed (take 100 ns) (nat_lt 100 (length ns)))
+notice_page ns = tell (answer.NoticesListed (take page_rows ns) (nat_lt page_rows (length ns)))

@@ -22,6 +22,7 @@ use Rattle.hq_calls.specs.declared.answer.Answer.TheVariants as answer
 use Rattle.hq_calls.specs.declared.call.AttemptReport.{AttemptReport}
 use Rattle.hq_calls.specs.declared.decision.Decision.{Decision}
 use Rattle.hq_calls.specs.declared.plan.Plan.{Plan}
+use Rattle.hq_calls.specs.Limits.{page_rows}
 
 -- ---- the report of an attempt
 
@@ -56,8 +57,8 @@ attempted head m delivered deferred failed = record {
 }
 
 -- `m` is the message before the attempt
-abbrev pub outcome_with : List ℕ → Entry → ℕ → Head → Message → Result (Reported × Message) Refusal
-    → Decision
+abbrev pub outcome_with : List ℕ → Entry → ℕ → Head → Message →
+    Result (Reported × Message) Refusal → Decision
 outcome_with host entry at head m (Err refusal) = refuse refusal
 outcome_with host entry at head m (Ok (Repeat, after)) = tell (answer.AttemptRepeated m.attempts)
 outcome_with host entry at head m (Ok (Done delivered deferred failed, after)) =
@@ -72,4 +73,4 @@ outcome host entry at head report (Some m) =
 
 -- the first hundred, and whether there are more
 abbrev pub due_page : List Message → Decision
-due_page ms = tell (answer.DueListed (take 100 ms) (nat_lt 100 (length ms)))
+due_page ms = tell (answer.DueListed (take page_rows ms) (nat_lt page_rows (length ms)))

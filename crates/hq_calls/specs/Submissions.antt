@@ -78,8 +78,8 @@ new_message serial at sub addresses held = record {
 }
 
 -- the head after a message of so many recipients was queued
-abbrev pub with_message : ℕ → Head → Head
-with_message count head = record head {
+abbrev pub head_with_message : ℕ → Head → Head
+head_with_message count head = record head {
   next_serial = head.next_serial + 1;
   tally = record head.tally { accepted = saturated (head.tally.accepted + count) };
 }
@@ -87,7 +87,7 @@ with_message count head = record head {
 abbrev pub enqueued : Head → Message → List Refused → Decision
 enqueued head m refused = record {
   answer = answer.Queued m refused;
-  changes = PutHead (with_message (length m.pending) head) ∷ PutMessage m ∷ [];
+  changes = PutHead (head_with_message (length m.pending) head) ∷ PutMessage m ∷ [];
 }
 
 -- ---- submit

@@ -27,8 +27,8 @@ use Rattle.hq_calls.specs.declared.plan.Plan.{Plan}
 -- ---- one message
 
 -- a message as a sweep leaves it, with what the sweep made of it
-abbrev pub met : ℕ → ℕ → Message → Message × Swept
-met at delay m = (after_sweep (swept at delay m) m, swept at delay m)
+abbrev pub message_met : ℕ → ℕ → Message → Message × Swept
+message_met at delay m = (after_sweep (swept at delay m) m, swept at delay m)
 
 abbrev pub changed_by : Message × Swept → List Change
 changed_by (m, Expired) = DropMessage m.serial ∷ []
@@ -41,14 +41,14 @@ status_told Failure status = expired_status
 status_told Delay status = unwrap_or status unknown_status
 
 -- with what was said of it last
-abbrev pub told_as : Kind → Pending → Told
-told_as kind p = record { address = p.address; status = status_told kind p.status; text = p.text }
+abbrev pub last_told : Kind → Pending → Told
+last_told kind p = record { address = p.address; status = status_told kind p.status; text = p.text }
 
 -- its sender is told of all its recipients
-abbrev pub told_by : Message × Swept → List Draft
-told_by (m, Expired) = drafted m Failure (map (told_as Failure) m.pending)
-told_by (m, Warned) = drafted m Delay (map (told_as Delay) m.pending)
-told_by (m, Untouched) = []
+abbrev pub drafts_of : Message × Swept → List Draft
+drafts_of (m, Expired) = drafted m Failure (map (last_told Failure) m.pending)
+drafts_of (m, Warned) = drafted m Delay (map (last_told Delay) m.pending)
+drafts_of (m, Untouched) = []
 
 -- how many recipients are given up
 abbrev pub given_up : Message × Swept → ℕ
@@ -64,8 +64,8 @@ is_made _ _ = false
 -- ---- all of them
 
 -- of how many messages the sweep made this
-abbrev pub how_many : Swept → List (Message × Swept) → ℕ
-how_many made rows = count_by (λ (row : Message × Swept). is_made made row.1) rows
+abbrev pub messages_that : Swept → List (Message × Swept) → ℕ
+messages_that made rows = count_by (λ (row : Message × Swept). is_made made row.1) rows
 
 -- the tally after so many recipients were given up
 abbrev pub with_expired : ℕ → Head → Head
@@ -77,12 +77,12 @@ abbrev pub swept_all : Head → List (Message × Swept) → ℕ → ℕ → Plan
 swept_all head rows expired warned = record {
   answer = answer.Swept (record {
     expired = expired;
-    notices = length (flat_map told_by rows);
+    notices = length (flat_map drafts_of rows);
     warned = warned;
   });
   changes = flat_map changed_by rows;
   head = with_expired (sum_by given_up rows) head;
-  drafts = flat_map told_by rows;
+  drafts = flat_map drafts_of rows;
 }
 
 abbrev pub is_none_changed : ℕ → ℕ → Bool
@@ -96,8 +96,8 @@ sweep_with host entry at head rows expired warned =
     carried_out host entry at (swept_all head rows expired warned)
 
 abbrev pub sweep_rows : List ℕ → Entry → ℕ → Head → List (Message × Swept) → Decision
-sweep_rows host entry at head rows = sweep_with host entry at head rows (how_many Expired rows)
-    (how_many Warned rows)
+sweep_rows host entry at head rows = sweep_with host entry at head rows (messages_that Expired rows)
+    (messages_that Warned rows)
 
 abbrev pub sweep : List ℕ → Entry → ℕ → Head → List Message → Decision
-sweep host entry at head ms = sweep_rows host entry at head (map (met at entry.delay) ms)
+sweep host entry at head ms = sweep_rows host entry at head (map (message_met at entry.delay) ms)

@@ -51,7 +51,7 @@ fn is_put(put: LinePut, done: LinePut) -> bool
 
 /// How many rows did this.
 fn how_many(put: LinePut, rows: &[(Line, LinePut)]) -> u64
-    ensures { result ≡ rules.how_many put rows.now }
+    ensures { result ≡ rules.rows_that put rows.now }
 {
     rows.iter().filter(|row| is_put(put, row.1)).count() as u64
 }

@@ -2,7 +2,7 @@
 //! use of the desk. Nothing is read or written here.
 
 ghost use Rattle.std.specs.Prelude.{◌≡◌, ◌++◌, IfOk, OnOk, List, map};
-ghost use Rattle.hq_queue.specs.Moves.{Makes};
+ghost use Rattle.hq_queue.specs.Moves.{MovesBy};
 ghost use Rattle.hq_queue.specs.declared.message.Message.{Message};
 ghost use Rattle.hq_store.specs.Readings.{saturated};
 ghost use Rattle.hq_store.specs.Sound.{pending_count};
@@ -18,7 +18,7 @@ use std::alloc::{AllocError, Global};
 /// Moves a message, and tells whether the move applies to it; else it stays as it is.
 fn make(alloc: Global, by: &Move, message: &mut Message) -> Result<bool, AllocError>
     ensures { IfOk result
-        (Makes (rules.moved_by by.now message.old) message.old message.new) }
+        (MovesBy (rules.moved_by by.now message.old) message.old message.new) }
 {
     match by {
         Move::Hold => {

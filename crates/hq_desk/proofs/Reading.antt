@@ -5,7 +5,7 @@ use Rattle.std.specs.Prelude.{IfErr}
 use Rattle.hq_base.specs.Refusals.{no_memory}
 use Rattle.hq_base.specs.declared.failure.Fault.{Fault}
 use Rattle.hq_base.specs.declared.failure.Fault.TheVariants as fault
-use Rattle.hq_access.specs.Lookups.{Found, Gets, Goes, Asks, Looks, first_match, or_next}
+use Rattle.hq_access.specs.Lookups.{Found, Gets, AsksOn, LooksUp, Looks, first_match, or_next}
 use Rattle.hq_access.specs.declared.action.Action.{Action}
 use Rattle.hq_access.specs.declared.pattern.Class.{Class}
 use Rattle.hq_store.specs.Readings.{read_tables}
@@ -131,7 +131,7 @@ module _ {S L : Type 0} (sight : Sight S) (shelf : L → S) (customer : List ℕ
       (subst (λ n. Looked keys old told n) (sym f) looked)
 
   asked : (keys : List (List ℕ)) (old : L) (result : Result Found Fault) (new : L) →
-      Asks gets class keys old result new → IsOf old → sight.is_closed (shelf old) ≡ false →
+      LooksUp gets class keys old result new → IsOf old → sight.is_closed (shelf old) ≡ false →
       Looked keys old result new
   asked [] old result new asks of opened =
       looked_same [] old result (Ok None) old new asks.0 asks.1 (
@@ -143,8 +143,8 @@ module _ {S L : Type 0} (sight : Sight S) (shelf : L → S) (customer : List ℕ
       by asks.0 asks.1 asks.2 asks.3 (λ mid rest of opened. asked keys mid result new rest of
       opened) where
         by : (answer : Result (Option Action) Fault) (mid : L) → gets old class key answer mid →
-            Goes (Asks gets class keys) key answer mid result new
-            → ((mid : L) → Asks gets class keys mid result new → IsOf mid →
+            AsksOn (LooksUp gets class keys) key answer mid result new
+            → ((mid : L) → LooksUp gets class keys mid result new → IsOf mid →
             sight.is_closed (shelf mid) ≡ false → Looked keys mid result new) →
             Looked (key ∷ keys) old result new
         by (Err f) mid got goes further =

@@ -1,12 +1,12 @@
 -- All messages of a customer are as many as a customer can have at most.
 use Rattle.std.proofs.Common.{◌≡◌, ℕ, ◌≤◌, Bool, List, [], ◌∷◌, Option, None, Some, true, false}
-use Rattle.std.proofs.Common.{cond, length, take, filter, sym, refl, ap, ◌∙◌, subst, arith}
+use Rattle.std.proofs.Common.{cond, length, take, filter, ap, arith}
 use Rattle.std.specs.Prelude.{nat_lt}
 use Rattle.std.proofs.lemmas.List.{take_all}
 use Rattle.std.proofs.lemmas.Map.Entries.{length-values_of}
-use Rattle.std.specs.FinMap.{entries, values, len, len-entries}
+use Rattle.std.specs.FinMap.{entries, values, len-entries}
 use Rattle.hq_queue.specs.declared.message.Message.{Message}
-use Rattle.hq_store.specs.Readings.{Readings, read_tables, read_state, after_serial}
+use Rattle.hq_store.specs.Readings.{Readings, read_tables, after_serial}
 use Rattle.hq_store.specs.Sound.{Sound}
 use Rattle.hq_store.specs.Tables.{Tables, own}
 use Rattle.hq_store.proofs.Read.{same_readings}

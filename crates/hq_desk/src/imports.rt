@@ -25,7 +25,7 @@ fn met<S: Shelf>(
     line: Line,
 ) -> Result<(Line, LinePut), Fault>
     ensures found { FindsOpen S.sight shelf.old shelf.new result customer.now
-        (λ rows. rules.met rows line) }
+        (λ rows. rules.line_met rows line) }
     ensures kept { KeepsOpen S.sight shelf.old shelf.new result }
 {
     let key = line.pattern.key(alloc)?;
@@ -42,7 +42,7 @@ fn all_met<S: Shelf>(
     lines: Vec<Line>,
 ) -> Result<Items<(Line, LinePut)>, Fault>
     ensures found { FindsOpen S.sight shelf.old shelf.new result customer.now
-        (λ rows. map (rules.met rows) lines.items) }
+        (λ rows. map (rules.line_met rows) lines.items) }
     ensures kept { KeepsOpen S.sight shelf.old shelf.new result }
 {
     let mut found = Vec::with_capacity(alloc, lines.len())?;

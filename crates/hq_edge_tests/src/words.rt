@@ -1,6 +1,6 @@
 //! What words ask for. What is told of them is compared by `tests/words`, over the program.
 
-use hq_words::{Asked, Words, read_words};
+use hq_words::{Word, Words, read_words};
 use std::alloc::{AllocError, Global};
 use std::test::Fail;
 
@@ -149,9 +149,9 @@ fn words_in(alloc: Global, line: &str) -> Result<Vec<String>, AllocError> {
 }
 
 /// A word and the values of its options.
-fn values(alloc: Global, asked: &Asked) -> Result<String, AllocError> {
+fn values(alloc: Global, asked: &Word) -> Result<String, AllocError> {
     match asked {
-        Asked::Serve(it) => {
+        Word::Serve(it) => {
             let store = it.store.unwrap_or("-");
             let beside = format!(in alloc;
                 "{} {} {} {}",
@@ -162,29 +162,29 @@ fn values(alloc: Global, asked: &Asked) -> Result<String, AllocError> {
                 it.directory, it.host, it.relay_key
             )
         }
-        Asked::Batch(it) => {
+        Word::Batch(it) => {
             let store = it.store.unwrap_or("-");
             format!(in alloc;
                 "batch {} {} {} {store}",
                 it.directory, it.host, it.relay_key
             )
         }
-        Asked::Queue(it) => {
+        Word::Queue(it) => {
             format!(in alloc; "queue {} {} {}", it.directory, it.store, it.customer)
         }
-        Asked::Import(it) => {
+        Word::Import(it) => {
             let beside = format!(in alloc; "{} {}", it.label, it.file)?;
             format!(in alloc;
                 "import {} {} {} {beside}",
                 it.directory, it.store, it.customer
             )
         }
-        Asked::Sweep(it) => {
+        Word::Sweep(it) => {
             let customer = it.customer.unwrap_or("-");
             let beside = format!(in alloc; "{customer} {}", it.at.get())?;
             format!(in alloc; "sweep {} {} {} {beside}", it.directory, it.host, it.store)
         }
-        Asked::Migrate(it) => format!(in alloc; "migrate {}", it.store),
+        Word::Migrate(it) => format!(in alloc; "migrate {}", it.store),
     }
 }
 
@@ -192,7 +192,7 @@ fn values(alloc: Global, asked: &Asked) -> Result<String, AllocError> {
 fn told(alloc: Global, line: &str) -> Result<String, AllocError> {
     let words = words_in(alloc, line)?;
     match read_words(alloc, words.as_slice())? {
-        Words::Asked(asked) => values(alloc, &asked),
+        Words::Word(asked) => values(alloc, &asked),
         Words::Builtin => String::from_str(alloc, "built-in"),
         Words::Help(_) => String::from_str(alloc, "help"),
         Words::Refused(_) => String::from_str(alloc, "refused"),

@@ -51,9 +51,13 @@ abbrev pub has_good_parts : Option (List ℕ × List ℕ) → Bool
 has_good_parts None = false
 has_good_parts (Some parts) = is_local parts.0 && is_domain parts.1
 
+-- the most bytes of an address, of a domain and of a pattern
+abbrev pub most_address_bytes : ℕ
+most_address_bytes = 254
+
 -- at most 254 bytes: a local part, the last @, and a domain
 abbrev pub is_address : List ℕ → Bool
-is_address bytes = nat_le (length bytes) 254 && has_good_parts (parts_of bytes)
+is_address bytes = nat_le (length bytes) most_address_bytes && has_good_parts (parts_of bytes)
 
 -- the address that a text is
 abbrev pub address_in : List ℕ → Result (List ℕ) Refusal

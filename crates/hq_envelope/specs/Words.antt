@@ -6,7 +6,7 @@ use Rattle.hq_base.specs.Readers.{checked}
 use Rattle.hq_base.specs.declared.failure.Refusal.{Refusal}
 use Rattle.hq_base.specs.declared.failure.Refusal.TheVariants.{BadField, BadSpool, BadLabel}
 use Rattle.hq_base.specs.declared.failure.Refusal.TheVariants.{BadText, BadHost}
-use Rattle.hq_envelope.specs.Addresses.{is_letter_or_digit, is_domain}
+use Rattle.hq_envelope.specs.Addresses.{is_letter_or_digit, is_domain, most_address_bytes}
 
 -- a letter, a digit, '.', '-' or '_'
 abbrev pub is_spool_byte : ℕ → Bool
@@ -33,7 +33,7 @@ is_key bytes = nat_le 16 (length bytes) && nat_le (length bytes) 64 && list_all 
 
 -- the relay's own name: a domain of at most 254 bytes
 abbrev pub is_host : List ℕ → Bool
-is_host bytes = nat_le (length bytes) 254 && is_domain bytes
+is_host bytes = nat_le (length bytes) most_address_bytes && is_domain bytes
 
 -- printable ASCII and the space
 abbrev pub is_text_byte : ℕ → Bool

@@ -22,11 +22,11 @@ use Rattle.hq_http.specs.Ends.{HasEnd}
 use Rattle.hq_base.specs.declared.failure.Refusal.TheVariants.{BadRequest, BodyTooLong}
 use Rattle.hq_http.specs.Fields.{Framing, framing}
 use Rattle.hq_http.proofs.HeadEnds.{has_end, ends_some, no_more}
-use Rattle.hq_http.specs.Requests.{Request, Asked, nothing, refused, request, Reads, asked_by}
-use Rattle.hq_http.specs.Requests.{HasNoHead, RequestOf, Settles}
+use Rattle.hq_http.specs.Requests.{Request, Wanted, nothing, refused, request, ReadsHead, asked_by}
+use Rattle.hq_http.specs.Requests.{HasNoHead, RequestOf, Determines}
 
 pub Reads-append : (bytes more : List ℕ) (h : RequestHead) (f : Framing) (rest : List ℕ) →
-    Reads bytes h f rest → Reads (bytes ++ more) h f (rest ++ more)
+    ReadsHead bytes h f rest → ReadsHead (bytes ++ more) h f (rest ++ more)
 Reads-append bytes more h f rest r = record {
   head = ReadsRequest-append bytes h rest more r.head;
   short = r.short;
@@ -35,8 +35,9 @@ Reads-append bytes more h f rest r = record {
 }
 
 -- one head, one framing, one rest
-same_asked : (bytes : List ℕ) (h k : RequestHead) (f g : Framing) (r q : List ℕ) → Reads bytes h f r
-    → Reads bytes k g q → asked_by h f r ≡ asked_by k g q
+same_asked : (bytes : List ℕ) (h k : RequestHead) (f g : Framing) (r q : List ℕ)
+    → ReadsHead bytes h f r
+    → ReadsHead bytes k g q → asked_by h f r ≡ asked_by k g q
 same_asked bytes h k f g r q x y =
     let u = request_unique bytes h k r q x.head y.head in
     let e : Some f ≡ Some g = sym x.framed
@@ -44,17 +45,17 @@ same_asked bytes h k f g r q x y =
     let fg : f ≡ g = cc in
     λ i. asked_by (u.0 i) (fg i) (u.1 i)
 
-empty_reads : (h : RequestHead) (f : Framing) (rest : List ℕ) → Reads [] h f rest → ⊥
+empty_reads : (h : RequestHead) (f : Framing) (rest : List ℕ) → ReadsHead [] h f rest → ⊥
 empty_reads h f rest r = ends_some [] (has_end [] h rest r.head) refl
 
 -- Bytes ask for one thing.
-pub one_asked : (bytes : List ℕ) (a b : Asked) → RequestOf bytes a → RequestOf bytes b → a ≡ b
+pub one_asked : (bytes : List ℕ) (a b : Wanted) → RequestOf bytes a → RequestOf bytes b → a ≡ b
 one_asked bytes a b (inl p) (inl q) = p.1 ∙ sym q.1
 one_asked bytes a b (inl p) (inr (inl q)) =
-    absurd (empty_reads q.0 q.1 q.2 (subst (λ xs. Reads xs q.0 q.1 q.2) p.0 q.3))
+    absurd (empty_reads q.0 q.1 q.2 (subst (λ xs. ReadsHead xs q.0 q.1 q.2) p.0 q.3))
 one_asked bytes a b (inl p) (inr (inr q)) = absurd (q.0 p.0)
 one_asked bytes a b (inr (inl p)) (inl q) =
-    absurd (empty_reads p.0 p.1 p.2 (subst (λ xs. Reads xs p.0 p.1 p.2) q.0 p.3))
+    absurd (empty_reads p.0 p.1 p.2 (subst (λ xs. ReadsHead xs p.0 p.1 p.2) q.0 p.3))
 one_asked bytes a b (inr (inl p)) (inr (inl q)) = p.4
     ∙ same_asked bytes p.0 q.0 p.1 q.1 p.2 q.2 p.3 q.3 ∙ sym q.4
 one_asked bytes a b (inr (inl p)) (inr (inr q)) = absurd (q.1 p.0 p.1 p.2 p.3)
@@ -83,7 +84,7 @@ append_some [] more some e = some refl
 append_some (x ∷ bytes) more some e = cc
 
 pub too_long_settles : (bytes : List ℕ) (h : RequestHead) (f : Framing) (rest : List ℕ) →
-    Reads bytes h f rest → 262144 < f.length → Settles bytes (refused BodyTooLong)
+    ReadsHead bytes h f rest → 262144 < f.length → Determines bytes (refused BodyTooLong)
 too_long_settles bytes h f rest r lt = λ more. inr
     (inl (
       h,
@@ -94,8 +95,8 @@ too_long_settles bytes h f rest r lt = λ more. inr
     ))
 
 pub whole_settles : (bytes : List ℕ) (h : RequestHead) (f : Framing) (rest : List ℕ) →
-    Reads bytes h f rest → f.length ≤ 262144 → f.length ≤ length rest
-    → Settles bytes (request (record {
+    ReadsHead bytes h f rest → f.length ≤ 262144 → f.length ≤ length rest
+    → Determines bytes (request (record {
       method = h.method;
       path = h.target;
       key = f.key;
@@ -122,11 +123,11 @@ abbrev pub IsHopeless : List ℕ → Type 0
 IsHopeless bytes = (more : List ℕ) → HasNoHead (bytes ++ more)
 
 pub hopeless_settles : (bytes : List ℕ) → (bytes ≡ [] → ⊥) → IsHopeless bytes →
-    Settles bytes (refused BadRequest)
+    Determines bytes (refused BadRequest)
 hopeless_settles bytes some none = λ more. inr (inr (append_some bytes more some, none more, refl))
 
 -- what is settled is asked
-pub settled_asks : (bytes : List ℕ) (a : Asked) → Settles bytes a → RequestOf bytes a
+pub settled_asks : (bytes : List ℕ) (a : Wanted) → Determines bytes a → RequestOf bytes a
 settled_asks bytes a s = subst (λ xs. RequestOf xs a) (append-nil bytes) (s [])
 
 pub hopeless_long : (buf : List ℕ) (h : RequestHead) (r : List ℕ) → ReadsRequest buf h r →
@@ -166,7 +167,8 @@ few_fields buf hs n fs e le =
 -- the parser's answer as a head within the limits
 pub reads : (buf : List ℕ) (hs : List HeaderSpan) (r : RequestSpans) (h : RequestHead) (f : Framing)
     → IsRequestAt buf hs r h → r.len ≤ 16384 → length hs ≤ 64
-    → Some f ≡ framing (map (header_bytes buf) (take r.headers hs)) → Reads buf h f (drop r.len buf)
+    → Some f ≡ framing (map (header_bytes buf) (take r.headers hs))
+    → ReadsHead buf h f (drop r.len buf)
 reads buf hs r h f at short room e = record {
   head = at.reads;
   short = omega (arith, at.len);
@@ -198,41 +200,42 @@ pub some_bytes : (bytes : List ℕ) (h : RequestHead) (rest : List ℕ) → Read
 some_bytes bytes h rest r = ends_some bytes (has_end bytes h rest r)
 
 head_stays : (bytes : List ℕ) (q : Request) (h : RequestHead) (f : Framing) (rest : List ℕ) →
-    Reads bytes h f rest → request q ≡ asked_by h f rest
+    ReadsHead bytes h f rest → request q ≡ asked_by h f rest
     → ((leb f.length 262144 ≡ true) × (f.length ≤ 262144))
     ⊎ ((leb f.length 262144 ≡ false) × (262144 < f.length))
     → ((leb f.length (length rest) ≡ true) × (f.length ≤ length rest))
     ⊎ ((leb f.length (length rest) ≡ false) × (length rest < f.length))
-    → Settles bytes (request q)
+    → Determines bytes (request q)
 head_stays bytes q h f rest r e (inr p) u = let clash : request q ≡ refused BodyTooLong = e
     ∙ too_long_by h f rest p.1 in cc
 head_stays bytes q h f rest r e (inl p) (inr u) = let clash : request q ≡ refused BadRequest = e
     ∙ not_whole_by h f rest p.1 u.1 in cc
 head_stays bytes q h f rest r e (inl p) (inl u) =
-    subst (Settles bytes) (sym (e ∙ whole_by h f rest p.1 u.1))
+    subst (Determines bytes) (sym (e ∙ whole_by h f rest p.1 u.1))
     (whole_settles bytes h f rest r p.1 u.1)
 
 pub request_stays : (bytes : List ℕ) (q : Request) → RequestOf bytes (request q) →
-    Settles bytes (request q)
+    Determines bytes (request q)
 request_stays bytes q (inl p) = let clash : request q ≡ nothing = p.1 in cc
 request_stays bytes q (inr (inl p)) = head_stays bytes q p.0 p.1 p.2 p.3 p.4
     (leb_tells p.1.length 262144) (leb_tells p.1.length (length p.2))
 request_stays bytes q (inr (inr p)) = let clash : request q ≡ refused BadRequest = p.2 in cc
 
-long_stays : (bytes : List ℕ) (h : RequestHead) (f : Framing) (rest : List ℕ) → Reads bytes h f rest
+long_stays : (bytes : List ℕ) (h : RequestHead) (f : Framing) (rest : List ℕ)
+    → ReadsHead bytes h f rest
     → refused BodyTooLong ≡ asked_by h f rest
     → ((leb f.length 262144 ≡ true) × (f.length ≤ 262144))
     ⊎ ((leb f.length 262144 ≡ false) × (262144 < f.length))
     → ((leb f.length (length rest) ≡ true) × (f.length ≤ length rest))
     ⊎ ((leb f.length (length rest) ≡ false) × (length rest < f.length))
-    → Settles bytes (refused BodyTooLong)
+    → Determines bytes (refused BodyTooLong)
 long_stays bytes h f rest r e (inr p) u = too_long_settles bytes h f rest r p.1
 long_stays bytes h f rest r e (inl p) (inr u) =
     let clash : refused BodyTooLong ≡ refused BadRequest = e ∙ not_whole_by h f rest p.1 u.1 in cc
 long_stays bytes h f rest r e (inl p) (inl u) = let clash = e ∙ whole_by h f rest p.1 u.1 in cc
 
 pub too_long_stays : (bytes : List ℕ) → RequestOf bytes (refused BodyTooLong) →
-    Settles bytes (refused BodyTooLong)
+    Determines bytes (refused BodyTooLong)
 too_long_stays bytes (inl p) = let clash : refused BodyTooLong ≡ nothing = p.1 in cc
 too_long_stays bytes (inr (inl p)) = long_stays bytes p.0 p.1 p.2 p.3 p.4
     (leb_tells p.1.length 262144) (leb_tells p.1.length (length p.2))

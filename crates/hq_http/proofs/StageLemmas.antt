@@ -14,17 +14,17 @@ use Rattle.hq_http.specs.declared.stages.Stage.TheVariants.{Head, Body}
 use Rattle.hq_http.specs.declared.reading.Input.{Input}
 use Rattle.hq_http.specs.declared.reading.Input.TheVariants as input
 use Rattle.hq_base.specs.declared.failure.Refusal.TheVariants.{BadRequest}
-use Rattle.hq_http.specs.Requests.{Asked, nothing, refused, request, RequestOf, Settles, IsOpen}
+use Rattle.hq_http.specs.Requests.{Wanted, nothing, refused, request, RequestOf, Determines, IsOpen}
 use Rattle.hq_http.specs.Requests.{Received, HasNoRoom}
 use Rattle.hq_http.specs.Ends.{place_of}
-use Rattle.hq_http.specs.Stages.{BodyBegun, StageIs, Going, InputIs, EndIs}
+use Rattle.hq_http.specs.Stages.{BodyBegun, StageIs, IsAtStage, InputIs, EndIs}
 use Rattle.hq_http.proofs.HeadEnds.{none_yet}
 use Rattle.hq_http.proofs.Asking.{whole_settles, settled_asks, not_whole_by}
 
 -- a body that is whole
 pub body_settles : (bytes : List ℕ) (m : Request) (n : ℕ) → BodyBegun bytes m n →
     n ≤ length m.body.items
-    → Settles bytes (request (record {
+    → Determines bytes (request (record {
       method = string_bytes m.method;
       path = string_bytes m.path;
       key = option_map string_bytes m.key;
@@ -78,13 +78,13 @@ end_of_body bytes m n h = inr (inl (
       m.body.items h.0.limit h.1),
 ))
 
-whole_input : (a b : Option (List ℕ)) (bytes : List ℕ) (x : Asked) → Consumes a b bytes →
-    Settles bytes x → IfSome a (λ input. RequestOf input x)
+whole_input : (a b : Option (List ℕ)) (bytes : List ℕ) (x : Wanted) → Consumes a b bytes →
+    Determines bytes x → IfSome a (λ input. RequestOf input x)
 whole_input None b bytes x c s = tt
 whole_input (Some xs) None bytes x c s = absurd c
 whole_input (Some xs) (Some ys) bytes x c s = subst (λ input. RequestOf input x) (sym c) (s ys)
 
-whole_end : (a b : Option (List ℕ)) (bytes : List ℕ) (x : Asked) → Consumes a b bytes → IsAtEnd b →
+whole_end : (a b : Option (List ℕ)) (bytes : List ℕ) (x : Wanted) → Consumes a b bytes → IsAtEnd b →
     RequestOf bytes x → IfSome a (λ input. RequestOf input x)
 whole_end None b bytes x c e r = tt
 whole_end (Some xs) None bytes x c e r = absurd c
@@ -92,8 +92,9 @@ whole_end (Some xs) (Some ys) bytes x c e r =
     subst (λ input. RequestOf input x) (sym (c ∙ ap (λ zs. bytes ++ zs) e ∙ append-nil bytes)) r
 
 -- what a chunk settles
-pub received : (a m b : Option (List ℕ)) (s : Stage) (chunk : List ℕ) (x : Asked) (g : Going a m s)
-    → Consumes m b chunk → length chunk ≤ 4096 → Settles (g.0 ++ chunk) x → Received a b x
+pub received : (a m b : Option (List ℕ)) (s : Stage) (chunk : List ℕ) (x : Wanted)
+    (g : IsAtStage a m s)
+    → Consumes m b chunk → length chunk ≤ 4096 → Determines (g.0 ++ chunk) x → Received a b x
 received a m b s chunk x g c near settles =
     let read = Consumes-trans a m b g.0 chunk g.1 c in record {
       front = g.0;
@@ -106,7 +107,7 @@ received a m b s chunk x g c near settles =
     }
 
 -- a chunk for which there is no room
-pub no_room : (a m b : Option (List ℕ)) (s : Stage) (chunk : List ℕ) (g : Going a m s) →
+pub no_room : (a m b : Option (List ℕ)) (s : Stage) (chunk : List ℕ) (g : IsAtStage a m s) →
     Consumes m b chunk → length chunk ≤ 4096 → 0 < length chunk → HasNoRoom a b
 no_room a m b s chunk g c near some = record {
   front = g.0;
@@ -118,7 +119,7 @@ no_room a m b s chunk g c near some = record {
 }
 
 -- what the end settles
-pub received_end : (a m b : Option (List ℕ)) (s : Stage) (x : Asked) (g : Going a m s) →
+pub received_end : (a m b : Option (List ℕ)) (s : Stage) (x : Wanted) (g : IsAtStage a m s) →
     Consumes m b [] → IsAtEnd b → RequestOf g.0 x → Received a b x
 received_end a m b s x g c e r =
     let read = Consumes-trans a m b g.0 [] g.1 c in
@@ -132,17 +133,19 @@ received_end a m b s x g c e r =
       whole = whole_end a b (g.0 ++ []) x read e (subst (λ xs. RequestOf xs x) (sym same) r);
     }
 
-pub ended : (a m b : Option (List ℕ)) (s : Stage) (i : Input) (g : Going a m s) → Consumes m b [] →
+pub ended : (a m b : Option (List ℕ)) (s : Stage) (i : Input) (g : IsAtStage a m s)
+    → Consumes m b [] →
     IsAtEnd b → EndIs g.0 i → InputIs a b i
 ended a m b s input.Nothing g c e r = received_end a m b s nothing g c e r
 ended a m b s (input.Refused refusal) g c e r = received_end a m b s (refused refusal) g c e r
 ended a m b s (input.Request message) g c e r = absurd r
 ended a m b s input.NoRoom g c e r = absurd r
 
-pub going_kept : (a m b : Option (List ℕ)) (s : Stage) → Going a m s → Keeps m b → Going a b s
+pub going_kept : (a m b : Option (List ℕ)) (s : Stage) → IsAtStage a m s → Keeps m b
+    → IsAtStage a b s
 going_kept a m b s g k = (g.0, Consumes-kept a m b g.0 g.1 k, g.2)
 
-pub left_open : (a b : Option (List ℕ)) (s : Stage) → Going a b s → (bytes : List ℕ)
+pub left_open : (a b : Option (List ℕ)) (s : Stage) → IsAtStage a b s → (bytes : List ℕ)
     × Consumes a b bytes × IsOpen bytes
 left_open a b s g = (g.0, g.1, stage_open g.0 s g.2)
 

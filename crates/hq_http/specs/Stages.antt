@@ -6,8 +6,8 @@ use Rattle.httparse.specs.Grammar.{RequestHead}
 use Rattle.hq_base.specs.declared.engine.EngineFault.{EngineFault}
 use Rattle.hq_base.specs.declared.engine.EngineFault.TheVariants as fault
 use Rattle.hq_http.specs.Requests as requests
-use Rattle.hq_http.specs.Requests.{IsOpen, Reads, Settles, RequestOf, Received, HasNoRoom, nothing}
-use Rattle.hq_http.specs.Requests.{refused, request}
+use Rattle.hq_http.specs.Requests.{IsOpen, ReadsHead, Determines, RequestOf, Received, HasNoRoom}
+use Rattle.hq_http.specs.Requests.{nothing, refused, request, most_head_bytes}
 use Rattle.hq_http.specs.declared.ends.Place.TheVariants.{Ended}
 use Rattle.hq_http.specs.declared.head.WholeHead.{WholeHead}
 use Rattle.hq_http.specs.declared.stages.Request.{Request}
@@ -19,10 +19,11 @@ use Rattle.hq_http.specs.declared.reading.Input.{Input}
 use Rattle.hq_http.specs.declared.reading.Input.TheVariants as input
 use Rattle.hq_http.specs.declared.reading.Turn.{Turn}
 use Rattle.hq_http.specs.declared.reading.Turn.TheVariants.{Again, Done}
+use Rattle.hq_base.specs.Limits.{most_bytes}
 
 -- a request as the code holds it
-abbrev pub shown : Request → requests.Request
-shown m = record {
+abbrev pub request_seen : Request → requests.Request
+request_seen m = record {
   method = string_bytes m.method;
   path = string_bytes m.path;
   key = option_map string_bytes m.key;
@@ -40,34 +41,34 @@ pub record IsOf (m : Request) (w : WholeHead) (rest : List ℕ) : Type 0 where
 -- bytes behind it
 pub record BodyBegun (bytes : List ℕ) (m : Request) (length : ℕ) : Type 0 where
   pub head : RequestHead
-  pub reads : Reads bytes head (record { length = length; key = option_map string_bytes m.key })
+  pub reads : ReadsHead bytes head (record { length = length; key = option_map string_bytes m.key })
       m.body.items
-  pub limit : length ≤ 262144
+  pub limit : length ≤ most_bytes
   pub method : string_bytes m.method ≡ head.method
   pub path : string_bytes m.path ≡ head.target
 
 -- bytes lead to this stage: a head that has not ended, or a body that is not whole
 abbrev pub StageIs : List ℕ → Stage → Type 0
 StageIs bytes (Head begun) = (begun.bytes.items ≡ bytes) × (begun.place ≢ Ended)
-    × (length bytes < 16384)
+    × (length bytes < most_head_bytes)
 StageIs bytes (Body m n) = BodyBegun bytes m n × (length m.body.items < n)
 
 -- bytes make this of a request: it is open, or settled however they go on
 abbrev pub StepIs : List ℕ → Step → Type 0
 StepIs bytes (step.Open stage) = StageIs bytes stage
-StepIs bytes (step.Refused refusal) = Settles bytes (refused refusal)
-StepIs bytes (step.Whole m) = Settles bytes (request (shown m))
+StepIs bytes (step.Refused refusal) = Determines bytes (refused refusal)
+StepIs bytes (step.Whole m) = Determines bytes (request (request_seen m))
 
 -- some bytes were read, and so far the request is
-abbrev pub Going : Option (List ℕ) → Option (List ℕ) → Stage → Type 0
-Going read_old read_new stage = (bytes : List ℕ) × Consumes read_old read_new bytes
+abbrev pub IsAtStage : Option (List ℕ) → Option (List ℕ) → Stage → Type 0
+IsAtStage read_old read_new stage = (bytes : List ℕ) × Consumes read_old read_new bytes
     × StageIs bytes stage
 
 -- what was read, or that there was no room for it
 abbrev pub InputIs : Option (List ℕ) → Option (List ℕ) → Input → Type 0
 InputIs read_old read_new input.Nothing = Received read_old read_new nothing
 InputIs read_old read_new (input.Refused refusal) = Received read_old read_new (refused refusal)
-InputIs read_old read_new (input.Request m) = Received read_old read_new (request (shown m))
+InputIs read_old read_new (input.Request m) = Received read_old read_new (request (request_seen m))
 InputIs read_old read_new input.NoRoom = HasNoRoom read_old read_new
 
 -- Bytes were read, and more had to be: no head has ended in them, or the body of one is not whole.
@@ -81,7 +82,7 @@ LeavesOpen read_old read_new why = ((why ≡ fault.Read) ⊎ (why ≡ fault.TooM
 
 -- a read, and what it makes of the request
 abbrev pub TurnIs : Option (List ℕ) → Option (List ℕ) → Turn → Type 0
-TurnIs read_old read_new (Again stage) = Going read_old read_new stage
+TurnIs read_old read_new (Again stage) = IsAtStage read_old read_new stage
 TurnIs read_old read_new (Done told) = InputIs read_old read_new told
 
 -- what bytes that do not go on ask for

@@ -1,7 +1,7 @@
 //! What the fields of a head say of the body and the key.
 
 ghost use Rattle.std.specs.Prelude.{◌≡◌, ◌≤◌, ◌∷◌, [], length, drop, option_map, MatchOption};
-ghost use Rattle.hq_http.specs.Fields.{AreWithin, fields_in, values, at_most_one, framing};
+ghost use Rattle.hq_http.specs.Fields.{AreWithin, header_fields, values, at_most_one, framing};
 ghost use Rattle.hq_http.specs.Fields.{framing_view, length_of, key_of, is_plain, is_ascii};
 ghost use Rattle.std.specs.Str.{IsUtf8};
 
@@ -11,9 +11,9 @@ use httparse::spans::HeaderSpan;
 /// The value of the first field of a name, and how many fields stand up to it.
 fn first_value<'b>(buf: &'b [u8], headers: &[HeaderSpan], name: &[u8]) -> Option<(&'b [u8], usize)>
     requires { AreWithin buf.now headers.now }
-    ensures { MatchOption result (values name.now (fields_in buf.now headers.now) ≡ [])
-        (λ r. (r.1 ≤ length headers.now) × (values name.now (fields_in buf.now headers.now)
-        ≡ r.0.now ∷ values name.now (fields_in buf.now (drop r.1 headers.now)))) }
+    ensures { MatchOption result (values name.now (header_fields buf.now headers.now) ≡ [])
+        (λ r. (r.1 ≤ length headers.now) × (values name.now (header_fields buf.now headers.now)
+        ≡ r.0.now ∷ values name.now (header_fields buf.now (drop r.1 headers.now)))) }
 {
     for (place, header) in headers.iter().enumerate() {
         if header.name.of(buf).eq_ignore_ascii_case(name) {
@@ -27,7 +27,7 @@ fn first_value<'b>(buf: &'b [u8], headers: &[HeaderSpan], name: &[u8]) -> Option
 fn only_value<'b>(buf: &'b [u8], headers: &[HeaderSpan], name: &[u8]) -> Option<Option<&'b [u8]>>
     requires { AreWithin buf.now headers.now }
     ensures { option_map (λ o. option_map (λ v. v.now) o) result
-        ≡ at_most_one (values name.now (fields_in buf.now headers.now)) }
+        ≡ at_most_one (values name.now (header_fields buf.now headers.now)) }
 {
     match first_value(buf, headers, name) {
         None => Some(None),
@@ -54,7 +54,7 @@ pub(crate) struct Framed<'b> {
 #[tactic(auto, unfolding(crate::specs::Fields::length_of))]
 fn length_of(buf: &[u8], headers: &[HeaderSpan]) -> Option<u64>
     requires { AreWithin buf.now headers.now }
-    ensures { result ≡ length_of (fields_in buf.now headers.now) }
+    ensures { result ≡ length_of (header_fields buf.now headers.now) }
 {
     match only_value(buf, headers, b"content-length")? {
         None => Some(0),
@@ -82,7 +82,7 @@ fn is_ascii(value: &[u8]) -> bool
 fn key_of<'b>(buf: &'b [u8], headers: &[HeaderSpan]) -> Option<Option<&'b str>>
     requires { AreWithin buf.now headers.now }
     ensures { option_map (λ o. option_map (λ v. v.now) o) result
-        ≡ key_of (fields_in buf.now headers.now) }
+        ≡ key_of (header_fields buf.now headers.now) }
 {
     match only_value(buf, headers, b"x-desk-key")? {
         None => Some(None),
@@ -100,7 +100,7 @@ fn key_of<'b>(buf: &'b [u8], headers: &[HeaderSpan]) -> Option<Option<&'b str>>
 #[tactic(auto, unfolding(crate::specs::Fields::is_plain))]
 fn is_plain(buf: &[u8], headers: &[HeaderSpan]) -> bool
     requires { AreWithin buf.now headers.now }
-    ensures { result ≡ is_plain (fields_in buf.now headers.now) }
+    ensures { result ≡ is_plain (header_fields buf.now headers.now) }
 {
     first_value(buf, headers, b"transfer-encoding").is_none()
 }
@@ -109,7 +109,7 @@ fn is_plain(buf: &[u8], headers: &[HeaderSpan]) -> bool
 #[tactic(auto, unfolding(crate::specs::Fields::framing))]
 pub(crate) fn framing_of<'b>(buf: &'b [u8], headers: &[HeaderSpan]) -> Option<Framed<'b>>
     requires { AreWithin buf.now headers.now }
-    ensures { option_map framing_view result ≡ framing (fields_in buf.now headers.now) }
+    ensures { option_map framing_view result ≡ framing (header_fields buf.now headers.now) }
 {
     if !is_plain(buf, headers) {
         return None;

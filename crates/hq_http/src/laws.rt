@@ -3,15 +3,15 @@
 
 ghost use Rattle.std.specs.Prelude.{◌≡◌, ◌++◌, ℕ, List};
 ghost use Rattle.hq_base.specs.declared.failure.Refusal.TheVariants.{BodyTooLong};
-ghost use Rattle.hq_http.specs.Requests.{Asked, Request, refused, request, RequestOf, Settles};
+ghost use Rattle.hq_http.specs.Requests.{Wanted, Request, refused, request, RequestOf, Determines};
 
 /// Bytes ask for one thing; and what a whole request, or one with too long a body, asks for stays
 /// as it is however the bytes go on.
 pub fn one_request()
-    ensures one { (bytes : List ℕ) (a b : Asked) → RequestOf bytes a → RequestOf bytes b
+    ensures one { (bytes : List ℕ) (a b : Wanted) → RequestOf bytes a → RequestOf bytes b
         → a ≡ b }
     ensures whole { (bytes : List ℕ) (q : Request) → RequestOf bytes (request q)
-        → Settles bytes (request q) }
+        → Determines bytes (request q) }
     ensures too_long { (bytes : List ℕ) → RequestOf bytes (refused BodyTooLong)
-        → Settles bytes (refused BodyTooLong) }
+        → Determines bytes (refused BodyTooLong) }
 {}

@@ -2,7 +2,7 @@
 
 ghost use Rattle.std.specs.Prelude.{◌≡◌, ◌<◌, ◌≤◌, List, ℕ, Option, length, IfOk, IfErr};
 ghost use Rattle.std.specs.Io.KnownBytes.{Consumes};
-ghost use Rattle.hq_http.specs.Stages.{StageIs, Going, InputIs, LeavesOpen, TurnIs, EndIs};
+ghost use Rattle.hq_http.specs.Stages.{StageIs, IsAtStage, InputIs, LeavesOpen, TurnIs, EndIs};
 
 use crate::begun::Begun;
 use crate::stages::{Request, Stage, Step, advance};
@@ -52,7 +52,7 @@ fn at_end(stage: &Stage) -> Input
 /// What some more bytes make.
 fn take_chunk(alloc: Global, stage: Stage, chunk: &[u8]) -> Turn
     requires { 0 < length chunk.now }
-    ensures { (read_old read_mid read_new : Option (List ℕ)) → Going read_old read_mid stage
+    ensures { (read_old read_mid read_new : Option (List ℕ)) → IsAtStage read_old read_mid stage
         → Consumes read_mid read_new chunk.now → length chunk.now ≤ 4096
         → TurnIs read_old read_new result }
 {
@@ -71,11 +71,11 @@ fn read_more<R: Read>(
     room: &mut [u8; CHUNK_BYTES],
     stage: Stage,
 ) -> Result<Turn, EngineFault>
-    ensures turn { (read_old : Option (List ℕ)) → Going read_old (R.remaining reader.old) stage
+    ensures turn { (read_old : Option (List ℕ)) → IsAtStage read_old (R.remaining reader.old) stage
         → IfOk result (TurnIs read_old (R.remaining reader.new)) }
-    ensures fault { (read_old : Option (List ℕ)) → Going read_old (R.remaining reader.old) stage
+    ensures fault { (read_old : Option (List ℕ)) → IsAtStage read_old (R.remaining reader.old) stage
         → IfErr result (λ e. (e ≡ EngineFault.Read)
-        × Going read_old (R.remaining reader.new) stage) }
+        × IsAtStage read_old (R.remaining reader.new) stage) }
 {
     match reader.read(room) {
         Ok(0) => Ok(Turn::Done(at_end(&stage))),

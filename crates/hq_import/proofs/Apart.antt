@@ -9,7 +9,7 @@ use Rattle.hq_base.specs.declared.failure.Fail.{Fail}
 use Rattle.hq_base.specs.declared.failure.Refusal.{Refusal}
 use Rattle.hq_queue.specs.declared.account.Customer.{Customer}
 use Rattle.hq_queue.specs.Customers.{is_same_text, names_apart, keys_apart, are_customers}
-use Rattle.hq_import.specs.Directories.{is_named, is_taken, next_customer, customers_under}
+use Rattle.hq_import.specs.Directories.{is_name_taken, is_taken, next_customer, customers_under}
 use Rattle.hq_import.proofs.Seeing.{same_either_way}
 
 pub err_ok : {A : Type 0} (r : Refusal) (a : A) → ◌≡◌ {A = Result A Refusal} (Err r) (Ok a) → ⊥
@@ -52,7 +52,7 @@ same_key c d = is_same_text c.key d.key
 
 -- customers with names and keys of their own stay so with one whose name and key are new
 customers_push : (cs : List Customer) (c : Customer) → are_customers cs ≡ true →
-    is_named cs c.entry.name ≡ false → is_taken cs c.key ≡ false →
+    is_name_taken cs c.entry.name ≡ false → is_taken cs c.key ≡ false →
     are_customers (cs ++ c ∷ []) ≡ true
 customers_push cs c h named taken =
     let own = and_parts (names_apart cs) (keys_apart cs) h in
@@ -72,20 +72,21 @@ passed_both false false two three customer c h = (refl, refl, same_ok customer c
 accepted : (earlier : List Customer) (few : Bool) (one two three : Refusal)
     (read : Result Customer Refusal) (c : Customer)
     → (guard few one >>= (λ _. read >>=
-    (λ customer. guard (not (is_named earlier customer.entry.name)) two >>=
+    (λ customer. guard (not (is_name_taken earlier customer.entry.name)) two >>=
     (λ _. guard (not (is_taken earlier customer.key)) three >>= (λ _. Ok customer))))) ≡ Ok c
-    → (is_named earlier c.entry.name ≡ false) × (is_taken earlier c.key ≡ false)
+    → (is_name_taken earlier c.entry.name ≡ false) × (is_taken earlier c.key ≡ false)
 accepted earlier false one two three read c h = absurd (err_ok one c h)
 accepted earlier true one two three (Err e) c h = absurd (err_ok e c h)
 accepted earlier true one two three (Ok customer) c h =
-    let told = passed_both (is_named earlier customer.entry.name) (is_taken earlier customer.key)
+    let told = passed_both (is_name_taken earlier customer.entry.name)
+    (is_taken earlier customer.key)
     two three customer c h in (
-      subst (λ x. is_named earlier x.entry.name ≡ false) told.2 told.0,
+      subst (λ x. is_name_taken earlier x.entry.name ≡ false) told.2 told.0,
       subst (λ x. is_taken earlier x.key ≡ false) told.2 told.1,
     )
 
 new_customer : (earlier : List Customer) (row : List (List ℕ)) (c : Customer) →
-    next_customer earlier row ≡ Ok c → (is_named earlier c.entry.name ≡ false)
+    next_customer earlier row ≡ Ok c → (is_name_taken earlier c.entry.name ≡ false)
     × (is_taken earlier c.key ≡ false)
 unfolding next_customer
 new_customer earlier row c h = accepted earlier _ _ _ _ _ c h

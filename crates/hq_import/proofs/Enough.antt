@@ -14,7 +14,7 @@ use Rattle.hq_import.specs.Directories.{next_customer, customers_under, customer
 use Rattle.hq_import.specs.Directories.{directory_header}
 use Rattle.hq_import.specs.First.{first_lines, first_customers}
 use Rattle.hq_import.specs.Records.{records_in, is_header, under_header}
-use Rattle.hq_import.specs.Tables.{next_line, lines_under, lines_in, table_header}
+use Rattle.hq_import.specs.Tables.{next_line, lines_under, table_lines, table_header}
 
 abbrev Row : Type 0
 Row = List (List ℕ)
@@ -98,8 +98,8 @@ rows_then names bad true (header ∷ rows) under h = chosen (is_header names hea
     chosen true = h rows
     chosen false = refl
 
-pub lines_enough : (file : List ℕ) → first_lines file ≡ lines_in file
-unfolding first_lines lines_in lines_under
+pub lines_enough : (file : List ℕ) → first_lines file ≡ table_lines file
+unfolding first_lines table_lines lines_under
 lines_enough file = rows_then table_header (BadCsv 0) (nat_le (length file) 262144)
     (records_in file) (lines_under []) (λ rows. enough next_line lines_stop rows 1001 [] refl
     (lit≤ tt))

@@ -6,7 +6,7 @@ use Rattle.hq_base.specs.declared.failure.Refusal.{Refusal}
 use Rattle.hq_queue.specs.Limits.{is_quota, is_delay}
 use Rattle.hq_queue.specs.declared.account.Entry.{Entry}
 use Rattle.hq_queue.specs.declared.account.Quota.{Quota}
-use Rattle.hq_import.specs.Directories.{quota_of, entry_of}
+use Rattle.hq_import.specs.Directories.{quota_of, limited_entry}
 
 -- a test that holds passes, whichever proof is carried
 passed : (b : Bool) (bad : Refusal) (h : IsTrue b) → passes b bad ≡ Ok h
@@ -42,7 +42,7 @@ quota_refused bad m b l n h =
     ap (λ r. r >>= made) (failed (is_quota m b l n) bad h)
 
 pub entry_taken : (bad : Refusal) (name : List ℕ) (quota : Quota) (delay : ℕ)
-    (h : IsTrue (is_delay delay)) → entry_of bad name quota delay ≡ Ok
+    (h : IsTrue (is_delay delay)) → limited_entry bad name quota delay ≡ Ok
     (record { name = name; quota = quota; delay = delay; limit = h })
 entry_taken bad name quota delay h =
     let made : IsTrue (is_delay delay) → Result Entry Refusal =
@@ -50,7 +50,7 @@ entry_taken bad name quota delay h =
     ap (λ r. r >>= made) (passed (is_delay delay) bad h)
 
 pub entry_refused : (bad : Refusal) (name : List ℕ) (quota : Quota) (delay : ℕ) →
-    is_delay delay ≡ false → entry_of bad name quota delay ≡ Err bad
+    is_delay delay ≡ false → limited_entry bad name quota delay ≡ Err bad
 entry_refused bad name quota delay h =
     let made : IsTrue (is_delay delay) → Result Entry Refusal =
     λ k. Ok (record { name = name; quota = quota; delay = delay; limit = k }) in

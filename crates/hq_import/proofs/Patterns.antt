@@ -7,7 +7,7 @@ use Rattle.hq_base.specs.declared.failure.Refusal.{Refusal}
 use Rattle.hq_access.specs.declared.pattern.Class.{Class}
 use Rattle.hq_access.specs.declared.pattern.Class.TheVariants.{SenderSide, RecipientSide}
 use Rattle.hq_access.specs.declared.pattern.Line.{Line}
-use Rattle.hq_import.specs.Tables.{is_same_class, is_same_pattern, is_doubled, patterns_apart}
+use Rattle.hq_import.specs.Tables.{is_same_class, is_same_pattern, is_repeated_line, patterns_apart}
 use Rattle.hq_import.specs.Tables.{next_line, lines_under}
 use Rattle.hq_import.proofs.Apart.{err_ok, same_ok, apart_push}
 use Rattle.hq_import.proofs.Seeing.{same_either_way}
@@ -30,20 +30,21 @@ lines_turned a b = rw (
 -- where the test passes, the pattern is not doubled
 accepted : (earlier : List Line) (few : Bool) (one two : Refusal) (read : Result Line Refusal)
     (line : Line)
-    → (guard few one >>= (λ _. read >>= (λ l. guard (not (is_doubled earlier l)) two >>=
+    → (guard few one >>= (λ _. read >>= (λ l. guard (not (is_repeated_line earlier l)) two >>=
     (λ _. Ok l)))) ≡ Ok line
-    → is_doubled earlier line ≡ false
+    → is_repeated_line earlier line ≡ false
 accepted earlier false one two read line h = absurd (err_ok one line h)
 accepted earlier true one two (Err e) line h = absurd (err_ok e line h)
-accepted earlier true one two (Ok l) line h = told (is_doubled earlier l) refl h
+accepted earlier true one two (Ok l) line h = told (is_repeated_line earlier l) refl h
   where
-    told : (b : Bool) → is_doubled earlier l ≡ b → (guard (not b) two >>= (λ _. Ok l)) ≡ Ok line →
-        is_doubled earlier line ≡ false
+    told : (b : Bool) → is_repeated_line earlier l ≡ b → (guard (not b) two >>= (λ _. Ok l))
+        ≡ Ok line →
+        is_repeated_line earlier line ≡ false
     told true f g = absurd (err_ok two line g)
-    told false f g = subst (λ x. is_doubled earlier x ≡ false) (same_ok l line g) f
+    told false f g = subst (λ x. is_repeated_line earlier x ≡ false) (same_ok l line g) f
 
 new_line : (earlier : List Line) (row : List (List ℕ)) (line : Line) →
-    next_line earlier row ≡ Ok line → is_doubled earlier line ≡ false
+    next_line earlier row ≡ Ok line → is_repeated_line earlier line ≡ false
 unfolding next_line
 new_line earlier row line h = accepted earlier _ _ _ _ line h
 

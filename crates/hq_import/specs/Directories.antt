@@ -13,7 +13,7 @@ use Rattle.hq_queue.specs.declared.account.Customer.{Customer}
 use Rattle.hq_queue.specs.declared.account.Entry.{Entry}
 use Rattle.hq_queue.specs.declared.account.Quota.{Quota}
 use Rattle.hq_queue.specs.Customers.{has_name, has_key}
-use Rattle.hq_import.specs.Fields.{text_at, number_at, told_as}
+use Rattle.hq_import.specs.Fields.{text_field, number_field, refused_as}
 use Rattle.hq_import.specs.Records.{Record, most_rows, rows_in}
 
 -- four numbers, where they are within the limits of a quota
@@ -31,15 +31,15 @@ quota_of bad messages bytes lines notices = do
 -- the quota of a row
 unfoldable pub quota_in : Refusal → Record → Result Quota Refusal
 quota_in bad fields = do
-  messages ← or_refuse bad (number_at 2 fields)
-  bytes ← or_refuse bad (number_at 3 fields)
-  lines ← or_refuse bad (number_at 4 fields)
-  notices ← or_refuse bad (number_at 5 fields)
+  messages ← or_refuse bad (number_field 2 fields)
+  bytes ← or_refuse bad (number_field 3 fields)
+  lines ← or_refuse bad (number_field 4 fields)
+  notices ← or_refuse bad (number_field 5 fields)
   quota_of bad messages bytes lines notices
 
 -- what the desk knows of a customer, where its delay is within the limits
-abbrev pub entry_of : Refusal → List ℕ → Quota → ℕ → Result Entry Refusal
-entry_of bad name quota delay = do
+abbrev pub limited_entry : Refusal → List ℕ → Quota → ℕ → Result Entry Refusal
+limited_entry bad name quota delay = do
   limit ← passes (is_delay delay) bad
   Ok (record { name = name; quota = quota; delay = delay; limit = limit })
 
@@ -47,18 +47,18 @@ entry_of bad name quota delay = do
 unfoldable pub customer_in : Refusal → Record → Result Customer Refusal
 customer_in bad fields = do
   seven ← guard (length fields == 7) bad
-  name_text ← or_refuse bad (text_at 0 fields)
-  key_text ← or_refuse bad (text_at 1 fields)
-  name ← told_as bad (name_in name_text)
-  key ← told_as bad (key_in key_text)
+  name_text ← or_refuse bad (text_field 0 fields)
+  key_text ← or_refuse bad (text_field 1 fields)
+  name ← refused_as bad (name_in name_text)
+  key ← refused_as bad (key_in key_text)
   quota ← quota_in bad fields
-  delay ← or_refuse bad (number_at 6 fields)
-  entry ← entry_of bad name quota delay
+  delay ← or_refuse bad (number_field 6 fields)
+  entry ← limited_entry bad name quota delay
   Ok (record { entry = entry; key = key })
 
 -- a name, or a key, that an earlier row has
-abbrev pub is_named : List Customer → List ℕ → Bool
-is_named earlier name = list_any (has_name name) earlier
+abbrev pub is_name_taken : List Customer → List ℕ → Bool
+is_name_taken earlier name = list_any (has_name name) earlier
 
 abbrev pub is_taken : List Customer → List ℕ → Bool
 is_taken earlier key = list_any (has_key key) earlier
@@ -70,7 +70,7 @@ next_customer earlier fields =
     let number = length earlier + 1 in do
       few ← guard (nat_le number most_rows) (BadDirectory number)
       customer ← customer_in (BadDirectory number) fields
-      new_name ← guard (not (is_named earlier customer.entry.name)) (DoubledName number)
+      new_name ← guard (not (is_name_taken earlier customer.entry.name)) (DoubledName number)
       new_key ← guard (not (is_taken earlier customer.key)) (DoubledKey number)
       Ok customer
 

@@ -8,18 +8,18 @@ use Rattle.hq_base.specs.declared.failure.Refusal.{Refusal}
 use Rattle.hq_import.specs.Records.{Record}
 
 -- a text is UTF-8
-abbrev pub text_in : List ℕ → Option (List ℕ)
-text_in field = if is_utf8 field then Some field else None
+abbrev pub utf8_in : List ℕ → Option (List ℕ)
+utf8_in field = if is_utf8 field then Some field else None
 
 -- the field at a place, from 0, where it is a text
-abbrev pub text_at : ℕ → Record → Option (List ℕ)
-text_at place fields = option_and_then text_in (field_at fields place)
+abbrev pub text_field : ℕ → Record → Option (List ℕ)
+text_field place fields = option_and_then utf8_in (field_at fields place)
 
 -- the number at a place: 1 to 13 decimal digits
-abbrev pub number_at : ℕ → Record → Option ℕ
-number_at place fields = option_and_then (number_in 13) (field_at fields place)
+abbrev pub number_field : ℕ → Record → Option ℕ
+number_field place fields = option_and_then (number_in 13) (field_at fields place)
 
 -- a reading whose refusal is told as that of the row
-abbrev pub told_as : {A : Type 0} → Refusal → Result A Refusal → Result A Refusal
-told_as bad (Ok value) = Ok value
-told_as bad (Err refusal) = Err bad
+abbrev pub refused_as : {A : Type 0} → Refusal → Result A Refusal → Result A Refusal
+refused_as bad (Ok value) = Ok value
+refused_as bad (Err refusal) = Err bad

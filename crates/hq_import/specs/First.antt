@@ -10,9 +10,10 @@ use Rattle.hq_queue.specs.declared.account.Customer.{Customer}
 use Rattle.hq_import.specs.Directories.{customers_under, directory_header}
 use Rattle.hq_import.specs.Records.{Record, records_in, under_header}
 use Rattle.hq_import.specs.Tables.{lines_under, table_header}
+use Rattle.hq_base.specs.Limits.{most_bytes}
 
 abbrev pub first_records : Refusal → List ℕ → Result (List Record) Refusal
-first_records bad file = checked (take 1002 (records_in file)) (nat_le (length file) 262144) bad
+first_records bad file = checked (take 1002 (records_in file)) (nat_le (length file) most_bytes) bad
 
 abbrev pub first_rows : Record → Refusal → List ℕ → Result (List Record) Refusal
 first_rows names bad file = first_records bad file >>= under_header names bad

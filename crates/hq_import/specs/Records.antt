@@ -10,6 +10,7 @@ use Rattle.csv.specs.declared.parser.State.{State}
 use Rattle.csv.specs.declared.parser.State.TheVariants.{StartRecord}
 use Rattle.hq_base.specs.Readers.{◌>>=◌, checked}
 use Rattle.hq_base.specs.declared.failure.Refusal.{Refusal}
+use Rattle.hq_base.specs.Limits.{most_bytes}
 
 -- a record is its fields, and a field its bytes
 abbrev pub Record : Type 0
@@ -31,7 +32,7 @@ records_in file = records_from StartRecord [] [] (strip_bom file)
 
 -- the records of a file of at most 262,144 bytes, a byte order mark among them
 abbrev pub file_records : Refusal → List ℕ → Result (List Record) Refusal
-file_records bad file = checked (records_in file) (nat_le (length file) 262144) bad
+file_records bad file = checked (records_in file) (nat_le (length file) most_bytes) bad
 
 -- the header has these fields, byte for byte
 abbrev pub is_header : Record → Record → Bool

@@ -8,7 +8,7 @@ use Rattle.hq_access.specs.declared.pattern.Class.TheVariants.{SenderSide, Recip
 use Rattle.hq_access.specs.declared.pattern.Line.{Line}
 use Rattle.hq_queue.specs.declared.account.Customer.{Customer}
 use Rattle.hq_queue.specs.Customers.{is_same_text}
-use Rattle.hq_import.specs.Directories.{is_named, is_taken}
+use Rattle.hq_import.specs.Directories.{is_name_taken, is_taken}
 use Rattle.hq_import.specs.Tables.{is_same_class, is_same_pattern}
 use Rattle.hq_import.specs.declared.seen.Seen.{Seen}
 use Rattle.hq_import.specs.declared.seen.SeenPatterns.{SeenPatterns}
@@ -30,7 +30,7 @@ KnowsPatterns seen earlier = (pattern : Class × List ℕ) →
 
 -- the names of these customers were noted, and no others
 abbrev pub KnowsNames : Seen → List Customer → Type 0
-KnowsNames seen earlier = (name : List ℕ) → has name seen ≡ is_named earlier name
+KnowsNames seen earlier = (name : List ℕ) → has name seen ≡ is_name_taken earlier name
 
 -- the same of their keys
 abbrev pub KnowsKeys : Seen → List Customer → Type 0

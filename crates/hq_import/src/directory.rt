@@ -8,10 +8,10 @@ ghost use Rattle.hq_queue.specs.Limits.{is_quota};
 ghost use Rattle.hq_queue.specs.Customers.{are_customers};
 ghost use Rattle.hq_import.specs.First.{first_customers};
 ghost use Rattle.hq_import.specs.Seen.{KnowsNames, KnowsKeys};
-ghost use Rattle.hq_import.specs.Directories.{quota_of, quota_in, entry_of, customer_in};
+ghost use Rattle.hq_import.specs.Directories.{quota_of, quota_in, limited_entry, customer_in};
 ghost use Rattle.hq_import.specs.Directories.{next_customer, customers_under, customers_in};
 
-use crate::fields::{number_at, text_at, told_as};
+use crate::fields::{number_field, refused_as, text_field};
 use crate::records::{MOST_ROWS, file_records, under_header};
 use crate::seen::Seen;
 use csv::ByteRecord;
@@ -60,16 +60,16 @@ fn quota_of(
 fn quota_in(bad: Refusal, row: &ByteRecord) -> Result<Quota, Refusal>
     ensures { result ≡ quota_in bad (fields_of row.now) }
 {
-    let messages = number_at(row, 2).ok_or(bad)?;
-    let bytes = number_at(row, 3).ok_or(bad)?;
-    let lines = number_at(row, 4).ok_or(bad)?;
-    let notices = number_at(row, 5).ok_or(bad)?;
+    let messages = number_field(row, 2).ok_or(bad)?;
+    let bytes = number_field(row, 3).ok_or(bad)?;
+    let lines = number_field(row, 4).ok_or(bad)?;
+    let notices = number_field(row, 5).ok_or(bad)?;
     quota_of(bad, messages, bytes, lines, notices)
 }
 
 /// The entry of a customer, where its delay is within the limits.
-fn entry_of(bad: Refusal, name: Name, quota: Quota, delay: u64) -> Result<Entry, Refusal>
-    ensures { result ≡ entry_of bad name quota delay }
+fn limited_entry(bad: Refusal, name: Name, quota: Quota, delay: u64) -> Result<Entry, Refusal>
+    ensures { result ≡ limited_entry bad name quota delay }
 {
     if delay > 431_999 {
         return Err(bad);
@@ -85,13 +85,13 @@ fn customer_in(alloc: Global, bad: Refusal, row: &ByteRecord) -> Result<Customer
     if row.len() != HEADER.len() {
         return Err(Fail::Refused(bad));
     }
-    let name = text_at(row, 0).ok_or(bad)?;
-    let key = text_at(row, 1).ok_or(bad)?;
-    let name = told_as(bad, Name::parse(alloc, name))?;
-    let key = told_as(bad, Key::parse(alloc, key))?;
+    let name = text_field(row, 0).ok_or(bad)?;
+    let key = text_field(row, 1).ok_or(bad)?;
+    let name = refused_as(bad, Name::parse(alloc, name))?;
+    let key = refused_as(bad, Key::parse(alloc, key))?;
     let quota = quota_in(bad, row)?;
-    let delay = number_at(row, 6).ok_or(bad)?;
-    let entry = entry_of(bad, name, quota, delay)?;
+    let delay = number_field(row, 6).ok_or(bad)?;
+    let entry = limited_entry(bad, name, quota, delay)?;
     Ok(Customer { entry, key })
 }
 

@@ -4,7 +4,7 @@ ghost use Rattle.std.specs.Prelude.{◌≡◌, ℕ, option_map, Result};
 ghost use Rattle.csv.specs.Records.{fields_of};
 ghost use Rattle.hq_base.specs.Readers.{Reads};
 ghost use Rattle.hq_base.specs.declared.failure.Refusal.{Refusal as AnyRefusal};
-ghost use Rattle.hq_import.specs.Fields.{text_in, text_at, number_at, told_as};
+ghost use Rattle.hq_import.specs.Fields.{utf8_in, text_field, number_field, refused_as};
 
 use csv::ByteRecord;
 use hq_base::read_number;
@@ -15,8 +15,8 @@ const MOST_DIGITS: usize = 13;
 
 /// A field that is UTF-8.
 #[tactic(auto, using(crate::proofs::Texts::utf8_told, crate::proofs::Texts::utf8_refused))]
-fn text_in(field: &[u8]) -> Option<&str>
-    ensures { option_map (λ t. t.now) result ≡ text_in field.now }
+fn utf8_in(field: &[u8]) -> Option<&str>
+    ensures { option_map (λ t. t.now) result ≡ utf8_in field.now }
 {
     match str::from_utf8(field) {
         Ok(text) => Some(text),
@@ -25,18 +25,18 @@ fn text_in(field: &[u8]) -> Option<&str>
 }
 
 /// The field at a place, where it is a text.
-pub(crate) fn text_at(row: &ByteRecord, place: usize) -> Option<&str>
-    ensures { option_map (λ t. t.now) result ≡ text_at place (fields_of row.now) }
+pub(crate) fn text_field(row: &ByteRecord, place: usize) -> Option<&str>
+    ensures { option_map (λ t. t.now) result ≡ text_field place (fields_of row.now) }
 {
     match row.get(place) {
-        Some(field) => text_in(field),
+        Some(field) => utf8_in(field),
         None => None,
     }
 }
 
 /// The number at a place.
-pub(crate) fn number_at(row: &ByteRecord, place: usize) -> Option<u64>
-    ensures { result ≡ number_at place (fields_of row.now) }
+pub(crate) fn number_field(row: &ByteRecord, place: usize) -> Option<u64>
+    ensures { result ≡ number_field place (fields_of row.now) }
 {
     match row.get(place) {
         Some(field) => read_number(field, MOST_DIGITS),
@@ -45,8 +45,9 @@ pub(crate) fn number_at(row: &ByteRecord, place: usize) -> Option<u64>
 }
 
 /// A reading, whose refusal is told as that of the row.
-pub(crate) fn told_as<T: Drop>(bad: Refusal, reading: Result<T, Fail>) -> Result<T, Fail>
-    ensures { (read : Result T AnyRefusal) → Reads reading read → Reads result (told_as bad read) }
+pub(crate) fn refused_as<T: Drop>(bad: Refusal, reading: Result<T, Fail>) -> Result<T, Fail>
+    ensures { (read : Result T AnyRefusal) → Reads reading read
+        → Reads result (refused_as bad read) }
 {
     match reading {
         Ok(value) => Ok(value),

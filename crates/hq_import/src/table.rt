@@ -6,10 +6,10 @@ ghost use Rattle.csv.specs.Records.{fields_of};
 ghost use Rattle.hq_base.specs.Readers.{Reads, seen_by};
 ghost use Rattle.hq_import.specs.First.{first_lines};
 ghost use Rattle.hq_import.specs.Seen.{KnowsPatterns};
-ghost use Rattle.hq_import.specs.Tables.{class_in, line_in, next_line, lines_under, lines_in};
+ghost use Rattle.hq_import.specs.Tables.{line_in, next_line, lines_under, table_lines};
 ghost use Rattle.hq_import.specs.Tables.{patterns_apart};
 
-use crate::fields::{text_at, told_as};
+use crate::fields::{refused_as, text_field};
 use crate::records::{MOST_ROWS, file_records, under_header};
 use crate::seen::SeenPatterns;
 use csv::ByteRecord;
@@ -20,17 +20,6 @@ use std::alloc::Global;
 /// The fields of the header.
 const HEADER: [&str; 3] = ["class", "pattern", "action"];
 
-/// The class of a name.
-fn class_in(name: &str) -> Option<Class>
-    ensures { result ≡ class_in name.now }
-{
-    match name {
-        "sender" => Some(Class::SenderSide),
-        "recipient" => Some(Class::RecipientSide),
-        _ => None,
-    }
-}
-
 /// The line of a row.
 #[tactic(auto, unfolding(crate::specs::Tables::line_in))]
 fn line_in(alloc: Global, bad: Refusal, row: &ByteRecord) -> Result<Line, Fail>
@@ -39,11 +28,11 @@ fn line_in(alloc: Global, bad: Refusal, row: &ByteRecord) -> Result<Line, Fail>
     if row.len() != HEADER.len() {
         return Err(Fail::Refused(bad));
     }
-    let class = text_at(row, 0).and_then(class_in).ok_or(bad)?;
-    let pattern = text_at(row, 1).ok_or(bad)?;
-    let action = text_at(row, 2).ok_or(bad)?;
-    let pattern = told_as(bad, Pattern::parse(alloc, class, pattern))?;
-    let action = told_as(bad, Action::parse(alloc, action))?;
+    let class = text_field(row, 0).and_then(Class::named).ok_or(bad)?;
+    let pattern = text_field(row, 1).ok_or(bad)?;
+    let action = text_field(row, 2).ok_or(bad)?;
+    let pattern = refused_as(bad, Pattern::parse(alloc, class, pattern))?;
+    let action = refused_as(bad, Action::parse(alloc, action))?;
     Ok(Line { pattern, action })
 }
 
@@ -104,7 +93,7 @@ fn first_lines(alloc: Global, file: &[u8]) -> Result<Vec<Line>, Fail>
 /// pattern stand in an earlier row. The only other error is want of memory. No two lines are of one
 /// class and one pattern.
 pub fn lines_of(alloc: Global, file: &[u8]) -> Result<Vec<Line>, Fail>
-    ensures lines { Reads (seen_by (λ v. v.items) result) (lines_in file.now) }
+    ensures lines { Reads (seen_by (λ v. v.items) result) (table_lines file.now) }
     ensures apart { IfOk result (λ v. IsTrue (patterns_apart v.items)) }
 {
     first_lines(alloc, file)

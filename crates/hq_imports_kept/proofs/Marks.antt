@@ -39,7 +39,7 @@ use Rattle.hq_calls.specs.Notices.{carried_out, show_notice}
 use Rattle.hq_calls.specs.Outcomes.{put_or_dropped, attempted, outcome_with, outcome}
 use Rattle.hq_calls.specs.Queues as queues
 use Rattle.hq_calls.specs.Submissions as submissions
-use Rattle.hq_calls.specs.Sweeps.{met, changed_by, how_many, swept_all, sweep}
+use Rattle.hq_calls.specs.Sweeps.{message_met, changed_by, messages_that, swept_all, sweep}
 use Rattle.hq_calls.specs.declared.answer.Answer.TheVariants as answer
 use Rattle.hq_calls.specs.declared.answer.LinePut.TheVariants.{Added, Changed, Same}
 use Rattle.hq_calls.specs.declared.call.AttemptReport.{AttemptReport}
@@ -198,13 +198,13 @@ pub sweep_leaves : (host : List ℕ) (entry : Entry) (s : State) (at : ℕ) (ms 
     Leaves s (sweep host entry at s.head ms)
 sweep_leaves host entry s at ms = cases (expired == 0 && warned == 0) where
   rows : List (Message × Swept)
-  rows = map (met at entry.delay) ms
+  rows = map (message_met at entry.delay) ms
 
   expired : ℕ
-  expired = how_many Expired rows
+  expired = messages_that Expired rows
 
   warned : ℕ
-  warned = how_many Warned rows
+  warned = messages_that Warned rows
 
   cases : (b : Bool) → Leaves s (if b then
       tell (answer.Swept (record { expired = 0; notices = 0; warned = 0 })) else

@@ -13,7 +13,7 @@ use Rattle.sha2.specs.Sha256.{sha256}
 use Rattle.hq_owned.proofs.Parts.{tied_true, tied_false}
 use Rattle.hq_base.specs.declared.failure.Refusal.{Refusal}
 use Rattle.hq_base.specs.declared.failure.Refusal.TheVariants.{QuotaLines, LabelUsed}
-use Rattle.hq_import.specs.Tables.{lines_in}
+use Rattle.hq_import.specs.Tables.{table_lines}
 use Rattle.hq_access.specs.declared.pattern.Line.{Line}
 use Rattle.hq_queue.specs.declared.account.Entry.{Entry}
 use Rattle.hq_store.specs.Readings.{read_state}
@@ -24,7 +24,8 @@ use Rattle.hq_store.proofs.Customers.{cases_name}
 use Rattle.hq_store.proofs.Many.{change_all-append}
 use Rattle.hq_calls.specs.Answering.{tell, refuse}
 use Rattle.hq_calls.specs.Decision.{decide}
-use Rattle.hq_calls.specs.Imports.{met, counts_of, mark_of, set_by, changes_of, repeated, taken}
+use Rattle.hq_calls.specs.Imports.{line_met, counts_of, mark_of, set_by, changes_of, repeated}
+use Rattle.hq_calls.specs.Imports.{taken}
 use Rattle.hq_calls.specs.Imports.{first_import, import}
 use Rattle.hq_calls.specs.Machine.{step, state_after}
 use Rattle.hq_calls.specs.declared.answer.Answer.{Answer}
@@ -63,10 +64,10 @@ put_elsewhere s label mark new has none = ⊎_elim
 taken_has : (s : State) (label : List ℕ) (mark : Mark) (quota count : ℕ) (other digest : List ℕ)
     (ls : List Line) → Has label mark s → get s.marks other ≡ None →
     Has label mark (change_all (taken quota count other digest
-    (map (met (read_state s)) ls)).changes s)
+    (map (line_met (read_state s)) ls)).changes s)
 taken_has s label mark quota count other digest ls has none = cases (nat_lt quota _) where
   rows : List (Line × LinePut)
-  rows = map (met (read_state s)) ls
+  rows = map (line_met (read_state s)) ls
 
   new : Mark
   new = mark_of other digest (counts_of rows)
@@ -107,7 +108,7 @@ import_has s label mark quota other file has = cases (get s.marks other) refl wh
   cases : (o : Option Mark) → get s.marks other ≡ o →
       Has label mark (change_all (import quota (read_state s) other file o).changes s)
   cases (Some found) e = known found (bytes_eq (sha256 file) found.digest)
-  cases None e = rows (lines_in file) e
+  cases None e = rows (table_lines file) e
 
 step_has : (host : List ℕ) (entry : Entry) (s : State) (label : List ℕ) (mark : Mark) (at : ℕ)
     (call : Call) → Has label mark s → Has label mark (step host entry s at call).1
@@ -210,7 +211,7 @@ accepted quota s label file counts told = cases (get s.marks label) refl told wh
       absurd (refused_imported LabelUsed counts (sym (ap (λ (x : Decision). x.answer) is) ∙ told))
 
   set : (ls : List Line) (b : Bool) → get s.marks label ≡ None →
-      (let rows = map (met (read_state s)) ls in
+      (let rows = map (line_met (read_state s)) ls in
       let d = if b then refuse QuotaLines else
       record {
         answer = answer.Imported (counts_of rows);
@@ -219,7 +220,7 @@ accepted quota s label file counts told = cases (get s.marks label) refl told wh
       d.answer ≡ answer.Imported counts → Accepted label file counts (change_all d.changes s))
   set ls true none told = absurd (refused_imported QuotaLines counts told)
   set ls false none told =
-      let rows = map (met (read_state s)) ls in
+      let rows = map (line_met (read_state s)) ls in
       let digest = sha256 file in
       let mark = mark_of label digest (counts_of rows) in
       subst (Accepted label file counts)
@@ -246,7 +247,7 @@ accepted quota s label file counts told = cases (get s.marks label) refl told wh
       Accepted label file counts (change_all (import quota (read_state s) label file o).changes s)
   cases (Some mark) e told = known mark (bytes_eq (sha256 file) mark.digest) e
       (repeated (sha256 file) mark) refl refl told
-  cases None e told = rows (lines_in file) e told
+  cases None e told = rows (table_lines file) e told
 
 pub repeats : (host : List ℕ) (entry : Entry) (s : State) (at : ℕ) (label file : List ℕ)
     (counts : ImportCounts) (calls : List (ℕ × Call)) (later : ℕ) →

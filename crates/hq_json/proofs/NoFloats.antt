@@ -13,10 +13,10 @@ use Rattle.hq_store.specs.declared.notice.Notice.{Notice}
 use Rattle.hq_calls.specs.declared.answer.Answer.{Answer}
 use Rattle.hq_calls.specs.declared.answer.Answer.TheVariants as answer
 use Rattle.hq_json.specs.AttemptReplies.{due_entry, due_listed}
-use Rattle.hq_json.specs.NoticeReplies.{notice_entry, notices_listed, notice_shown}
-use Rattle.hq_json.specs.Replies.{entry, pending_entry, shown, listed, queued, refusal_data}
+use Rattle.hq_json.specs.NoticeReplies.{notice_entry, notices_listed, notice_json}
+use Rattle.hq_json.specs.Replies.{entry, pending_entry, message_json, listed, queued, refusal_data}
 use Rattle.hq_json.specs.Replies.{answer_data}
-use Rattle.hq_json.specs.TableReplies.{refused_entry, line_entry, lines_listed, checked}
+use Rattle.hq_json.specs.TableReplies.{refused_entry, line_entry, lines_listed, check_json}
 
 list_no_float : {X : Type 0} (f : X → Data) → ((x : X) → has_float (f x) ≡ false) → (xs : List X) →
     items_have_float (items_of (map f xs)) ≡ false
@@ -45,7 +45,7 @@ refusal_no_float (DoubledKey row) = refl
 refusal_no_float _ = refl
 
 pub answer_has_no_float : (a : Answer) → has_float (answer_data a) ≡ false
-unfolding listed shown queued lines_listed checked due_listed notices_listed notice_shown
+unfolding listed message_json queued lines_listed check_json due_listed notices_listed notice_json
 answer_has_no_float (answer.Refused r) = refusal_no_float r
 answer_has_no_float (answer.Queued m refused) = rw
     (list_no_float (λ (p : Pending). string p.address) (λ _. refl) m.pending)

@@ -10,8 +10,8 @@ use Rattle.hq_calls.specs.declared.answer.SweepCounts.{SweepCounts}
 use Rattle.hq_json.specs.Objects.{having, count, id, addresses}
 
 -- how many recipients of each kind, and how many are left
-abbrev pub attempted : AttemptCounts → Data
-attempted counts = having (
+abbrev pub attempt_json : AttemptCounts → Data
+attempt_json counts = having (
     (codes "deferred", count counts.deferred) ∷
     (codes "delivered", count counts.delivered) ∷
     (codes "failed", count counts.failed) ∷
@@ -38,8 +38,8 @@ unfoldable pub due_listed : List Message → Bool → Data
 due_listed ms more = having ((codes "due", array (items_of (map due_entry ms)))
     ∷ (codes "more", boolean more) ∷ [])
 
-abbrev pub swept : SweepCounts → Data
-swept counts = having (
+abbrev pub sweep_json : SweepCounts → Data
+sweep_json counts = having (
     (codes "expired", count counts.expired) ∷
     (codes "notices", count counts.notices) ∷
     (codes "warned", count counts.warned) ∷

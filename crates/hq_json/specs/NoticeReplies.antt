@@ -31,8 +31,8 @@ notices_listed ns more = having ((codes "more", boolean more)
     ∷ (codes "notices", array (items_of (map notice_entry ns))) ∷ [])
 
 -- a notice shown whole
-unfoldable pub notice_shown : Notice → Data
-notice_shown n = having (
+unfoldable pub notice_json : Notice → Data
+notice_json n = having (
     (codes "at", count n.at) ∷
     (codes "human", string n.human) ∷
     (codes "id", id n.serial) ∷

@@ -20,5 +20,5 @@ used u = having (
     [])
 
 -- the queue report as one text
-abbrev pub reported : List ℕ → Data
-reported text = having ((codes "report", string text) ∷ [])
+abbrev pub report_json : List ℕ → Data
+report_json text = having ((codes "report", string text) ∷ [])

@@ -17,18 +17,18 @@ use Rattle.hq_queue.specs.declared.message.QueueState.{QueueState}
 use Rattle.hq_queue.specs.declared.message.QueueState.TheVariants.{Incoming, Deferred, Hold}
 use Rattle.hq_calls.specs.declared.answer.Answer.{Answer}
 use Rattle.hq_calls.specs.declared.answer.Answer.TheVariants as answer
-use Rattle.hq_json.specs.AttemptReplies.{attempted, attempt_repeated, due_listed, swept}
-use Rattle.hq_json.specs.NoticeReplies.{notices_listed, notice_shown}
+use Rattle.hq_json.specs.AttemptReplies.{attempt_json, attempt_repeated, due_listed, sweep_json}
+use Rattle.hq_json.specs.NoticeReplies.{notices_listed, notice_json}
 use Rattle.hq_json.specs.Objects.{having, count, id, addresses}
-use Rattle.hq_json.specs.QueueReplies.{used, reported}
-use Rattle.hq_json.specs.TableReplies.{refused_list, lines_listed, line_put, line_dropped, checked}
-use Rattle.hq_json.specs.TableReplies.{imported}
+use Rattle.hq_json.specs.QueueReplies.{used, report_json}
+use Rattle.hq_json.specs.TableReplies.{refused_list, lines_listed, line_put, line_dropped}
+use Rattle.hq_json.specs.TableReplies.{check_json, import_json}
 
 -- ---- refusals
 
 -- the number and the name
-abbrev pub refused : Refusal → Data
-refused r = having (
+abbrev pub refusal_json : Refusal → Data
+refusal_json r = having (
     (codes "error", count (refusal_number r)) ∷
     (codes "name", string (refusal_name r)) ∷
     [])
@@ -56,7 +56,7 @@ refusal_data (DoubledPattern row) = refused_at (DoubledPattern row) row
 refusal_data (BadDirectory row) = refused_at (BadDirectory row) row
 refusal_data (DoubledName row) = refused_at (DoubledName row) row
 refusal_data (DoubledKey row) = refused_at (DoubledKey row) row
-refusal_data r = refused r
+refusal_data r = refusal_json r
 
 -- ---- messages
 
@@ -93,8 +93,8 @@ abbrev pub pending_list : List Pending → Data
 pending_list ps = array (items_of (map pending_entry ps))
 
 -- a message shown whole; the reason is empty where it is not on hold
-unfoldable pub shown : Message → Data
-shown m = having (
+unfoldable pub message_json : Message → Data
+message_json m = having (
     (codes "arrival", count m.arrival) ∷
     (codes "attempts", count m.attempts) ∷
     (codes "id", id m.serial) ∷
@@ -126,11 +126,12 @@ queued m refused = having (
     [])
 
 -- queued anew, under this queue ID
-abbrev pub requeued : ℕ → Data
-requeued serial = having ((codes "id", id serial) ∷ [])
+abbrev pub requeue_json : ℕ → Data
+requeue_json serial = having ((codes "id", id serial) ∷ [])
 
-abbrev pub repeated : ℕ → Data
-repeated serial = having ((codes "id", id serial) ∷ (codes "verdict", string (codes "repeat")) ∷ [])
+abbrev pub repeat_json : ℕ → Data
+repeat_json serial = having ((codes "id", id serial) ∷ (codes "verdict", string (codes "repeat"))
+    ∷ [])
 
 abbrev pub rejected : List Refused → Data
 rejected refused = having ((codes "refused", refused_list refused)
@@ -148,26 +149,26 @@ changed n = having ((codes "changed", count n) ∷ [])
 abbrev pub answer_data : Answer → Data
 answer_data (answer.Refused r) = refusal_data r
 answer_data (answer.Queued m refused) = queued m refused
-answer_data (answer.Repeated serial) = repeated serial
-answer_data (answer.Requeued serial) = requeued serial
+answer_data (answer.Repeated serial) = repeat_json serial
+answer_data (answer.Requeued serial) = requeue_json serial
 answer_data (answer.Listed ms more) = listed ms more
-answer_data (answer.Shown m) = shown m
+answer_data (answer.Shown m) = message_json m
 answer_data (answer.Changed n) = changed n
 answer_data (answer.Rejected refused) = rejected refused
 answer_data (answer.Discarded refused) = discarded refused
 answer_data (answer.LinesListed lines more) = lines_listed lines more
 answer_data (answer.LinePut done) = line_put done
 answer_data answer.LineDropped = line_dropped
-answer_data (answer.Checked keys found) = checked keys found
-answer_data (answer.Imported counts) = imported counts
-answer_data (answer.Attempted counts) = attempted counts
+answer_data (answer.Checked keys found) = check_json keys found
+answer_data (answer.Imported counts) = import_json counts
+answer_data (answer.Attempted counts) = attempt_json counts
 answer_data (answer.AttemptRepeated attempts) = attempt_repeated attempts
 answer_data (answer.DueListed ms more) = due_listed ms more
-answer_data (answer.Swept counts) = swept counts
+answer_data (answer.Swept counts) = sweep_json counts
 answer_data (answer.NoticesListed ns more) = notices_listed ns more
-answer_data (answer.NoticeShown n) = notice_shown n
+answer_data (answer.NoticeShown n) = notice_json n
 answer_data (answer.Used usage) = used usage
-answer_data (answer.Reported text) = reported text
+answer_data (answer.Reported text) = report_json text
 
 -- the bytes of an answer
 unfoldable pub answer_text : Answer → List ℕ

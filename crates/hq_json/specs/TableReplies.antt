@@ -60,15 +60,15 @@ abbrev pub pattern_found : Option (List ℕ × Action) → Data
 pattern_found None = null
 pattern_found (Some found) = string found.0
 
-unfoldable pub checked : List (List ℕ) → Option (List ℕ × Action) → Data
-checked keys found = having (
+unfoldable pub check_json : List (List ℕ) → Option (List ℕ × Action) → Data
+check_json keys found = having (
     (codes "action", action_found found) ∷
     (codes "keys", texts keys) ∷
     (codes "pattern", pattern_found found) ∷
     [])
 
-abbrev pub imported : ImportCounts → Data
-imported counts = having (
+abbrev pub import_json : ImportCounts → Data
+import_json counts = having (
     (codes "added", count counts.added) ∷
     (codes "changed", count counts.changed) ∷
     (codes "same", count counts.same) ∷

@@ -13,7 +13,7 @@ use std::alloc::{AllocError, Global};
 
 /// What became of the recipients in an attempt.
 pub(crate) fn attempted_value(alloc: Global, counts: AttemptCounts) -> Result<Value, AllocError>
-    ensures { IfOk result (λ v. view v ≡ replies.attempted counts) }
+    ensures { IfOk result (λ v. view v ≡ replies.attempt_json counts) }
 {
     json!(in alloc; {
         "deferred": counts.deferred, "delivered": counts.delivered, "failed": counts.failed,
@@ -67,7 +67,7 @@ pub(crate) fn due_value(
 
 /// What a sweep did.
 pub(crate) fn swept_value(alloc: Global, counts: SweepCounts) -> Result<Value, AllocError>
-    ensures { IfOk result (λ v. view v ≡ replies.swept counts) }
+    ensures { IfOk result (λ v. view v ≡ replies.sweep_json counts) }
 {
     json!(in alloc; {
         "expired": counts.expired, "notices": counts.notices, "warned": counts.warned

@@ -66,9 +66,9 @@ pub(crate) fn notices_value(
 }
 
 /// A notice whole.
-#[tactic(auto, unfolding(crate::specs::NoticeReplies::notice_shown))]
+#[tactic(auto, unfolding(crate::specs::NoticeReplies::notice_json))]
 pub(crate) fn notice_value(alloc: Global, notice: &Notice) -> Result<Value, AllocError>
-    ensures { IfOk result (λ v. view v ≡ replies.notice_shown notice.now) }
+    ensures { IfOk result (λ v. view v ≡ replies.notice_json notice.now) }
 {
     let id = id_value(alloc, notice.serial)?;
     json!(in alloc; {

@@ -23,7 +23,7 @@ pub(crate) fn used_value(alloc: Global, usage: Usage) -> Result<Value, AllocErro
 
 /// The queue report.
 pub(crate) fn reported_value(alloc: Global, report: &str) -> Result<Value, AllocError>
-    ensures { IfOk result (λ v. view v ≡ replies.reported report.now) }
+    ensures { IfOk result (λ v. view v ≡ replies.report_json report.now) }
 {
     json!(in alloc; {"report": report})
 }

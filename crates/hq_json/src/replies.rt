@@ -25,7 +25,7 @@ use std::alloc::{AllocError, Global};
 // ---- refusals
 
 fn plain_refusal(alloc: Global, refusal: &Refusal) -> Result<Value, AllocError>
-    ensures { IfOk result (λ v. view v ≡ replies.refused refusal.now) }
+    ensures { IfOk result (λ v. view v ≡ replies.refusal_json refusal.now) }
 {
     json!(in alloc; {"error": refusal.number(), "name": refusal.name()})
 }
@@ -131,9 +131,9 @@ fn pending_list(alloc: Global, list: &[Pending]) -> Result<Value, AllocError>
     Ok(Value::Array(values))
 }
 
-#[tactic(auto, unfolding(crate::specs::Replies::shown))]
+#[tactic(auto, unfolding(crate::specs::Replies::message_json))]
 fn shown_value(alloc: Global, message: &Message) -> Result<Value, AllocError>
-    ensures { IfOk result (λ v. view v ≡ replies.shown message.now) }
+    ensures { IfOk result (λ v. view v ≡ replies.message_json message.now) }
 {
     let id = id_value(alloc, message.serial)?;
     let pending = pending_list(alloc, message.pending.as_slice())?;
@@ -162,14 +162,14 @@ fn queued_value(alloc: Global, message: &Message, refused: &[Refused]) -> Result
 }
 
 fn repeated_value(alloc: Global, serial: Serial) -> Result<Value, AllocError>
-    ensures { IfOk result (λ v. view v ≡ replies.repeated serial) }
+    ensures { IfOk result (λ v. view v ≡ replies.repeat_json serial) }
 {
     let id = id_value(alloc, serial)?;
     json!(in alloc; {"id": id, "verdict": "repeat"})
 }
 
 fn requeued_value(alloc: Global, serial: Serial) -> Result<Value, AllocError>
-    ensures { IfOk result (λ v. view v ≡ replies.requeued serial) }
+    ensures { IfOk result (λ v. view v ≡ replies.requeue_json serial) }
 {
     let id = id_value(alloc, serial)?;
     json!(in alloc; {"id": id})

@@ -122,13 +122,13 @@ fn pattern_found(alloc: Global, found: &Option<(LookupKey, Action)>) -> Result<V
 }
 
 /// The keys of an address, and what was found at the first that has a line.
-#[tactic(auto, unfolding(crate::specs::TableReplies::checked))]
+#[tactic(auto, unfolding(crate::specs::TableReplies::check_json))]
 pub(crate) fn checked_value(
     alloc: Global,
     keys: &[LookupKey],
     found: &Option<(LookupKey, Action)>,
 ) -> Result<Value, AllocError>
-    ensures { IfOk result (λ v. view v ≡ replies.checked keys.now found.now) }
+    ensures { IfOk result (λ v. view v ≡ replies.check_json keys.now found.now) }
 {
     let action = action_found(alloc, found)?;
     let keys = key_list(alloc, keys)?;
@@ -138,7 +138,7 @@ pub(crate) fn checked_value(
 
 /// What the rows of an import did.
 pub(crate) fn imported_value(alloc: Global, counts: ImportCounts) -> Result<Value, AllocError>
-    ensures { IfOk result (λ v. view v ≡ replies.imported counts) }
+    ensures { IfOk result (λ v. view v ≡ replies.import_json counts) }
 {
     json!(in alloc; {
         "added": counts.added, "changed": counts.changed, "same": counts.same

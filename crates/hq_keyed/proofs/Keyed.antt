@@ -17,7 +17,7 @@ use Rattle.sqlite_keyed.specs.Lists.{update_where, delete_where}
 use Rattle.sqlite_keyed.proofs.ListLemmas.{filter-map, all-filter, all-append, all_unmap}
 use Rattle.sqlite_keyed.proofs.ListLemmas.{ascending_from_map, slice_get-filter}
 use Rattle.sqlite_keyed.proofs.KeyedLemmas.{IsKeyedBy-update_where, IsKeyedBy-delete_where}
-use Rattle.hq_owned.specs.Rows.{table, HasUniqueKeys}
+use Rattle.hq_owned.specs.Rows.{map_of, HasUniqueKeys}
 use Rattle.hq_owned.proofs.Cases.{equal}
 use Rattle.hq_owned.proofs.Lists.{get_table, table_keep, table_push}
 use Rattle.hq_owned.proofs.Unique.{unique_filter, unique_push, is_some-table}
@@ -41,7 +41,7 @@ module _ {X K V : Type 0} (encode : ℤ × X → Row) (decode : Row → X) {R : 
   Are = IsStored encode decode R key
 
   abbrev pub map_in : List Row → FinMap R V
-  map_in rows = table R key val (map decode rows)
+  map_in rows = map_of R key val (map decode rows)
 
   abbrev pub at : K → X → Bool
   at q x = eq_by_cmp R q (key x)
@@ -154,13 +154,13 @@ module _ {X K V : Type 0} (encode : ℤ × X → Row) (decode : Row → X) {R : 
 
     -- the row that is there is changed: the map has the new value at its key
     pub table_update : (xs : List X) (r : X) → find (at q) xs ≡ Some r →
-        table R key val (update_where (at q) f xs) ≡ insert (table R key val xs) q (val (f r))
+        map_of R key val (update_where (at q) f xs) ≡ insert (map_of R key val xs) q (val (f r))
     table_update xs r there = same_map o exact _ _ (λ p.
         get_table o exact key val (update_where (at q) f xs) p
         ∙ ap (option_map val) (find_moved p xs)
         ∙ go p (eq_by_cmp R p q) refl
         ∙ ap (cond (eq_by_cmp R p q) (Some (val (f r)))) (sym (get_table o exact key val xs p))
-        ∙ sym (get-insert o (table R key val xs) q (val (f r)) p))
+        ∙ sym (get-insert o (map_of R key val xs) q (val (f r)) p))
       where
         at_there : changed r ≡ f r
         at_there = ap (λ b. cond b (f r) r) (find_passes (at q) xs r there)
@@ -225,7 +225,7 @@ module _ {X K V : Type 0} (encode : ℤ × X → Row) (decode : Row → X) {R : 
             (
               some.0.1,
               got rows q ∙ ap (option_map val) found,
-              ap (table R key val) (update_typed rows s back)
+              ap (map_of R key val) (update_typed rows s back)
                   ∙ table_update (map decode rows) some.0.1 found,
             ),
           )
@@ -262,7 +262,7 @@ module _ {X K V : Type 0} (encode : ℤ × X → Row) (decode : Row → X) {R : 
     }
 
     pub table_insert : map_in (map encode news) ≡ insert (map_in rows) (key x) (val x)
-    table_insert = ap (table R key val) insert_typed
+    table_insert = ap (map_of R key val) insert_typed
         ∙ table_push o exact key val (map decode rows) x free
 
   -- ---- DELETE of the rows whose keys pass a test
@@ -294,5 +294,5 @@ module _ {X K V : Type 0} (encode : ℤ × X → Row) (decode : Row → X) {R : 
     }
 
     pub table_delete : map_in (map encode left) ≡ retain_keys (map_in rows) (λ k. not (p k))
-    table_delete = ap (table R key val) delete_typed ∙ table_keep o exact key val (λ k. not (p k))
+    table_delete = ap (map_of R key val) delete_typed ∙ table_keep o exact key val (λ k. not (p k))
         (map decode rows)

@@ -1,5 +1,5 @@
 -- What a call that fails leaves.
-use Rattle.std.proofs.Common.{◌≡◌, inl, inr, arith, ℕ, List, Option, Some, None, Ok, Err, true}
+use Rattle.std.proofs.Common.{inl, inr, arith, ℕ, List, Option, Some, None, Ok, Err}
 use Rattle.std.proofs.Common.{false}
 use Rattle.std.proofs.lemmas.Bool.{cases_Bool}
 use Rattle.sqlite.specs.Order.{Row}
@@ -7,20 +7,15 @@ use Rattle.sqlite.specs.declared.error.Error.{Error}
 use Rattle.sqlite_resolve.specs.declared.compiled.Compiled.{Compiled}
 use Rattle.sqlite_schema.specs.declared.command.Returning.{Returning}
 use Rattle.sqlite.specs.Clock.{timed}
-use Rattle.sqlite.specs.State.{State, HasCleanDisk, IsUnchanged, Fails, IsNotRun, FailsToQuery}
+use Rattle.sqlite.specs.State.{State, HasCleanDisk, IsUnchanged, IsNotRun, FailsToQuery}
 use Rattle.sqlite.specs.State.{FailsToShow, RunsCommand, ExecutesIn, Executes, shows_rows}
 use Rattle.sqlite.specs.State.{Shown, ShowsRows}
 use Rattle.sqlite.specs.Listing.{understood}
 use Rattle.sqlite.proofs.Callers.{IsPlain}
 use Rattle.std.proofs.Common.{subst, Result, OnErr}
-use Rattle.std.proofs.Common.{refl, sym, ap, ◌∙◌}
+use Rattle.std.proofs.Common.{refl, ◌∙◌}
 use Rattle.sqlite.specs.State.{KeepsCommit}
-use Rattle.std.proofs.Common.{true≢false}
-use Rattle.sqlite_trees.specs.declared.error.StoreError.{StoreError}
-use Rattle.sqlite_trees.specs.declared.error.StoreError.TheVariants.{OutOfMemory, Io, Corrupt, Full}
-use Rattle.sqlite_trees.specs.declared.error.StoreError.TheVariants.{Broken, Unstorable}
-use Rattle.sqlite.specs.State.{store_error}
-use Rattle.hq_keyed.specs.Left.{IsLeft, IsQuiet, is_clash}
+use Rattle.hq_keyed.specs.Left.{IsLeft, IsQuiet}
 
 not_run : (old new : State) (sql : List ℕ) (params : Row) (e : Error) →
     IsNotRun old new sql params e → IsLeft old new
@@ -63,12 +58,6 @@ shown_unchanged old new sql params rows plain h =
     let none = (subst IsPlain h.1.is plain).0 in
     (subst (ShowsRows old new sql h.0 (timed params h.0.formats h.1.now) rows) none h.2).3
 
--- a query with no RETURNING leaves all as it was
-pub shown_left : (old new : State) (sql : List ℕ) (params : Row) (rows : List Row) →
-    IsPlain (understood old.now.schema sql) → Shown sql params old new rows → IsLeft old new
-unfolding IsLeft
-shown_left old new sql params rows plain h = inl (shown_unchanged old new sql params rows plain h)
-
 pub on_err : {T E P : Type 0} (r : Result T E) → P → OnErr r P
 on_err (Ok x) p = tt
 on_err (Err e) p = p
@@ -105,32 +94,3 @@ unchanged_keeps old new h = record {
 }
 
 -- ---- a constraint
-
-no_clash : (cause : StoreError) → is_clash (store_error cause) ≡ false
-no_clash OutOfMemory = refl
-no_clash Io = refl
-no_clash Corrupt = refl
-no_clash Full = refl
-no_clash Broken = refl
-no_clash Unstorable = refl
-
-fails_other : (old new : State) (big : Type 0) (e : Error) → is_clash e ≡ true → Fails old new big e
-    → ⊥
-fails_other old new big e clash h = true≢false (sym clash ∙ ap is_clash h.1 ∙ no_clash h.0)
-
-command_unchanged : (old new : State) (sql : List ℕ) (c : Compiled) (params : Row) (e : Error) →
-    is_clash e ≡ true → RunsCommand old new sql c params (Err e) → IsUnchanged old new
-command_unchanged old new sql c params e clash (inl h) = h.1
-command_unchanged old new sql c params e clash (inr h) = absurd (fails_other old new _ e clash h)
-
--- where a constraint refuses a row nothing changes, and the transaction goes on
-pub clash_unchanged : (old new : State) (sql : List ℕ) (params : Row) (e : Error) →
-    is_clash e ≡ true → Executes sql params old new (Err e) → IsUnchanged old new
-unfolding ExecutesIn IsNotRun
-clash_unchanged old new sql params e clash (inl (inl h)) = h.1
-clash_unchanged old new sql params e clash (inl (inr h)) = absurd (fails_other old new _ e clash h)
-clash_unchanged old new sql params e clash (inr h) = elim (cases_Bool (shows_rows false h.0)) [
-  | inl shows ↦ (rw shows at h.2).1
-  | inr runs ↦ command_unchanged old new sql h.0 (timed params h.0.formats h.1.now) e clash
-      (rw runs at h.2)
-]

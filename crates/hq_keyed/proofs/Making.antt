@@ -11,7 +11,7 @@ use Rattle.sqlite.specs.Effect.{Database}
 use Rattle.sqlite.specs.Listing.{understood}
 use Rattle.sqlite.specs.State.{State, Executes, Writes}
 use Rattle.sqlite.proofs.Callers.{IsPlain, command_of, statement_of, runs_as}
-use Rattle.hq_keyed.specs.Made.{Makes}
+use Rattle.hq_keyed.specs.Made.{CreatesTable}
 use Rattle.std.proofs.Common.{cond}
 use Rattle.sqlite.specs.State.{KeepsCommit}
 use Rattle.hq_keyed.proofs.Writes.{went, same_value}
@@ -20,7 +20,7 @@ pub makes : (old new : State) (s : Schema) (text : List ℕ) (table : Table) (co
     old.now.schema ≡ s → table_defined_by text ≡ Ok table
     → command_of (understood s text) ≡ CreateTable → statement_of text (understood s text) ≡ text →
     IsPlain (understood s text) → lacks_sequence (created s table) ≡ false
-    → Executes text [] old new (Ok count) → Makes old new s table
+    → Executes text [] old new (Ok count) → CreatesTable old new s table
 makes old new s text table count has defined command whole plain uncounted h =
     let w = subst (λ t. Writes old new None CreateTable t [] count) whole
     (runs_as text [] old new s has CreateTable command plain count h) in

@@ -29,7 +29,7 @@ use Rattle.sqlite.proofs.Callers.{runs_as}
 use Rattle.sqlite_rules.specs.Action.{works}
 use Rattle.sqlite_schema.specs.declared.schema.Keys.TheVariants.{Enforced}
 use Rattle.sqlite_keyed.specs.Lists.{sort_by}
-use Rattle.hq_owned.specs.Rows.{table, pairs_of}
+use Rattle.hq_owned.specs.Rows.{map_of, pairs_of}
 use Rattle.hq_owned.proofs.Lists.{remove_is}
 use Rattle.hq_owned.proofs.Pages.{sorted_rows, page_rows}
 use Rattle.hq_owned.proofs.Parts.{tied_true}
@@ -67,7 +67,7 @@ pub record Wrote {X K V : Type 0} (schema : Schema) (tree : ℕ) (k : Kind X K V
   pub rows : List Row
   pub sets : Sets schema old.now new.now tree rows
   pub stored : IsStored k.encode k.decode k.order k.key rows
-  pub map_is : table k.order k.key k.val (map k.decode rows) ≡ after
+  pub map_is : map_of k.order k.key k.val (map k.decode rows) ≡ after
   pub on : GoesOn old new
 
 module _ {X K V : Type 0} (schema : Schema) (p : Place schema) (k : Kind X K V) where
@@ -75,7 +75,7 @@ module _ {X K V : Type 0} (schema : Schema) (p : Place schema) (k : Kind X K V) 
   Are = IsStored k.encode k.decode k.order k.key
 
   abbrev pub map_in : List Row → FinMap k.order V
-  map_in rows = table k.order k.key k.val (map k.decode rows)
+  map_in rows = map_of k.order k.key k.val (map k.decode rows)
 
   module _ (old new : State) (has : old.now.schema ≡ schema) (s : Are (old.now.trees p.table.tree))
     where

@@ -14,7 +14,7 @@ use Rattle.sqlite_sql.specs.declared.ops.CompareOp.TheVariants.{Eq, Gt, Ge, Lt, 
 use Rattle.sqlite_value.specs.Order.{value_cmp}
 use Rattle.sqlite_value.proofs.OrderLemmas.{value_cmp-Int}
 use Rattle.sqlite_typed.proofs.TestLemmas.{at_texts, at_ints, at_or, turn_eq, truth_or}
-use Rattle.hq_keyed.specs.Values.{text_cmp}
+use Rattle.hq_owned.specs.Owned.{text_cmp}
 use Rattle.hq_keyed.specs.Values.{number}
 
 -- column = parameter, for texts and for numbers: the test of the parameter with the column

@@ -7,7 +7,7 @@ use Rattle.std.specs.Io.BufRead.{strip_last}
 use Rattle.std.proofs.lemmas.Bool.{cases_lt, lt-ltb, le-ltb, lt-leb}
 use Rattle.std.proofs.lemmas.List.{take_all, take-append-le, length-take-le, map-append}
 use Rattle.std.proofs.lemmas.List.Elements.{filter-append}
-use Rattle.hq_lines.specs.Fields.{Request, request_in, fields_in}
+use Rattle.hq_lines.specs.Fields.{LineRequest, request_in, line_fields}
 use Rattle.hq_lines.specs.Lines.{before_first, parted, without_return, is_filled, whole_lines}
 use Rattle.hq_lines.specs.Lines.{requests}
 use Rattle.hq_lines.specs.Progress.{kept}
@@ -108,7 +108,7 @@ asks_long : (line : List ℕ) → 300000 < length line → requests (filter is_f
     ∷ []
 unfolding request_in
 asks_long line h = ap (λ t. requests (cond t (line ∷ []) [])) (lt-ltb 0 (length line) (omega arith))
-    ∙ ap (λ r. r ∷ []) (test_none 300000 line (fields_in line) None h)
+    ∙ ap (λ r. r ∷ []) (test_none 300000 line (line_fields line) None h)
 
 return_long : (line : List ℕ) → 300000 < length line → without_return line ≡ line
 unfolding without_return
@@ -118,7 +118,7 @@ return_long line h = test_none 300000 line (strip_last 13 line) line h
 kept_long : (n m : ℕ) (line : List ℕ) → n < m → m ≤ length line → n < length (take m line)
 kept_long n m line h k = subst (λ l. n < l) (sym (length-take-le m line k)) h
 
-by_kept : (f : List ℕ → List (Option Request)) → ((line : List ℕ) → 300000 < length line →
+by_kept : (f : List ℕ → List (Option LineRequest)) → ((line : List ℕ) → 300000 < length line →
     f line ≡ None ∷ []) → (line : List ℕ) → f (kept line) ≡ f line
 unfolding kept
 by_kept f long line = ⊎_elim

@@ -13,12 +13,12 @@ use Rattle.std.proofs.lemmas.List.Folds.{concat-append}
 use Rattle.hq_base.specs.declared.engine.EngineFault.{EngineFault}
 use Rattle.hq_base.specs.declared.engine.EngineFault.TheVariants.{Read, Write, TooManyReads}
 use Rattle.hq_base.specs.declared.engine.EngineFault.TheVariants.{WantOfMemory}
-use Rattle.hq_lines.specs.Fields.{Request, request_in}
+use Rattle.hq_lines.specs.Fields.{LineRequest, request_in}
 use Rattle.hq_base.specs.Turns.{InTurn}
 use Rattle.hq_base.proofs.Turns.{turns_on}
-use Rattle.hq_lines.specs.Ends.{Ends}
+use Rattle.hq_lines.specs.Ends.{InputEnds}
 use Rattle.hq_lines.specs.Lines.{parted, without_return, is_filled, whole_lines, lines_in, requests}
-use Rattle.hq_lines.specs.Lines.{Streams, Served, Broken}
+use Rattle.hq_lines.specs.Lines.{Streams, AnsweredLines, Broken}
 use Rattle.hq_lines.specs.Progress.{kept, Progress, Cut, Going}
 use Rattle.hq_lines.proofs.Lines.{whole_more, first_lines, kept_more, kept_none, asks_kept}
 use Rattle.hq_lines.proofs.Lines.{asks_ended}
@@ -29,7 +29,7 @@ pub filled_told : (line : List ℕ) (empty : Bool) → empty ≡ eqb (length lin
 filled_told line empty h k = lt-ltb 0 (length line)
     (omega (arith, eqb-false (length line) 0 (sym h ∙ k)))
 
-module _ {S : Type 0} (steps : S → Option Request → List ℕ → S → Type 0) where
+module _ {S : Type 0} (steps : S → Option LineRequest → List ℕ → S → Type 0) where
   -- steps for some lines, and then for further ones
   run_lines : (old mid new : S) (lines more : List (List ℕ)) (told others : List (List ℕ)) →
       InTurn steps old (requests lines) told mid → InTurn steps mid (requests more) others new →
@@ -150,7 +150,7 @@ module _ {S : Type 0} (steps : S → Option Request → List ℕ → S → Type 
           progress = q;
         }
 
-    abbrev Done : S → List (Option Request) → List (List ℕ) → Type 0
+    abbrev Done : S → List (Option LineRequest) → List (List ℕ) → Type 0
     Done t asked replies = InTurn steps s asked replies t
 
     broken_chunk : (r n w v : Option (List ℕ)) (t u : S) (old chunk : List ℕ)
@@ -170,17 +170,18 @@ module _ {S : Type 0} (steps : S → Option Request → List ℕ → S → Type 
     -- a reply in the middle of a chunk could not be written
     pub cut_ends : (e : EngineFault) (r n w v : Option (List ℕ)) (t u : S) (old chunk : List ℕ)
         (p : Going steps ro r wo w s t old) → Consumes r n chunk → (e ≡ Write)
-        × Cut steps (p.bytes ++ chunk) s u → Ends (Done u) ⊥ (record { input = ro; output = wo })
+        × Cut steps (p.bytes ++ chunk) s u → InputEnds (Done u) ⊥
+        (record { input = ro; output = wo })
         (record { input = n; output = v }) (Err e)
     cut_ends e r n w v t u old chunk p got cut =
-        subst (λ f. Ends (Done u) ⊥ (record { input = ro; output = wo })
+        subst (λ f. InputEnds (Done u) ⊥ (record { input = ro; output = wo })
         (record { input = n; output = v }) (Err f)) (sym cut.0)
         (broken_chunk r n w v t u old chunk p got cut.1)
 
     -- the whole lines are answered
     pub served_whole : (n w : Option (List ℕ)) (t : S) (line : List ℕ) →
         Going steps ro n wo w s t line →
-        Served (Done t) whole_lines (record { input = ro; output = wo })
+        AnsweredLines (Done t) whole_lines (record { input = ro; output = wo })
         (record { input = n; output = w })
     served_whole n w t line p = record {
       bytes = p.bytes;
@@ -207,7 +208,8 @@ module _ {S : Type 0} (steps : S → Option Request → List ℕ → S → Type 
         (line last : List ℕ) → last ≡ line → IsAtEnd n → Going steps ro n wo w s t line
         → (replies : List (List ℕ)) × InTurn steps t (requests (filter is_filled (last ∷ [])))
         replies u × OnOk result (Appends w v (concat replies)) → IfErr result (λ e. e ≡ Write)
-        → Ends (Done u) ⊥ (record { input = ro; output = wo }) (record { input = n; output = v })
+        → InputEnds (Done u) ⊥ (record { input = ro; output = wo })
+        (record { input = n; output = v })
         result
     ends (Ok x) n w v t u line last h end p q fault = (
       record {
@@ -221,7 +223,7 @@ module _ {S : Type 0} (steps : S → Option Request → List ℕ → S → Type 
       end,
     )
     ends (Err e) n w v t u line last h end p q fault =
-        subst (λ f. Ends (Done u) ⊥ (record { input = ro; output = wo })
+        subst (λ f. InputEnds (Done u) ⊥ (record { input = ro; output = wo })
         (record { input = n; output = v }) (Err f)) (sym fault) (record {
           bytes = p.bytes;
           first = lines_in p.bytes;
@@ -233,11 +235,12 @@ module _ {S : Type 0} (steps : S → Option Request → List ℕ → S → Type 
         })
 
 -- what is said of requests and replies may be said in other words, and so may what is not touched
-module _ (done other : List (Option Request) → List (List ℕ) → Type 0) {X Y : Type 0}
-    (so : (asked : List (Option Request)) (replies : List (List ℕ)) → done asked replies →
+module _ (done other : List (Option LineRequest) → List (List ℕ) → Type 0) {X Y : Type 0}
+    (so : (asked : List (Option LineRequest)) (replies : List (List ℕ)) → done asked replies →
     other asked replies) (less : X → Y) where
-  pub served_as : (lines : List ℕ → List (List ℕ)) (old new : Streams) → Served done lines old new →
-      Served other lines old new
+  pub served_as : (lines : List ℕ → List (List ℕ)) (old new : Streams)
+      → AnsweredLines done lines old new →
+      AnsweredLines other lines old new
   served_as lines old new p = record {
     bytes = p.bytes;
     replies = p.replies;
@@ -246,8 +249,9 @@ module _ (done other : List (Option Request) → List (List ℕ) → Type 0) {X 
     done_all = so _ _ p.done_all;
   }
 
-  pub ends_as : (old new : Streams) (result : Result ⊤ EngineFault) → Ends done X old new result →
-      Ends other Y old new result
+  pub ends_as : (old new : Streams) (result : Result ⊤ EngineFault)
+      → InputEnds done X old new result →
+      InputEnds other Y old new result
   ends_as old new (Ok x) p = (served_as lines_in old new p.0, p.1)
   ends_as old new (Err Read) p = served_as whole_lines old new p
   ends_as old new (Err TooManyReads) p = served_as whole_lines old new p

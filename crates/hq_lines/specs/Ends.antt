@@ -1,8 +1,8 @@
 -- How a batch ends, and what it leaves.
 use Rattle.std.specs.Prelude.{⊤, ℕ, List, Option, Result, Ok, Err}
 use Rattle.std.specs.Io.KnownBytes.{IsAtEnd}
-use Rattle.hq_lines.specs.Fields.{Request}
-use Rattle.hq_lines.specs.Lines.{whole_lines, lines_in, Streams, Served, Broken}
+use Rattle.hq_lines.specs.Fields.{LineRequest}
+use Rattle.hq_lines.specs.Lines.{whole_lines, lines_in, Streams, AnsweredLines, Broken}
 use Rattle.hq_base.specs.declared.engine.EngineFault.{EngineFault}
 use Rattle.hq_base.specs.declared.engine.EngineFault.TheVariants.{Read, Write, TooManyReads}
 use Rattle.hq_base.specs.declared.engine.EngineFault.TheVariants.{WantOfMemory}
@@ -11,10 +11,10 @@ use Rattle.hq_base.specs.declared.engine.EngineFault.TheVariants.{WantOfMemory}
 -- read or the last that is allowed, the whole lines among the bytes read are; after a failed write
 -- the first lines are done; and where the room for a line was refused, nothing was touched. `done`
 -- says what requests and their replies did.
-abbrev pub Ends : (List (Option Request) → List (List ℕ) → Type 0) → Type 0 → Streams → Streams →
-    Result ⊤ EngineFault → Type 0
-Ends done untouched old new (Ok _) = Served done lines_in old new × IsAtEnd new.input
-Ends done untouched old new (Err Read) = Served done whole_lines old new
-Ends done untouched old new (Err TooManyReads) = Served done whole_lines old new
-Ends done untouched old new (Err Write) = Broken done old new
-Ends done untouched old new (Err WantOfMemory) = untouched
+abbrev pub InputEnds : (List (Option LineRequest) → List (List ℕ) → Type 0) → Type 0 → Streams →
+    Streams → Result ⊤ EngineFault → Type 0
+InputEnds done untouched old new (Ok _) = AnsweredLines done lines_in old new × IsAtEnd new.input
+InputEnds done untouched old new (Err Read) = AnsweredLines done whole_lines old new
+InputEnds done untouched old new (Err TooManyReads) = AnsweredLines done whole_lines old new
+InputEnds done untouched old new (Err Write) = Broken done old new
+InputEnds done untouched old new (Err WantOfMemory) = untouched

@@ -4,7 +4,7 @@ use Rattle.std.specs.Prelude.{◌++◌, length, map, Option}
 use Rattle.std.specs.List.{filter, concat}
 use Rattle.std.specs.Io.BufRead.{strip_last}
 use Rattle.std.specs.Io.KnownBytes.{Consumes, Appends, IsAtEnd}
-use Rattle.hq_lines.specs.Fields.{Request, request_in}
+use Rattle.hq_lines.specs.Fields.{LineRequest, most_line_bytes, request_in}
 
 -- a byte put before the first line, or before what follows the last LF where no LF is there
 abbrev pub before_first : ℕ → List (List ℕ) × List ℕ → List (List ℕ) × List ℕ
@@ -19,7 +19,7 @@ parted (b ∷ bytes) = if b == 10 then ([] ∷ (parted bytes).0, (parted bytes).
 
 -- a line that an LF ended loses one CR (13) at its end, unless it is too long to be read with it
 unfoldable pub without_return : List ℕ → List ℕ
-without_return line = if nat_le (length line) 300000 then strip_last 13 line else line
+without_return line = if nat_le (length line) most_line_bytes then strip_last 13 line else line
 
 -- empty lines are passed over
 abbrev pub is_filled : List ℕ → Bool
@@ -34,7 +34,7 @@ abbrev pub lines_in : List ℕ → List (List ℕ)
 lines_in input = whole_lines input ++ filter is_filled ((parted input).1 ∷ [])
 
 -- what the lines ask for, in order
-abbrev pub requests : List (List ℕ) → List (Option Request)
+abbrev pub requests : List (List ℕ) → List (Option LineRequest)
 requests lines = map request_in lines
 
 -- ---- what is done with lines
@@ -47,8 +47,8 @@ pub record Streams : Type 0 where
 
 -- Some bytes were read, and of those the lines (all, or the whole ones) were answered in order,
 -- each by its reply. `done` says what these requests and their replies did.
-pub record Served (done : List (Option Request) → List (List ℕ) → Type 0) (lines : List ℕ →
-    List (List ℕ)) (old new : Streams) : Type 0 where
+pub record AnsweredLines (done : List (Option LineRequest) → List (List ℕ) → Type 0)
+    (lines : List ℕ → List (List ℕ)) (old new : Streams) : Type 0 where
   pub bytes : List ℕ
   pub replies : List (List ℕ)
   pub read : Consumes old.input new.input bytes
@@ -61,8 +61,8 @@ AreRead rest bytes lines = (whole_lines bytes ≡ lines) ⊎ (IsAtEnd rest × (l
 
 -- Some bytes were read, and the first of those lines were done; of what was written nothing is
 -- said.
-pub record Broken (done : List (Option Request) → List (List ℕ) → Type 0) (old new : Streams) : Type
-    0 where
+pub record Broken (done : List (Option LineRequest) → List (List ℕ) → Type 0) (old new : Streams) :
+    Type 0 where
   pub bytes : List ℕ
   pub first : List (List ℕ)
   pub missed : List (List ℕ)

@@ -4,10 +4,10 @@ ghost use Rattle.std.specs.Prelude.{◌≡◌, ◌<◌, ◌==◌, ◌++◌, ◌�
 ghost use Rattle.std.specs.Prelude.{length, nat_lt, IfOk, OnOk, IfErr, if◌then◌else◌};
 ghost use Rattle.std.specs.List.{filter, concat};
 ghost use Rattle.std.specs.Io.KnownBytes.{Appends, IsAtEnd};
-ghost use Rattle.hq_lines.specs.Fields.{Request, request_in};
+ghost use Rattle.hq_lines.specs.Fields.{LineRequest, request_in};
 ghost use Rattle.hq_base.specs.Turns.{InTurn};
 ghost use Rattle.hq_lines.specs.Lines.{is_filled, without_return, requests};
-ghost use Rattle.hq_lines.specs.Ends.{Ends};
+ghost use Rattle.hq_lines.specs.Ends.{InputEnds};
 ghost use Rattle.hq_lines.specs.Progress.{Progress, Cut, Going};
 
 use crate::buffer::LineBuffer;
@@ -25,7 +25,7 @@ const CHUNK_BYTES: usize = 4096;
 pub trait Answers {
     // One step: the state before, what the line asks for (none: it cannot be read), the bytes of
     // the reply, and the state after.
-    ghost steps: { Self → Option Request → List ℕ → Self → Type 0 };
+    ghost steps: { Self → Option LineRequest → List ℕ → Self → Type 0 };
 
     /// Does the step of one line that is not empty, and writes its reply, whole and with its line
     /// feed. The step goes by what the line asks for, as `read_line` tells. An error says that the
@@ -42,7 +42,7 @@ pub fn serve_lines<R: Read, W: Write, A: Answers>(
     writer: &mut W,
     answers: &mut A,
 ) -> Result<(), EngineFault>
-    ensures { Ends (λ asked replies. InTurn A.steps answers.old asked replies answers.new)
+    ensures { InputEnds (λ asked replies. InTurn A.steps answers.old asked replies answers.new)
         ((reader.new ≡ reader.old) × (writer.new ≡ writer.old) × (answers.new ≡ answers.old))
         (record { input = R.remaining reader.old; output = W.contents writer.old })
         (record { input = R.remaining reader.new; output = W.contents writer.new }) result }
@@ -62,7 +62,7 @@ pub(crate) fn serve_reads<R: Read, W: Write, A: Answers>(
     answers: &mut A,
 ) -> Result<(), EngineFault>
     requires { line.old.bytes.items ≡ [] }
-    ensures { Ends (λ asked replies. InTurn A.steps answers.old asked replies answers.new)
+    ensures { InputEnds (λ asked replies. InTurn A.steps answers.old asked replies answers.new)
         ⊥
         (record { input = R.remaining reader.old; output = W.contents writer.old })
         (record { input = R.remaining reader.new; output = W.contents writer.new }) result }
@@ -94,7 +94,7 @@ fn serve_read<R: Read, W: Write, A: Answers>(
     ensures fault { (read_old write_old : Option (List ℕ)) (old : A)
         → Going A.steps read_old (R.remaining reader.old) write_old
         (W.contents writer.old) old answers.old line.old.bytes.items
-        → IfErr result (λ fault. Ends
+        → IfErr result (λ fault. InputEnds
         (λ asked replies. InTurn A.steps old asked replies answers.new) ⊥
         (record { input = read_old; output = write_old })
         (record { input = R.remaining reader.new; output = W.contents writer.new }) (Err fault)) }

@@ -2,8 +2,8 @@
 //! here.
 
 ghost use Rattle.std.specs.Prelude.{◌≡◌, ◌<◌, ◌==◌, length, position, IfSome, option_map};
-ghost use Rattle.hq_lines.specs.Fields.{cut, moment_in, text_in, key_in, fields_in, request_in};
-ghost use Rattle.hq_lines.specs.Fields.{shown};
+ghost use Rattle.hq_lines.specs.Fields.{cut, moment_in, word_in, key_word, line_fields, request_in};
+ghost use Rattle.hq_lines.specs.Fields.{line_request};
 
 use hq_base::{Moment, read_number};
 
@@ -58,7 +58,7 @@ fn read_moment(field: &[u8]) -> Option<Moment>
 /// A field of text that is not empty.
 #[tactic(auto, using(crate::proofs::Texts::utf8_told, crate::proofs::Texts::utf8_refused))]
 fn read_text(field: &[u8]) -> Option<&str>
-    ensures { option_map (λ t. t.now) result ≡ text_in field.now }
+    ensures { option_map (λ t. t.now) result ≡ word_in field.now }
 {
     if field.is_empty() {
         return None;
@@ -71,15 +71,15 @@ fn read_text(field: &[u8]) -> Option<&str>
 
 /// The key that a field names, where it is not `-`.
 fn key_of(field: &str) -> Option<&str>
-    ensures { option_map (λ k. k.now) result ≡ key_in field.now }
+    ensures { option_map (λ k. k.now) result ≡ key_word field.now }
 {
     if field == "-" { None } else { Some(field) }
 }
 
 /// The four fields and the rest of a line that is not too long.
-#[tactic(auto, unfolding(crate::specs::Fields::fields_in))]
+#[tactic(auto, unfolding(crate::specs::Fields::line_fields))]
 fn read_fields(line: &[u8]) -> Option<RequestLine<'_>>
-    ensures { option_map shown result ≡ fields_in line.now }
+    ensures { option_map line_request result ≡ line_fields line.now }
 {
     let (at, rest) = cut(line);
     let at = read_moment(at)?;
@@ -104,7 +104,7 @@ fn read_fields(line: &[u8]) -> Option<RequestLine<'_>>
 /// four, an AT that is not 1 to 10 digits of a moment, or bytes that are not UTF-8 before the body.
 #[tactic(auto, unfolding(crate::specs::Fields::request_in))]
 pub fn read_line(bytes: &[u8]) -> Option<RequestLine<'_>>
-    ensures { option_map shown result ≡ request_in bytes.now }
+    ensures { option_map line_request result ≡ request_in bytes.now }
 {
     if bytes.len() <= MOST_LINE_BYTES {
         read_fields(bytes)

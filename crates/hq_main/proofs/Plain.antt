@@ -13,13 +13,13 @@ use Rattle.hq_store.proofs.Empty.{empty_sound}
 use Rattle.hq_desk.specs.Desks.{host_of, shelf_of}
 use Rattle.hq_wire.specs.Runs.{AllReplied, Alone}
 use Rattle.hq_wire.proofs.Serving.{all_replied}
-use Rattle.hq_lines.specs.Fields.{Request}
+use Rattle.hq_lines.specs.Fields.{LineRequest}
 use Rattle.hq_batch.specs.Batches.{ask_in}
 use Rattle.hq_settings.specs.Seen.{settings_seen}
 use Rattle.hq_settings.specs.declared.settings.Settings.{Settings}
 use Rattle.hq_program.specs.Builtin.{settings}
 use Rattle.hq_program.specs.Runs.{ServesOver}
-use Rattle.hq_main.specs.Runs.{Serves}
+use Rattle.hq_main.specs.Runs.{ServesBuiltin}
 
 -- what is seen of the shelf of plain lists
 abbrev pub plain : Sight ListRows
@@ -34,8 +34,8 @@ plain = record {
 
 pub serves : (set : Settings) → settings_seen set ≡ settings → (shelf : ListRows) →
     tables_of shelf ≡ no_tables
-    → (asked : List (Option Request)) (lines : List (List ℕ)) →
-    ServesOver plain set shelf asked lines → Serves asked lines
+    → (asked : List (Option LineRequest)) (lines : List (List ℕ)) →
+    ServesOver plain set shelf asked lines → ServesBuiltin asked lines
 serves set builtin shelf none asked lines it =
     let d = set.directory in
     let old = it.old in

@@ -12,7 +12,7 @@ use Rattle.hq_wire.specs.Runs.{AllReplied, Alone}
 use Rattle.hq_settings.specs.Seen.{settings_seen}
 use Rattle.hq_settings.specs.declared.settings.Settings.{Settings}
 use Rattle.hq_desk.specs.declared.desk.Rendered.{Rendered}
-use Rattle.hq_lines.specs.Fields.{Request}
+use Rattle.hq_lines.specs.Fields.{LineRequest}
 use Rattle.hq_lines.specs.Lines.{Streams}
 use Rattle.hq_batch.specs.Batches.{ask_in, reply_line}
 use Rattle.hq_program.specs.Builtin.{settings}
@@ -25,16 +25,16 @@ use Rattle.hq_sql_server.specs.Runs.{ServeEnds}
 use Rattle.hq_sql_admin.specs.Migrations.{MigrateEnds}
 use Rattle.hq_sql_admin.specs.Words.{QueueEnds, ImportEnds}
 use Rattle.hq_words.specs.Asked.{BatchGiven, Says, given_of}
-use Rattle.hq_words.specs.declared.words.Asked.{Asked}
-use Rattle.hq_words.specs.declared.words.Asked.TheVariants.{Serve, Batch, Queue, Import, Sweep}
-use Rattle.hq_words.specs.declared.words.Asked.TheVariants.{Migrate}
+use Rattle.hq_words.specs.declared.words.Word.{Word}
+use Rattle.hq_words.specs.declared.words.Word.TheVariants.{Serve, Batch, Queue, Import, Sweep}
+use Rattle.hq_words.specs.declared.words.Word.TheVariants.{Migrate}
 use Rattle.hq_words.specs.declared.words.Words.{Words}
-use Rattle.hq_words.specs.declared.words.Words.TheVariants.{Builtin, Asked as OfWord, Help, Refused}
+use Rattle.hq_words.specs.declared.words.Words.TheVariants.{Builtin, Word as OfWord, Help, Refused}
 use Rattle.hq_main.specs.Sweeps.{DoesSweep}
 
 -- What lines ask for is replied to as a batch of the built-in customers from empty tables, with no
 -- fault but want of memory; to each customer the desk is its own.
-pub record Serves (asked : List (Option Request)) (lines : List (List ℕ)) : Type 0 where
+pub record ServesBuiltin (asked : List (Option LineRequest)) (lines : List (List ℕ)) : Type 0 where
   pub set : Settings
   pub is_builtin : settings_seen set ≡ settings
   pub replies : List SeenReply
@@ -49,8 +49,7 @@ pub record Serves (asked : List (Option Request)) (lines : List (List ℕ)) : Ty
 -- How a batch ends with the settings that its words name: with the trouble of these, and then
 -- nothing is read or written; or as its store has it.
 abbrev pub SetBatchEnds : {S : Type 0} → Sight S → Option (List ℕ) → Type 0 → Streams → Streams →
-    Result Settings Trouble
-    → Result ⊤ Trouble → Type 0
+    Result Settings Trouble → Result ⊤ Trouble → Type 0
 SetBatchEnds sight store untouched old new (Err trouble) result = untouched × (result ≡ Err trouble)
 SetBatchEnds sight store untouched old new (Ok set) result =
     StoreEnds sight store set untouched old new result
@@ -69,7 +68,7 @@ Prints ends unread unwritten old new status =
     × IsPrinted done unwritten old.output new.output status)
 
 -- what is done for a word, by what is sight of a store in a file
-abbrev pub DoesWord : {S : Type 0} → Sight S → Asked → Type 0 → Type 0 → Streams → Streams → ℕ →
+abbrev pub DoesWord : {S : Type 0} → Sight S → Word → Type 0 → Type 0 → Streams → Streams → ℕ →
     Type 0
 DoesWord sight (Serve given) unread unwritten old new status =
     unread × Exits (ServeEnds sight given unwritten old.output new.output) status
@@ -90,7 +89,7 @@ DoesWord sight (Migrate given) unread unwritten old new status =
 abbrev pub Does : {S : Type 0} → Sight S → Result Words AllocError → Type 0 → Type 0 → Streams →
     Streams → ℕ → Type 0
 Does sight (Ok Builtin) unread unwritten old new status =
-    Exits (RunEnds Serves (unread × unwritten) old new) status
+    Exits (RunEnds ServesBuiltin (unread × unwritten) old new) status
 Does sight (Ok (OfWord asked)) unread unwritten old new status =
     DoesWord sight asked unread unwritten old new status
 Does sight (Ok (Help text)) unread unwritten old new status =

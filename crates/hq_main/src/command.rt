@@ -3,7 +3,7 @@
 ghost use Rattle.std.specs.Prelude.{◌≡◌, [], map as map_list, string_bytes};
 ghost use Rattle.hq_program.specs.Runs.{RunEnds, Exits};
 ghost use Rattle.hq_words.specs.Asked.{given_of};
-ghost use Rattle.hq_main.specs.Runs.{Serves, BatchEnds, DoesWord, Commands};
+ghost use Rattle.hq_main.specs.Runs.{ServesBuiltin, BatchEnds, DoesWord, Commands};
 
 use crate::sweeping::do_sweep;
 use hq_envelope::Fault;
@@ -14,7 +14,7 @@ use hq_sql_file::FileShelf;
 use hq_sql_program::serve_stored;
 use hq_sql_server::serve_http;
 use hq_store::Shelf;
-use hq_words::{Asked, Batch, Words, read_words};
+use hq_words::{Batch, Word, Words, read_words};
 use std::io::{Read, Write};
 
 /// Serves the built-in customers from an empty desk in memory, over plain lists.
@@ -23,7 +23,7 @@ fn serve_lists<R: Read, W: Write>(
     input: &mut R,
     output: &mut W,
 ) -> Result<(), Trouble>
-    ensures { RunEnds Serves ((input.new ≡ input.old) × (output.new ≡ output.old))
+    ensures { RunEnds ServesBuiltin ((input.new ≡ input.old) × (output.new ≡ output.old))
         (record { input = R.remaining input.old; output = W.contents output.old })
         (record { input = R.remaining input.new; output = W.contents output.new }) result }
 {
@@ -51,7 +51,7 @@ fn serve_batch<R: Read, W: Write>(
 /// Does what a word of the program asks for, and answers the exit status.
 fn do_word<R: Read, W: Write, E: Write>(
     rt: &HostRuntime,
-    asked: &Asked,
+    asked: &Word,
     input: &mut R,
     output: &mut W,
     errors: &mut E,
@@ -62,15 +62,15 @@ fn do_word<R: Read, W: Write, E: Write>(
         (record { input = R.remaining input.new; output = W.contents output.new }) result }
 {
     match asked {
-        Asked::Serve(given) => {
+        Word::Serve(given) => {
             let served = serve_http(rt, given, output, errors);
             tell(served, errors)
         }
-        Asked::Batch(batch) => tell(serve_batch(rt, batch, input, output), errors),
-        Asked::Queue(given) => print(queue(rt, given), output, errors),
-        Asked::Import(given) => print(import(rt, given), output, errors),
-        Asked::Sweep(given) => do_sweep(rt, given, output, errors),
-        Asked::Migrate(given) => print(migrate(rt, given), output, errors),
+        Word::Batch(batch) => tell(serve_batch(rt, batch, input, output), errors),
+        Word::Queue(given) => print(queue(rt, given), output, errors),
+        Word::Import(given) => print(import(rt, given), output, errors),
+        Word::Sweep(given) => do_sweep(rt, given, output, errors),
+        Word::Migrate(given) => print(migrate(rt, given), output, errors),
     }
 }
 
@@ -89,7 +89,7 @@ pub fn command<R: Read, W: Write, E: Write>(
     output: &mut W,
     errors: &mut E,
 ) -> u8
-    ensures none { words.now ≡ [] → Exits (RunEnds Serves
+    ensures none { words.now ≡ [] → Exits (RunEnds ServesBuiltin
         ((input.new ≡ input.old) × (output.new ≡ output.old))
         (record { input = R.remaining input.old; output = W.contents output.old })
         (record { input = R.remaining input.new; output = W.contents output.new })) result }
@@ -103,7 +103,7 @@ pub fn command<R: Read, W: Write, E: Write>(
             let ended = serve_lists(rt, input, output);
             tell(ended, errors)
         }
-        Ok(Words::Asked(asked)) => do_word(rt, &asked, input, output, errors),
+        Ok(Words::Word(asked)) => do_word(rt, &asked, input, output, errors),
         Ok(Words::Help(text)) => show(text.as_str(), output, errors),
         Ok(Words::Refused(text)) => refuse(text.as_str(), errors),
         Err(_) => tell(Err(Trouble::from(Fault::WantOfMemory)), errors),

@@ -12,7 +12,7 @@ use Rattle.std.specs.FinMap.{FinMap, get, insert, remove, retain_keys, from_entr
 use Rattle.std.specs.FinMap.{get-from_entries, get-insert, get-remove, get-retain_keys, same_map}
 use Rattle.std.specs.FinMap.{from_entries_push}
 use Rattle.std.specs.FinMap.Entries.{where_key, find-where_key}
-use Rattle.hq_owned.specs.Rows.{pairs_of, table, insert_all}
+use Rattle.hq_owned.specs.Rows.{pairs_of, map_of, insert_all}
 use Rattle.hq_owned.proofs.Cases.{turned}
 
 module _ {A K X : Type 0} (R : K → K → Ordering) (key : A → K) (val : A → X) where
@@ -60,14 +60,14 @@ module _ {A K X : Type 0} {R : K → K → Ordering} (o : IsTotalOrder R) (exact
     (key : A → K) (val : A → X) where
   -- a look-up: the value of the first row with that key
   pub get_table : (rows : List A) (q : K) →
-      get (table R key val rows) q ≡ option_map val (list.find (λ r. eq_by_cmp R q (key r)) rows)
-  unfolding table
+      get (map_of R key val rows) q ≡ option_map val (list.find (λ r. eq_by_cmp R q (key r)) rows)
+  unfolding map_of
   get_table rows q = get-from_entries o _ q ∙ find_pairs R key val q rows
 
   -- a filter by a test of keys
   pub table_keep : (p : K → Bool) (rows : List A) →
-      table R key val (filter (λ r. p (key r)) rows) ≡ retain_keys (table R key val rows) p
-  unfolding table
+      map_of R key val (filter (λ r. p (key r)) rows) ≡ retain_keys (map_of R key val rows) p
+  unfolding map_of
   table_keep p rows = same_map o exact _ _ (λ q.
       get-from_entries o _ q ∙ ap (find R q) (pairs_filter R key val p rows)
       ∙ find-where_key R p q (λ x e. ap p (sym (exact q x e))) (pairs_of key val rows)
@@ -77,15 +77,15 @@ module _ {A K X : Type 0} {R : K → K → Ordering} (o : IsTotalOrder R) (exact
 
   -- a drop of one key
   pub table_drop : (k : K) (rows : List A) →
-      table R key val (filter (λ r. not (eq_by_cmp R k (key r))) rows) ≡ remove
-      (table R key val rows) k
+      map_of R key val (filter (λ r. not (eq_by_cmp R k (key r))) rows) ≡ remove
+      (map_of R key val rows) k
   table_drop k rows = table_keep (λ x. not (eq_by_cmp R k x)) rows
-      ∙ sym (remove_is o exact (table R key val rows) k)
+      ∙ sym (remove_is o exact (map_of R key val rows) k)
 
   -- a push of a row whose key is new
-  pub table_push : (rows : List A) (r : A) → get (table R key val rows) (key r) ≡ None →
-      table R key val (rows ++ r ∷ []) ≡ insert (table R key val rows) (key r) (val r)
-  unfolding table
+  pub table_push : (rows : List A) (r : A) → get (map_of R key val rows) (key r) ≡ None →
+      map_of R key val (rows ++ r ∷ []) ≡ insert (map_of R key val rows) (key r) (val r)
+  unfolding map_of
   table_push rows r none =
       ap from_entries (map-append (λ x. (key x, val x)) rows (r ∷ []))
       ∙ from_entries_push o exact (pairs_of key val rows) (key r) (val r)
@@ -93,17 +93,17 @@ module _ {A K X : Type 0} {R : K → K → Ordering} (o : IsTotalOrder R) (exact
 
   -- a put: drop the key, then push
   pub table_put : (rows : List A) (r : A) →
-      table R key val (filter (λ x. not (eq_by_cmp R (key r) (key x))) rows ++ r ∷ []) ≡ insert
-      (table R key val rows) (key r) (val r)
+      map_of R key val (filter (λ x. not (eq_by_cmp R (key r) (key x))) rows ++ r ∷ []) ≡ insert
+      (map_of R key val rows) (key r) (val r)
   table_put rows r =
       let left = filter (λ x. not (eq_by_cmp R (key r) (key x))) rows in
       let dropped = table_drop (key r) rows in
       table_push left r (ap (λ m. get m (key r)) dropped
-      ∙ get-remove o (table R key val rows) (key r) (key r)
-      ∙ ap (λ b. cond b None (get (table R key val rows) (key r)))
+      ∙ get-remove o (map_of R key val rows) (key r) (key r)
+      ∙ ap (λ b. cond b None (get (map_of R key val rows) (key r)))
       ((eq_by_cmp_equiv o).refl (key r)))
       ∙ ap (λ m. insert m (key r) (val r)) dropped
-      ∙ insert_remove o exact (table R key val rows) (key r) (val r)
+      ∙ insert_remove o exact (map_of R key val rows) (key r) (val r)
 
   -- each row's key is new when its turn comes
   abbrev pub AreNew : FinMap R X → List A → Type 0
@@ -111,11 +111,11 @@ module _ {A K X : Type 0} {R : K → K → Ordering} (o : IsTotalOrder R) (exact
   AreNew m (r ∷ rs) = (get m (key r) ≡ None) × AreNew (insert m (key r) (val r)) rs
 
   -- an addition of many
-  pub table_add : (rows rs : List A) → AreNew (table R key val rows) rs →
-      table R key val (rows ++ rs) ≡ insert_all key val rs (table R key val rows)
-  table_add rows [] new = ap (table R key val) (append-nil rows)
+  pub table_add : (rows rs : List A) → AreNew (map_of R key val rows) rs →
+      map_of R key val (rows ++ rs) ≡ insert_all key val rs (map_of R key val rows)
+  table_add rows [] new = ap (map_of R key val) (append-nil rows)
   table_add rows (r ∷ rs) new =
       let pushed = table_push rows r new.0 in
-      ap (table R key val) (sym (append_assoc rows (r ∷ []) rs))
+      ap (map_of R key val) (sym (append_assoc rows (r ∷ []) rs))
       ∙ table_add (rows ++ r ∷ []) rs (subst (λ m. AreNew m rs) (sym pushed) new.1)
       ∙ ap (insert_all key val rs) pushed

@@ -1,12 +1,10 @@
 -- Two orders that agree on the rows of a list sort it alike: as an order by the whole key, and one
 -- by its rest where all rows have one owner.
-use Rattle.std.proofs.Common.{◌≡◌, true, false, cond, T, List, [], ◌∷◌, refl, sym, ap, ◌∙◌, subst}
+use Rattle.std.proofs.Common.{◌≡◌, true, false, cond, List, [], ◌∷◌, refl, ap, ◌∙◌}
 use Rattle.std.specs.List.{AllByRecursion}
 use Rattle.std.specs.declared.cmp.Ordering.{Ordering}
-use Rattle.std.specs.Ordering.{is_gt, eq_by_cmp, ordering_then}
-use Rattle.std.specs.Cmp.{IsTotalOrder}
+use Rattle.std.specs.Ordering.{is_gt}
 use Rattle.sqlite_keyed.specs.Lists.{insert_sorted, sort_by}
-use Rattle.hq_owned.proofs.Cases.{equal}
 
 module _ {A : Type 0} (P : A → Type 0) (f g : A → A → Ordering) (same : (a b : A) → P a → P b →
     f a b ≡ g a b) where
@@ -32,19 +30,3 @@ module _ {A : Type 0} (P : A → Type 0) (f g : A → A → Ordering) (same : (a
   sort_alike [] all = refl
   sort_alike (x ∷ xs) all = ap (insert_sorted f x) (sort_alike xs all.1)
       ∙ insert_alike x (sort_by g xs) all.0 (all_sort xs all.1)
-
-module _ {A N K : Type 0} {S : N → N → Ordering} (s : IsTotalOrder S) (R : K → K → Ordering)
-    (owner : A → N) (rest : A → K) where
-  -- rows of one owner, by the whole key and by the rest
-  pub sort_owned : (c : N) (rows : List A) →
-      AllByRecursion (λ r. eq_by_cmp S c (owner r) ≡ true) rows
-      → sort_by (λ a b. ordering_then (S (owner a) (owner b)) (R (rest a) (rest b))) rows ≡ sort_by
-      (λ a b. R (rest a) (rest b)) rows
-  sort_owned c rows all =
-      sort_alike (λ r. eq_by_cmp S c (owner r) ≡ true)
-      (λ a b. ordering_then (S (owner a) (owner b)) (R (rest a) (rest b)))
-      (λ a b. R (rest a) (rest b))
-      (λ a b p q. ap (λ o. ordering_then o (R (rest a) (rest b)))
-      (sym (s.congr c (owner a) (owner b) (equal _ (subst T (sym p) tt)))
-      ∙ equal _ (subst T (sym q) tt)))
-      rows all

@@ -15,7 +15,7 @@ use Rattle.std.specs.FinMap.{get-entries, get-from_entries, entries-insert, len-
 use Rattle.std.specs.FinMap.Entries.{by_order, below_all}
 use Rattle.sqlite_keyed.specs.Lists.{insert_sorted, sort_by}
 use Rattle.sqlite_keyed.proofs.SortLemmas.{sort_by-map}
-use Rattle.hq_owned.specs.Rows.{pairs_of, table, HasUniqueKeys}
+use Rattle.hq_owned.specs.Rows.{pairs_of, map_of, HasUniqueKeys}
 use Rattle.hq_owned.proofs.Cases.{both, first, second, less}
 
 not_None : {A : Type 0} (x : A) → Some x ≢ None
@@ -198,8 +198,8 @@ module _ {A K X : Type 0} {R : K → K → Ordering} (o : IsTotalOrder R) (key :
     pub sorted_rows : (q : K × X → Bool) (rows : List A) → HasUniqueKeys R key rows
         → pairs_of key val (sort_by (λ a b. R (key a) (key b))
         (filter (λ r. q (key r, val r)) rows))
-        ≡ filter q (entries (table R key val rows))
-    unfolding table
+        ≡ filter q (entries (map_of R key val rows))
+    unfolding map_of
     sorted_rows q rows u =
         sym (sort_by-map (by_key R) (λ r. (key r, val r)) (filter (λ r. q (key r, val r)) rows))
         ∙ ap (sort_by (by_key R)) (pairs_where q rows)
@@ -209,6 +209,6 @@ module _ {A K X : Type 0} {R : K → K → Ordering} (o : IsTotalOrder R) (key :
     pub page_rows : (limit : ℕ) (q : K × X → Bool) (rows : List A) → HasUniqueKeys R key rows
         → pairs_of key val (take limit (sort_by (λ a b. R (key a) (key b))
         (filter (λ r. q (key r, val r)) rows))) ≡ take limit
-        (filter q (entries (table R key val rows)))
+        (filter q (entries (map_of R key val rows)))
     page_rows limit q rows u = sym (take-map (λ r. (key r, val r)) limit _)
         ∙ ap (take limit) (sorted_rows q rows u)

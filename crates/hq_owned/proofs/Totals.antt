@@ -166,12 +166,3 @@ module _ {K X : Type 0} {R : K → K → Ordering} (r : IsTotalOrder R) (f g : X
             (sym (none_below R k es (below_equal R r f k e.0 es (equal _ (subst T (sym t) tt))
             (first _ _ s))) ∙ p))
         behind k x p false t = p
-
-  pub total_at_most : (m : FinMap R X) → ((k : K) (x : X) → get m k ≡ Some x → f x ≤ g x) →
-      sum_by f (values m) ≤ sum_by g (values m)
-  total_at_most m h =
-      let some : weight f (entries m) ≤ weight g (entries m) =
-      weight_at_most (entries m) (entries_sorted m) (λ k x p. h k x (get-entries m k ∙ p)) in
-      let here = weight_is f (entries m) in
-      let there = weight_is g (entries m) in
-      omega arith

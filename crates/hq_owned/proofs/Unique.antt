@@ -13,7 +13,7 @@ use Rattle.std.specs.Ordering.{eq_by_cmp}
 use Rattle.std.specs.Cmp.{IsTotalOrder, eq_by_cmp_equiv}
 use Rattle.std.specs.FinMap.{find, get, get-from_entries}
 use Rattle.std.specs.FinMap.Entries.{is_some-find}
-use Rattle.hq_owned.specs.Rows.{pairs_of, table, HasUniqueKeys}
+use Rattle.hq_owned.specs.Rows.{pairs_of, map_of, HasUniqueKeys}
 use Rattle.hq_owned.proofs.Lists.{table_push, AreNew}
 
 module _ {A K : Type 0} (R : K → K → Ordering) (key : A → K) where
@@ -67,14 +67,14 @@ module _ {A K X : Type 0} {R : K → K → Ordering} (o : IsTotalOrder R) (exact
 
   -- a key is in the table exactly if a row has it
   pub is_some-table : (rows : List A) (q : K) →
-      is_some (get (table R key val rows) q) ≡ list_any (eq_by_cmp R q) (map key rows)
-  unfolding table
+      is_some (get (map_of R key val rows) q) ≡ list_any (eq_by_cmp R q) (map key rows)
+  unfolding map_of
   is_some-table rows q = ap is_some (get-from_entries o (pairs_of key val rows) q)
       ∙ is_some-find R q (pairs_of key val rows)
       ∙ ap (list_any (eq_by_cmp R q)) (keys_of_pairs rows)
 
   pub unique_add : (rows rs : List A) → HasUniqueKeys R key rows →
-      AreNew o exact key val (table R key val rows) rs → HasUniqueKeys R key (rows ++ rs)
+      AreNew o exact key val (map_of R key val rows) rs → HasUniqueKeys R key (rows ++ rs)
   unique_add rows [] u new = subst (HasUniqueKeys R key) (sym (append-nil rows)) u
   unique_add rows (r ∷ rs) u new =
       subst (HasUniqueKeys R key) (append_assoc rows (r ∷ []) rs)
@@ -99,13 +99,13 @@ module _ {A K X : Type 0} {R : K → K → Ordering} (o : IsTotalOrder R) (exact
       ∙ find_apart xs r rs (IsDistinct-tail (eq_by_cmp R) (key x) ks u)
 
   none_yet : (rows : List A) (r : A) (rs : List A) → HasUniqueKeys R key (rows ++ r ∷ rs) →
-      get (table R key val rows) (key r) ≡ None
-  unfolding table
+      get (map_of R key val rows) (key r) ≡ None
+  unfolding map_of
   none_yet rows r rs u = get-from_entries o (pairs_of key val rows) (key r) ∙ find_apart rows r rs u
 
   -- rows with keys apart are new one after the other
   pub new_from_unique : (rows rs : List A) → HasUniqueKeys R key (rows ++ rs) →
-      AreNew o exact key val (table R key val rows) rs
+      AreNew o exact key val (map_of R key val rows) rs
   new_from_unique rows [] u = tt
   new_from_unique rows (r ∷ rs) u =
       let none = none_yet rows r rs u in (

@@ -1,8 +1,13 @@
 -- Tables of many customers: the keys begin with the owner. What one owner has of such a table.
-use Rattle.std.specs.Prelude.{List, [], ◌∷◌, cond, map, Option, Some, None}
+use Rattle.std.specs.Prelude.{ℕ, List, [], ◌∷◌, cond, map, Option, Some, None}
 use Rattle.std.specs.declared.cmp.Ordering.{Ordering}
-use Rattle.std.specs.Ordering.{eq_by_cmp, ordering_then}
+use Rattle.std.specs.Ordering.{eq_by_cmp, nat_cmp, ordering_then}
+use Rattle.std.specs.Cmp.Lexicographic.{slice_cmp}
 use Rattle.std.specs.FinMap.{FinMap, entries, from_sorted}
+
+-- names and texts in the order of their bytes
+abbrev pub text_cmp : List ℕ → List ℕ → Ordering
+text_cmp = slice_cmp nat_cmp
 
 -- by owner, and then by the rest of the key
 abbrev pub by_both : {N K : Type 0} → (N → N → Ordering) → (K → K → Ordering) → N × K → N × K →

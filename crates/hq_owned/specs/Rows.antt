@@ -10,9 +10,9 @@ abbrev pub pairs_of : {A K X : Type 0} → (A → K) → (A → X) → List A �
 pairs_of key val rows = map (λ r. (key r, val r)) rows
 
 -- the map that rows stand for
-unfoldable pub table : {A K X : Type 0} (R : K → K → Ordering) → (A → K) → (A → X) → List A →
+unfoldable pub map_of : {A K X : Type 0} (R : K → K → Ordering) → (A → K) → (A → X) → List A →
     FinMap R X
-table R key val rows = from_entries (pairs_of key val rows)
+map_of R key val rows = from_entries (pairs_of key val rows)
 
 -- no key stands twice
 abbrev pub HasUniqueKeys : {A K : Type 0} (R : K → K → Ordering) → (A → K) → List A → Type 0

@@ -9,12 +9,12 @@ use Rattle.std.proofs.lemmas.List.Folds.{concat-append, list_all-append}
 use Rattle.std.specs.Io.KnownBytes.{Appends}
 use Rattle.std.specs.List.{concat, list_all}
 use Rattle.hq_desk.specs.declared.desk.Rendered.{Rendered}
-use Rattle.hq_program.specs.Printing.{IsShown, answer_of, answers_of, is_answered, status_of}
+use Rattle.hq_program.specs.Printing.{IsShown, answer_of, answers_of, is_answered, calls_status}
 
 -- these were printed, with this status
 pub record SoFar (told : List Rendered) (old new : Option (List ℕ)) (exit_status : ℕ) : Type 0 where
   pub written : Appends old new (answers_of told)
-  pub status_is : exit_status ≡ status_of told
+  pub status_is : exit_status ≡ calls_status told
 
 pub none_yet : (old : Option (List ℕ)) → SoFar [] old old 0
 none_yet old = record { written = Appends-nil old; status_is = refl }
@@ -32,8 +32,8 @@ greater true false s p h k = ap₂ max h k
 greater false true s p h k = ap₂ max h k
 greater false false s p h k = ap₂ max h k
 
-status_more : (told : List Rendered) (rendered : Rendered) (s p : ℕ) → s ≡ status_of told →
-    p ≡ (if is_answered rendered then 0 else 1) → max s p ≡ status_of (told ++ rendered ∷ [])
+status_more : (told : List Rendered) (rendered : Rendered) (s p : ℕ) → s ≡ calls_status told →
+    p ≡ (if is_answered rendered then 0 else 1) → max s p ≡ calls_status (told ++ rendered ∷ [])
 status_more told rendered s p h k =
     greater (list_all is_answered told) (is_answered rendered) s p h k
     ∙ ap (λ b. if b then 0 else 1) (sym (list_all-append is_answered told (rendered ∷ [])))
@@ -72,14 +72,14 @@ module _ {W : Type 0} (contents : W → Option (List ℕ)) (told : List Rendered
       (zero_or rendered.number)
 
 -- the status where the output failed
-pub failed : (told : List Rendered) → 1 ≡ max (status_of told) 1
+pub failed : (told : List Rendered) → 1 ≡ max (calls_status told) 1
 failed told = by_all (list_all is_answered told) where
   by_all : (b : Bool) → 1 ≡ max (if b then 0 else 1) 1
   by_all true = refl
   by_all false = refl
 
 -- and where it did not
-pub done : (told : List Rendered) → status_of told ≡ max (status_of told) 0
+pub done : (told : List Rendered) → calls_status told ≡ max (calls_status told) 0
 done told = by_all (list_all is_answered told) where
   by_all : (b : Bool) → (if b then 0 else 1) ≡ max (if b then 0 else 1) 0
   by_all true = refl

@@ -1,5 +1,5 @@
 -- What the program serves without words: a relay with two customers.
-use Rattle.std.specs.Prelude.{List, [], ◌∷◌, true, codes}
+use Rattle.std.specs.Prelude.{[], ◌∷◌, true, codes}
 use Rattle.hq_queue.specs.declared.account.Customer.{Customer}
 use Rattle.hq_settings.specs.Settings.{Named, Set}
 

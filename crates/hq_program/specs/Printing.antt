@@ -43,12 +43,12 @@ abbrev pub answers_of : List Rendered → List ℕ
 answers_of told = concat (map answer_of told)
 
 -- the exit status of calls whose answers are on the output
-abbrev pub status_of : List Rendered → ℕ
-status_of told = if list_all is_answered told then 0 else 1
+abbrev pub calls_status : List Rendered → ℕ
+calls_status told = if list_all is_answered told then 0 else 1
 
 -- Answers are written to the output in their order; or the output fails, which is told.
 abbrev pub AreShown : List Rendered → Option (List ℕ) → Option (List ℕ) → Result ℕ Trouble → Type 0
-AreShown told old new (Ok exit_status) = (exit_status ≡ status_of told)
+AreShown told old new (Ok exit_status) = (exit_status ≡ calls_status told)
     × Appends old new (answers_of told)
 AreShown told old new (Err trouble) = trouble ≡ Output
 
@@ -58,4 +58,4 @@ pub record ArePrinted (told : List Rendered) (old new : Option (List ℕ)) (exit
   where
     pub wrote : Result ⊤ Trouble
     pub written : IsPut (answers_of told) old new wrote
-    pub status_is : exit_status ≡ max (status_of told) (status wrote)
+    pub status_is : exit_status ≡ max (calls_status told) (status wrote)

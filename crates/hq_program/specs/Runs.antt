@@ -5,8 +5,8 @@ use Rattle.hq_store.specs.Shelves.{Sight}
 use Rattle.hq_desk.specs.Desks.{host_of, shelf_of}
 use Rattle.hq_desk.specs.declared.desk.Desk.{Desk}
 use Rattle.hq_settings.specs.declared.settings.Settings.{Settings}
-use Rattle.hq_lines.specs.Ends.{Ends}
-use Rattle.hq_lines.specs.Fields.{Request}
+use Rattle.hq_lines.specs.Ends.{InputEnds}
+use Rattle.hq_lines.specs.Fields.{LineRequest}
 use Rattle.hq_lines.specs.Lines.{Streams}
 use Rattle.hq_base.specs.declared.engine.EngineFault.{EngineFault}
 use Rattle.hq_base.specs.declared.engine.EngineFault.TheVariants.{Read, Write, TooManyReads}
@@ -19,7 +19,7 @@ use Rattle.hq_program.specs.declared.trouble.Trouble.TheVariants.{Clock, Desk as
 -- What lines ask for is replied to as a batch of the customers of these settings, with a desk over
 -- this shelf.
 pub record ServesOver {S : Type 0} (sight : Sight S) (settings : Settings) (shelf : S)
-    (asked : List (Option Request)) (lines : List (List ℕ)) : Type 0 where
+    (asked : List (Option LineRequest)) (lines : List (List ℕ)) : Type 0 where
   pub old : Desk S
   pub host_is : host_of old ≡ settings.host
   pub shelf_is : shelf_of old ≡ shelf
@@ -43,11 +43,11 @@ trouble_shown Clock = codes "clock"
 trouble_shown (OfDesk fail) = fail_shown fail
 
 -- how a run ends: as a batch does, with a fault of it told
-abbrev pub RunEnds : (List (Option Request) → List (List ℕ) → Type 0) → Type 0 → Streams → Streams →
-    Result ⊤ Trouble → Type 0
-RunEnds done untouched old new (Ok _) = Ends done ⊥ old new (Ok tt)
+abbrev pub RunEnds : (List (Option LineRequest) → List (List ℕ) → Type 0) → Type 0 → Streams →
+    Streams → Result ⊤ Trouble → Type 0
+RunEnds done untouched old new (Ok _) = InputEnds done ⊥ old new (Ok tt)
 RunEnds done untouched old new (Err trouble) = (fault : EngineFault) × (trouble ≡ trouble_of fault)
-    × Ends done untouched old new (Err fault)
+    × InputEnds done untouched old new (Err fault)
 
 -- the exit status of a run
 abbrev pub status : Result ⊤ Trouble → ℕ

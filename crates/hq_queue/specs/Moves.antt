@@ -45,6 +45,6 @@ is_due at m = not (is_on_hold m.state) && nat_le m.next_try at
 
 -- What a call makes of a message, by a move: true, and the message is the move's; or false where
 -- the move does not apply, and the message is as it was.
-abbrev pub Makes : Option Message → Message → Message → Bool → Type 0
-Makes move old new true = move ≡ Some new
-Makes move old new false = (move ≡ None) × (new ≡ old)
+abbrev pub MovesBy : Option Message → Message → Message → Bool → Type 0
+MovesBy move old new true = move ≡ Some new
+MovesBy move old new false = (move ≡ None) × (new ≡ old)

@@ -2,14 +2,11 @@
 -- delay_warning_time).
 use Rattle.std.specs.Prelude.{ℕ, not, ◌&&◌, nat_le, nat_lt, true, if◌then◌else◌}
 use Rattle.hq_queue.specs.Backoff.{age}
+use Rattle.hq_queue.specs.Limits.{expiry}
 use Rattle.hq_queue.specs.Moves.{is_on_hold}
 use Rattle.hq_queue.specs.declared.message.Message.{Message}
 use Rattle.hq_queue.specs.declared.sweep.Swept.{Swept}
 use Rattle.hq_queue.specs.declared.sweep.Swept.TheVariants.{Expired, Warned, Untouched}
-
--- in seconds: five days (Postfix's default of maximal_queue_lifetime)
-abbrev pub expiry : ℕ
-expiry = 432000
 
 -- Mail on hold is left alone. A message as old as that expires; before, its sender is warned once,
 -- where the customer has a delay, which is in seconds, and the message is as old as the delay.

@@ -2,7 +2,7 @@
 //! attempt or the passing of time does to a message is not said here.
 
 ghost use Rattle.std.specs.Prelude.{◌≡◌};
-ghost use Rattle.hq_queue.specs.Moves.{held, released, is_due, Makes};
+ghost use Rattle.hq_queue.specs.Moves.{held, released, is_due, MovesBy};
 
 use crate::message::{Message, QueueState};
 use hq_envelope::{Moment, Text};
@@ -12,7 +12,7 @@ use hq_envelope::{Moment, Text};
 /// An incoming or deferred message goes on hold for this reason, and the answer is true. A message
 /// on hold stays as it is, its reason too, and the answer is false. Takes no memory.
 pub fn hold(message: &mut Message, reason: Text) -> bool
-    ensures { Makes (held reason message.old) message.old message.new result }
+    ensures { MovesBy (held reason message.old) message.old message.new result }
 {
     match message.state {
         QueueState::Incoming | QueueState::Deferred => {
@@ -29,7 +29,7 @@ pub fn hold(message: &mut Message, reason: Text) -> bool
 /// A message on hold becomes deferred with `at` as its next try, and has no reason any more; the
 /// answer is true. Any other message stays as it is, and the answer is false. Takes no memory.
 pub fn release(message: &mut Message, at: Moment) -> bool
-    ensures { Makes (released at message.old) message.old message.new result }
+    ensures { MovesBy (released at message.old) message.old message.new result }
 {
     match message.state {
         QueueState::Hold => {

@@ -1,5 +1,5 @@
 -- Who shows a key, and which customer an exchange is for.
-use Rattle.std.specs.Prelude.{ℕ, ⊤, Bool, true, false, List, [], ◌∷◌, map, Option, None, Some}
+use Rattle.std.specs.Prelude.{ℕ, ⊤, true, List, [], ◌∷◌, map, Option, None, Some}
 use Rattle.std.specs.Prelude.{Result, Ok, Err, if◌then◌else◌}
 use Rattle.std.specs.List.{find}
 use Rattle.std.specs.Ordering.{eq_by_cmp}
@@ -7,6 +7,8 @@ use Rattle.hq_base.specs.declared.failure.Refusal.{Refusal}
 use Rattle.hq_base.specs.declared.failure.Refusal.TheVariants.{NoKey, WrongRole, NoCustomer}
 use Rattle.hq_queue.specs.declared.account.Customer.{Customer}
 use Rattle.hq_queue.specs.declared.account.Entry.{Entry}
+use Rattle.hq_routes.specs.declared.table.Role.{Role}
+use Rattle.hq_routes.specs.declared.table.Role.TheVariants as role
 use Rattle.hq_store.specs.Tables.{text_cmp}
 use Rattle.hq_requests.specs.Customers.{has_key, has_name}
 use Rattle.hq_requests.specs.declared.directory.Directory.{Directory}
@@ -48,23 +50,23 @@ abbrev pub entry_of : Directory → List ℕ → Entry
 entry_of d name = entry_in d.customers name
 
 -- the relay's key serves the customer that the path names
-abbrev pub by_relay : Bool → Option Customer → Result (List ℕ) Refusal
-by_relay false named = Err WrongRole
-by_relay true None = Err NoCustomer
-by_relay true (Some c) = Ok c.entry.name
+abbrev pub by_relay : Role → Option Customer → Result (List ℕ) Refusal
+by_relay role.Customer named = Err WrongRole
+by_relay _ None = Err NoCustomer
+by_relay _ (Some c) = Ok c.entry.name
 
 -- a customer's key serves that customer
-abbrev pub by_customer : Bool → Option Customer → Result (List ℕ) Refusal
-by_customer for_relay None = Err NoKey
-by_customer true (Some c) = Err WrongRole
-by_customer false (Some c) = Ok c.entry.name
+abbrev pub by_customer : Role → Option Customer → Result (List ℕ) Refusal
+by_customer _ None = Err NoKey
+by_customer role.Customer (Some c) = Ok c.entry.name
+by_customer _ (Some c) = Err WrongRole
 
--- the name of the customer that an exchange is for; for_relay says whether the route is the relay's
-abbrev pub customer_of : Directory → Bool → Option (List ℕ) → List ℕ → Result (List ℕ) Refusal
-customer_of d for_relay None segment = Err NoKey
-customer_of d for_relay (Some key) segment = if eq_by_cmp text_cmp key d.relay then
-    by_relay for_relay (find (has_name segment) d.customers) else
-    by_customer for_relay (find (has_key key) d.customers)
+-- the name of the customer that an exchange is for, on a route of a role
+abbrev pub customer_of : Directory → Role → Option (List ℕ) → List ℕ → Result (List ℕ) Refusal
+customer_of d role None segment = Err NoKey
+customer_of d role (Some key) segment = if eq_by_cmp text_cmp key d.relay then
+    by_relay role (find (has_name segment) d.customers) else
+    by_customer role (find (has_key key) d.customers)
 
 -- who is not the relay: a customer, or nobody
 abbrev pub not_relay : Option Customer → Result ⊤ Refusal

@@ -3,6 +3,6 @@ use Rattle.std.specs.Prelude.{ℕ, ◌==◌, if◌then◌else◌, List, [], ◌�
 use Rattle.hq_base.specs.Decimals as decimals
 
 -- 1 to 13 decimal digits, of which the first is not `0`
-unfoldable pub number_in : List ℕ → Option ℕ
-number_in [] = None
-number_in (b ∷ bytes) = if b == 48 then None else decimals.number_in 13 (b ∷ bytes)
+unfoldable pub notice_number : List ℕ → Option ℕ
+notice_number [] = None
+notice_number (b ∷ bytes) = if b == 48 then None else decimals.number_in 13 (b ∷ bytes)

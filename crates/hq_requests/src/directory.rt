@@ -8,7 +8,7 @@ ghost use Rattle.hq_requests.specs.Customers.{has_name};
 
 use hq_envelope::{Fail, Fault, Items, Key, Refusal};
 use hq_queue::{Customer, Entry};
-use hq_routes::{Path, Paths};
+use hq_routes::{Methods, Role, Routes};
 use std::alloc::Global;
 
 /// Whether a customer shows this key.
@@ -76,13 +76,13 @@ pub fn are_customers(customers: &[Customer]) -> bool
     names_apart(customers) && keys_apart(customers)
 }
 
-/// The relay's key, the customers, and the paths of the desk. It does not change while a desk is
+/// The relay's key, the customers, and the routes of the desk. It does not change while a desk is
 /// open.
 #[derive(Drop)]
 pub struct Directory {
     relay: Key,
     customers: Items<Customer>,
-    paths: Paths,
+    routes: Routes,
     ghost apart: { IsTrue (are_customers customers) },
 }
 
@@ -91,7 +91,7 @@ impl Directory {
     ghost use Rattle.hq_requests.specs.Directories.{by_customer, customer_of, relay_alone};
     ghost use Rattle.std.specs.Ordering.{eq_by_cmp};
     ghost use Rattle.hq_store.specs.Tables.{text_cmp};
-    ghost use Rattle.hq_routes.specs.Routes.{path_of};
+    ghost use Rattle.hq_routes.specs.Routes.{methods_at};
     ghost use Rattle.hq_base.specs.Readers.{seen_by};
 
     /// A directory of customers whose names and keys are pairwise different. Refused as 57
@@ -107,21 +107,21 @@ impl Directory {
         if is_taken(customers.as_slice(), relay.as_str()) {
             return Err(Fail::Refused(Refusal::BadRelayKey));
         }
-        let Ok(paths) = Paths::new(alloc) else {
+        let Ok(routes) = Routes::new(alloc) else {
             return Err(Fail::Fault(Fault::WantOfMemory));
         };
         Ok(Directory {
             relay,
             customers: Items::from_vec(customers),
-            paths,
+            routes,
         })
     }
 
-    /// Which path of the desk it is.
-    pub fn path(&self, text: &str) -> Option<Path>
-        ensures { result ≡ path_of text.now }
+    /// The methods of a path, if it is one of the desk's.
+    pub fn methods(&self, path: &str) -> Option<Methods>
+        ensures { result ≡ methods_at path.now }
     {
-        self.paths.find(text)
+        self.routes.at(path)
     }
 
     fn is_relay(&self, key: &str) -> bool
@@ -131,12 +131,12 @@ impl Directory {
     }
 
     /// The customer that the relay's key serves on a route.
-    fn by_relay(&self, for_relay: bool, segment: &str) -> Result<&Entry, Refusal>
+    fn by_relay(&self, role: Role, segment: &str) -> Result<&Entry, Refusal>
         ensures name { seen_by (λ entry. entry.now.name) result
-            ≡ by_relay for_relay (find (has_name segment.now) (customers_of self.now)) }
+            ≡ by_relay role (find (has_name segment.now) (customers_of self.now)) }
         ensures entry { IfOk result (λ entry. entry.now ≡ entry_of self.now entry.now.name) }
     {
-        if !for_relay {
+        if matches!(role, Role::Customer) {
             return Err(Refusal::WrongRole);
         }
         match with_name(self.customers.as_slice(), segment) {
@@ -146,46 +146,39 @@ impl Directory {
     }
 
     /// The customer that its own key serves on a route.
-    fn by_customer(&self, for_relay: bool, key: &str) -> Result<&Entry, Refusal>
+    fn by_customer(&self, role: Role, key: &str) -> Result<&Entry, Refusal>
         ensures name { seen_by (λ entry. entry.now.name) result
-            ≡ by_customer for_relay (find (has_key key.now) (customers_of self.now)) }
+            ≡ by_customer role (find (has_key key.now) (customers_of self.now)) }
         ensures entry { IfOk result (λ entry. entry.now ≡ entry_of self.now entry.now.name) }
     {
         match with_key(self.customers.as_slice(), key) {
             None => Err(Refusal::NoKey),
-            Some(customer) => {
-                if for_relay {
-                    Err(Refusal::WrongRole)
-                } else {
-                    Ok(&customer.entry)
-                }
-            }
+            Some(customer) => match role {
+                Role::Customer => Ok(&customer.entry),
+                Role::Relay | Role::RelayForAll => Err(Refusal::WrongRole),
+            },
         }
     }
 
-    /// Whom an exchange is for, that shows this key on a route of the relay's or of customers: 2
-    /// `NoKey`, 3 `WrongRole` or 13 `NoCustomer` where there is nobody.
-    pub fn customer(
-        &self,
-        for_relay: bool,
-        key: Option<&str>,
-        segment: &str,
-    ) -> Result<&Entry, Refusal>
+    /// Whom an exchange is for, that shows this key on a route of this role, at a path that ends in
+    /// the segment: 2 `NoKey`, 3 `WrongRole` or 13 `NoCustomer` where there is nobody.
+    pub fn customer(&self, role: Role, key: Option<&str>, segment: &str) -> Result<&Entry, Refusal>
         ensures name { seen_by (λ entry. entry.now.name) result
-            ≡ customer_of self.now for_relay (option_map (λ k. k.now) key.entry) segment.now }
+            ≡ customer_of self.now role (option_map (λ k. k.now) key.entry) segment.now }
         ensures entry { IfOk result (λ entry. entry.now ≡ entry_of self.now entry.now.name) }
     {
         match key {
             None => Err(Refusal::NoKey),
             Some(key) => {
                 if self.is_relay(key) {
-                    self.by_relay(for_relay, segment)
+                    self.by_relay(role, segment)
                 } else {
-                    self.by_customer(for_relay, key)
+                    self.by_customer(role, key)
                 }
             }
         }
     }
+
     /// Nothing, where the relay's key is shown: else 2 `NoKey` or 3 `WrongRole`.
     pub fn relay_alone(&self, key: Option<&str>) -> Result<(), Refusal>
         ensures { result ≡ relay_alone self.now (option_map (λ k. k.now) key.entry) }

@@ -9,82 +9,18 @@ ghost use Rattle.hq_requests.specs.Calls as calls;
 
 use crate::directory::Directory;
 use crate::exchanges::Exchange;
-use crate::number::number_in;
+use crate::number::notice_number;
 use hq_bodies::{
     read_check, read_due, read_import, read_line, read_pattern, read_report, read_submission,
 };
 use hq_calls::Call;
 use hq_envelope::{Fail, Refusal, Serial};
 use hq_queue::Entry;
-use hq_routes::{Path, last_segment};
+use hq_routes::{Role, Route, last_segment};
 use std::alloc::Global;
 
 /// The most bytes of a body.
 const BODY_BYTES: usize = 262_144;
-
-/// What a route about one message asks for.
-#[derive(Clone, Copy, Debug, PartialEq, Eq)]
-pub enum MessageRoute {
-    /// The messages after it.
-    ListAfter,
-    /// The message whole.
-    Show,
-    /// The message on hold.
-    Hold,
-    /// The message released.
-    Release,
-    /// The message queued anew.
-    Requeue,
-    /// The message gone.
-    Delete,
-}
-
-/// What a method asks for at a path.
-#[derive(Clone, Copy, Debug, PartialEq, Eq)]
-pub enum Route {
-    /// The messages from the start.
-    List,
-    /// Something about the message whose queue ID is the parameter.
-    About(MessageRoute),
-    /// Every message on hold.
-    HoldAll,
-    /// Every message released.
-    ReleaseAll,
-    /// Every message gone.
-    DeleteAll,
-    /// The lines from the start.
-    Lines,
-    /// The lines after the pattern of the body.
-    LinesAfter,
-    /// The line of the body, set.
-    PutLine,
-    /// The line of the pattern of the body, gone.
-    DropLine,
-    /// What is found for the address of the body.
-    Check,
-    /// The lines of the file of the body, taken into the access tables.
-    Import,
-    /// The notices from the start.
-    Notices,
-    /// The notices after the number that is the parameter.
-    NoticesAfter,
-    /// The notice whose number is the parameter.
-    Notice,
-    /// What the customer has on the desk.
-    Usage,
-    /// The queue report.
-    Report,
-    /// A message for the queue.
-    Submit,
-    /// The report of an attempt.
-    Outcome,
-    /// The messages that may be tried now.
-    Due,
-    /// What is too old given up, and senders warned.
-    Sweep,
-    /// The same for every customer.
-    SweepAll,
-}
 
 /// What an exchange asks.
 #[derive(Drop)]
@@ -95,74 +31,18 @@ pub enum Asking<'d> {
     SweepOfAll,
 }
 
-/// The route of a method at a path, if the path has it.
-#[tactic(auto, unfolding(crate::specs::Calls::route_of))]
-fn route_of(path: Path, method: &str) -> Option<Route>
-    ensures { result ≡ calls.route_of path method.now }
+/// The serial of the message whose queue ID is the parameter: else 8 `BadField`.
+fn serial_of(segment: &str) -> Result<Serial, Refusal>
+    ensures { result ≡ calls.serial_of segment.now }
 {
-    match path {
-        Path::Messages if method == "GET" => Some(Route::List),
-        Path::MessagesAfter if method == "GET" => Some(Route::About(MessageRoute::ListAfter)),
-        Path::Message if method == "GET" => Some(Route::About(MessageRoute::Show)),
-        Path::Message if method == "DELETE" => Some(Route::About(MessageRoute::Delete)),
-        Path::Hold if method == "POST" => Some(Route::About(MessageRoute::Hold)),
-        Path::Release if method == "POST" => Some(Route::About(MessageRoute::Release)),
-        Path::Requeue if method == "POST" => Some(Route::About(MessageRoute::Requeue)),
-        Path::HoldAll if method == "POST" => Some(Route::HoldAll),
-        Path::ReleaseAll if method == "POST" => Some(Route::ReleaseAll),
-        Path::DeleteAll if method == "POST" => Some(Route::DeleteAll),
-        Path::Lines if method == "GET" => Some(Route::Lines),
-        Path::LinesAfter if method == "POST" => Some(Route::LinesAfter),
-        Path::LinePut if method == "POST" => Some(Route::PutLine),
-        Path::LineDrop if method == "POST" => Some(Route::DropLine),
-        Path::Check if method == "POST" => Some(Route::Check),
-        Path::Import if method == "POST" => Some(Route::Import),
-        Path::Notices if method == "GET" => Some(Route::Notices),
-        Path::NoticesAfter if method == "GET" => Some(Route::NoticesAfter),
-        Path::Notice if method == "GET" => Some(Route::Notice),
-        Path::Usage if method == "GET" => Some(Route::Usage),
-        Path::Report if method == "GET" => Some(Route::Report),
-        Path::Submit if method == "POST" => Some(Route::Submit),
-        Path::Outcome if method == "POST" => Some(Route::Outcome),
-        Path::Due if method == "POST" => Some(Route::Due),
-        Path::Sweep if method == "POST" => Some(Route::Sweep),
-        Path::SweepAll if method == "POST" => Some(Route::SweepAll),
-        _ => None,
-    }
+    Serial::parse(segment).ok_or(Refusal::BadField)
 }
 
-/// Whether a route is the relay's.
-fn is_for_relay(route: Route) -> bool
-    ensures { result ≡ calls.is_for_relay route }
+/// The number that is the parameter: else 8 `BadField`.
+fn number_of(segment: &str) -> Result<u64, Refusal>
+    ensures { result ≡ calls.number_of segment.now }
 {
-    match route {
-        Route::Submit | Route::Outcome | Route::Due | Route::Sweep | Route::SweepAll => true,
-        _ => false,
-    }
-}
-
-/// Whether a route is for all customers together.
-fn is_for_all(route: Route) -> bool
-    ensures { result ≡ calls.is_for_all route }
-{
-    match route {
-        Route::SweepAll => true,
-        _ => false,
-    }
-}
-
-/// The call about a message.
-fn call_about(about: MessageRoute, serial: Serial) -> Call
-    ensures { result ≡ calls.call_about about serial }
-{
-    match about {
-        MessageRoute::ListAfter => Call::List(Some(serial)),
-        MessageRoute::Show => Call::Show(serial),
-        MessageRoute::Hold => Call::Hold(serial),
-        MessageRoute::Release => Call::Release(serial),
-        MessageRoute::Requeue => Call::Requeue(serial),
-        MessageRoute::Delete => Call::Delete(serial),
-    }
+    notice_number(segment).ok_or(Refusal::BadField)
 }
 
 /// What a route asks, of its parameter or its body.
@@ -171,11 +51,13 @@ fn asked_of(alloc: Global, route: Route, segment: &str, body: &[u8]) -> Result<C
     ensures { Reads result (calls.asked_of route segment.now body.now) }
 {
     match route {
-        Route::List => Ok(Call::List(None)),
-        Route::About(about) => {
-            let serial = Serial::parse(segment).ok_or(Refusal::BadField)?;
-            Ok(call_about(about, serial))
-        }
+        Route::Messages => Ok(Call::List(None)),
+        Route::MessagesAfter => Ok(Call::List(Some(serial_of(segment)?))),
+        Route::Show => Ok(Call::Show(serial_of(segment)?)),
+        Route::Hold => Ok(Call::Hold(serial_of(segment)?)),
+        Route::Release => Ok(Call::Release(serial_of(segment)?)),
+        Route::Requeue => Ok(Call::Requeue(serial_of(segment)?)),
+        Route::Delete => Ok(Call::Delete(serial_of(segment)?)),
         Route::HoldAll => Ok(Call::HoldAll),
         Route::ReleaseAll => Ok(Call::ReleaseAll),
         Route::DeleteAll => Ok(Call::DeleteAll),
@@ -192,20 +74,14 @@ fn asked_of(alloc: Global, route: Route, segment: &str, body: &[u8]) -> Result<C
             Ok(Call::Import(label, file))
         }
         Route::Notices => Ok(Call::Notices(None)),
-        Route::NoticesAfter => {
-            let number = number_in(segment).ok_or(Refusal::BadField)?;
-            Ok(Call::Notices(Some(number)))
-        }
-        Route::Notice => {
-            let number = number_in(segment).ok_or(Refusal::BadField)?;
-            Ok(Call::Notice(number))
-        }
+        Route::NoticesAfter => Ok(Call::Notices(Some(number_of(segment)?))),
+        Route::Notice => Ok(Call::Notice(number_of(segment)?)),
         Route::Usage => Ok(Call::Usage),
         Route::Report => Ok(Call::Report),
         Route::Submit => Ok(Call::Submit(read_submission(alloc, body)?)),
         Route::Outcome => Ok(Call::Outcome(read_report(alloc, body)?)),
         Route::Due => Ok(Call::Due(read_due(alloc, body)?)),
-        Route::Sweep | Route::SweepAll => Ok(Call::Sweep),
+        Route::Sweep => Ok(Call::Sweep),
     }
 }
 
@@ -224,16 +100,17 @@ fn key_of(exchange: &Exchange) -> Option<&str>
 fn asked_of_one<'d>(
     alloc: Global,
     directory: &'d Directory,
+    role: Role,
     route: Route,
     exchange: &Exchange,
 ) -> Result<Asking<'d>, Fail>
     ensures call { Reads (seen_by calls.asked_seen result)
-        (calls.asked_of_one directory.now route (option_map string_bytes exchange.now.key)
+        (calls.asked_of_one directory.now role route (option_map string_bytes exchange.now.key)
         (last_segment (string_bytes exchange.now.path)) exchange.now.body.items) }
     ensures known { IfOk result (calls.IsKnown directory.now) }
 {
     let segment = last_segment(exchange.path.as_str());
-    let entry = directory.customer(is_for_relay(route), key_of(exchange), segment)?;
+    let entry = directory.customer(role, key_of(exchange), segment)?;
     let call = asked_of(alloc, route, segment, exchange.body.as_slice())?;
     Ok(Asking::CallOf(entry, call))
 }
@@ -264,13 +141,14 @@ pub fn call_of<'d>(
     if exchange.body.len() > BODY_BYTES {
         return Err(Fail::Refused(Refusal::BodyTooLong));
     }
-    let path = directory
-        .path(exchange.path.as_str())
+    let methods = directory
+        .methods(exchange.path.as_str())
         .ok_or(Refusal::NoRoute)?;
-    let route = route_of(path, exchange.method.as_str()).ok_or(Refusal::WrongMethod)?;
-    if is_for_all(route) {
-        asked_of_all(directory, exchange)
-    } else {
-        asked_of_one(alloc, directory, route, exchange)
+    let (role, route) = methods
+        .route(exchange.method.as_str())
+        .ok_or(Refusal::WrongMethod)?;
+    match role {
+        Role::RelayForAll => asked_of_all(directory, exchange),
+        Role::Customer | Role::Relay => asked_of_one(alloc, directory, role, route, exchange),
     }
 }

@@ -8,7 +8,7 @@ use Rattle.matchit.specs.Rows.{RowsOf, param_token, catch_all_token, comes_befor
 use Rattle.matchit.specs.Seek.{own, step, or_else, seek, first, param_step, has_slash, segment}
 use Rattle.matchit.specs.Seek.{longest_suffix}
 use Rattle.matchit.specs.Level.{IsText}
-use Rattle.hq_routes.specs.Routes.{fits, route_in}
+use Rattle.hq_routes.specs.Routes.{fits, first_fit}
 
 -- bytes, and at the end perhaps a parameter
 abbrev pub IsSimple : List ℕ → Type 0
@@ -148,10 +148,10 @@ module _ {K : Type 0} where
         grind (arith, nat_tests) in cc (rw (l, e) at h.0)
   ])
 
-  own-route : (rs : RowsOf K) → own rs ≡ route_in rs []
-  own-route [] = refl
-  own-route (([], k) ∷ rest) = refl
-  own-route ((x ∷ t, k) ∷ rest) = own-route rest
+  own-fit : (rs : RowsOf K) → own rs ≡ first_fit rs []
+  own-fit [] = refl
+  own-fit (([], k) ∷ rest) = refl
+  own-fit ((x ∷ t, k) ∷ rest) = own-fit rest
 
   nothing : (v : Bool) → cond {A = Option K} v None None ≡ None
   nothing true = refl
@@ -159,8 +159,8 @@ module _ {K : Type 0} where
 
   -- the rows that go on with the byte, and then those that end in a parameter
   joined : (b : ℕ) (p : List ℕ) (rs : RowsOf K) → b < 256 → AllSimple rs → Sorted rs
-      → or_else (route_in (step b rs) p) (cond (has_slash (b ∷ p)) None (own (step 256 rs))) ≡
-      route_in rs (b ∷ p)
+      → or_else (first_fit (step b rs) p) (cond (has_slash (b ∷ p)) None (own (step 256 rs))) ≡
+      first_fit rs (b ∷ p)
   joined b p [] lt s o = nothing (has_slash (b ∷ p))
   joined b p (([], k) ∷ rest) lt s o = joined b p rest lt s.1 o.1
   joined b p ((x ∷ t, k) ∷ rest) lt s o = elim s.0 [
@@ -177,37 +177,37 @@ module _ {K : Type 0} where
         rw (e, n, q.1, none) (last (has_slash (b ∷ p)) ih)
   ]
     where
-      more : (w : Bool) → or_else (route_in (step b rest) p)
-          (cond (has_slash (b ∷ p)) None (own (step 256 rest))) ≡ route_in rest (b ∷ p)
-          → or_else (cond w (Some k) (route_in (step b rest) p))
+      more : (w : Bool) → or_else (first_fit (step b rest) p)
+          (cond (has_slash (b ∷ p)) None (own (step 256 rest))) ≡ first_fit rest (b ∷ p)
+          → or_else (cond w (Some k) (first_fit (step b rest) p))
           (cond (has_slash (b ∷ p)) None (own (step 256 rest))) ≡ cond (w || false) (Some k)
-          (route_in rest (b ∷ p))
+          (first_fit rest (b ∷ p))
       more true h = refl
       more false h = h
 
-      byte : (v : Bool) → or_else (route_in (step b rest) p)
-          (cond (has_slash (b ∷ p)) None (own (step 256 rest))) ≡ route_in rest (b ∷ p)
-          → or_else (route_in (cond v ((t, k) ∷ step b rest) (step b rest)) p)
+      byte : (v : Bool) → or_else (first_fit (step b rest) p)
+          (cond (has_slash (b ∷ p)) None (own (step 256 rest))) ≡ first_fit rest (b ∷ p)
+          → or_else (first_fit (cond v ((t, k) ∷ step b rest) (step b rest)) p)
           (cond (has_slash (b ∷ p)) None (own (step 256 rest))) ≡ cond ((v && fits t p)
           || (false && length t == 0 && not (has_slash (b ∷ p)))) (Some k)
-          (route_in rest (b ∷ p))
+          (first_fit rest (b ∷ p))
       byte true h = more (fits t p) h
       byte false h = h
 
-      last : (v : Bool) → or_else None (cond v None (own (step 256 rest))) ≡ route_in rest (b ∷ p)
+      last : (v : Bool) → or_else None (cond v None (own (step 256 rest))) ≡ first_fit rest (b ∷ p)
           → or_else None (cond v None (Some k)) ≡ cond (false || (true && true && not v)) (Some k)
-          (route_in rest (b ∷ p))
+          (first_fit rest (b ∷ p))
       last true h = h
       last false h = refl
 
   -- the search is the first row that fits
-  pub first-route : (rs : RowsOf K) (path : List ℕ) → AllSimple rs → Sorted rs → IsText path →
-      first rs path ≡ route_in rs path
+  pub first-fits : (rs : RowsOf K) (path : List ℕ) → AllSimple rs → Sorted rs → IsText path →
+      first rs path ≡ first_fit rs path
   unfolding seek
-  first-route rs [] s o t = own-route rs
-  first-route rs (b ∷ p) s o t =
+  first-fits rs [] s o t = own-fit rs
+  first-fits rs (b ∷ p) s o t =
       rw (
-        first-route (step b rs) p (step-simple b rs s) (step-sorted b rs o) t.1,
+        first-fits (step b rs) p (step-simple b rs s) (step-sorted b rs o) t.1,
         seek-param (step param_token rs) b p (step-param rs s),
         step-catch_all rs s,
         or_else-none,

@@ -1,23 +1,57 @@
--- The paths of the desk, and which one a path is.
-use Rattle.std.specs.Prelude.{ℕ, List, [], ◌∷◌, ◌++◌, ◌&&◌, ◌||◌, ◌==◌, not, length, Bool, true}
-use Rattle.std.specs.Prelude.{false, cond, codes, Option, Some, None, is_none, Result, Ok, Err}
+-- The routes of the desk, and which one a path and a method name.
+use Rattle.std.specs.Prelude.{ℕ, List, [], ◌∷◌, ◌++◌, ◌&&◌, ◌||◌, ◌==◌, not, length, Bool}
+use Rattle.std.specs.Prelude.{true, false, cond, if◌then◌else◌, codes, bytes_eq, Option, Some, None}
 use Rattle.matchit.specs.Rows.{RowsOf}
-use Rattle.matchit.specs.Order.{placed}
-use Rattle.matchit.specs.Router.{RouteOf, route_from, nearest}
-use Rattle.matchit.specs.Route.{Scan, parse_route}
-use Rattle.matchit.specs.declared.error.InsertError.{InsertError}
 use Rattle.matchit.specs.Seek.{has_slash}
-use Rattle.hq_routes.specs.declared.Path.{Path}
-use Rattle.hq_routes.specs.declared.Path.TheVariants.{Messages, MessagesAfter, Message, Hold}
-use Rattle.hq_routes.specs.declared.Path.TheVariants.{Release, Requeue, HoldAll, ReleaseAll}
-use Rattle.hq_routes.specs.declared.Path.TheVariants.{DeleteAll, Import, Lines, LinesAfter, LinePut}
-use Rattle.hq_routes.specs.declared.Path.TheVariants.{LineDrop, Check, Notices, NoticesAfter}
-use Rattle.hq_routes.specs.declared.Path.TheVariants.{Notice, Usage, Report, Submit, Outcome, Due}
-use Rattle.hq_routes.specs.declared.Path.TheVariants.{Sweep, SweepAll}
+use Rattle.hq_routes.specs.declared.table.Methods.{Methods}
+use Rattle.hq_routes.specs.declared.table.Methods.TheVariants.{Get, Post, GetOrDelete}
+use Rattle.hq_routes.specs.declared.table.Role.{Role}
+use Rattle.hq_routes.specs.declared.table.Role.TheVariants.{Customer, Relay, RelayForAll}
+use Rattle.hq_routes.specs.declared.table.Route.{Route}
+use Rattle.hq_routes.specs.declared.table.Route.TheVariants.{Messages, MessagesAfter, Show, Hold}
+use Rattle.hq_routes.specs.declared.table.Route.TheVariants.{Release, Requeue, Delete, HoldAll}
+use Rattle.hq_routes.specs.declared.table.Route.TheVariants.{ReleaseAll, DeleteAll, Import, Lines}
+use Rattle.hq_routes.specs.declared.table.Route.TheVariants.{LinesAfter, PutLine, DropLine, Check}
+use Rattle.hq_routes.specs.declared.table.Route.TheVariants.{Notices, NoticesAfter, Notice, Usage}
+use Rattle.hq_routes.specs.declared.table.Route.TheVariants.{Report, Submit, Outcome, Due, Sweep}
 
 -- what stands for a parameter at the end of a pattern: it is no byte
 abbrev pub parameter : ℕ
 parameter = 256
+
+abbrev pub with_parameter : List ℕ → List ℕ
+with_parameter text = text ++ parameter ∷ []
+
+-- the routes of the desk: each path, its method, whose key it takes, and what it asks for; in the
+-- order of the patterns
+unfoldable pub routes : RowsOf Methods
+routes =
+    (with_parameter (codes "/relay/due/"), Post Relay Due)
+    ∷ (with_parameter (codes "/relay/outcome/"), Post Relay Outcome)
+    ∷ (with_parameter (codes "/relay/submit/"), Post Relay Submit)
+    ∷ (with_parameter (codes "/relay/sweep/"), Post Relay Sweep)
+    ∷ (codes "/relay/sweep", Post RelayForAll Sweep)
+    ∷ (codes "/v1/check", Post Customer Check)
+    ∷ (codes "/v1/delete-all", Post Customer DeleteAll)
+    ∷ (codes "/v1/hold-all", Post Customer HoldAll)
+    ∷ (with_parameter (codes "/v1/hold/"), Post Customer Hold)
+    ∷ (codes "/v1/import", Post Customer Import)
+    ∷ (codes "/v1/line-drop", Post Customer DropLine)
+    ∷ (codes "/v1/line-put", Post Customer PutLine)
+    ∷ (codes "/v1/lines-after", Post Customer LinesAfter)
+    ∷ (codes "/v1/lines", Get Customer Lines)
+    ∷ (with_parameter (codes "/v1/message/"), GetOrDelete Customer Show Delete)
+    ∷ (with_parameter (codes "/v1/messages-after/"), Get Customer MessagesAfter)
+    ∷ (codes "/v1/messages", Get Customer Messages)
+    ∷ (with_parameter (codes "/v1/notice/"), Get Customer Notice)
+    ∷ (with_parameter (codes "/v1/notices-after/"), Get Customer NoticesAfter)
+    ∷ (codes "/v1/notices", Get Customer Notices)
+    ∷ (codes "/v1/release-all", Post Customer ReleaseAll)
+    ∷ (with_parameter (codes "/v1/release/"), Post Customer Release)
+    ∷ (codes "/v1/report", Get Customer Report)
+    ∷ (with_parameter (codes "/v1/requeue/"), Post Customer Requeue)
+    ∷ (codes "/v1/usage", Get Customer Usage)
+    ∷ []
 
 -- the path is the pattern's bytes; a parameter at the pattern's end takes the rest, one segment of
 -- at least one byte
@@ -29,71 +63,25 @@ fits (x ∷ pattern) (b ∷ path) = (x == b && fits pattern path)
     || (x == parameter && length pattern == 0 && not (has_slash (b ∷ path)))
 
 -- the first row that the path fits
-abbrev pub route_in : {K : Type 0} → RowsOf K → List ℕ → Option K
-route_in [] path = None
-route_in ((pattern, k) ∷ rest) path = cond (fits pattern path) (Some k) (route_in rest path)
+abbrev pub first_fit : {K : Type 0} → RowsOf K → List ℕ → Option K
+first_fit [] path = None
+first_fit ((pattern, k) ∷ rest) path = cond (fits pattern path) (Some k) (first_fit rest path)
 
-abbrev pub with_parameter : List ℕ → List ℕ
-with_parameter text = text ++ parameter ∷ []
+-- the methods of a path, where the desk has the path
+unfoldable pub methods_at : List ℕ → Option Methods
+methods_at path = first_fit routes path
 
--- every path of the desk, in the order of the patterns
-unfoldable pub table : RowsOf Path
-table =
-    (with_parameter (codes "/relay/due/"), Due)
-    ∷ (with_parameter (codes "/relay/outcome/"), Outcome)
-    ∷ (with_parameter (codes "/relay/submit/"), Submit)
-    ∷ (with_parameter (codes "/relay/sweep/"), Sweep)
-    ∷ (codes "/relay/sweep", SweepAll)
-    ∷ (codes "/v1/check", Check)
-    ∷ (codes "/v1/delete-all", DeleteAll)
-    ∷ (codes "/v1/hold-all", HoldAll)
-    ∷ (with_parameter (codes "/v1/hold/"), Hold)
-    ∷ (codes "/v1/import", Import)
-    ∷ (codes "/v1/line-drop", LineDrop)
-    ∷ (codes "/v1/line-put", LinePut)
-    ∷ (codes "/v1/lines-after", LinesAfter)
-    ∷ (codes "/v1/lines", Lines)
-    ∷ (with_parameter (codes "/v1/message/"), Message)
-    ∷ (with_parameter (codes "/v1/messages-after/"), MessagesAfter)
-    ∷ (codes "/v1/messages", Messages)
-    ∷ (with_parameter (codes "/v1/notice/"), Notice)
-    ∷ (with_parameter (codes "/v1/notices-after/"), NoticesAfter)
-    ∷ (codes "/v1/notices", Notices)
-    ∷ (codes "/v1/release-all", ReleaseAll)
-    ∷ (with_parameter (codes "/v1/release/"), Release)
-    ∷ (codes "/v1/report", Report)
-    ∷ (with_parameter (codes "/v1/requeue/"), Requeue)
-    ∷ (codes "/v1/usage", Usage)
-    ∷ []
+-- the one that is asked, where the method is that one
+abbrev pub at_method : List ℕ → List ℕ → Role × Route → Option (Role × Route) →
+    Option (Role × Route)
+at_method method wanted asked others = if bytes_eq method wanted then Some asked else others
 
-unfoldable pub path_of : List ℕ → Option Path
-path_of path = route_in table path
-
--- the rows of a router after a path is added that has no fault and no conflict
-abbrev pub added_read : Result Scan InsertError → Path → RowsOf (RouteOf Path) →
-    RowsOf (RouteOf Path)
-added_read (Ok s) path rows = placed (s.pattern, route_from s path) rows
-added_read (Err e) path rows = rows
-
-abbrev pub added : List ℕ × Path → RowsOf (RouteOf Path) → RowsOf (RouteOf Path)
-added r rows = added_read (parse_route r.0) r.1 rows
-
-abbrev pub added_all : List (List ℕ × Path) → RowsOf (RouteOf Path) → RowsOf (RouteOf Path)
-added_all [] rows = rows
-added_all (r ∷ rs) rows = added_all rs (added r rows)
-
--- a path reads well, and no row is in conflict with it
-abbrev pub fits_read : Result Scan InsertError → RowsOf (RouteOf Path) → Bool
-fits_read (Ok s) rows = is_none (nearest s.pattern rows)
-fits_read (Err e) rows = false
-
-abbrev pub can_add : List ℕ × Path → RowsOf (RouteOf Path) → Bool
-can_add r rows = fits_read (parse_route r.0) rows
-
--- each in turn reads well, and is in conflict with none before it
-abbrev pub can_add_all : List (List ℕ × Path) → RowsOf (RouteOf Path) → Bool
-can_add_all [] rows = true
-can_add_all (r ∷ rs) rows = can_add r rows && can_add_all rs (added r rows)
+-- whose key a method takes, and what it asks for
+unfoldable pub route_of : Methods → List ℕ → Option (Role × Route)
+route_of (Get role route) method = at_method method (codes "GET") (role, route) None
+route_of (Post role route) method = at_method method (codes "POST") (role, route) None
+route_of (GetOrDelete role first second) method = at_method method (codes "GET") (role, first)
+    (at_method method (codes "DELETE") (role, second) None)
 
 -- what follows the last slash, or all of it
 abbrev pub last_segment : List ℕ → List ℕ

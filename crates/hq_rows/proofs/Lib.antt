@@ -2,4 +2,5 @@ pub mod Keys
 pub mod LinePages
 pub mod NoRows
 pub mod NoticePages
+pub mod Pages
 pub mod Serials

@@ -1,9 +1,9 @@
 -- Lists without a row stand for empty tables.
-use Rattle.std.proofs.Common.{◌≡◌, ◌+◌, ◌^◌, ◌<◌, ◌≤◌, [], sym, refl, ap, ◌∙◌}
+use Rattle.std.proofs.Common.{◌≡◌, [], sym, refl, ap, ◌∙◌}
 use Rattle.std.specs.List.{IsDistinct}
 use Rattle.std.specs.declared.cmp.Ordering.{Ordering}
 use Rattle.std.specs.FinMap.{empty}
-use Rattle.hq_owned.specs.Rows.{table}
+use Rattle.hq_owned.specs.Rows.{map_of}
 use Rattle.hq_store.specs.Tables.{text_cmp, lines_cmp, no_tables, pending_of, message_cmp}
 use Rattle.hq_store.specs.Tables.{recipient_cmp, mark_cmp, notice_cmp}
 use Rattle.hq_rows.specs.Listed.{head_key, head_value, message_key, message_value, recipient_key}
@@ -15,8 +15,8 @@ use Rattle.hq_rows.specs.Lookups.{AreUnique, AreDealt, AreUniqueLines, AreUnique
 use Rattle.hq_store.proofs.Empty.{no_pending}
 
 table_nothing : {A K X : Type 0} (R : K → K → Ordering) (key : A → K) (val : A → X) →
-    table R key val [] ≡ empty
-unfolding table
+    map_of R key val [] ≡ empty
+unfolding map_of
 table_nothing R key val = refl
 
 pub none_unique : AreUnique []

@@ -15,7 +15,7 @@ use Rattle.hq_rows.specs.declared.rows.NoticeRow.{NoticeRow}
 use Rattle.hq_rows.specs.declared.rows.RecipientRow.{RecipientRow}
 use Rattle.hq_store.specs.Tables.{Row, Noted, text_cmp, message_cmp, recipient_cmp, lines_cmp}
 use Rattle.hq_store.specs.Tables.{mark_cmp, notice_cmp, noted_of}
-use Rattle.hq_owned.specs.Rows.{table}
+use Rattle.hq_owned.specs.Rows.{map_of}
 
 -- ---- keys and values of rows
 
@@ -73,22 +73,22 @@ notice_value r = noted_of r.notice
 -- ---- the tables that rows stand for: of rows with one key the first counts
 
 abbrev pub heads_of : List HeadRow → FinMap text_cmp Account
-heads_of rows = table text_cmp head_key head_value rows
+heads_of rows = map_of text_cmp head_key head_value rows
 
 abbrev pub messages_of : List MessageRow → FinMap message_cmp Row
-messages_of rows = table message_cmp message_key message_value rows
+messages_of rows = map_of message_cmp message_key message_value rows
 
 abbrev pub recipients_of : List RecipientRow → FinMap recipient_cmp Pending
-recipients_of rows = table recipient_cmp recipient_key recipient_value rows
+recipients_of rows = map_of recipient_cmp recipient_key recipient_value rows
 
 abbrev pub holds_of : List HoldRow → FinMap message_cmp (List ℕ)
-holds_of rows = table message_cmp hold_key hold_value rows
+holds_of rows = map_of message_cmp hold_key hold_value rows
 
 abbrev pub lines_of : List LineRow → FinMap lines_cmp Action
-lines_of rows = table lines_cmp line_row_key line_row_value rows
+lines_of rows = map_of lines_cmp line_row_key line_row_value rows
 
 abbrev pub marks_of : List MarkRow → FinMap mark_cmp Mark
-marks_of rows = table mark_cmp mark_key mark_value rows
+marks_of rows = map_of mark_cmp mark_key mark_value rows
 
 abbrev pub notices_of : List NoticeRow → FinMap notice_cmp Noted
-notices_of rows = table notice_cmp notice_key notice_value rows
+notices_of rows = map_of notice_cmp notice_key notice_value rows

@@ -17,7 +17,7 @@ use Rattle.hq_http.specs.Requests.{nothing, refused, request, Received}
 use Rattle.hq_http.specs.Responses.{response_text}
 use Rattle.hq_wire.specs.declared.reply.Reply.{Reply}
 use Rattle.hq_serve.specs.Connections.{Answered, IsWritten, response_of}
-use Rattle.hq_serve.specs.Steps.{AreSent, IsAsked}
+use Rattle.hq_serve.specs.Steps.{AreSent, IsOfRequest}
 
 module _ {S : Type 0} (sight : Sight S) (d : Directory) (at : ℕ) (a b : Option (List ℕ))
     (old : Desk S) where
@@ -36,7 +36,7 @@ module _ {S : Type 0} (sight : Sight S) (d : Directory) (at : ℕ) (a b : Option
 
   -- it was replied to as its exchange
   pub of_request : (q : requests.Request) (x : Exchange) (r : SeenReply) (new : Desk S) →
-      Received a b (request q) → IsAsked x at q → Exchanged sight d old (ask_of d x) r new →
+      Received a b (request q) → IsOfRequest x at q → Exchanged sight d old (ask_of d x) r new →
       Answered sight d at a b old (Some r) new
   of_request q x r new h is done = inl (
     request q,

@@ -14,11 +14,11 @@ use Rattle.hq_lines.specs.Lines.{Streams}
 use Rattle.hq_base.specs.declared.engine.EngineFault.{EngineFault}
 use Rattle.hq_base.specs.declared.engine.EngineFault.TheVariants.{Read, Write, TooManyReads}
 use Rattle.hq_base.specs.declared.engine.EngineFault.TheVariants.{WantOfMemory}
-use Rattle.hq_http.specs.Requests.{Asked, nothing, refused, request}
-use Rattle.hq_serve.specs.Connections.{asks as asked_of, Answered, Ends}
+use Rattle.hq_http.specs.Requests.{Wanted, nothing, refused, request}
+use Rattle.hq_serve.specs.Connections.{asks as asked_of, Answered, ConnectionEnds}
 use Rattle.hq_serve.specs.Listening.{DoesSome, ServesComing}
 use Rattle.hq_serve.specs.declared.listening.End.{End}
-use Rattle.hq_serve.specs.declared.listening.End.TheVariants.{Done, Network, Clock}
+use Rattle.hq_serve.specs.declared.listening.End.TheVariants.{Clock}
 
 module _ {S : Type 0} (sight : Sight S) (d : Directory) where
   -- nothing is done, of however many connections
@@ -81,24 +81,6 @@ module _ {S : Type 0} (sight : Sight S) (d : Directory) where
         does = and_then so.came 1 old mid new so.does one;
       }
 
-  pub all_came : (coming left : ℕ) (old new : Desk S) → SoFar coming left old new → left ≡ 0 →
-      ServesComing sight d coming left Done old new
-  all_came coming left old new so none = record {
-    came = so.came;
-    counted = so.counted;
-    does = so.does;
-    over = none;
-  }
-
-  pub one_failed : (coming left : ℕ) (old new : Desk S) → SoFar coming left old new → 0 < left →
-      ServesComing sight d coming left Network old new
-  one_failed coming left old new so some = record {
-    came = so.came;
-    counted = so.counted;
-    does = so.does;
-    over = some;
-  }
-
   pub one_unserved : (coming left less : ℕ) (old new : Desk S) → SoFar coming left old new →
       0 < left → less ≡ left - 1 → ServesComing sight d coming less Clock old new
   one_unserved coming left less old new so some fewer =
@@ -124,7 +106,7 @@ module _ {S : Type 0} (sight : Sight S) (d : Directory) where
       let counted = so.counted in
       of_more so.came coming old new (omega arith) so.does
 
-  at_most_one : (at : ℕ) (asked : Asked) → length (asked_of d at asked) ≤ 1
+  at_most_one : (at : ℕ) (asked : Wanted) → length (asked_of d at asked) ≤ 1
   at_most_one at nothing = omega arith
   at_most_one at (refused why) = omega arith
   at_most_one at (request q) = omega arith
@@ -142,7 +124,7 @@ module _ {S : Type 0} (sight : Sight S) (d : Directory) where
 
   -- however a connection ends
   pub by_end : (at : ℕ) (start end : Streams) (quiet : Type 0) (old new : Desk S)
-      (result : Result ⊤ EngineFault) → Ends sight d at start end quiet old new result →
+      (result : Result ⊤ EngineFault) → ConnectionEnds sight d at start end quiet old new result →
       DoesSome sight d 1 old new
   by_end at start end quiet old new (Ok x) p = by_answer at start.input end.input old new p.0 p.1
   by_end at start end quiet old new (Err Read) p = nothing_done 1 old new p.2

@@ -14,13 +14,13 @@ use Rattle.hq_lines.specs.Lines.{Streams}
 use Rattle.hq_base.specs.declared.engine.EngineFault.{EngineFault}
 use Rattle.hq_base.specs.declared.engine.EngineFault.TheVariants.{Read, Write, TooManyReads}
 use Rattle.hq_base.specs.declared.engine.EngineFault.TheVariants.{WantOfMemory}
-use Rattle.hq_http.specs.Requests.{Asked, nothing, refused, request, Received, HasNoRoom}
+use Rattle.hq_http.specs.Requests.{Wanted, nothing, refused, request, Received, HasNoRoom}
 use Rattle.hq_http.specs.Responses.{response_text}
 use Rattle.hq_http.specs.Stages.{StaysOpen}
 
 -- What the desk is asked at a moment: nothing, or one exchange. A refusal of the request is that of
 -- its exchange.
-abbrev pub asks : Directory → ℕ → Asked → List Ask
+abbrev pub asks : Directory → ℕ → Wanted → List Ask
 asks d at nothing = []
 asks d at (refused why) = record { at = at; called = Err why } ∷ []
 asks d at (request q) = record { at = at; called = call_from d q.method q.path q.key q.body } ∷ []
@@ -39,22 +39,24 @@ IsWritten old new (Some r) = Appends old new (response_of r)
 abbrev pub Answered : {S : Type 0} → Sight S → Directory → ℕ → Option (List ℕ) → Option (List ℕ) →
     Desk S → Option SeenReply → Desk S → Type 0
 Answered sight d at read_old read_new old reply new =
-    ((asked : Asked) × Received read_old read_new asked
+    ((asked : Wanted) × Received read_old read_new asked
     × Served sight d old (asks d at asked) (option_to_list reply) new)
     ⊎ (HasNoRoom read_old read_new × (reply ≡ Some (reply_of_fault no_memory)) × (new ≡ old))
 
 -- How the serving of a connection ends: what was read is answered, and the response is written; or
 -- nothing was done, as more had to be read; or what was read is answered, and its response is not
 -- told to be whole.
-abbrev pub Ends : {S : Type 0} → Sight S → Directory → ℕ → Streams → Streams → Type 0 → Desk S →
-    Desk S → Result ⊤ EngineFault → Type 0
-Ends sight d at start end quiet old new (Ok _) = (reply : Option SeenReply)
+abbrev pub ConnectionEnds : {S : Type 0} → Sight S → Directory → ℕ → Streams → Streams → Type 0 →
+    Desk S → Desk S → Result ⊤ EngineFault → Type 0
+ConnectionEnds sight d at start end quiet old new (Ok _) = (reply : Option SeenReply)
     × Answered sight d at start.input end.input old reply new
     × IsWritten start.output end.output reply
-Ends sight d at start end quiet old new (Err Read) = StaysOpen start.input end.input × quiet
+ConnectionEnds sight d at start end quiet old new (Err Read) = StaysOpen start.input end.input
+    × quiet
     × (new ≡ old)
-Ends sight d at start end quiet old new (Err TooManyReads) = StaysOpen start.input end.input × quiet
+ConnectionEnds sight d at start end quiet old new (Err TooManyReads) = StaysOpen start.input
+    end.input × quiet
     × (new ≡ old)
-Ends sight d at start end quiet old new (Err Write) = (reply : SeenReply)
+ConnectionEnds sight d at start end quiet old new (Err Write) = (reply : SeenReply)
     × Answered sight d at start.input end.input old (Some reply) new
-Ends sight d at start end quiet old new (Err WantOfMemory) = ⊥
+ConnectionEnds sight d at start end quiet old new (Err WantOfMemory) = ⊥

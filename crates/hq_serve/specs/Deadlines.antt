@@ -8,9 +8,9 @@ use Rattle.hq_serve.specs.declared.due.Until.{Until}
 use Rattle.hq_serve.specs.declared.due.Until.TheVariants.{At, After}
 
 -- the instant of one that begins now
-abbrev pub IsEnd : Until → ℕ → Instant → Type 0
-IsEnd (At end) now found = found ≡ end
-IsEnd (After time) now found = instant_nanos found ≡ now + as_nanos time
+abbrev pub IsDeadline : Until → ℕ → Instant → Type 0
+IsDeadline (At end) now found = found ≡ end
+IsDeadline (After time) now found = instant_nanos found ≡ now + as_nanos time
 
 -- it is fixed now, and stays as it was where it was fixed before
 abbrev pub IsFixed : Until → Until → Type 0

@@ -12,15 +12,15 @@ use Rattle.hq_serve.specs.declared.listening.End.{End}
 use Rattle.hq_serve.specs.declared.listening.End.TheVariants.{Done, Network, Clock}
 
 -- how many connections are still to come
-abbrev pub left_of : Connections → ℕ
-left_of connections = connections.left
+abbrev pub connections_left : Connections → ℕ
+connections_left connections = connections.left
 
 -- One is accepted, and one less is still to come; or no more are; or none could be accepted.
 abbrev pub Accepts : {A E : Type 0} → Connections → Connections → Result (Option A) E → Type 0
-Accepts old new (Ok (Some stream)) = (0 < left_of old)
-    × (new ≡ record old { left = left_of old - 1 })
-Accepts old new (Ok None) = (left_of old ≡ 0) × (new ≡ old)
-Accepts old new (Err error) = (0 < left_of old) × (new ≡ old)
+Accepts old new (Ok (Some stream)) = (0 < connections_left old)
+    × (new ≡ record old { left = connections_left old - 1 })
+Accepts old new (Ok None) = (connections_left old ≡ 0) × (new ≡ old)
+Accepts old new (Err error) = (0 < connections_left old) × (new ≡ old)
 
 -- Whatever comes over the socket, the desk does some exchanges one after the other, as a run does,
 -- and nothing else; of so many connections no more than one each.

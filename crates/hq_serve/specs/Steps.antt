@@ -11,8 +11,9 @@ use Rattle.hq_wire.specs.declared.reply.Reply.{Reply}
 use Rattle.hq_serve.specs.Connections.{Answered}
 
 -- the exchange that a request asks for at a moment
-abbrev pub IsAsked : Exchange → ℕ → requests.Request → Type 0
-IsAsked x at q = (x.at ≡ at) × (string_bytes x.method ≡ q.method) × (string_bytes x.path ≡ q.path)
+abbrev pub IsOfRequest : Exchange → ℕ → requests.Request → Type 0
+IsOfRequest x at q = (x.at ≡ at) × (string_bytes x.method ≡ q.method)
+    × (string_bytes x.path ≡ q.path)
     × (option_map string_bytes x.key ≡ q.key) × (x.body.items ≡ q.body)
 
 -- byte for byte it is this reply, or there is none

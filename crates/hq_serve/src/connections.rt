@@ -1,7 +1,7 @@
 //! The connections that are still to come to a listening socket.
 
 ghost use Rattle.std.specs.Prelude.{◌≡◌};
-ghost use Rattle.hq_serve.specs.Listening.{left_of, Accepts};
+ghost use Rattle.hq_serve.specs.Listening.{connections_left, Accepts};
 
 use std::io;
 use std::net::{TcpListener, TcpStream};
@@ -17,7 +17,7 @@ pub struct Connections {
 impl Connections {
     /// So many connections of a socket.
     pub fn new(listener: TcpListener, count: u32) -> Connections
-        ensures { left_of result ≡ count }
+        ensures { connections_left result ≡ count }
     {
         Connections {
             listener,
@@ -27,7 +27,7 @@ impl Connections {
 
     /// How many are still to come.
     pub fn left(&self) -> u32
-        ensures { result ≡ left_of self.now }
+        ensures { result ≡ connections_left self.now }
     {
         self.left
     }

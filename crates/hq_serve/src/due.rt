@@ -3,7 +3,7 @@
 ghost use Rattle.std.specs.Prelude.{◌≡◌, ◌-◌, ◌<◌, ◌≤◌, min, IfSome, IfNone, IfOk};
 ghost use Rattle.std.specs.Duration.{as_nanos};
 ghost use Rattle.std.specs.Time.{instant_nanos};
-ghost use Rattle.hq_serve.specs.Deadlines.{IsEnd, IsFixed};
+ghost use Rattle.hq_serve.specs.Deadlines.{IsDeadline, IsFixed};
 
 use std::io::{self, ErrorKind, Read, Write};
 use std::net::{Shutdown, TcpStream};
@@ -39,7 +39,7 @@ pub(crate) struct Due<'s, C> {
 /// The instant by which a read or a write that begins now has to have ended; `None` where no clock
 /// counts as far.
 fn end_from(until: Until, now: Instant) -> Option<Instant>
-    ensures { IfSome result (IsEnd until (instant_nanos now)) }
+    ensures { IfSome result (IsDeadline until (instant_nanos now)) }
 {
     match until {
         Until::At(end) => Some(end),

@@ -1,6 +1,6 @@
 //! The connections of a listening socket.
 
-ghost use Rattle.hq_serve.specs.Listening.{left_of, DoesSome, ServesComing};
+ghost use Rattle.hq_serve.specs.Listening.{connections_left, DoesSome, ServesComing};
 
 use crate::connections::Connections;
 use crate::due::{Due, Until, linger};
@@ -139,8 +139,8 @@ pub fn serve_on<C: Clock + AllocGlobal, S: Shelf + Drop, E: Write>(
     directory: &Directory,
     errors: &mut E,
 ) -> End
-    ensures { ServesComing S.sight directory.now (left_of connections.old)
-        (left_of connections.new) result desk.old desk.new }
+    ensures { ServesComing S.sight directory.now (connections_left connections.old)
+        (connections_left connections.new) result desk.old desk.new }
 {
     loop {
         let stream = match connections.accept() {

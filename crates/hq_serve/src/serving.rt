@@ -2,10 +2,10 @@
 
 ghost use Rattle.std.specs.Prelude.{◌≡◌, List, ℕ, Option, OnOk};
 ghost use Rattle.std.specs.Io.KnownBytes.{Appends};
-ghost use Rattle.hq_http.specs.Stages.{shown, InputIs};
+ghost use Rattle.hq_http.specs.Stages.{request_seen, InputIs};
 ghost use Rattle.hq_wire.specs.Replies.{seen};
-ghost use Rattle.hq_serve.specs.Connections.{response_of, Ends};
-ghost use Rattle.hq_serve.specs.Steps.{IsAsked, Sends};
+ghost use Rattle.hq_serve.specs.Connections.{response_of, ConnectionEnds};
+ghost use Rattle.hq_serve.specs.Steps.{IsOfRequest, Sends};
 
 use hq_base::EngineFault;
 use hq_desk::Desk;
@@ -18,7 +18,7 @@ use std::io::{self, Read, Write};
 
 /// The exchange that a request asks for at a moment.
 fn exchange_of(request: Request, at: Moment) -> Exchange
-    ensures { IsAsked result at (shown request) }
+    ensures { IsOfRequest result at (request_seen request) }
 {
     Exchange {
         at,
@@ -82,7 +82,7 @@ pub fn serve_one<R: Read, W: Write, S: Shelf + Drop>(
     directory: &Directory,
     at: Moment,
 ) -> Result<(), EngineFault>
-    ensures { Ends S.sight directory.now at
+    ensures { ConnectionEnds S.sight directory.now at
         (record { input = R.remaining reader.old; output = W.contents writer.old })
         (record { input = R.remaining reader.new; output = W.contents writer.new })
         (writer.new ≡ writer.old) desk.old desk.new result }

@@ -11,7 +11,7 @@ use Rattle.std.proofs.lemmas.Bool.Decides.{nat_tests}
 use Rattle.std.proofs.lemmas.List.Sums.{sum_by-cons}
 use Rattle.std.specs.Str.{bytes_eq}
 use Rattle.sha2.specs.Sha256.{sha256}
-use Rattle.hq_import.specs.Tables.{lines_in}
+use Rattle.hq_import.specs.Tables.{table_lines}
 use Rattle.hq_base.specs.declared.failure.Refusal.{Refusal}
 use Rattle.hq_base.specs.declared.failure.Refusal.TheVariants.{QuotaLines, LabelUsed}
 use Rattle.hq_access.specs.declared.action.Action.{Action}
@@ -28,7 +28,7 @@ use Rattle.hq_store.proofs.Many.{change_all-append}
 use Rattle.hq_store.proofs.States.{change_shaped}
 use Rattle.hq_calls.specs.Answering.{tell, refuse}
 use Rattle.hq_calls.specs.AccessLines.{same_action}
-use Rattle.hq_calls.specs.Imports.{beside, met, is_put, how_many, counts_of, mark_of, set_by}
+use Rattle.hq_calls.specs.Imports.{beside, line_met, is_put, rows_that, counts_of, mark_of, set_by}
 use Rattle.hq_calls.specs.Imports.{changes_of, first_import, import}
 use Rattle.hq_calls.specs.declared.answer.Answer.TheVariants as answer
 use Rattle.hq_calls.specs.declared.answer.LinePut.{LinePut}
@@ -109,13 +109,14 @@ same_marks ((line, Changed) ∷ rows) s = same_marks rows (change (PutLine line)
 
 -- the rows that are told as added are those of patterns without a line
 added_are_new : (s : State) (lines : List Line) →
-    news s.lines (map (met (read_state s)) lines) ≡ how_many Added (map (met (read_state s)) lines)
+    news s.lines (map (line_met (read_state s)) lines)
+    ≡ rows_that Added (map (line_met (read_state s)) lines)
 added_are_new s [] = refl
 added_are_new s (line ∷ lines) =
-    let rows = map (met (read_state s)) lines in
+    let rows = map (line_met (read_state s)) lines in
     (λ i. one line.action (get s.lines line.pattern) i + added_are_new s lines i)
     ∙ sym (sum_by-cons (λ (row : Line × LinePut). cond (is_put Added row.1) 1 0)
-    (met (read_state s) line) rows) where
+    (line_met (read_state s) line) rows) where
       weight : Bool → ℕ
       weight b = cond b 1 0
 
@@ -152,16 +153,16 @@ import_kept s entry label file h = cases (get s.marks label) refl where
   known mark false = h
 
   fits : (lines : List Line) (b : Bool) → get s.marks label ≡ None →
-      nat_lt entry.quota.lines (length (entries s.lines) + how_many Added
-      (map (met (read_state s)) lines)) ≡ b
-      → Keeps s (let rows = map (met (read_state s)) lines in if b then refuse QuotaLines else
+      nat_lt entry.quota.lines (length (entries s.lines) + rows_that Added
+      (map (line_met (read_state s)) lines)) ≡ b
+      → Keeps s (let rows = map (line_met (read_state s)) lines in if b then refuse QuotaLines else
       record {
         answer = answer.Imported (counts_of rows);
         changes = changes_of label (sha256 file) rows;
       })
   fits lines true new e = h
   fits lines false new e =
-      let rows = map (met (read_state s)) lines in
+      let rows = map (line_met (read_state s)) lines in
       let few = within entry.quota.lines _ e in
       let most = (quota_of entry).1 in
       let counted = len-entries s.lines in
@@ -176,10 +177,10 @@ import_kept s entry label file h = cases (get s.marks label) refl where
       Keeps s (first_import entry.quota.lines (read_state s) label (sha256 file) read)
   rows (Err refusal) new = h
   rows (Ok lines) new = fits lines
-      (nat_lt entry.quota.lines (length (entries s.lines) + how_many Added
-      (map (met (read_state s)) lines))) new refl
+      (nat_lt entry.quota.lines (length (entries s.lines) + rows_that Added
+      (map (line_met (read_state s)) lines))) new refl
 
   cases : (o : Option Mark) → get s.marks label ≡ o →
       Keeps s (import entry.quota.lines (read_state s) label file o)
   cases (Some mark) e = known mark (bytes_eq (sha256 file) mark.digest)
-  cases None e = rows (lines_in file) e
+  cases None e = rows (table_lines file) e

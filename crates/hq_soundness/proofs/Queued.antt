@@ -105,10 +105,6 @@ distinct_shorter (x ∷ xs) = let fewer =
     filter_shorter (λ y. not (same_address x y)) (rules.distinct xs) in let rest =
     distinct_shorter xs in omega arith
 
-distinct_some : (xs : List (List ℕ)) → 0 < length xs → 0 < length (rules.distinct xs)
-distinct_some [] h = h
-distinct_some (x ∷ xs) h = omega arith
-
 -- what is left of recipients, each with what was found for it
 kept_are : {A : Type 0} (f : List ℕ → A) (p : List ℕ × A → Bool) (xs : List (List ℕ)) →
     map (λ (r : List ℕ × A). r.0) (filter p (map (λ a. (a, f a)) xs)) ≡ filter (λ a. p (a, f a)) xs
@@ -140,7 +136,7 @@ KeepsReceivers (verdict.Queue kept refused redirect held) = MayReceive kept × I
 
 judged_keeps : (kept : List (List ℕ)) (refused : List Refused) (found : List (Option Action)) →
     IsDistinct same_address kept → length kept ≤ 100 →
-    KeepsReceivers (access.judged kept refused found)
+    KeepsReceivers (access.verdict_on kept refused found)
 judged_keeps [] refused found apart few = tt
 judged_keeps (k ∷ kept) refused found apart few = cases (list_any access.discards found) where
   cases : (b : Bool) → KeepsReceivers (if b then verdict.Discarded refused else
@@ -155,7 +151,8 @@ judged_keeps (k ∷ kept) refused found apart few = cases (list_any access.disca
 verdict_keeps : (readings : Readings) (sender : Sender) (xs : List (List ℕ)) →
     IsDistinct same_address xs → length xs ≤ 100 → KeepsReceivers (rules.judged readings sender xs)
 verdict_keeps readings sender xs apart few =
-    cases (option_map (access.told sender) (access.refusal (action_for readings SenderSide sender)))
+    cases (option_map (access.refusal_of sender)
+    (access.refusal (action_for readings SenderSide sender)))
   where
     found : List ℕ → Option Action
     found a = action_for readings RecipientSide (From a)
@@ -166,7 +163,8 @@ verdict_keeps readings sender xs apart few =
     is_kept : List ℕ → Bool
     is_kept a = not (access.refuses (found a))
 
-    are : map (λ (r : List ℕ × Option Action). r.0) (access.kept_in recipients) ≡ filter is_kept xs
+    are : map (λ (r : List ℕ × Option Action). r.0) (access.not_refused recipients)
+        ≡ filter is_kept xs
     are = kept_are found (λ r. not (access.refuses r.1)) xs
 
     cases : (o : Option Refused) →
@@ -174,7 +172,7 @@ verdict_keeps readings sender xs apart few =
     cases (Some refused) = tt
     cases None =
         let fewer = filter_shorter is_kept xs in
-        judged_keeps (map (λ (r : List ℕ × Option Action). r.0) (access.kept_in recipients))
+        judged_keeps (map (λ (r : List ℕ × Option Action). r.0) (access.not_refused recipients))
         (access.refused_in recipients) (access.found_in (action_for readings SenderSide sender)
         recipients)
         (subst (IsDistinct same_address) (sym are) (filter_distinct same_address is_kept xs apart))
@@ -248,7 +246,7 @@ queue_kept : (s : State) (at : ℕ) (sub : Submission) (addresses : List (List �
     refused)
 queue_kept s at sub addresses held refused h may text spool room serials =
     let n = rules.new_message s.head.next_serial at sub addresses held in
-    let head = rules.with_message (length n.pending) s.head in
+    let head = rules.head_with_message (length n.pending) s.head in
     let raised = change (PutHead head) s in
     let next = h.shaped.next_serial in
     let rises : HeadFits s head = record {

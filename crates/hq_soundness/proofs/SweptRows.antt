@@ -19,7 +19,8 @@ use Rattle.hq_store.proofs.Many.{Does, Done, each_done, stand_values, does_nothi
 use Rattle.hq_store.proofs.Many.{does_drop}
 use Rattle.hq_calls.specs.Answering.{tell}
 use Rattle.hq_calls.specs.Notices.{carried_out}
-use Rattle.hq_calls.specs.Sweeps.{met, changed_by, given_up, how_many, swept_all, sweep}
+use Rattle.hq_calls.specs.Sweeps.{message_met, changed_by, given_up, messages_that, swept_all}
+use Rattle.hq_calls.specs.Sweeps.{sweep}
 use Rattle.hq_calls.specs.declared.answer.Answer.TheVariants as answer
 use Rattle.hq_soundness.proofs.Kept.{Keeps, saturated_is}
 use Rattle.hq_soundness.proofs.Settled.{taken_fits, carried_out_kept}
@@ -41,30 +42,31 @@ met_does s m Untouched h there = does_nothing s m h
 
 -- all of them: as many recipients are gone as are given up together
 rows_done : (at delay : ℕ) (s : State) → SoundState s →
-    (let rows = map (met at delay) (values s.messages) in
+    (let rows = map (message_met at delay) (values s.messages) in
     Done s (change_all (flat_map changed_by rows) s) (sum_by given_up rows))
 rows_done at delay s h =
     let ms = values s.messages in
-    let did = each_done (λ m. changed_by (met at delay m)) (λ m. given_up (met at delay m))
+    let did = each_done (λ m. changed_by (message_met at delay m))
+    (λ m. given_up (message_met at delay m))
     (λ u m shaped there. met_does u m (swept at delay m) shaped there) ms s h.shaped
     (stand_values s.messages (λ k m f. (h.shaped.messages k m f).own_serial)) in
-    subst (λ cs. Done s (change_all cs s) (sum_by given_up (map (met at delay) ms)))
-    (sym (flat_map-map changed_by (met at delay) ms))
-    (subst (λ w. Done s (change_all (flat_map (λ m. changed_by (met at delay m)) ms) s) w)
-    (sym (sum_by_made given_up (met at delay) ms)) did)
+    subst (λ cs. Done s (change_all cs s) (sum_by given_up (map (message_met at delay) ms)))
+    (sym (flat_map-map changed_by (message_met at delay) ms))
+    (subst (λ w. Done s (change_all (flat_map (λ m. changed_by (message_met at delay m)) ms) s) w)
+    (sym (sum_by_made given_up (message_met at delay) ms)) did)
 
 -- a sweep, whether it changes a message or none
 pub sweep_kept : (host : List ℕ) (entry : Entry) (s : State) (at : ℕ) → SoundState s →
     Keeps s (sweep host entry at s.head (values s.messages))
 sweep_kept host entry s at h = cases (expired == 0 && warned == 0) where
   rows : List (Message × Swept)
-  rows = map (met at entry.delay) (values s.messages)
+  rows = map (message_met at entry.delay) (values s.messages)
 
   expired : ℕ
-  expired = how_many Expired rows
+  expired = messages_that Expired rows
 
   warned : ℕ
-  warned = how_many Warned rows
+  warned = messages_that Warned rows
 
   cases : (b : Bool) → Keeps s (if b then
       tell (answer.Swept (record { expired = 0; notices = 0; warned = 0 })) else

@@ -15,7 +15,7 @@ use Rattle.hq_keyed.proofs.Stops.{may_end, ends_none, query_leaves_no_more, writ
 use Rattle.hq_schema.specs.Schema.{desk_schema}
 use Rattle.hq_store.specs.Tables.{Tables}
 use Rattle.hq_sql.specs.Tables.{IsDesk, Leaves}
-use Rattle.hq_sql.specs.Kept.{Keeps, KeepsCommitted, Updated}
+use Rattle.hq_sql.specs.Kept.{Intact, KeepsCommitted, Updated}
 
 module _ (old new : State) (text : List ℕ) (params : Row)
     (plain : IsPlain (understood desk_schema text))
@@ -25,7 +25,7 @@ module _ (old new : State) (text : List ℕ) (params : Row)
 
   -- a query that failed
   pub query_failed : {X : Type 0} (e : Error) (result : Result X Error) → IsErr result →
-      (HasCleanDisk new → FailsToQuery text params old new e) → Keeps old new result
+      (HasCleanDisk new → FailsToQuery text params old new e) → Intact old new result
   query_failed e (Ok x) is h = absurd (let f = is in cc)
   query_failed e (Err other) is h = record {
     same = λ clean desk. tt;
@@ -36,7 +36,7 @@ module _ (old new : State) (text : List ℕ) (params : Row)
 
   -- a query that was answered
   pub query_answered : {X : Type 0} (rows : List Row) (x : X) →
-      (HasCleanDisk new → Shown text params old new rows) → Keeps old new (Ok x)
+      (HasCleanDisk new → Shown text params old new rows) → Intact old new (Ok x)
   query_answered rows x h = record {
     same = λ clean desk. shown_unchanged old new text params rows (plain_here desk) (h clean);
     kept = λ clean desk. tt;
@@ -71,12 +71,12 @@ module _ (old new : State) (text : List ℕ) (params : Row) (command : Command)
 
 -- ---- a query that was answered or failed, with another result
 
-pub keeps_ok : {X Y : Type 0} (old new : State) (x : X) (y : Y) → Keeps old new (Ok x) →
-    Keeps old new (Ok y)
+pub keeps_ok : {X Y : Type 0} (old new : State) (x : X) (y : Y) → Intact old new (Ok x) →
+    Intact old new (Ok y)
 keeps_ok old new x y h = record { same = h.same; kept = h.kept; quiet = h.quiet; stops = h.stops }
 
 pub keeps_err : {X Y : Type 0} (old new : State) (e : Error) (r : Result Y Error) → IsErr r →
-    Keeps {X = X} old new (Err e) → Keeps old new r
+    Intact {X = X} old new (Err e) → Intact old new r
 keeps_err old new e (Ok y) is h = absurd (let f = is in cc)
 keeps_err old new e (Err other) is h = record {
   same = λ clean desk. tt;

@@ -2,11 +2,9 @@
 use Rattle.std.proofs.Common.{ℕ, List, [], ◌∷◌, codes, refl}
 use Rattle.sqlite.specs.declared.types.Value.TheVariants.{Null}
 use Rattle.sqlite.specs.Collation.TheVariants.{Binary}
-use Rattle.sqlite_value.specs.Keys.{ascending}
 use Rattle.sqlite.specs.Term.{Term, lit, col, op2}
 use Rattle.sqlite_sql.specs.declared.ops.BinaryOp.TheVariants.{Compare}
 use Rattle.sqlite_sql.specs.declared.ops.CompareOp.TheVariants.{Eq, Ge, Le}
-use Rattle.sqlite.specs.Query.{Query}
 use Rattle.sqlite.specs.Command.TheVariants.{Insert, Update}
 use Rattle.sqlite.specs.Source.TheVariants.{Values}
 use Rattle.sqlite_tied.specs.Compute.{everything}
@@ -38,9 +36,6 @@ abbrev pub head_names : List (List ℕ)
 head_names = codes "customer" ∷ codes "next_serial" ∷ codes "next_notice" ∷ codes "accepted"
     ∷ codes "delivered" ∷ codes "failed" ∷ codes "deleted" ∷ codes "expired" ∷ codes "messages"
     ∷ codes "bytes" ∷ codes "lines" ∷ []
-
-abbrev pub head_order : Query → Query
-head_order q = record q { order = (col 1 1, ascending Binary) ∷ [] }
 
 abbrev pub head_read_text : List ℕ
 head_read_text =

@@ -20,7 +20,7 @@ use Rattle.hq_keyed.specs.Left.{IsQuiet, LeavesNoMore}
 use Rattle.hq_keyed.proofs.Left.{clean_before, quiet_then, keeps_then, unchanged_keeps, on_err}
 use Rattle.hq_keyed.proofs.Stops.{query_leaves_no_more}
 use Rattle.hq_sql.specs.Tables.{IsDesk}
-use Rattle.hq_sql.specs.Kept.{Keeps}
+use Rattle.hq_sql.specs.Kept.{Intact}
 use Rattle.hq_sql.specs.Lent.{IsQuery, TakesAll}
 
 on_ok : {X E P : Type 0} (r : Result X E) → P → OnOk r P
@@ -107,7 +107,7 @@ module _ {S T : Type 0} (g : Ghosts S) (takes : T → Row → T → Type 0) (tex
         (it : Walks g takes text params old now first last) where
       -- an error that the library does not know of
       pub keeps_so_far : {X : Type 0} (r : Result X Error) → IsErr r → IsQuery text →
-          Keeps old (state g now) r
+          Intact old (state g now) r
       keeps_so_far r is query = record {
         same = λ clean desk. no_ok _ r is;
         kept = λ clean desk. on_err r
@@ -164,7 +164,7 @@ module _ {S T : Type 0} (g : Ghosts S) (takes : T → Row → T → Type 0) (tex
         -- a step that changed nothing, whatever comes of it
         pub keeps_same : {X : Type 0} (r : Result X Error) →
             (HasCleanDisk (state g new) → IsUnchanged (state g now) (state g new)) → IsQuery text →
-            Keeps old (state g new) r
+            Intact old (state g new) r
         keeps_same r same query = record {
           same = λ clean desk. on_ok r (unchanged_then old (state g now) (state g new)
               (it.taken query (before clean) desk).same (same clean));
@@ -178,7 +178,8 @@ module _ {S T : Type 0} (g : Ghosts S) (takes : T → Row → T → Type 0) (tex
         -- a step that failed
         pub keeps_failing : {X : Type 0} (e : Error) (r : Result X Error) → IsErr r →
             (HasCleanDisk (state g new) → Fails (state g now) (state g new) ⊥ e
-            ⊎ IsUnchanged (state g now) (state g new)) → IsQuery text → Keeps old (state g new) r
+            ⊎ IsUnchanged (state g now) (state g new)) → IsQuery text
+            → Intact old (state g new) r
         keeps_failing e r is failed query = record {
           same = λ clean desk. no_ok _ r is;
           kept = λ clean desk. on_err r (keeps_then old (state g now) (state g new)

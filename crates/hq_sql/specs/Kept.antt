@@ -15,13 +15,13 @@ Shows old new result seen f = HasCleanDisk new → IsDesk old.now →
     IfOk result (λ answer. seen answer ≡ f (tables_in old.now))
 
 -- What is found is `f` of the tables before.
-abbrev pub Finds : {X : Type 0} → State → State → Result X Error → (Tables → X) → Type 0
-Finds old new result f = HasCleanDisk new → IsDesk old.now →
+abbrev pub Yields : {X : Type 0} → State → State → Result X Error → (Tables → X) → Type 0
+Yields old new result f = HasCleanDisk new → IsDesk old.now →
     IfOk result (λ found. found ≡ f (tables_in old.now))
 
 -- A write that succeeds leaves `f` of the tables before.
-abbrev pub Makes : {X : Type 0} → State → State → Result X Error → (Tables → Tables) → Type 0
-Makes old new result f = HasCleanDisk new → IsDesk old.now →
+abbrev pub Writes : {X : Type 0} → State → State → Result X Error → (Tables → Tables) → Type 0
+Writes old new result f = HasCleanDisk new → IsDesk old.now →
     OnOk result (Leaves old new (f (tables_in old.now)))
 
 -- So does an INSERT, where nothing stands at the key before.
@@ -47,7 +47,7 @@ Updates old new result at f = HasCleanDisk new → IsDesk old.now →
     (f (tables_in old.now)))
 
 -- What a query keeps.
-pub record Keeps {X : Type 0} (old new : State) (result : Result X Error) : Type 0 where
+pub record Intact {X : Type 0} (old new : State) (result : Result X Error) : Type 0 where
   -- all, where it answers
   pub same : HasCleanDisk new → IsDesk old.now → OnOk result (IsUnchanged old new)
   -- what was committed, where it fails

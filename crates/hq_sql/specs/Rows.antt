@@ -32,17 +32,17 @@ use Rattle.hq_keyed.specs.Values.{number}
 
 -- ---- values
 
-abbrev pub text_in : Value → List ℕ
-text_in (Text t) = t
-text_in _ = []
+abbrev pub value_text : Value → List ℕ
+value_text (Text t) = t
+value_text _ = []
 
 abbrev pub blob_in : Value → List ℕ
 blob_in (Blob b) = b
 blob_in _ = []
 
-abbrev pub number_in : Value → ℕ
-number_in (Int (pos n)) = n
-number_in _ = 0
+abbrev pub value_number : Value → ℕ
+value_number (Int (pos n)) = n
+value_number _ = 0
 
 abbrev pub truth_in : Value → Bool
 truth_in (Int n) = not (int_eq n (pos 0))
@@ -77,13 +77,13 @@ kind_of zero = Failure
 kind_of (suc n) = Delay
 
 -- the empty text stands for no status
-abbrev pub status_text : Option (List ℕ) → List ℕ
-status_text None = []
-status_text (Some s) = s
+abbrev pub status_column : Option (List ℕ) → List ℕ
+status_column None = []
+status_column (Some s) = s
 
-abbrev pub status_of : List ℕ → Option (List ℕ)
-status_of [] = None
-status_of (b ∷ bs) = Some (b ∷ bs)
+abbrev pub status_read : List ℕ → Option (List ℕ)
+status_read [] = None
+status_read (b ∷ bs) = Some (b ∷ bs)
 
 abbrev pub class_of : List ℕ → Class
 class_of name = if bytes_eq name (codes "recipient") then RecipientSide else SenderSide
@@ -123,23 +123,23 @@ head_stored k = Int k.0 ∷ head_columns k.1
 
 abbrev pub head_read : Row → HeadRow
 head_read r = record {
-  customer = text_in (column r 1);
+  customer = value_text (column r 1);
   account = record {
     head = record {
-      next_serial = number_in (column r 2);
-      next_notice = number_in (column r 3);
+      next_serial = value_number (column r 2);
+      next_notice = value_number (column r 3);
       tally = record {
-        accepted = number_in (column r 4);
-        delivered = number_in (column r 5);
-        failed = number_in (column r 6);
-        deleted = number_in (column r 7);
-        expired = number_in (column r 8);
+        accepted = value_number (column r 4);
+        delivered = value_number (column r 5);
+        failed = value_number (column r 6);
+        deleted = value_number (column r 7);
+        expired = value_number (column r 8);
       };
     };
     counts = record {
-      messages = number_in (column r 9);
-      bytes = number_in (column r 10);
-      lines = number_in (column r 11);
+      messages = value_number (column r 9);
+      bytes = value_number (column r 10);
+      lines = value_number (column r 11);
     };
   };
 }
@@ -155,34 +155,34 @@ message_stored k = Int k.0 ∷ message_columns k.1
 
 abbrev pub message_read : Row → MessageRow
 message_read r = record {
-  customer = text_in (column r 1);
-  serial = number_in (column r 2);
-  sender = sender_of (text_in (column r 3));
-  spool = text_in (column r 4);
-  size = number_in (column r 5);
-  arrival = number_in (column r 6);
-  state = state_of (number_in (column r 7));
-  next_try = number_in (column r 8);
-  attempts = number_in (column r 9);
+  customer = value_text (column r 1);
+  serial = value_number (column r 2);
+  sender = sender_of (value_text (column r 3));
+  spool = value_text (column r 4);
+  size = value_number (column r 5);
+  arrival = value_number (column r 6);
+  state = state_of (value_number (column r 7));
+  next_try = value_number (column r 8);
+  attempts = value_number (column r 9);
   warned = truth_in (column r 10);
 }
 
 abbrev pub recipient_columns : RecipientRow → Row
 recipient_columns r = Text r.customer ∷ number r.serial ∷ number r.place ∷ Text r.pending.address
-    ∷ Text (status_text r.pending.status) ∷ Text r.pending.text ∷ []
+    ∷ Text (status_column r.pending.status) ∷ Text r.pending.text ∷ []
 
 abbrev pub recipient_stored : ℤ × RecipientRow → Row
 recipient_stored k = Int k.0 ∷ recipient_columns k.1
 
 abbrev pub recipient_read : Row → RecipientRow
 recipient_read r = record {
-  customer = text_in (column r 1);
-  serial = number_in (column r 2);
-  place = number_in (column r 3);
+  customer = value_text (column r 1);
+  serial = value_number (column r 2);
+  place = value_number (column r 3);
   pending = record {
-    address = text_in (column r 4);
-    status = status_of (text_in (column r 5));
-    text = text_in (column r 6);
+    address = value_text (column r 4);
+    status = status_read (value_text (column r 5));
+    text = value_text (column r 6);
   };
 }
 
@@ -194,9 +194,9 @@ hold_stored k = Int k.0 ∷ hold_columns k.1
 
 abbrev pub hold_read : Row → HoldRow
 hold_read r = record {
-  customer = text_in (column r 1);
-  serial = number_in (column r 2);
-  reason = text_in (column r 3);
+  customer = value_text (column r 1);
+  serial = value_number (column r 2);
+  reason = value_text (column r 3);
 }
 
 abbrev pub line_columns : LineRow → Row
@@ -208,10 +208,10 @@ line_stored k = Int k.0 ∷ line_columns k.1
 
 abbrev pub line_read : Row → LineRow
 line_read r = record {
-  customer = text_in (column r 1);
+  customer = value_text (column r 1);
   line = record {
-    pattern = (class_of (text_in (column r 2)), text_in (column r 3));
-    action = action_of (text_in (column r 4));
+    pattern = (class_of (value_text (column r 2)), value_text (column r 3));
+    action = action_of (value_text (column r 4));
   };
 }
 
@@ -224,13 +224,13 @@ mark_stored k = Int k.0 ∷ mark_columns k.1
 
 abbrev pub mark_read : Row → MarkRow
 mark_read r = record {
-  customer = text_in (column r 1);
+  customer = value_text (column r 1);
   mark = record {
-    label = text_in (column r 2);
+    label = value_text (column r 2);
     digest = blob_in (column r 3);
-    added = number_in (column r 4);
-    changed = number_in (column r 5);
-    same = number_in (column r 6);
+    added = value_number (column r 4);
+    changed = value_number (column r 5);
+    same = value_number (column r 6);
   };
 }
 
@@ -245,15 +245,15 @@ notice_stored k = Int k.0 ∷ notice_columns k.1
 
 abbrev pub notice_read : Row → NoticeRow
 notice_read r = record {
-  customer = text_in (column r 1);
+  customer = value_text (column r 1);
   notice = record {
-    number = number_in (column r 2);
-    kind = kind_of (number_in (column r 3));
-    serial = number_in (column r 4);
-    at = number_in (column r 5);
-    to = text_in (column r 6);
-    human = text_in (column r 7);
-    status = text_in (column r 8);
+    number = value_number (column r 2);
+    kind = kind_of (value_number (column r 3));
+    serial = value_number (column r 4);
+    at = value_number (column r 5);
+    to = value_text (column r 6);
+    human = value_text (column r 7);
+    status = value_text (column r 8);
   };
 }
 

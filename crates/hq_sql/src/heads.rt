@@ -6,7 +6,8 @@ ghost use Rattle.sqlite.specs.Held.{state};
 ghost use Rattle.hq_rows.specs.Listed.{head_value};
 ghost use Rattle.hq_sql.specs.Rows.{head_shown};
 ghost use Rattle.hq_sql.specs.Heads.{with_account};
-ghost use Rattle.hq_sql.specs.Kept.{Shows, Finds, Makes, Inserts, Updates, Keeps, KeepsCommitted};
+ghost use Rattle.hq_sql.specs.Kept.{Shows, Yields, Writes, Inserts, Updates, Intact};
+ghost use Rattle.hq_sql.specs.Kept.{KeepsCommitted};
 
 use crate::{bind, decode};
 use hq_envelope::Name;
@@ -17,7 +18,7 @@ fn query<S: Alter>(conn: &mut Connection<S>, customer: &Name) -> Result<Vec<Row>
     ensures found { Shows (state S.Store conn.old) (state S.Store conn.new) result
         (λ rows. option_map (λ r. head_value (head_shown r)) (slice_get rows.items 0))
         (λ t. get t.heads customer.now) }
-    ensures kept { Keeps (state S.Store conn.old) (state S.Store conn.new) result }
+    ensures kept { Intact (state S.Store conn.old) (state S.Store conn.new) result }
 {
     let params = bind::customer(customer);
     let rows = conn.query_all(
@@ -33,9 +34,9 @@ pub fn account<S: Alter>(
     conn: &mut Connection<S>,
     customer: &Name,
 ) -> Result<Option<Account>, Error>
-    ensures found { Finds (state S.Store conn.old) (state S.Store conn.new) result
+    ensures found { Yields (state S.Store conn.old) (state S.Store conn.new) result
         (λ t. get t.heads customer.now) }
-    ensures kept { Keeps (state S.Store conn.old) (state S.Store conn.new) result }
+    ensures kept { Intact (state S.Store conn.old) (state S.Store conn.new) result }
 {
     let rows = query(conn, customer)?;
     decode::first_account(rows.as_slice())
@@ -89,7 +90,7 @@ pub fn put<S: Alter>(
     customer: &Name,
     account: &Account,
 ) -> Result<(), Error>
-    ensures made { Makes (state S.Store conn.old) (state S.Store conn.new) result
+    ensures made { Writes (state S.Store conn.old) (state S.Store conn.new) result
         (with_account customer.now account.now) }
     ensures kept { KeepsCommitted (state S.Store conn.old) (state S.Store conn.new) }
 {

@@ -5,7 +5,7 @@ ghost use Rattle.sqlite.specs.State.{HasCleanDisk};
 ghost use Rattle.sqlite.specs.Values.{bound};
 ghost use Rattle.sqlite.specs.Held.{state};
 ghost use Rattle.hq_sql.specs.Tables.{IsDesk};
-ghost use Rattle.hq_sql.specs.Kept.{Keeps};
+ghost use Rattle.hq_sql.specs.Kept.{Intact};
 ghost use Rattle.hq_sql.specs.Lent.{IsQuery, TakesAll};
 
 use sqlite::types::ValueRef;
@@ -34,7 +34,7 @@ pub fn walk<'k, S: Alter, T: Taker>(
         → IsDesk (state S.Store conn.old).now → IfOk result (TakesAll T.takes sql.now
         (bound params.now) (state S.Store conn.old) (state S.Store conn.new) taker) }
     ensures kept { IsQuery sql.now
-        → Keeps (state S.Store conn.old) (state S.Store conn.new) result }
+        → Intact (state S.Store conn.old) (state S.Store conn.new) result }
 {
     let mut rows = conn.query(sql, params)?;
     'rows: for _ in 0..u64::MAX {

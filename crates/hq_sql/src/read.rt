@@ -3,7 +3,7 @@
 ghost use Rattle.std.specs.Prelude.{◌≡◌, IfOk, string_bytes};
 ghost use Rattle.sqlite.specs.Order.{column};
 ghost use Rattle.hq_sql.specs.Errors.{unread_as};
-ghost use Rattle.hq_sql.specs.Rows.{text_in, number_in};
+ghost use Rattle.hq_sql.specs.Rows.{value_text, value_number};
 
 use hq_envelope::Fail;
 use sqlite::{Error, ErrorCode, Row};
@@ -20,14 +20,14 @@ pub fn unread(fail: Fail) -> Error
 
 /// The number of a column; an error where its value is none, or is negative.
 pub fn number(row: &Row, at: usize) -> Result<u64, Error>
-    ensures { IfOk result (λ n. n ≡ number_in (column row.now at)) }
+    ensures { IfOk result (λ n. n ≡ value_number (column row.now at)) }
 {
     row.get(at)
 }
 
 /// The text of a column; an error where its value is none.
 pub fn text(row: &Row, at: usize) -> Result<String, Error>
-    ensures { IfOk result (λ t. string_bytes t ≡ text_in (column row.now at)) }
+    ensures { IfOk result (λ t. string_bytes t ≡ value_text (column row.now at)) }
 {
     row.get(at)
 }

@@ -3,7 +3,7 @@ use Rattle.std.specs.Prelude.{◌≡◌, Result, Ok, Err}
 use Rattle.hq_base.specs.declared.failure.Fail.TheVariants.{Fault as AsFault}
 use Rattle.hq_base.specs.declared.failure.Fault.{Fault}
 use Rattle.hq_store.specs.Shelves.{Sight}
-use Rattle.hq_sql_file.specs.Opened.{OverFile}
+use Rattle.hq_sql_file.specs.Opened.{OverOpened, OverFile}
 use Rattle.hq_desk.specs.declared.desk.Rendered.{Rendered}
 use Rattle.hq_admin.specs.Performs.{Performs}
 use Rattle.hq_admin.specs.declared.performing.Request.{Request}
@@ -11,16 +11,16 @@ use Rattle.hq_program.specs.declared.trouble.Trouble.{Trouble}
 use Rattle.hq_program.specs.declared.trouble.Trouble.TheVariants.{Desk}
 
 -- what a call ended with, as it is told
-abbrev pub told : Result Rendered Fault → Result Rendered Trouble
-told (Ok rendered) = Ok rendered
-told (Err fault) = Err (Desk (AsFault fault))
+abbrev pub trouble_told : Result Rendered Fault → Result Rendered Trouble
+trouble_told (Ok rendered) = Ok rendered
+trouble_told (Err fault) = Err (Desk (AsFault fault))
 
 -- A call is done over a desk as it was opened; where it could not be, that is told.
 abbrev pub PerformsOpened : {S : Type 0} → Sight S → Result S Fault → Request →
     Result Rendered Trouble → Type 0
-PerformsOpened sight (Ok shelf) asked result =
-    (done : Result Rendered Fault) × Performs sight shelf asked done × (result ≡ told done)
-PerformsOpened sight (Err fault) asked result = result ≡ Err (Desk (AsFault fault))
+PerformsOpened sight opened asked result = OverOpened (λ shelf.
+    (done : Result Rendered Fault) × Performs sight shelf asked done × (result ≡ trouble_told done))
+    (λ fault. result ≡ Err (Desk (AsFault fault))) opened
 
 -- so it is, over the desk in some file
 abbrev pub PerformsInFile : {S : Type 0} → Sight S → Request → Result Rendered Trouble → Type 0

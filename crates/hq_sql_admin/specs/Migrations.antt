@@ -7,21 +7,22 @@ use Rattle.hq_base.specs.declared.failure.Fault.{Fault}
 use Rattle.hq_desk.specs.declared.desk.Rendered.{Rendered}
 use Rattle.hq_program.specs.declared.trouble.Trouble.{Trouble}
 use Rattle.hq_program.specs.declared.trouble.Trouble.TheVariants.{Desk}
-use Rattle.hq_sql_admin.specs.Calls.{told}
+use Rattle.hq_sql_admin.specs.Calls.{trouble_told}
 
 -- how many messages were on hold, on a line
 unfoldable pub migrated : ℕ → List ℕ
 migrated count = codes "migrated " ++ decimal count ++ codes " on hold\n"
 
 -- a migration that is done is told, or there is no memory to tell it; a fault is told as it is
-abbrev pub IsTold : Result ℕ Fault → Result Rendered Fault → Type 0
-IsTold (Ok count) (Ok rendered) = (rendered.number ≡ 0) × (rendered.bytes.items ≡ migrated count)
-IsTold (Ok count) (Err fault) = fault ≡ no_memory
-IsTold (Err fault) result = result ≡ Err fault
+abbrev pub IsMigrationTold : Result ℕ Fault → Result Rendered Fault → Type 0
+IsMigrationTold (Ok count) (Ok rendered) = (rendered.number ≡ 0)
+    × (rendered.bytes.items ≡ migrated count)
+IsMigrationTold (Ok count) (Err fault) = fault ≡ no_memory
+IsMigrationTold (Err fault) result = result ≡ Err fault
 
 -- there is no memory to begin with, or some migration is told
 abbrev pub MigrateEnds : Result Rendered Trouble → Type 0
 MigrateEnds result =
     (result ≡ Err (Desk (AsFault no_memory)))
-    ⊎ ((done : Result ℕ Fault) × (shown : Result Rendered Fault) × IsTold done shown
-    × (result ≡ told shown))
+    ⊎ ((done : Result ℕ Fault) × (shown : Result Rendered Fault) × IsMigrationTold done shown
+    × (result ≡ trouble_told shown))

@@ -7,7 +7,7 @@ use Rattle.hq_queue.specs.declared.account.Entry.{Entry}
 use Rattle.hq_calls.specs.declared.call.Call.{Call}
 use Rattle.hq_calls.specs.declared.call.Call.TheVariants.{Report, Import as OfImport}
 use Rattle.hq_calls.specs.declared.call.Call.TheVariants.{Sweep as OfSweep}
-use Rattle.hq_admin.specs.Customers.{entry_in}
+use Rattle.hq_admin.specs.Customers.{entry_named}
 use Rattle.hq_admin.specs.declared.performing.Request.{Request}
 use Rattle.hq_program.specs.SettingUp.{IsUnread}
 use Rattle.hq_program.specs.declared.trouble.Trouble.{Trouble}
@@ -44,11 +44,11 @@ IsFile (Err trouble) = IsUnread trouble
 
 -- the customer of this name in some file
 abbrev pub HasCustomer : List ℕ → Result Entry Trouble → Type 0
-HasCustomer name = Then IsFile (λ file. IsRead (entry_in file name))
+HasCustomer name = Then IsFile (λ file. IsRead (entry_named file name))
 
 -- this call of a customer
-abbrev pub Asks : List ℕ → ℕ → Entry → Call → Result Request Trouble → Type 0
-Asks host at entry call result = result ≡ Ok (record {
+abbrev pub AsksFor : List ℕ → ℕ → Entry → Call → Result Request Trouble → Type 0
+AsksFor host at entry call result = result ≡ Ok (record {
   host = host;
   at = at;
   entry = entry;
@@ -59,7 +59,7 @@ Asks host at entry call result = result ≡ Ok (record {
 abbrev pub QueueAsks : Queue → Result Request Trouble → Type 0
 QueueAsks given = Then (IsRead (host_in (codes "localhost"))) (λ host.
     Then (HasCustomer given.customer.now) (λ entry.
-    Asks host 0 entry Report))
+    AsksFor host 0 entry Report))
 
 -- the import of some file under a label; its relay's name and moment show nowhere
 abbrev pub ImportAsks : Import → Result Request Trouble → Type 0
@@ -67,10 +67,10 @@ ImportAsks given = Then (IsRead (host_in (codes "localhost"))) (λ host.
     Then (HasCustomer given.customer.now) (λ entry.
     Then (IsRead (label_in given.label.now)) (λ label.
     Then IsFile (λ lines.
-    Asks host 0 entry (OfImport label lines)))))
+    AsksFor host 0 entry (OfImport label lines)))))
 
 -- the sweep of the customer of this name, at a moment
 abbrev pub SweepAsks : Sweep → List ℕ → Result Request Trouble → Type 0
 SweepAsks given name = Then (IsRead (host_in given.host.now)) (λ host.
     Then (HasCustomer name) (λ entry.
-    Asks host given.at entry OfSweep))
+    AsksFor host given.at entry OfSweep))

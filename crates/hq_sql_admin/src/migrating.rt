@@ -1,6 +1,6 @@
 //! The word `migrate`: a store of the release before made one of this release.
 
-ghost use Rattle.hq_sql_admin.specs.Migrations.{IsTold, MigrateEnds};
+ghost use Rattle.hq_sql_admin.specs.Migrations.{IsMigrationTold, MigrateEnds};
 
 use hq_desk::Rendered;
 use hq_envelope::Fault;
@@ -14,8 +14,8 @@ const TEXT_BYTES: usize = 40;
 
 /// What a migration is told as, written over a text that has room for it.
 #[tactic(auto, unfolding(crate::specs::Migrations::migrated))]
-fn told(room: String, done: Result<u64, Fault>) -> Result<Rendered, Fault>
-    ensures { IsTold done result }
+fn trouble_told(room: String, done: Result<u64, Fault>) -> Result<Rendered, Fault>
+    ensures { IsMigrationTold done result }
 {
     let count = done?;
     let mut text = room;
@@ -39,5 +39,5 @@ pub fn migrate(rt: &HostRuntime, given: &Migrate) -> Result<Rendered, Trouble>
         Err(_) => return Err(Trouble::from(Fault::WantOfMemory)),
     };
     let done = migrate_file(rt, given.store);
-    Ok(told(room, done)?)
+    Ok(trouble_told(room, done)?)
 }

@@ -3,7 +3,7 @@
 ghost use Rattle.std.specs.Prelude.{◌≡◌, [], IfOk, option_map, slice_get, unwrap_or};
 ghost use Rattle.sqlite.specs.Order.{column};
 ghost use Rattle.hq_rows.specs.Listed.{hold_value};
-ghost use Rattle.hq_sql.specs.Rows.{text_in, hold_shown};
+ghost use Rattle.hq_sql.specs.Rows.{value_text, hold_shown};
 
 use hq_envelope::Text;
 use hq_sql::read;
@@ -12,7 +12,7 @@ use std::alloc::Global;
 
 /// The reason of a column; an error where its text is none.
 pub fn reason(alloc: Global, row: &Row, at: usize) -> Result<Text, Error>
-    ensures { IfOk result (λ reason. reason ≡ text_in (column row.now at)) }
+    ensures { IfOk result (λ reason. reason ≡ value_text (column row.now at)) }
 {
     let text = read::text(row, at)?;
     match Text::parse(alloc, text.as_str()) {

@@ -5,7 +5,8 @@ ghost use Rattle.std.specs.FinMap.{get};
 ghost use Rattle.sqlite.specs.Held.{state};
 ghost use Rattle.hq_store.specs.Tables.{reason_of};
 ghost use Rattle.hq_rows.specs.Listed.{hold_value};
-ghost use Rattle.hq_sql.specs.Kept.{Shows, Finds, Makes, Inserts, Keeps, KeepsCommitted};
+ghost use Rattle.hq_sql.specs.Kept.{Shows, Yields, Writes, Inserts, Intact};
+ghost use Rattle.hq_sql.specs.Kept.{KeepsCommitted};
 ghost use Rattle.hq_sql.specs.Rows.{hold_shown};
 ghost use Rattle.hq_sql_holds.specs.Holds.{hold_row, with_hold, without_hold, with_reason};
 
@@ -23,7 +24,7 @@ fn query<S: Alter>(
     ensures found { Shows (state S.Store conn.old) (state S.Store conn.new) result
         (λ rows. option_map (λ r. hold_value (hold_shown r)) (slice_get rows.items 0))
         (λ t. get t.holds (customer.now, key)) }
-    ensures kept { Keeps (state S.Store conn.old) (state S.Store conn.new) result }
+    ensures kept { Intact (state S.Store conn.old) (state S.Store conn.new) result }
 {
     let params = message_key(customer, key);
     let rows = conn.query_all(
@@ -42,9 +43,9 @@ pub fn reason<S: Alter>(
     customer: &Name,
     key: Serial,
 ) -> Result<Text, Error>
-    ensures found { Finds (state S.Store conn.old) (state S.Store conn.new) result
+    ensures found { Yields (state S.Store conn.old) (state S.Store conn.new) result
         (λ t. reason_of customer.now key t.holds) }
-    ensures kept { Keeps (state S.Store conn.old) (state S.Store conn.new) result }
+    ensures kept { Intact (state S.Store conn.old) (state S.Store conn.new) result }
 {
     let rows = query(conn, customer, key)?;
     decode::first_reason(alloc, rows.as_slice())
@@ -52,7 +53,7 @@ pub fn reason<S: Alter>(
 
 /// Drops the reason of a message; nothing where there is none.
 pub fn remove<S: Alter>(conn: &mut Connection<S>, customer: &Name, key: Serial) -> Result<(), Error>
-    ensures made { Makes (state S.Store conn.old) (state S.Store conn.new) result
+    ensures made { Writes (state S.Store conn.old) (state S.Store conn.new) result
         (without_hold (customer.now, key)) }
     ensures kept { KeepsCommitted (state S.Store conn.old) (state S.Store conn.new) }
 {
@@ -91,7 +92,7 @@ fn set<S: Alter>(
     key: Serial,
     reason: &Text,
 ) -> Result<(), Error>
-    ensures made { Makes (state S.Store conn.old) (state S.Store conn.new) result
+    ensures made { Writes (state S.Store conn.old) (state S.Store conn.new) result
         (with_hold (hold_row customer.now key reason.now)) }
     ensures kept { KeepsCommitted (state S.Store conn.old) (state S.Store conn.new) }
 {
@@ -108,7 +109,7 @@ pub fn put<S: Alter>(
     key: Serial,
     reason: &Text,
 ) -> Result<(), Error>
-    ensures made { Makes (state S.Store conn.old) (state S.Store conn.new) result
+    ensures made { Writes (state S.Store conn.old) (state S.Store conn.new) result
         (with_reason customer.now key reason.now) }
     ensures kept { KeepsCommitted (state S.Store conn.old) (state S.Store conn.new) }
 {

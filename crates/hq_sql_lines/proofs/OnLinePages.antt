@@ -23,10 +23,11 @@ use Rattle.hq_store.specs.Tables.{text_cmp, class_cmp, lines_cmp}
 use Rattle.hq_rows.specs.Listed.{line_row_key}
 use Rattle.hq_rows.specs.Lookups.{is_after_pattern, AreUniqueLines, line_rows_with}
 use Rattle.hq_store.specs.Readings.{read_tables, after_pattern}
-use Rattle.hq_rows.proofs.LinePages.{sorted_found, after_is}
+use Rattle.hq_rows.proofs.LinePages.{line_pages, after_is}
+use Rattle.hq_rows.proofs.Pages.{sorted_found}
 use Rattle.hq_sql.specs.Rows.{line_stored, line_read, line_shown}
 use Rattle.hq_sql.specs.Tables.{IsDesk, tables_in}
-use Rattle.hq_sql_lines.specs.LinePages.{lines_in, first_columns, after_columns}
+use Rattle.hq_sql_lines.specs.LinePages.{page_lines, first_columns, after_columns}
 use Rattle.hq_sql.proofs.Texts.{at}
 use Rattle.hq_sql.proofs.Statements.{pages}
 use Rattle.hq_sql_lines.proofs.OnLines.{lines_table}
@@ -46,13 +47,14 @@ on_page c after r = eq_by_cmp text_cmp c r.customer && is_after_pattern after r.
 rows_are : (c : List ℕ) (after : Option Key) (limit : ℕ) (rows kept : List Row) →
     AreUniqueLines (map line_read kept) → map line_shown rows ≡ take limit
     (sort_by by_row (filter (on_page c after) (map line_read kept)))
-    → lines_in rows ≡ take limit (after_pattern after (map
+    → page_lines rows ≡ take limit (after_pattern after (map
     (λ e. record { pattern = e.0; action = e.1 }) (line_rows_with c (map line_read kept))))
+unfolding AreUniqueLines
 rows_are c after limit rows kept u shown =
     let line : LineRow → Line = λ r. r.line in
     sym (map-map line line_shown rows) ∙ ap (map line) shown
     ∙ sym (take-map line limit (sort_by by_row (filter (on_page c after) (map line_read kept))))
-    ∙ ap (take limit) (sorted_found c after (map line_read kept) u
+    ∙ ap (take limit) (sorted_found line_pages (is_after_pattern after) c (map line_read kept) u
     ∙ sym (after_is after (line_rows_with c (map line_read kept))))
 
 -- the test of class and pattern is that of their order
@@ -80,7 +82,7 @@ first_tests c limit k = then_term (text_is k.1.customer c) refl
 -- the customer's first lines
 pub first_shown : (old new : State) (c : List ℕ) (limit : ℕ) (rows : List Row) → IsDesk old.now →
     Shown text.lines_from_start_text (first_columns c limit) old new rows
-    → lines_in rows ≡ take limit (read_tables c (tables_in old.now)).lines
+    → page_lines rows ≡ take limit (read_tables c (tables_in old.now)).lines
 unfolding AreUniqueLines
 first_shown old new c limit rows desk h =
     rows_are c None limit rows (old.now.trees 8) desk.lines.unique
@@ -95,7 +97,7 @@ first_shown old new c limit rows desk h =
 -- the customer's first lines after a pattern
 pub after_shown : (old new : State) (c : List ℕ) (last : Key) (limit : ℕ) (rows : List Row) →
     IsDesk old.now → Shown text.lines_after_text (after_columns c last limit) old new rows
-    → lines_in rows ≡ take limit
+    → page_lines rows ≡ take limit
     (after_pattern (Some last) (read_tables c (tables_in old.now)).lines)
 unfolding AreUniqueLines
 after_shown old new c last limit rows desk h =

@@ -22,7 +22,7 @@ use Rattle.hq_store.specs.Tables.{text_cmp, class_cmp, line_cmp, lines_cmp}
 use Rattle.hq_rows.specs.Listed.{line_row_key, line_row_value}
 use Rattle.hq_store.proofs.Orders.{lines_total, lines_exact}
 use Rattle.hq_sql.specs.Rows.{line_columns, line_stored, line_read, line_shown}
-use Rattle.hq_sql_lines.specs.Lines.{with_line, without_line, key_columns}
+use Rattle.hq_sql_lines.specs.Lines.{tables_with_line, tables_without_line, line_key_columns}
 use Rattle.hq_sql_lines.proofs.Backs.{line_back}
 use Rattle.hq_sql.specs.Kept.{Updated}
 use Rattle.hq_sql.specs.Tables.{IsDesk, Leaves, tables_in}
@@ -74,12 +74,12 @@ key_tests q k more =
     ∙ tied_then (text_cmp q.0 k.1.customer) (line_cmp q.1 k.1.line.pattern)
 
 pub line_got : (old new : State) (q : Key) (rows : List Row) → IsDesk old.now →
-    Shown text.line_read_text (key_columns q) old new rows
+    Shown text.line_read_text (line_key_columns q) old new rows
     → option_map (λ r. line_row_value (line_shown r)) (slice_get rows 0) ≡ get
     (tables_in old.now).lines q
 line_got old new q rows desk h =
     got lines_table old new desk text.line_read_text text.line_key text.line_columns _
-    text.line_read_known (key_columns q) line_shown (λ k. refl) (λ xs. refl) q
+    text.line_read_known (line_key_columns q) line_shown (λ k. refl) (λ xs. refl) q
     (λ k. key_tests q k []) rows h
 
 -- the row with the action of r
@@ -92,7 +92,7 @@ set_to r x = record {
 module _ (old new : State) (r : LineRow) (count : ℕ) (desk : IsDesk old.now) where
   pub line_updated : Executes text.line_update_text (line_columns r) old new (Ok count)
       → Updated (not (nat_eq count 0)) old new (get (tables_in old.now).lines (line_row_key r))
-      (tables_in old.now) (with_line r (tables_in old.now))
+      (tables_in old.now) (tables_with_line r (tables_in old.now))
   line_updated h =
       sets lines_table old new desk text.line_update_text text.line_key text.line_updated
       text.line_update_known (line_columns r) count (line_row_key r) (set_to r) r.line.action
@@ -102,15 +102,15 @@ module _ (old new : State) (r : LineRow) (count : ℕ) (desk : IsDesk old.now) w
 
   pub line_inserted : get (tables_in old.now).lines (line_row_key r) ≡ None →
       Executes text.line_insert_text (line_columns r) old new (Ok count) →
-      Leaves old new (with_line r (tables_in old.now))
+      Leaves old new (tables_with_line r (tables_in old.now))
   line_inserted free h =
       puts lines_table old new desk text.line_insert_text text.line_inserted 5
       text.line_insert_known (line_columns r) (Null ∷ line_columns r) count r refl cast_null
       (λ n. refl) (λ n. line_back r n) free h
 
 pub line_deleted : (old new : State) (q : Key) (count : ℕ) → IsDesk old.now →
-    Executes text.line_delete_text (key_columns q) old new (Ok count) →
-    Leaves old new (without_line q (tables_in old.now))
+    Executes text.line_delete_text (line_key_columns q) old new (Ok count) →
+    Leaves old new (tables_without_line q (tables_in old.now))
 line_deleted old new q count desk h =
     drops_at lines_table old new desk text.line_delete_text text.line_key text.line_delete_known
-    (key_columns q) count q (λ k. key_tests q k []) h
+    (line_key_columns q) count q (λ k. key_tests q k []) h

@@ -19,7 +19,7 @@ use Rattle.hq_store.specs.Tables.{text_cmp, mark_cmp}
 use Rattle.hq_rows.specs.Listed.{mark_key, mark_value}
 use Rattle.hq_store.proofs.Orders.{mark_total, mark_exact}
 use Rattle.hq_sql.specs.Rows.{mark_columns, mark_stored, mark_read, mark_shown}
-use Rattle.hq_sql_lines.specs.Marks.{with_mark, without_mark, key_columns}
+use Rattle.hq_sql_lines.specs.Marks.{with_mark, without_mark, mark_key_columns}
 use Rattle.hq_sql.specs.Tables.{IsDesk, Leaves, tables_in}
 use Rattle.hq_sql.proofs.Statements.{got, puts, drops_at}
 use Rattle.hq_sql.proofs.Tables.{DeskTable}
@@ -64,12 +64,12 @@ key_tests q k more = then_term (text_is k.1.customer q.0) (last_term (text_is k.
     ∙ tied_then (text_cmp q.0 k.1.customer) (text_cmp q.1 k.1.mark.label)
 
 pub mark_got : (old new : State) (q : Key) (rows : List Row) → IsDesk old.now →
-    Shown text.mark_read_text (key_columns q) old new rows
+    Shown text.mark_read_text (mark_key_columns q) old new rows
     → option_map (λ r. mark_value (mark_shown r)) (slice_get rows 0) ≡ get (tables_in old.now).marks
     q
 mark_got old new q rows desk h =
     got marks_table old new desk text.mark_read_text text.mark_key text.mark_columns _
-    text.mark_read_known (key_columns q) mark_shown (λ k. refl) (λ xs. refl) q
+    text.mark_read_known (mark_key_columns q) mark_shown (λ k. refl) (λ xs. refl) q
     (λ k. key_tests q k []) rows h
 
 pub mark_inserted : (old new : State) (r : MarkRow) (count : ℕ) → IsDesk old.now →
@@ -86,8 +86,8 @@ mark_inserted old new r count desk free h =
     (then_value (cast_int (pos r.mark.same)) refl))))))) (λ n. refl) free h
 
 pub mark_deleted : (old new : State) (q : Key) (count : ℕ) → IsDesk old.now →
-    Executes text.mark_delete_text (key_columns q) old new (Ok count) →
+    Executes text.mark_delete_text (mark_key_columns q) old new (Ok count) →
     Leaves old new (without_mark q (tables_in old.now))
 mark_deleted old new q count desk h =
     drops_at marks_table old new desk text.mark_delete_text text.mark_key text.mark_delete_known
-    (key_columns q) count q (λ k. key_tests q k []) h
+    (mark_key_columns q) count q (λ k. key_tests q k []) h

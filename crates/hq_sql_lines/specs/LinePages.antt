@@ -10,12 +10,12 @@ use Rattle.hq_keyed.specs.Values.{number}
 use Rattle.hq_sql.specs.Rows.{line_shown}
 
 -- the line of a row of an answer
-abbrev pub line_in : Row → Line
-line_in r = (line_shown r).line
+abbrev pub page_line : Row → Line
+page_line r = (line_shown r).line
 
 -- the lines of an answer
-abbrev pub lines_in : List Row → List Line
-lines_in rows = map line_in rows
+abbrev pub page_lines : List Row → List Line
+page_lines rows = map page_line rows
 
 -- what the first page is asked with
 abbrev pub first_columns : List ℕ → ℕ → Row

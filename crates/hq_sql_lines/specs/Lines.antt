@@ -15,13 +15,13 @@ abbrev pub line_row : List ℕ → Line → LineRow
 line_row customer line = record { customer = customer; line = line }
 
 -- the line stands at its pattern
-abbrev pub with_line : LineRow → Tables → Tables
-with_line r t = record t { lines = insert t.lines (line_row_key r) (line_row_value r) }
+abbrev pub tables_with_line : LineRow → Tables → Tables
+tables_with_line r t = record t { lines = insert t.lines (line_row_key r) (line_row_value r) }
 
 -- no line stands at the pattern
-abbrev pub without_line : List ℕ × (Class × List ℕ) → Tables → Tables
-without_line key t = record t { lines = remove t.lines key }
+abbrev pub tables_without_line : List ℕ × (Class × List ℕ) → Tables → Tables
+tables_without_line key t = record t { lines = remove t.lines key }
 
 -- the columns of a key
-abbrev pub key_columns : List ℕ × (Class × List ℕ) → Row
-key_columns key = Text key.0 ∷ Text (class_name key.1.0) ∷ Text key.1.1 ∷ []
+abbrev pub line_key_columns : List ℕ × (Class × List ℕ) → Row
+line_key_columns key = Text key.0 ∷ Text (class_name key.1.0) ∷ Text key.1.1 ∷ []

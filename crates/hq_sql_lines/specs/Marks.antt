@@ -22,8 +22,8 @@ abbrev pub without_mark : List ℕ × List ℕ → Tables → Tables
 without_mark key t = record t { marks = remove t.marks key }
 
 -- the columns of a key
-abbrev pub key_columns : List ℕ × List ℕ → Row
-key_columns key = Text key.0 ∷ Text key.1 ∷ []
+abbrev pub mark_key_columns : List ℕ × List ℕ → Row
+mark_key_columns key = Text key.0 ∷ Text key.1 ∷ []
 
 -- the numbers of a mark as columns take them
 abbrev pub mark_numbers : Mark → MarkNumbers

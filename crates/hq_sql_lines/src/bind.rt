@@ -6,7 +6,7 @@ ghost use Rattle.sqlite.specs.declared.types.Value.TheVariants.{Text};
 ghost use Rattle.hq_access.specs.Patterns.{class_name};
 ghost use Rattle.hq_sql.specs.Rows.{mark_columns};
 ghost use Rattle.hq_sql_lines.specs.LinePages.{first_columns, after_columns};
-ghost use Rattle.hq_sql_lines.specs.Marks.{key_columns, mark_numbers, mark_row};
+ghost use Rattle.hq_sql_lines.specs.Marks.{mark_key_columns, mark_numbers, mark_row};
 
 use hq_access::{Class, Pattern};
 use hq_envelope::{Label, Name};
@@ -74,7 +74,7 @@ pub(crate) fn lines_after<'a>(
 
 /// The key of a mark.
 pub(crate) fn mark_key<'a>(customer: &'a Name, label: &'a Label) -> [ValueRef<'a>; 2]
-    ensures { bound result ≡ key_columns (customer.now, label.now) }
+    ensures { bound result ≡ mark_key_columns (customer.now, label.now) }
 {
     [
         ValueRef::Text(customer.as_str().as_bytes()),

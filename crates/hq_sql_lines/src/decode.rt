@@ -3,7 +3,7 @@
 ghost use Rattle.std.specs.Prelude.{◌≡◌, IfOk, option_map, slice_get, is_some};
 ghost use Rattle.hq_rows.specs.Listed.{line_row_value, mark_value};
 ghost use Rattle.hq_sql.specs.Rows.{line_shown, mark_shown};
-ghost use Rattle.hq_sql_lines.specs.LinePages.{line_in};
+ghost use Rattle.hq_sql_lines.specs.LinePages.{page_line};
 
 use crate::read;
 use hq_access::{Action, Line};
@@ -31,7 +31,7 @@ pub(crate) fn has_first(rows: &[Row]) -> bool
 
 /// The line of a row.
 pub(crate) fn line(alloc: Global, row: &Row) -> Result<Line, Error>
-    ensures { IfOk result (λ line. line ≡ line_in row.now) }
+    ensures { IfOk result (λ line. line ≡ page_line row.now) }
 {
     let pattern = read::pattern(alloc, row, 1, 2)?;
     let action = read::action(alloc, row, 3)?;

@@ -4,8 +4,8 @@
 ghost use Rattle.std.specs.Prelude.{◌≡◌, Some, [], ◌∷◌, ◌++◌, option_map, take};
 ghost use Rattle.sqlite.specs.Held.{state};
 ghost use Rattle.hq_store.specs.Readings.{read_tables, after_pattern};
-ghost use Rattle.hq_sql.specs.Kept.{Finds, Keeps};
-ghost use Rattle.hq_sql_lines.specs.LinePages.{line_in};
+ghost use Rattle.hq_sql.specs.Kept.{Yields, Intact};
+ghost use Rattle.hq_sql_lines.specs.LinePages.{page_line};
 
 use crate::{bind, decode};
 use hq_access::{Line, Pattern};
@@ -24,7 +24,7 @@ struct TakenLines {
 
 impl Taker for TakenLines {
     ghost takes = { λ before row after.
-        after.lines.items ≡ before.lines.items ++ line_in row ∷ [] };
+        after.lines.items ≡ before.lines.items ++ page_line row ∷ [] };
 
     fn take(&mut self, row: &Row) -> Result<(), Error> {
         let line = decode::line(self.alloc, row)?;
@@ -40,9 +40,9 @@ fn first<S: Alter>(
     customer: &Name,
     limit: usize,
 ) -> Result<Items<Line>, Error>
-    ensures found { Finds (state S.Store conn.old) (state S.Store conn.new) result
+    ensures found { Yields (state S.Store conn.old) (state S.Store conn.new) result
         (λ t. take limit (read_tables customer.now t).lines) }
-    ensures kept { Keeps (state S.Store conn.old) (state S.Store conn.new) result }
+    ensures kept { Intact (state S.Store conn.old) (state S.Store conn.new) result }
 {
     let most = hq_sql::bind::limit(limit)?;
     let params = bind::first_lines(customer, &most);
@@ -65,9 +65,9 @@ fn following<S: Alter>(
     last: &Pattern,
     limit: usize,
 ) -> Result<Items<Line>, Error>
-    ensures found { Finds (state S.Store conn.old) (state S.Store conn.new) result
+    ensures found { Yields (state S.Store conn.old) (state S.Store conn.new) result
         (λ t. take limit (after_pattern (Some last.now) (read_tables customer.now t).lines)) }
-    ensures kept { Keeps (state S.Store conn.old) (state S.Store conn.new) result }
+    ensures kept { Intact (state S.Store conn.old) (state S.Store conn.new) result }
 {
     let most = hq_sql::bind::limit(limit)?;
     let params = bind::lines_after(customer, last, &most);
@@ -92,10 +92,10 @@ pub fn page<S: Alter>(
     after: Option<&Pattern>,
     limit: usize,
 ) -> Result<Items<Line>, Error>
-    ensures found { Finds (state S.Store conn.old) (state S.Store conn.new) result
+    ensures found { Yields (state S.Store conn.old) (state S.Store conn.new) result
         (λ t. take limit (after_pattern
         (option_map (λ p. p.now) after.entry) (read_tables customer.now t).lines)) }
-    ensures kept { Keeps (state S.Store conn.old) (state S.Store conn.new) result }
+    ensures kept { Intact (state S.Store conn.old) (state S.Store conn.new) result }
 {
     match after {
         None => first(alloc, conn, customer, limit),

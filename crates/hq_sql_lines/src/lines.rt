@@ -5,8 +5,9 @@ ghost use Rattle.std.specs.FinMap.{get};
 ghost use Rattle.sqlite.specs.Held.{state};
 ghost use Rattle.hq_access.specs.Actions.{action_text};
 ghost use Rattle.hq_rows.specs.Listed.{line_row_value};
-ghost use Rattle.hq_sql.specs.Kept.{Shows, Finds, Makes, Inserts, Updates, Keeps, KeepsCommitted};
-ghost use Rattle.hq_sql_lines.specs.Lines.{line_row, with_line, without_line};
+ghost use Rattle.hq_sql.specs.Kept.{Shows, Yields, Writes, Inserts, Updates, Intact};
+ghost use Rattle.hq_sql.specs.Kept.{KeepsCommitted};
+ghost use Rattle.hq_sql_lines.specs.Lines.{line_row, tables_with_line, tables_without_line};
 ghost use Rattle.hq_sql.specs.Rows.{line_shown};
 
 use crate::{bind, decode};
@@ -24,7 +25,7 @@ fn query<S: Alter>(
     ensures found { Shows (state S.Store conn.old) (state S.Store conn.new) result
         (λ rows. option_map (λ r. line_row_value (line_shown r)) (slice_get rows.items 0))
         (λ t. get t.lines (customer.now, (class, key.now))) }
-    ensures kept { Keeps (state S.Store conn.old) (state S.Store conn.new) result }
+    ensures kept { Intact (state S.Store conn.old) (state S.Store conn.new) result }
 {
     let params = bind::line_key(customer, class, key);
     let rows = conn.query_all(
@@ -43,9 +44,9 @@ pub fn line<S: Alter>(
     class: Class,
     key: &LookupKey,
 ) -> Result<Option<Action>, Error>
-    ensures found { Finds (state S.Store conn.old) (state S.Store conn.new) result
+    ensures found { Yields (state S.Store conn.old) (state S.Store conn.new) result
         (λ t. get t.lines (customer.now, (class, key.now))) }
-    ensures kept { Keeps (state S.Store conn.old) (state S.Store conn.new) result }
+    ensures kept { Intact (state S.Store conn.old) (state S.Store conn.new) result }
 {
     let rows = query(conn, customer, class, key.as_str())?;
     decode::first_action(alloc, rows.as_slice())
@@ -57,9 +58,9 @@ pub fn has<S: Alter>(
     customer: &Name,
     pattern: &Pattern,
 ) -> Result<bool, Error>
-    ensures found { Finds (state S.Store conn.old) (state S.Store conn.new) result
+    ensures found { Yields (state S.Store conn.old) (state S.Store conn.new) result
         (λ t. is_some (get t.lines (customer.now, pattern.now))) }
-    ensures kept { Keeps (state S.Store conn.old) (state S.Store conn.new) result }
+    ensures kept { Intact (state S.Store conn.old) (state S.Store conn.new) result }
 {
     let rows = query(conn, customer, pattern.class(), pattern.as_str())?;
     Ok(decode::has_first(rows.as_slice()))
@@ -84,7 +85,7 @@ fn update<S: Alter>(
 ) -> Result<bool, Error>
     ensures made { Updates (state S.Store conn.old) (state S.Store conn.new) result
         (λ t. get t.lines (customer.now, line.now.pattern))
-        (with_line (line_row customer.now line.now)) }
+        (tables_with_line (line_row customer.now line.now)) }
     ensures kept { KeepsCommitted (state S.Store conn.old) (state S.Store conn.new) }
 {
     let action = written(alloc, &line.action)?;
@@ -110,7 +111,7 @@ fn insert<S: Alter>(
 ) -> Result<(), Error>
     ensures made { Inserts (state S.Store conn.old) (state S.Store conn.new) result
         (λ t. get t.lines (customer.now, line.now.pattern))
-        (with_line (line_row customer.now line.now)) }
+        (tables_with_line (line_row customer.now line.now)) }
     ensures kept { KeepsCommitted (state S.Store conn.old) (state S.Store conn.new) }
 {
     let action = written(alloc, &line.action)?;
@@ -134,8 +135,8 @@ pub fn put<S: Alter>(
     customer: &Name,
     line: &Line,
 ) -> Result<(), Error>
-    ensures made { Makes (state S.Store conn.old) (state S.Store conn.new) result
-        (with_line (line_row customer.now line.now)) }
+    ensures made { Writes (state S.Store conn.old) (state S.Store conn.new) result
+        (tables_with_line (line_row customer.now line.now)) }
     ensures kept { KeepsCommitted (state S.Store conn.old) (state S.Store conn.new) }
 {
     if !update(alloc, conn, customer, line)? {
@@ -150,8 +151,8 @@ pub fn remove<S: Alter>(
     customer: &Name,
     pattern: &Pattern,
 ) -> Result<(), Error>
-    ensures made { Makes (state S.Store conn.old) (state S.Store conn.new) result
-        (without_line (customer.now, pattern.now)) }
+    ensures made { Writes (state S.Store conn.old) (state S.Store conn.new) result
+        (tables_without_line (customer.now, pattern.now)) }
     ensures kept { KeepsCommitted (state S.Store conn.old) (state S.Store conn.new) }
 {
     let params = bind::line_key(customer, pattern.class(), pattern.as_str());

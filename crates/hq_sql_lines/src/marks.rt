@@ -4,7 +4,8 @@ ghost use Rattle.std.specs.Prelude.{option_map, slice_get};
 ghost use Rattle.std.specs.FinMap.{get};
 ghost use Rattle.sqlite.specs.Held.{state};
 ghost use Rattle.hq_rows.specs.Listed.{mark_value};
-ghost use Rattle.hq_sql.specs.Kept.{Shows, Finds, Makes, Inserts, Keeps, KeepsCommitted};
+ghost use Rattle.hq_sql.specs.Kept.{Shows, Yields, Writes, Inserts, Intact};
+ghost use Rattle.hq_sql.specs.Kept.{KeepsCommitted};
 ghost use Rattle.hq_sql.specs.Rows.{mark_shown};
 ghost use Rattle.hq_sql_lines.specs.Marks.{mark_row, with_mark, without_mark};
 
@@ -22,7 +23,7 @@ fn query<S: Alter>(
     ensures found { Shows (state S.Store conn.old) (state S.Store conn.new) result
         (λ rows. option_map (λ r. mark_value (mark_shown r)) (slice_get rows.items 0))
         (λ t. get t.marks (customer.now, label.now)) }
-    ensures kept { Keeps (state S.Store conn.old) (state S.Store conn.new) result }
+    ensures kept { Intact (state S.Store conn.old) (state S.Store conn.new) result }
 {
     let params = bind::mark_key(customer, label);
     let rows = conn.query_all(
@@ -40,9 +41,9 @@ pub fn mark<S: Alter>(
     customer: &Name,
     label: &Label,
 ) -> Result<Option<Mark>, Error>
-    ensures found { Finds (state S.Store conn.old) (state S.Store conn.new) result
+    ensures found { Yields (state S.Store conn.old) (state S.Store conn.new) result
         (λ t. get t.marks (customer.now, label.now)) }
-    ensures kept { Keeps (state S.Store conn.old) (state S.Store conn.new) result }
+    ensures kept { Intact (state S.Store conn.old) (state S.Store conn.new) result }
 {
     let rows = query(conn, customer, label)?;
     decode::first_mark(alloc, rows.as_slice())
@@ -50,7 +51,7 @@ pub fn mark<S: Alter>(
 
 /// Drops the mark of a label; nothing where there is none.
 fn remove<S: Alter>(conn: &mut Connection<S>, customer: &Name, label: &Label) -> Result<(), Error>
-    ensures made { Makes (state S.Store conn.old) (state S.Store conn.new) result
+    ensures made { Writes (state S.Store conn.old) (state S.Store conn.new) result
         (without_mark (customer.now, label.now)) }
     ensures kept { KeepsCommitted (state S.Store conn.old) (state S.Store conn.new) }
 {
@@ -81,7 +82,7 @@ fn insert<S: Alter>(conn: &mut Connection<S>, customer: &Name, mark: &Mark) -> R
 
 /// Sets the mark of its label, in a new row.
 pub fn put<S: Alter>(conn: &mut Connection<S>, customer: &Name, mark: &Mark) -> Result<(), Error>
-    ensures made { Makes (state S.Store conn.old) (state S.Store conn.new) result
+    ensures made { Writes (state S.Store conn.old) (state S.Store conn.new) result
         (with_mark (mark_row customer.now mark.now)) }
     ensures kept { KeepsCommitted (state S.Store conn.old) (state S.Store conn.new) }
 {

@@ -5,7 +5,7 @@ ghost use Rattle.std.specs.Prelude.{◌≡◌, IfOk};
 ghost use Rattle.std.specs.List.{after_first, before_first};
 ghost use Rattle.sqlite.specs.Order.{column};
 ghost use Rattle.hq_access.specs.Actions.{is_space};
-ghost use Rattle.hq_sql.specs.Rows.{blob_in, text_in, class_of, action_of, action_of_verb};
+ghost use Rattle.hq_sql.specs.Rows.{blob_in, value_text, class_of, action_of, action_of_verb};
 
 use hq_access::{Action, Class, Pattern};
 use hq_envelope::{Address, Fail, Label, Text};
@@ -41,7 +41,7 @@ fn action_with(alloc: Global, verb: &str, argument: &str) -> Result<Action, Fail
 
 /// An action, by its written form as it stands: an argument may begin or end with a space.
 pub(crate) fn action(alloc: Global, row: &Row, at: usize) -> Result<Action, Error>
-    ensures { IfOk result (λ action. action ≡ action_of (text_in (column row.now at))) }
+    ensures { IfOk result (λ action. action ≡ action_of (value_text (column row.now at))) }
 {
     let text = text(row, at)?;
     let (verb, argument) = parts(text.as_str());
@@ -53,7 +53,7 @@ pub(crate) fn action(alloc: Global, row: &Row, at: usize) -> Result<Action, Erro
 
 /// A class by its name; an error where no class has this name.
 fn class(row: &Row, at: usize) -> Result<Class, Error>
-    ensures { IfOk result (λ class. class ≡ class_of (text_in (column row.now at))) }
+    ensures { IfOk result (λ class. class ≡ class_of (value_text (column row.now at))) }
 {
     let name = text(row, at)?;
     match name.as_str() {
@@ -87,7 +87,7 @@ pub(crate) fn pattern(
     text_at: usize,
 ) -> Result<Pattern, Error>
     ensures { IfOk result (λ pattern. pattern
-        ≡ (class_of (text_in (column row.now class_at)), text_in (column row.now text_at))) }
+        ≡ (class_of (value_text (column row.now class_at)), value_text (column row.now text_at))) }
 {
     let class = class(row, class_at)?;
     let text = text(row, text_at)?;
@@ -114,7 +114,7 @@ pub(crate) fn digest(row: &Row, at: usize) -> Result<[u8; 32], Error>
 
 /// The label of a column; an error where its text is none.
 pub(crate) fn label(alloc: Global, row: &Row, at: usize) -> Result<Label, Error>
-    ensures { IfOk result (λ label. label ≡ text_in (column row.now at)) }
+    ensures { IfOk result (λ label. label ≡ value_text (column row.now at)) }
 {
     let text = text(row, at)?;
     match Label::parse(alloc, text.as_str()) {

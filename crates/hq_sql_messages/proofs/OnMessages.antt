@@ -36,7 +36,8 @@ use Rattle.hq_store.proofs.Orders.{message_total, message_exact}
 use Rattle.hq_sql.specs.Rows.{state_code, message_columns, message_stored, message_read}
 use Rattle.hq_sql.specs.Rows.{message_shown}
 use Rattle.hq_sql_messages.proofs.Backs.{IsReadable, message_back}
-use Rattle.hq_sql_messages.specs.Messages.{without_row, page_columns, spool_columns, is_on_page}
+use Rattle.hq_sql_messages.specs.Messages.{without_row, message_page_columns, spool_columns}
+use Rattle.hq_sql_messages.specs.Messages.{is_on_page}
 use Rattle.hq_sql_messages.specs.Messages.{has_spool_name, bare, bare_entry}
 use Rattle.hq_sql.specs.Bound.{message_key_columns}
 use Rattle.std.proofs.lemmas.Map.Lookups.{exact_unsigned}
@@ -102,7 +103,8 @@ pairs rows = pairs_of message_key message_value (map message_shown rows)
 
 -- the first so many of the customer's messages after a serial, or of all
 page_tests : (c : List ℕ) (after : Option ℕ) (limit : ℕ) (k : ℤ × MessageRow)
-    → list_all (holds (page_columns c after limit ∷ message_stored k ∷ [])) text.page_terms ≡
+    → list_all (holds (message_page_columns c after limit ∷ message_stored k ∷ [])) text.page_terms
+    ≡
     (eq_by_cmp text_cmp c k.1.customer && is_after after k.1.serial)
 page_tests c None limit k =
     then_term (text_is k.1.customer c) (last_term (number_above k.1.serial (negsuc 0)
@@ -112,11 +114,12 @@ page_tests c (Some n) limit k =
     ∙ above_some n k.1.serial))
 
 pub page_shown : (old new : State) (c : List ℕ) (after : Option ℕ) (limit : ℕ) (rows : List Row) →
-    IsDesk old.now → Shown text.message_page_text (page_columns c after limit) old new rows
+    IsDesk old.now → Shown text.message_page_text (message_page_columns c after limit) old new rows
     → pairs rows ≡ take limit (filter (is_on_page c after) (entries (tables_in old.now).messages))
 page_shown old new c after limit rows desk h =
     pages_entries messages_table old new desk text.message_page_text _ _ text.message_page_known
-    refl refl refl (page_columns c after limit) message_shown (λ k. refl) (is_on_page c after)
+    refl refl refl (message_page_columns c after limit) message_shown (λ k. refl)
+    (is_on_page c after)
     (page_tests c after limit)
     (λ j k. then_key (value_cmp-Text j.1.customer k.1.customer)
     (last_key (number_order j.1.serial k.1.serial))) limit (λ xs. refl) rows h

@@ -16,7 +16,7 @@ use Rattle.sqlite.specs.State.{State, Executes}
 use Rattle.sqlite.proofs.Callers.{runs_as}
 use Rattle.sqlite_keyed.specs.Lists.{update_where}
 use Rattle.sqlite_keyed.proofs.ListLemmas.{slice_get-filter}
-use Rattle.hq_owned.specs.Rows.{table}
+use Rattle.hq_owned.specs.Rows.{map_of}
 use Rattle.hq_keyed.specs.Changed.{Sets}
 use Rattle.hq_keyed.proofs.Known.{Orders, goes_on}
 use Rattle.hq_keyed.proofs.Keyed as keyed
@@ -166,7 +166,7 @@ module _ {X K V : Type 0} (t : DeskTable X K V) (old new : State) (desk : IsDesk
                         done.0;
                     stored = keyed.stored_update k.encode k.decode k.total k.exact k.key k.val q f
                         keeps rows s back;
-                    map_is = ap (table t.kind.order k.key k.val)
+                    map_is = ap (map_of t.kind.order k.key k.val)
                         (keyed.update_typed k.encode k.decode k.total k.exact k.key k.val q f keeps
                         rows s back) ∙ keyed.table_update k.encode k.decode k.total k.exact k.key
                         k.val q f keeps (map k.decode rows) some.0.1 found

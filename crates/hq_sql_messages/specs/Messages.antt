@@ -41,13 +41,14 @@ abbrev pub without_row : List ℕ × ℕ → Tables → Tables
 without_row key t = record t { messages = remove t.messages key }
 
 -- the number that each serial of a page is above: -1 lets all pass
-abbrev pub after_number : Option ℕ → ℤ
-after_number None = negsuc 0
-after_number (Some n) = pos n
+abbrev pub above_number : Option ℕ → ℤ
+above_number None = negsuc 0
+above_number (Some n) = pos n
 
 -- what a page is asked with
-abbrev pub page_columns : List ℕ → Option ℕ → ℕ → sqlite.Row
-page_columns customer after limit = Text customer ∷ Int (after_number after) ∷ number limit ∷ []
+abbrev pub message_page_columns : List ℕ → Option ℕ → ℕ → sqlite.Row
+message_page_columns customer after limit = Text customer ∷ Int (above_number after) ∷ number limit
+    ∷ []
 
 -- what a spool name is asked with
 abbrev pub spool_columns : List ℕ → List ℕ → sqlite.Row

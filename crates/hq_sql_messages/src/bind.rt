@@ -5,7 +5,7 @@ ghost use Rattle.sqlite.specs.Values.{bound};
 ghost use Rattle.hq_envelope.specs.Senders.{sender_text};
 ghost use Rattle.hq_rows.specs.Lookups.{message_row};
 ghost use Rattle.hq_sql.specs.Rows.{sender_of, state_code, message_columns};
-ghost use Rattle.hq_sql_messages.specs.Messages.{after_number, page_columns, spool_columns};
+ghost use Rattle.hq_sql_messages.specs.Messages.{above_number, message_page_columns, spool_columns};
 
 use hq_envelope::{Moment, Name, Sender, Serial, Spool};
 use hq_queue::{Message, QueueState};
@@ -14,7 +14,7 @@ use sqlite::types::ValueRef;
 
 /// The number above which serials are wanted: -1 for all.
 fn after(after: Option<Serial>) -> i64
-    ensures { result ≡ after_number after }
+    ensures { result ≡ above_number after }
 {
     match after {
         None => -1,
@@ -89,7 +89,7 @@ pub(crate) fn page<'a>(
     most: &RowLimit,
 ) -> [ValueRef<'a>; 3]
     ensures { (limit : ℕ) → most.now.rows ≡ pos limit
-        → bound result ≡ page_columns customer.now last limit }
+        → bound result ≡ message_page_columns customer.now last limit }
 {
     [
         ValueRef::Text(customer.as_str().as_bytes()),

@@ -4,7 +4,7 @@ ghost use Rattle.std.specs.Prelude.{◌≡◌, IfOk, option_map, slice_get};
 ghost use Rattle.sqlite.specs.Order.{column};
 ghost use Rattle.hq_store.specs.Tables.{message_of};
 ghost use Rattle.hq_rows.specs.Listed.{message_value};
-ghost use Rattle.hq_sql.specs.Rows.{text_in, number_in, truth_in, sender_of, state_of};
+ghost use Rattle.hq_sql.specs.Rows.{value_text, value_number, truth_in, sender_of, state_of};
 ghost use Rattle.hq_sql.specs.Rows.{message_shown};
 
 use hq_envelope::{Items, Moment, Sender, Serial, Spool, Text};
@@ -14,7 +14,7 @@ use sqlite::{Error, Row};
 use std::alloc::Global;
 
 fn small(row: &Row, at: usize) -> Result<u32, Error>
-    ensures { IfOk result (λ n. n ≡ number_in (column row.now at)) }
+    ensures { IfOk result (λ n. n ≡ value_number (column row.now at)) }
 {
     row.get(at)
 }
@@ -26,7 +26,7 @@ fn truth(row: &Row, at: usize) -> Result<bool, Error>
 }
 
 fn moment(row: &Row, at: usize) -> Result<Moment, Error>
-    ensures { IfOk result (λ moment. moment ≡ number_in (column row.now at)) }
+    ensures { IfOk result (λ moment. moment ≡ value_number (column row.now at)) }
 {
     match Moment::new(read::number(row, at)?) {
         Some(moment) => Ok(moment),
@@ -35,7 +35,7 @@ fn moment(row: &Row, at: usize) -> Result<Moment, Error>
 }
 
 fn state(row: &Row, at: usize) -> Result<QueueState, Error>
-    ensures { IfOk result (λ state. state ≡ state_of (number_in (column row.now at))) }
+    ensures { IfOk result (λ state. state ≡ state_of (value_number (column row.now at))) }
 {
     match read::number(row, at)? {
         0 => Ok(QueueState::Incoming),
@@ -46,7 +46,7 @@ fn state(row: &Row, at: usize) -> Result<QueueState, Error>
 }
 
 fn sender(alloc: Global, row: &Row, at: usize) -> Result<Sender, Error>
-    ensures { IfOk result (λ sender. sender ≡ sender_of (text_in (column row.now at))) }
+    ensures { IfOk result (λ sender. sender ≡ sender_of (value_text (column row.now at))) }
 {
     let text = read::text(row, at)?;
     match Sender::parse(alloc, text.as_str()) {
@@ -56,7 +56,7 @@ fn sender(alloc: Global, row: &Row, at: usize) -> Result<Sender, Error>
 }
 
 fn spool(alloc: Global, row: &Row, at: usize) -> Result<Spool, Error>
-    ensures { IfOk result (λ spool. spool ≡ text_in (column row.now at)) }
+    ensures { IfOk result (λ spool. spool ≡ value_text (column row.now at)) }
 {
     let text = read::text(row, at)?;
     match Spool::parse(alloc, text.as_str()) {

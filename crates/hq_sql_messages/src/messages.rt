@@ -7,7 +7,8 @@ ghost use Rattle.sqlite.specs.Held.{state};
 ghost use Rattle.hq_owned.specs.Rows.{pairs_of};
 ghost use Rattle.hq_rows.specs.Listed.{message_key, message_value};
 ghost use Rattle.hq_sql.specs.Rows.{message_shown};
-ghost use Rattle.hq_sql.specs.Kept.{Shows, Finds, Makes, Inserts, Updates, Keeps, KeepsCommitted};
+ghost use Rattle.hq_sql.specs.Kept.{Shows, Yields, Writes, Inserts, Updates, Intact};
+ghost use Rattle.hq_sql.specs.Kept.{KeepsCommitted};
 ghost use Rattle.hq_sql_messages.specs.Messages.{UpdatesSize, with_row, without_row};
 ghost use Rattle.hq_sql_messages.specs.Messages.{is_on_page, has_spool_name};
 ghost use Rattle.hq_sql_messages.specs.Messages.{bare, bare_entry};
@@ -29,7 +30,7 @@ pub fn query<S: Alter>(
     ensures found { Shows (state S.Store conn.old) (state S.Store conn.new) result
         (λ rows. option_map (λ r. message_value (message_shown r)) (slice_get rows.items 0))
         (λ t. get t.messages (customer.now, serial)) }
-    ensures kept { Keeps (state S.Store conn.old) (state S.Store conn.new) result }
+    ensures kept { Intact (state S.Store conn.old) (state S.Store conn.new) result }
 {
     let params = hq_sql::bind::message_key(customer, serial);
     let rows = conn.query_all(
@@ -49,7 +50,7 @@ pub fn query_by_spool<S: Alter>(
     ensures found { Shows (state S.Store conn.old) (state S.Store conn.new) result
         (λ rows. pairs_of message_key message_value (map message_shown rows.items))
         (λ t. take 1 (filter (has_spool_name customer.now spool.now) (entries t.messages))) }
-    ensures kept { Keeps (state S.Store conn.old) (state S.Store conn.new) result }
+    ensures kept { Intact (state S.Store conn.old) (state S.Store conn.new) result }
 {
     let params = bind::spool(customer, spool);
     let rows = conn.query_all(
@@ -93,7 +94,7 @@ pub fn page<S: Alter>(
         (λ page. page.items)
         (λ t. map bare_entry
         (take limit (filter (is_on_page customer.now after) (entries t.messages)))) }
-    ensures kept { Keeps (state S.Store conn.old) (state S.Store conn.new) result }
+    ensures kept { Intact (state S.Store conn.old) (state S.Store conn.new) result }
 {
     let most = hq_sql::bind::limit(limit)?;
     let params = bind::page(customer, after, &most);
@@ -114,9 +115,9 @@ pub fn size<S: Alter>(
     customer: &Name,
     serial: Serial,
 ) -> Result<Option<u32>, Error>
-    ensures found { Finds (state S.Store conn.old) (state S.Store conn.new) result
+    ensures found { Yields (state S.Store conn.old) (state S.Store conn.new) result
         (λ t. option_map (λ r. r.size) (get t.messages (customer.now, serial))) }
-    ensures kept { Keeps (state S.Store conn.old) (state S.Store conn.new) result }
+    ensures kept { Intact (state S.Store conn.old) (state S.Store conn.new) result }
 {
     let rows = query(conn, customer, serial)?;
     decode::first_size(rows.as_slice())
@@ -191,7 +192,7 @@ pub fn put<S: Alter>(
     customer: &Name,
     message: &Message,
 ) -> Result<(), Error>
-    ensures made { Makes (state S.Store conn.old) (state S.Store conn.new) result
+    ensures made { Writes (state S.Store conn.old) (state S.Store conn.new) result
         (with_row customer.now message.now) }
     ensures kept { KeepsCommitted (state S.Store conn.old) (state S.Store conn.new) }
 {
@@ -207,7 +208,7 @@ pub fn remove<S: Alter>(
     customer: &Name,
     serial: Serial,
 ) -> Result<(), Error>
-    ensures made { Makes (state S.Store conn.old) (state S.Store conn.new) result
+    ensures made { Writes (state S.Store conn.old) (state S.Store conn.new) result
         (without_row (customer.now, serial)) }
     ensures kept { KeepsCommitted (state S.Store conn.old) (state S.Store conn.new) }
 {

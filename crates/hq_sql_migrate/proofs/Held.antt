@@ -23,7 +23,7 @@ use Rattle.hq_keyed.proofs.Terms.{number_is, number_order}
 use Rattle.hq_keyed.proofs.Writes.{cast_null, cast_int}
 use Rattle.hq_queue.specs.declared.message.QueueState.{QueueState}
 use Rattle.hq_queue.specs.declared.message.QueueState.TheVariants.{Incoming, Deferred, Hold}
-use Rattle.hq_owned.specs.Rows.{table, pairs_of, HasUniqueKeys}
+use Rattle.hq_owned.specs.Rows.{map_of, pairs_of, HasUniqueKeys}
 use Rattle.hq_owned.proofs.Pages.{sorted_rows}
 use Rattle.hq_owned.proofs.Unique.{unique_filter}
 use Rattle.hq_schema.specs.Schema as schema
@@ -189,7 +189,7 @@ module _ (reason : List ℕ) (db : Trees) (s : AreMessages (db 3)) (rows : List 
         (unique_entries message_cmp _ rising))
 
     same : holds_of news ≡ holds_for reason (messages_of (map message_read (db 3)))
-    unfolding table holds_for
+    unfolding map_of holds_for
     same = ap from_entries new_pairs
 
     pub reasons : AreReasons reason (db 3) holds_rows count

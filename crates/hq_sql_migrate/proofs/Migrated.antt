@@ -1,10 +1,10 @@
 -- A migration as a whole.
 use Rattle.std.proofs.Common.{◌≡◌, inl, inr, ℕ, cond, List, map, IsTrue, refl, sym, ap, ◌∙◌, subst}
 use Rattle.sqlite.specs.Effect.{Database}
-use Rattle.sqlite.specs.State.{State, HasCleanDisk, KeepsCommit}
+use Rattle.sqlite.specs.State.{State, HasCleanDisk}
 use Rattle.sqlite.specs.Tree.{Trees}
 use Rattle.hq_keyed.specs.Left.{IsQuiet, LeavesNoMore}
-use Rattle.hq_keyed.specs.Made.{Makes}
+use Rattle.hq_keyed.specs.Made.{CreatesTable}
 use Rattle.hq_keyed.proofs.Left.{clean_before}
 use Rattle.hq_schema.specs.Schema.{holds, first_schema, desk_schema}
 use Rattle.hq_schema.proofs.Texts.{holds_made_last}
@@ -24,17 +24,18 @@ use Rattle.hq_sql_migrate.specs.Migration.{HasEmptyHolds, Fills, Stamps, Lifts, 
 use Rattle.hq_sql_migrate.specs.Migration.{LeavesLifted}
 use Rattle.hq_sql.proofs.Tables.{no_index, apart}
 
-pub made_goes : (a b : State) → Makes a b first_schema holds → GoesOn a b
+pub made_goes : (a b : State) → CreatesTable a b first_schema holds → GoesOn a b
 made_goes a b m = record {
   was_open = λ _. m.shown.was_open;
   mode = m.shown.mode;
   committed = λ within. m.shown.committed_is ∙ ap (λ k. cond k a.committed b.now) within;
 }
 
-pub made_schema : (a b : State) → Makes a b first_schema holds → b.now.schema ≡ desk_schema
+pub made_schema : (a b : State) → CreatesTable a b first_schema holds → b.now.schema ≡ desk_schema
 made_schema a b m = m.schema_is ∙ holds_made_last
 
-pub made_empty : (a b : State) → IsFirst a.now → Makes a b first_schema holds → HasEmptyHolds b.now
+pub made_empty : (a b : State) → IsFirst a.now → CreatesTable a b first_schema holds
+    → HasEmptyHolds b.now
 made_empty a b first m = record {
   schema_is = made_schema a b m;
   messages = subst AreMessages (sym m.others.1.1.0) first.rows.messages;
@@ -43,7 +44,8 @@ made_empty a b first m = record {
 
 -- the three statements together
 pub all_lifted : (reason : List ℕ) (count : ℕ) (a b c d : State) → IsFirst a.now →
-    Makes a b first_schema holds → Fills reason count b c → Stamps c d → Lifts reason count a d
+    CreatesTable a b first_schema holds → Fills reason count b c → Stamps c d
+    → Lifts reason count a d
 all_lifted reason count a b c d first m f s =
     let heads = s.others 1 (apart 1 0 refl) (no_index 1 refl)
     ∙ f.others 1 (apart 1 14 refl) (no_index 1 refl) ∙ m.others.1.0 in
@@ -137,23 +139,17 @@ commit_stops reason count a b c d bc cd begun ab between lifts last first clean 
           (whole reason a c (lifted_from reason count a b c (begun clean_b) first (lifts clean_c))))
     ]
 
-pub begun_keeps : (a b : State) → IsBegun a b → KeepsCommit a b
-begun_keeps a b begun = record {
-  was_open = λ _. begun.was_open;
-  committed = λ _. begun.committed_is;
-}
-
 -- ---- what the statements keep, one after another
 
 pub two_keep : (a b c : State) → a.now.schema ≡ first_schema → IsTrue a.in_transaction →
-    (HasCleanDisk b → Makes a b first_schema holds) → KeepsAll a b → IsQuiet b c →
+    (HasCleanDisk b → CreatesTable a b first_schema holds) → KeepsAll a b → IsQuiet b c →
     (b.now.schema ≡ desk_schema → IsTrue b.in_transaction → KeepsAll b c) → KeepsAll a c
 two_keep a b c has within makes first quiet second =
     keeps_next a b c first quiet (λ clean. let m = makes clean in
     second (made_schema a b m) (m.shown.mode ∙ within))
 
 pub three_keep : (a b c d : State) → IsTrue a.in_transaction →
-    (HasCleanDisk b → Makes a b first_schema holds) → KeepsAll a c → IsQuiet b c →
+    (HasCleanDisk b → CreatesTable a b first_schema holds) → KeepsAll a c → IsQuiet b c →
     (b.now.schema ≡ desk_schema → HasCleanDisk c → (c.now.schema ≡ desk_schema) × GoesOn b c)
     → IsQuiet c d → (c.now.schema ≡ desk_schema → IsTrue c.in_transaction → KeepsAll c d) →
     KeepsAll a d
@@ -163,7 +159,7 @@ three_keep a b c d within makes two bc goes cd third = keeps_next a c d two cd (
     third g.0 (g.1.mode ∙ m.shown.mode ∙ within))
 
 pub lifts_all : (reason : List ℕ) (count : ℕ) (a b c d : State) → IsFirst a.now → IsQuiet b c →
-    IsQuiet c d → (HasCleanDisk b → Makes a b first_schema holds) →
+    IsQuiet c d → (HasCleanDisk b → CreatesTable a b first_schema holds) →
     (HasEmptyHolds b.now → HasCleanDisk c → Fills reason count b c)
     → (c.now.schema ≡ desk_schema → HasVersion c.now 1 → HasCleanDisk d → Stamps c d) →
     HasCleanDisk d → Lifts reason count a d

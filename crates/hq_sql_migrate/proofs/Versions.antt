@@ -17,7 +17,7 @@ use Rattle.hq_keyed.specs.Values.{number}
 use Rattle.hq_keyed.proofs.Left.{shown_unchanged}
 use Rattle.hq_keyed.proofs.Stops.{query_leaves_no_more}
 use Rattle.hq_schema.specs.Schema.{first_schema, desk_schema}
-use Rattle.hq_sql_open.specs.Opening.{versions_in, ShowVersions, Tells}
+use Rattle.hq_sql_open.specs.Opening.{versions_in, ShowVersions, TellsWhether}
 use Rattle.hq_sql_open.proofs.Texts.{read_text, read_query}
 use Rattle.hq_sql_open.proofs.Version.{versions_shown}
 use Rattle.hq_sql_migrate.specs.Migration.{IsVersion, ShowsFirst, KeepsVersion}
@@ -84,7 +84,7 @@ one_is_shown db rows same is = (
 
 pub tells : (old new : State) (rows : List Row) (told : Bool) → ShowVersions old.now rows
     × IsUnchanged old new → (IsTrue told → ShowsFirst rows) → (ShowsFirst rows → IsTrue told) →
-    Tells told (IsVersion 1 old.now) old new
+    TellsWhether told (IsVersion 1 old.now) old new
 tells old new rows told shown only all = record {
   only = λ is. one_shown old.now rows shown.0 (only is);
   all = λ is. all (one_is_shown old.now rows shown.0 is);

@@ -16,7 +16,7 @@ use Rattle.hq_rows.specs.Listed.{messages_of, holds_of}
 use Rattle.hq_sql.specs.Rows.{message_read, hold_read}
 use Rattle.hq_sql.specs.Tables.{AreMessages, AreHolds}
 use Rattle.hq_sql_open.specs.Making.{GoesOn}
-use Rattle.hq_sql_open.specs.Opening.{versions_in, Stays}
+use Rattle.hq_sql_open.specs.Opening.{versions_in, Rests}
 use Rattle.hq_sql_open.specs.Transactions.{IsSettled}
 use Rattle.hq_sql_migrate.specs.Stores.{HasVersion, holds_in, first_tables_in, count_on_hold}
 use Rattle.hq_sql_migrate.specs.Stores.{IsFirst, IsLifted}
@@ -69,8 +69,8 @@ LeavesLifted reason old new = HasCleanDisk new → (db : Trees) → new.may_leav
     ⊎ IsLifted reason old.now (record { schema = desk_schema; trees = db })
 
 -- What a migration keeps of a version 1 store.
-pub record KeepsMigration {X : Type 0} (reason : List ℕ) (old new : State) (result : Result X Error)
-    : Type 0 where
+pub record KeepsMigration {X : Type 0} (reason : List ℕ) (old new : State)
+    (result : Result X Error) : Type 0 where
   -- what was committed, where it fails
   pub kept : HasCleanDisk new → OnErr result (KeepsCommit old new)
   pub quiet : IsQuiet old new
@@ -106,13 +106,13 @@ pub record KeepsVersion {X : Type 0} (old new : State) (result : Result X Error)
 abbrev pub MigratesBy : List ℕ → Option ℕ → State → State → Type 0
 MigratesBy reason (Some n) old new = (IsFirstStore old.now
     × (IsFirst old.now → Migrates reason n old new))
-    ⊎ (IsSecondStore old.now × (n ≡ 0) × Stays old new)
+    ⊎ (IsSecondStore old.now × (n ≡ 0) × Rests old new)
 MigratesBy reason None old new = (¬ IsFirstStore old.now) × (¬ IsSecondStore old.now)
-    × Stays old new
+    × Rests old new
 
 -- What it keeps of any store.
-pub record KeepsAny {X : Type 0} (reason : List ℕ) (old new : State) (result : Result X Error)
-    : Type 0 where
+pub record KeepsAny {X : Type 0} (reason : List ℕ) (old new : State) (result : Result X Error) :
+    Type 0 where
   pub kept : HasCleanDisk new → IsSettled old → OnErr result (KeepsCommit old new)
   pub quiet : IsQuiet old new
   pub stops : IsSettled old → IsFirst old.now → LeavesLifted reason old new

@@ -7,7 +7,7 @@ ghost use Rattle.sqlite.specs.State.{HasCleanDisk};
 ghost use Rattle.sqlite.specs.Values.{bound};
 ghost use Rattle.sqlite.specs.declared.types.Value.TheVariants.{Text};
 ghost use Rattle.hq_keyed.specs.Left.{IsQuiet};
-ghost use Rattle.hq_keyed.specs.Made.{Makes};
+ghost use Rattle.hq_keyed.specs.Made.{CreatesTable};
 ghost use Rattle.hq_schema.specs.Schema.{holds, first_schema, desk_schema};
 ghost use Rattle.hq_sql_open.specs.Making.{GoesOn};
 ghost use Rattle.hq_sql_open.specs.Transactions.{IsSettled, KeepsAll};
@@ -23,7 +23,8 @@ use sqlite::{Alter, Connection, Error};
 fn make_holds<S: Alter>(conn: &mut Connection<S>) -> Result<(), Error>
     ensures made { (state S.Store conn.old).now.schema ≡ first_schema
         → HasCleanDisk (state S.Store conn.new)
-        → OnOk result (Makes (state S.Store conn.old) (state S.Store conn.new) first_schema holds) }
+        → OnOk result (CreatesTable (state S.Store conn.old) (state S.Store conn.new) first_schema
+        holds) }
     ensures kept { (state S.Store conn.old).now.schema ≡ first_schema
         → IsTrue (state S.Store conn.old).in_transaction
         → KeepsAll (state S.Store conn.old) (state S.Store conn.new) }

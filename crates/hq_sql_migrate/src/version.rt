@@ -4,7 +4,7 @@ ghost use Rattle.std.specs.Prelude.{◌≡◌, ◌↔◌, IsTrue, IfOk};
 ghost use Rattle.sqlite.specs.Held.{state};
 ghost use Rattle.sqlite.specs.State.{HasCleanDisk, IsUnchanged};
 ghost use Rattle.hq_schema.specs.Schema.{first_schema};
-ghost use Rattle.hq_sql_open.specs.Opening.{ShowVersions, Tells};
+ghost use Rattle.hq_sql_open.specs.Opening.{ShowVersions, TellsWhether};
 ghost use Rattle.hq_sql_migrate.specs.Migration.{IsVersion, ShowsFirst, KeepsVersion};
 
 use sqlite::types::ValueRef;
@@ -36,7 +36,7 @@ fn is_one(rows: &[Row]) -> bool
 pub(crate) fn is_first_version<S: Alter>(conn: &mut Connection<S>) -> Result<bool, Error>
     ensures found { HasCleanDisk (state S.Store conn.new)
         → (state S.Store conn.old).now.schema ≡ first_schema
-        → IfOk result (λ yes. Tells yes (IsVersion 1 (state S.Store conn.old).now)
+        → IfOk result (λ yes. TellsWhether yes (IsVersion 1 (state S.Store conn.old).now)
         (state S.Store conn.old) (state S.Store conn.new)) }
     ensures kept { KeepsVersion (state S.Store conn.old) (state S.Store conn.new) result }
 {

@@ -43,11 +43,13 @@ use Rattle.hq_rows.specs.Lookups.{is_after, is_notice, AreUniqueNotices, notice_
 use Rattle.hq_store.specs.Readings.{read_tables, after_number}
 use Rattle.hq_rows.proofs.Keys.{notice_found}
 use Rattle.hq_store.proofs.Orders.{message_total, message_exact}
-use Rattle.hq_rows.proofs.NoticePages.{sorted_found, after_is}
+use Rattle.hq_rows.proofs.NoticePages.{notice_pages, after_is}
+use Rattle.hq_rows.proofs.Pages.{sorted_found}
 use Rattle.hq_sql.specs.Rows.{kind_code, kind_of, notice_columns, notice_stored, notice_read}
 use Rattle.hq_sql.specs.Rows.{notice_shown}
-use Rattle.hq_sql_notices.specs.Notices.{with_notice, without_notice, without_below, key_columns}
-use Rattle.hq_sql_notices.specs.Notices.{page_columns, notices_in}
+use Rattle.hq_sql_notices.specs.Notices.{with_notice, without_notice, without_below}
+use Rattle.hq_sql_notices.specs.Notices.{notice_key_columns}
+use Rattle.hq_sql_notices.specs.Notices.{notice_page_columns, notices_in}
 use Rattle.hq_sql_notices.proofs.Texts as text
 
 abbrev Key : Type 0
@@ -99,7 +101,7 @@ key_tests q k more =
 -- ---- reading
 
 pub notice_got : (old new : State) (q : Key) (rows : List Row) → IsDesk old.now →
-    Shown text.notice_read_text (key_columns q) old new rows
+    Shown text.notice_read_text (notice_key_columns q) old new rows
     → option_map (λ r. (notice_shown r).notice) (slice_get rows 0) ≡ option_map
     (λ (n : Noted). notice_of (q.1, n)) (get (tables_in old.now).notices q)
 unfolding is_notice
@@ -107,7 +109,7 @@ notice_got old new q rows desk h =
     sym (option_map-map (λ (r : NoticeRow). r.notice) notice_shown (slice_get rows 0))
     ∙ ap (option_map (λ (r : NoticeRow). r.notice))
     (row_at notices_table old new desk text.notice_read_text text.notice_key text.notice_columns
-    _ text.notice_read_known (key_columns q) notice_shown (λ k. refl) (λ xs. refl) q
+    _ text.notice_read_known (notice_key_columns q) notice_shown (λ k. refl) (λ xs. refl) q
     (λ k. key_tests q k []) rows h)
     ∙ notice_found (map notice_read (old.now.trees 10)) q.0 q.1
 
@@ -128,11 +130,11 @@ notice_inserted old new r count desk free h =
     (λ n. notice_back r n) free h
 
 pub notice_deleted : (old new : State) (q : Key) (count : ℕ) → IsDesk old.now →
-    Executes text.notice_delete_text (key_columns q) old new (Ok count) →
+    Executes text.notice_delete_text (notice_key_columns q) old new (Ok count) →
     Leaves old new (without_notice q (tables_in old.now))
 notice_deleted old new q count desk h =
     drops_at notices_table old new desk text.notice_delete_text text.notice_key
-    text.notice_delete_known (key_columns q) count q (λ k. key_tests q k []) h
+    text.notice_delete_known (notice_key_columns q) count q (λ k. key_tests q k []) h
 
 -- ---- the drop of old ones
 
@@ -146,7 +148,7 @@ abbrev is_below : Key → List ℕ × ℕ → Bool
 is_below q k = eq_by_cmp text_cmp q.0 k.0 && nat_lt k.1 q.1
 
 below_tests : (q : Key) (k : ℤ × NoticeRow) →
-    list_all (holds (key_columns q ∷ notice_stored k ∷ [])) text.below_terms ≡ is_below q
+    list_all (holds (notice_key_columns q ∷ notice_stored k ∷ [])) text.below_terms ≡ is_below q
     (notice_key k.1)
 below_tests q k = then_term (text_is k.1.customer q.0)
     (last_term (number_below k.1.notice.number q.1))
@@ -155,14 +157,14 @@ below_is : (x n : ℕ) → nat_lt x n ≡ not (nat_le n x)
 below_is x n = grind (arith, nat_tests)
 
 pub below_deleted : (old new : State) (q : Key) (count : ℕ) → IsDesk old.now →
-    Executes text.below_text (key_columns q) old new (Ok count) →
+    Executes text.below_text (notice_key_columns q) old new (Ok count) →
     Leaves old new (without_below q.0 q.1 (tables_in old.now))
 below_deleted old new q count desk h =
     subst (λ m. Leaves old new (record (tables_in old.now) { notices = m }))
     (λ i. retain_keys (tables_in old.now).notices (λ k. not (eq_by_cmp text_cmp q.0 k.0
     && below_is k.1 q.1 i)))
     (drops notices_table old new desk text.below_text text.below_terms text.below_known
-    (key_columns q) count (is_below q) (below_tests q) h)
+    (notice_key_columns q) count (is_below q) (below_tests q) h)
 
 -- ---- pages
 
@@ -179,16 +181,18 @@ rows_are : (c : List ℕ) (after : Option ℕ) (limit : ℕ) (rows kept : List R
     (sort_by by_row (filter (on_page c after) (map notice_read kept)))
     → notices_in rows ≡ take limit
     (after_number after (map notice_of (notice_rows_with c (map notice_read kept))))
+unfolding AreUniqueNotices
 rows_are c after limit rows kept u shown =
     let one : NoticeRow → Notice = λ r. r.notice in
     sym (map-map one notice_shown rows) ∙ ap (map one) shown
     ∙ sym (take-map one limit (sort_by by_row
     (filter (on_page c after) (map notice_read kept))))
-    ∙ ap (take limit) (sorted_found c after (map notice_read kept) u
+    ∙ ap (take limit) (sorted_found notice_pages (is_after after) c (map notice_read kept) u
     ∙ sym (after_is after (notice_rows_with c (map notice_read kept))))
 
 page_tests : (c : List ℕ) (after : Option ℕ) (limit : ℕ) (k : ℤ × NoticeRow) →
-    list_all (holds (page_columns c after limit ∷ notice_stored k ∷ [])) text.page_terms ≡ on_page c
+    list_all (holds (notice_page_columns c after limit ∷ notice_stored k ∷ [])) text.page_terms
+    ≡ on_page c
     after k.1
 page_tests c None limit k =
     then_term (text_is k.1.customer c) (last_term (number_above k.1.notice.number (negsuc 0)
@@ -198,13 +202,13 @@ page_tests c (Some n) limit k =
     ∙ above_some n k.1.notice.number))
 
 pub page_shown : (old new : State) (c : List ℕ) (after : Option ℕ) (limit : ℕ) (rows : List Row) →
-    IsDesk old.now → Shown text.notice_page_text (page_columns c after limit) old new rows
+    IsDesk old.now → Shown text.notice_page_text (notice_page_columns c after limit) old new rows
     → notices_in rows ≡ take limit (after_number after (read_tables c (tables_in old.now)).notices)
 unfolding AreUniqueNotices
 page_shown old new c after limit rows desk h =
     rows_are c after limit rows (old.now.trees 10) desk.notices.unique
     (pages notices_table old new desk text.notice_page_text _ _ text.notice_page_known refl refl
-    refl (page_columns c after limit) notice_shown (λ k. refl) (on_page c after)
+    refl (notice_page_columns c after limit) notice_shown (λ k. refl) (on_page c after)
     (page_tests c after limit)
     (λ j k. then_key (value_cmp-Text j.1.customer k.1.customer)
     (last_key (number_order j.1.notice.number k.1.notice.number))) limit (λ xs. refl) rows h)

@@ -30,8 +30,8 @@ without_below customer n t = record t {
 }
 
 -- the columns of a key
-abbrev pub key_columns : List ℕ × ℕ → Row
-key_columns key = Text key.0 ∷ number key.1 ∷ []
+abbrev pub notice_key_columns : List ℕ × ℕ → Row
+notice_key_columns key = Text key.0 ∷ number key.1 ∷ []
 
 -- the numbers of a notice as columns take them
 abbrev pub notice_numbers : Notice → NoticeNumbers
@@ -48,8 +48,9 @@ from_number None = negsuc 0
 from_number (Some n) = pos n
 
 -- what a page is asked with
-abbrev pub page_columns : List ℕ → Option ℕ → ℕ → Row
-page_columns customer after limit = Text customer ∷ Int (from_number after) ∷ number limit ∷ []
+abbrev pub notice_page_columns : List ℕ → Option ℕ → ℕ → Row
+notice_page_columns customer after limit = Text customer ∷ Int (from_number after) ∷ number limit
+    ∷ []
 
 -- the notice of a row of an answer
 abbrev pub notice_in : Row → Notice

@@ -3,8 +3,8 @@
 ghost use Rattle.std.specs.Prelude.{◌≡◌, ℕ, pos, Option as AnyOption, IfOk};
 ghost use Rattle.sqlite.specs.Values.{bound};
 ghost use Rattle.hq_sql.specs.Rows.{kind_code, notice_columns};
-ghost use Rattle.hq_sql_notices.specs.Notices.{from_number, key_columns, notice_numbers};
-ghost use Rattle.hq_sql_notices.specs.Notices.{notice_row, page_columns};
+ghost use Rattle.hq_sql_notices.specs.Notices.{from_number, notice_key_columns, notice_numbers};
+ghost use Rattle.hq_sql_notices.specs.Notices.{notice_row, notice_page_columns};
 
 use hq_envelope::Name;
 use hq_queue::Kind;
@@ -30,7 +30,8 @@ pub(crate) fn number(number: u64) -> Result<NumberColumn, Error>
 
 /// The key of a notice.
 pub(crate) fn key<'a>(customer: &'a Name, column: &NumberColumn) -> [ValueRef<'a>; 2]
-    ensures { (n : ℕ) → column.now.number ≡ pos n → bound result ≡ key_columns (customer.now, n) }
+    ensures { (n : ℕ) → column.now.number ≡ pos n → bound result
+        ≡ notice_key_columns (customer.now, n) }
 {
     [
         ValueRef::Text(customer.as_str().as_bytes()),
@@ -109,7 +110,7 @@ pub(crate) fn page<'a>(
 ) -> [ValueRef<'a>; 3]
     ensures { (limit : ℕ) (after : AnyOption ℕ) → most.now.rows ≡ pos limit
         → from.now.number ≡ from_number after
-        → bound result ≡ page_columns customer.now after limit }
+        → bound result ≡ notice_page_columns customer.now after limit }
 {
     [
         ValueRef::Text(customer.as_str().as_bytes()),

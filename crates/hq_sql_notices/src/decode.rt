@@ -2,7 +2,7 @@
 
 ghost use Rattle.std.specs.Prelude.{◌≡◌, IfOk, option_map, slice_get};
 ghost use Rattle.sqlite.specs.Order.{column};
-ghost use Rattle.hq_sql.specs.Rows.{kind_of, number_in, text_in, notice_shown};
+ghost use Rattle.hq_sql.specs.Rows.{kind_of, value_number, value_text, notice_shown};
 
 use hq_envelope::{Address, Moment, Serial, WrittenText};
 use hq_queue::Kind;
@@ -12,7 +12,7 @@ use sqlite::{Error, Row};
 use std::alloc::Global;
 
 fn kind(row: &Row, at: usize) -> Result<Kind, Error>
-    ensures { IfOk result (λ kind. kind ≡ kind_of (number_in (column row.now at))) }
+    ensures { IfOk result (λ kind. kind ≡ kind_of (value_number (column row.now at))) }
 {
     match read::number(row, at)? {
         0 => Ok(Kind::Failure),
@@ -22,7 +22,7 @@ fn kind(row: &Row, at: usize) -> Result<Kind, Error>
 }
 
 fn serial(row: &Row, at: usize) -> Result<Serial, Error>
-    ensures { IfOk result (λ serial. serial ≡ number_in (column row.now at)) }
+    ensures { IfOk result (λ serial. serial ≡ value_number (column row.now at)) }
 {
     match Serial::new(read::number(row, at)?) {
         Some(serial) => Ok(serial),
@@ -31,7 +31,7 @@ fn serial(row: &Row, at: usize) -> Result<Serial, Error>
 }
 
 fn moment(row: &Row, at: usize) -> Result<Moment, Error>
-    ensures { IfOk result (λ moment. moment ≡ number_in (column row.now at)) }
+    ensures { IfOk result (λ moment. moment ≡ value_number (column row.now at)) }
 {
     match Moment::new(read::number(row, at)?) {
         Some(moment) => Ok(moment),
@@ -40,7 +40,7 @@ fn moment(row: &Row, at: usize) -> Result<Moment, Error>
 }
 
 fn address(alloc: Global, row: &Row, at: usize) -> Result<Address, Error>
-    ensures { IfOk result (λ address. address ≡ text_in (column row.now at)) }
+    ensures { IfOk result (λ address. address ≡ value_text (column row.now at)) }
 {
     let text = read::text(row, at)?;
     match Address::parse(alloc, text.as_str()) {
@@ -50,7 +50,7 @@ fn address(alloc: Global, row: &Row, at: usize) -> Result<Address, Error>
 }
 
 fn text(row: &Row, at: usize) -> Result<WrittenText, Error>
-    ensures { IfOk result (λ text. text ≡ text_in (column row.now at)) }
+    ensures { IfOk result (λ text. text ≡ value_text (column row.now at)) }
 {
     let text = read::text(row, at)?;
     Ok(WrittenText::new(text))

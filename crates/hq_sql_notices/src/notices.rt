@@ -4,7 +4,8 @@ ghost use Rattle.std.specs.Prelude.{option_map, slice_get};
 ghost use Rattle.std.specs.FinMap.{get};
 ghost use Rattle.sqlite.specs.Held.{state};
 ghost use Rattle.hq_store.specs.Tables.{Noted, notice_of};
-ghost use Rattle.hq_sql.specs.Kept.{Shows, Finds, Makes, Inserts, Keeps, KeepsCommitted};
+ghost use Rattle.hq_sql.specs.Kept.{Shows, Yields, Writes, Inserts, Intact};
+ghost use Rattle.hq_sql.specs.Kept.{KeepsCommitted};
 ghost use Rattle.hq_sql.specs.Rows.{notice_shown};
 ghost use Rattle.hq_sql_notices.specs.Notices.{notice_row, with_notice, without_notice};
 ghost use Rattle.hq_sql_notices.specs.Notices.{without_below};
@@ -24,7 +25,7 @@ fn query<S: Alter>(
         (λ rows. option_map (λ r. (notice_shown r).notice) (slice_get rows.items 0))
         (λ t. option_map (λ (n : Noted). notice_of (number, n))
         (get t.notices (customer.now, number))) }
-    ensures kept { Keeps (state S.Store conn.old) (state S.Store conn.new) result }
+    ensures kept { Intact (state S.Store conn.old) (state S.Store conn.new) result }
 {
     let column = bind::number(number)?;
     let params = bind::key(customer, &column);
@@ -43,10 +44,10 @@ pub fn notice<S: Alter>(
     customer: &Name,
     number: u64,
 ) -> Result<Option<Notice>, Error>
-    ensures found { Finds (state S.Store conn.old) (state S.Store conn.new) result
+    ensures found { Yields (state S.Store conn.old) (state S.Store conn.new) result
         (λ t. option_map (λ (n : Noted). notice_of (number, n))
         (get t.notices (customer.now, number))) }
-    ensures kept { Keeps (state S.Store conn.old) (state S.Store conn.new) result }
+    ensures kept { Intact (state S.Store conn.old) (state S.Store conn.new) result }
 {
     let rows = query(conn, customer, number)?;
     decode::first_notice(alloc, rows.as_slice())
@@ -54,7 +55,7 @@ pub fn notice<S: Alter>(
 
 /// Drops the notice of a number; nothing where there is none.
 fn remove<S: Alter>(conn: &mut Connection<S>, customer: &Name, number: u64) -> Result<(), Error>
-    ensures made { Makes (state S.Store conn.old) (state S.Store conn.new) result
+    ensures made { Writes (state S.Store conn.old) (state S.Store conn.new) result
         (without_notice (customer.now, number)) }
     ensures kept { KeepsCommitted (state S.Store conn.old) (state S.Store conn.new) }
 {
@@ -90,7 +91,7 @@ pub fn put<S: Alter>(
     customer: &Name,
     notice: &Notice,
 ) -> Result<(), Error>
-    ensures made { Makes (state S.Store conn.old) (state S.Store conn.new) result
+    ensures made { Writes (state S.Store conn.old) (state S.Store conn.new) result
         (with_notice (notice_row customer.now notice.now)) }
     ensures kept { KeepsCommitted (state S.Store conn.old) (state S.Store conn.new) }
 {
@@ -105,7 +106,7 @@ pub fn drop_below<S: Alter>(
     customer: &Name,
     number: u64,
 ) -> Result<(), Error>
-    ensures made { Makes (state S.Store conn.old) (state S.Store conn.new) result
+    ensures made { Writes (state S.Store conn.old) (state S.Store conn.new) result
         (without_below customer.now number) }
     ensures kept { KeepsCommitted (state S.Store conn.old) (state S.Store conn.new) }
 {

@@ -4,7 +4,7 @@
 ghost use Rattle.std.specs.Prelude.{◌≡◌, [], ◌∷◌, ◌++◌, take};
 ghost use Rattle.sqlite.specs.Held.{state};
 ghost use Rattle.hq_store.specs.Readings.{read_tables, after_number};
-ghost use Rattle.hq_sql.specs.Kept.{Finds, Keeps};
+ghost use Rattle.hq_sql.specs.Kept.{Yields, Intact};
 ghost use Rattle.hq_sql_notices.specs.Notices.{notice_in};
 
 use crate::{bind, decode};
@@ -42,9 +42,9 @@ pub fn page<S: Alter>(
     after: Option<u64>,
     limit: usize,
 ) -> Result<Items<Notice>, Error>
-    ensures found { Finds (state S.Store conn.old) (state S.Store conn.new) result
+    ensures found { Yields (state S.Store conn.old) (state S.Store conn.new) result
         (λ t. take limit (after_number after (read_tables customer.now t).notices)) }
-    ensures kept { Keeps (state S.Store conn.old) (state S.Store conn.new) result }
+    ensures kept { Intact (state S.Store conn.old) (state S.Store conn.new) result }
 {
     let from = bind::after(after)?;
     let most = row_limit(limit)?;

@@ -1,7 +1,7 @@
 -- What making tables in turn leaves and keeps.
-use Rattle.std.proofs.Common.{◌≡◌, ℕ, List, [], ◌∷◌, ◌++◌, Result, Ok, Err, IsTrue, cond, refl, sym}
+use Rattle.std.proofs.Common.{◌≡◌, ℕ, List, [], ◌∷◌, ◌++◌, Result, Ok, Err, IsTrue, sym}
 use Rattle.std.proofs.Common.{ap, ◌∙◌, subst, arith}
-use Rattle.sqlite.specs.Change.{created, next_tree, KeepsRows}
+use Rattle.sqlite.specs.Change.{KeepsRows}
 use Rattle.sqlite.specs.Command.TheVariants.{CreateTable}
 use Rattle.sqlite.specs.Listing.{understood}
 use Rattle.sqlite.specs.Schema.{Schema}
@@ -13,11 +13,11 @@ use Rattle.sqlite_resolve.specs.declared.compiled.Compiled.{Compiled}
 use Rattle.sqlite_resolve.specs.declared.error.CompileError.{CompileError}
 use Rattle.sqlite.proofs.Callers.{IsPlain, command_of, statement_of}
 use Rattle.hq_keyed.specs.Left.{IsQuiet}
-use Rattle.hq_keyed.specs.Made.{Makes}
+use Rattle.hq_keyed.specs.Made.{CreatesTable}
 use Rattle.hq_keyed.proofs.Left.{clean_before, execute_left, left_keeps, keeps_then}
 use Rattle.hq_keyed.proofs.Making.{makes, kept_by}
 use Rattle.hq_keyed.proofs.Stops.{may_end, write_leaves_no_more}
-use Rattle.hq_sql_open.specs.Making.{IsCreate, MakesTable, AreEmpty, GoesOn, HasMade}
+use Rattle.hq_sql_open.specs.Making.{IsCreate, MakesTable, AreEmpty, GoesOn}
 use Rattle.hq_sql_open.specs.Transactions.{KeepsAll}
 
 -- ---- what a text that makes a table is
@@ -38,7 +38,7 @@ is_whole text (Err e) h = absurd h
 
 module _ (old new : State) (s : Schema) (text : List ℕ) (table : Table)
     (it : MakesTable s text table) (has : old.now.schema ≡ s) where
-  pub table_made : (count : ℕ) → Executes text [] old new (Ok count) → Makes old new s table
+  pub table_made : (count : ℕ) → Executes text [] old new (Ok count) → CreatesTable old new s table
   table_made count h = makes old new s text table count has it.defined
       (is_create text _ it.is_create) (is_whole text _ it.is_create) (is_plain text _ it.is_create)
       it.uncounted h
@@ -100,34 +100,3 @@ goes_then a b c p q = record {
   mode = q.mode ∙ p.mode;
   committed = λ within. q.committed (p.mode ∙ within) ∙ p.committed within;
 }
-
-pub goes_itself : (a : State) → GoesOn a a
-goes_itself a = record { was_open = λ is. is; mode = refl; committed = λ _. refl }
-
-pub one_made : (a b : State) (s : Schema) (table : Table) → a.now.schema ≡ s →
-    AreEmpty s.tables a.now.trees → Makes a b s table → HasMade s (table ∷ []) a b
-one_made a b s table has empty m = record {
-  schema_is = m.schema_is;
-  empty = subst (λ (x : Schema). AreEmpty x.tables b.now.trees) (sym m.schema_is)
-      (empty_and s.tables (record table { tree = next_tree s }) b.now.trees
-      (empty_on s.tables a.now.trees b.now.trees m.others empty) m.empty);
-  goes = record {
-    was_open = λ _. m.shown.was_open;
-    mode = m.shown.mode;
-    committed = λ within. m.shown.committed_is ∙ ap (λ k. cond k a.committed b.now) within;
-  };
-}
-
-pub none_made : (a : State) (s : Schema) → a.now.schema ≡ s → AreEmpty s.tables a.now.trees →
-    HasMade s [] a a
-none_made a s has empty = record {
-  schema_is = has;
-  empty = subst (λ (x : Schema). AreEmpty x.tables a.now.trees) (sym has) empty;
-  goes = goes_itself a;
-}
-
-pub more_made : (a b c : State) (s : Schema) (table : Table) (tables : List Table) →
-    HasMade s (table ∷ []) a b → HasMade (created s table) tables b c →
-    HasMade s (table ∷ tables) a c
-more_made a b c s table tables p q =
-    record { schema_is = q.schema_is; empty = q.empty; goes = goes_then a b c p.goes q.goes }

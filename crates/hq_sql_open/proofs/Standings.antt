@@ -21,7 +21,7 @@ use Rattle.sqlite.specs.State.{IsMisplaced, IsNoStatement, IsNotRun, IsRolledBac
 use Rattle.sqlite.specs.State.{Survives, CommitsBy, is_pragma, shows_rows, store_error}
 use Rattle.sqlite_tied.specs.Compute.{everything}
 use Rattle.sqlite.proofs.Callers.{IsPlain, command_of, runs_as}
-use Rattle.hq_sql_open.specs.Transactions.{IsUndone, Undoes, Asks, gone}
+use Rattle.hq_sql_open.specs.Transactions.{IsUndone, Undoes, Probes, gone}
 use Rattle.hq_sql_open.proofs.Transactions.{rollback_text, rollback_is, rollback_plain}
 use Rattle.hq_sql_open.proofs.Transactions.{rollback_stops, no_text, no_is, no_plain, no_stops}
 
@@ -158,19 +158,6 @@ undoes old new r within survives h = record {
   stops = rollback_stops old new survives;
 }
 
--- where there is no transaction, nothing is left to undo
-pub undoes_nothing : (s : State) → s.in_transaction ≡ false →
-    (IsTrue s.is_open → s.now ≡ s.committed) → Undoes s s
-undoes_nothing s auto settled = record {
-  undone = λ clean. record {
-    kept = record { was_open = λ is. is; committed = λ _. refl };
-    mode = auto;
-    now = settled;
-  };
-  quiet = omega arith;
-  stops = λ clean db may. may;
-}
-
 -- ---- what asking tells
 
 -- nothing that is done is misplaced
@@ -212,7 +199,7 @@ shut old new e is h = stays_shut old.is_open new.is_open h.3.was_open
     (broken old new h.0 (sym h.1 ∙ is) h.2)
 
 pub asks_ok : (old new : State) (count : ℕ) → Survives old new (CommitsBy no_text [] old) →
-    (HasCleanDisk new → Executes no_text [] old new (Ok count)) → Asks old new (Ok tt)
+    (HasCleanDisk new → Executes no_text [] old new (Ok count)) → Probes old new (Ok tt)
 asks_ok old new count survives h = record {
   shown = λ clean. asked old new count (h clean);
   shut = λ clean no. absurd (let e = no in cc);
@@ -223,7 +210,7 @@ asks_ok old new count survives h = record {
 }
 
 pub asks_err : (old new : State) (e : Error) → Survives old new (CommitsBy no_text [] old) →
-    (HasCleanDisk new → Executes no_text [] old new (Err e)) → Asks old new (Err e)
+    (HasCleanDisk new → Executes no_text [] old new (Err e)) → Probes old new (Err e)
 asks_err old new e survives h = record {
   shown = λ clean. tt;
   shut = λ clean is. shut old new e (let same = is in cc) (unasked old new e (h clean));

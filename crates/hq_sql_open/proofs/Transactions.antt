@@ -5,7 +5,7 @@ use Rattle.sqlite.specs.Order.{Row}
 use Rattle.sqlite.specs.Tree.{Trees}
 use Rattle.sqlite.specs.Schema.{Schema}
 use Rattle.sqlite.specs.Command.{Command}
-use Rattle.sqlite.specs.Command.TheVariants.{Begin, Commit, Rollback, Release, Nothing}
+use Rattle.sqlite.specs.Command.TheVariants.{Begin, Commit, Rollback, Nothing}
 use Rattle.sqlite.specs.declared.error.Error.{Error}
 use Rattle.sqlite.specs.Listing.{understood}
 use Rattle.sqlite.specs.State.{State, HasCleanDisk, Executes, Survives, CommitsBy, MayWrite}
@@ -15,7 +15,8 @@ use Rattle.sqlite_tied.specs.Compute.{everything}
 use Rattle.sqlite.proofs.Callers.{IsPlain, command_of, runs_as}
 use Rattle.hq_keyed.specs.Left.{IsLeft, LeavesNoMore}
 use Rattle.hq_keyed.proofs.Left.{left_keeps}
-use Rattle.hq_sql_open.specs.Transactions.{IsBegun, IsDone, LeavesAlso, KeepsOnErr, KeepsOrCommits}
+use Rattle.hq_sql_open.specs.Transactions.{IsBegun, IsDone, LeavesAlso, KeepsUnlessDone}
+use Rattle.hq_sql_open.specs.Transactions.{KeepsOrCommits}
 
 -- ---- the texts
 
@@ -90,10 +91,6 @@ abbrev is_commit : Command → Bool
 is_commit Commit = true
 is_commit _ = false
 
-abbrev is_release : Command → Bool
-is_release (Release name) = true
-is_release _ = false
-
 -- such a command writes nothing of its own
 never_writes : (s : State) (command : Command) (text : List ℕ) (params : Row) (db : Trees) →
     moves command ≡ true → MayWrite s None command text params db → ⊥
@@ -164,7 +161,7 @@ no_stops old new h = λ clean db may. elim (h.crash clean db may) [
 
 pub begin_keeps : {X : Type 0} (old new : State) (result : Result X Error) →
     Survives old new (CommitsBy begin_text [] old) →
-    (HasCleanDisk new → OnErr result (IsLeft old new)) → KeepsOnErr old new result
+    (HasCleanDisk new → OnErr result (IsLeft old new)) → KeepsUnlessDone old new result
 begin_keeps old new (Ok x) survives h = record {
   kept = λ clean. tt;
   quiet = survives.clean;

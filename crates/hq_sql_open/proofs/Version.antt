@@ -35,7 +35,7 @@ use Rattle.hq_sql.specs.Tables.{Leaves, tables_in}
 use Rattle.hq_sql.proofs.Tables.{no_index, apart}
 use Rattle.hq_sql_open.specs.Making.{AreEmpty}
 use Rattle.hq_sql_open.specs.Opening.{versions_in, IsVersioned, ShowVersions, ShowsOne, HasVersions}
-use Rattle.hq_sql_open.specs.Opening.{Tells, KeepsReading}
+use Rattle.hq_sql_open.specs.Opening.{TellsWhether, KeepsReading}
 use Rattle.hq_sql_open.specs.Transactions.{KeepsAll}
 use Rattle.hq_sql_open.proofs.Texts.{stamp_text, stamp_terms, stamp_is, stamp_plain, read_text}
 use Rattle.hq_sql_open.proofs.Texts.{read_query, read_is, read_plain, read_listed, alone_is}
@@ -263,7 +263,7 @@ read_keeps old new result survives h = record {
 
 pub tells_one : (old new : State) (rows : List Row) (told : Bool) → ShowVersions old.now rows
     × IsUnchanged old new → (IsTrue told → ShowsOne rows) → (ShowsOne rows → IsTrue told) →
-    Tells told (IsVersioned old.now) old new
+    TellsWhether told (IsVersioned old.now) old new
 tells_one old new rows told shown only all = record {
   only = λ is. one_shown old.now rows shown.0 (only is);
   all = λ is. all (one_is_shown old.now rows shown.0 is);
@@ -283,7 +283,7 @@ none_back ys h = none_shown ys (IsPermutation-sym _ _ h)
 
 pub tells_none : (old new : State) (rows : List Row) (told : Bool) → ShowVersions old.now rows
     × IsUnchanged old new → (IsTrue told → rows ≡ []) → (rows ≡ [] → IsTrue told) →
-    Tells told (old.now.trees 0 ≡ []) old new
+    TellsWhether told (old.now.trees 0 ≡ []) old new
 tells_none old new rows told shown only all = record {
   only = λ is. nothing_in (old.now.trees 0) (none_shown _
       (subst (IsPermutation (map (λ v. v ∷ []) (versions_in old.now))) (only is) shown.0));

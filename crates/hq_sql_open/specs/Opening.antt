@@ -28,22 +28,23 @@ abbrev pub IsUnmade : Database → Type 0
 IsUnmade db = (db.schema ≡ no_schema) ⊎ ((db.schema ≡ version_alone) × (db.trees 0 ≡ []))
 
 -- a desk's store: its schema is exactly schema 2, and its version is 2
-abbrev pub IsOurs : Database → Type 0
-IsOurs db = (db.schema ≡ desk_schema) × IsVersioned db
+abbrev pub IsDeskStore : Database → Type 0
+IsDeskStore db = (db.schema ≡ desk_schema) × IsVersioned db
 
 -- neither
 abbrev pub IsForeign : Database → Type 0
-IsForeign db = (¬ IsUnmade db) × (¬ IsOurs db)
+IsForeign db = (¬ IsUnmade db) × (¬ IsDeskStore db)
 
 -- all that was committed stays, and the connection is settled
-abbrev pub Stays : State → State → Type 0
-Stays old new = IsSettled new × KeepsCommit old new
+abbrev pub Rests : State → State → Type 0
+Rests old new = IsSettled new × KeepsCommit old new
 
 -- What opening does, by its answer: a store in which nothing was made gets the tables of a desk,
 -- without a row; a desk's store stays as it is; and so does any other, which is told.
 abbrev pub Opens : Bool → State → State → Type 0
-Opens true old new = (IsUnmade old.now × Commits new no_tables) ⊎ (IsOurs old.now × Stays old new)
-Opens false old new = IsForeign old.now × Stays old new
+Opens true old new = (IsUnmade old.now × Commits new no_tables)
+    ⊎ (IsDeskStore old.now × Rests old new)
+Opens false old new = IsForeign old.now × Rests old new
 
 -- an open after a crash may find what it might have found before, or a desk without a row
 abbrev pub LeavesEmptyDesk : State → State → Type 0
@@ -70,7 +71,7 @@ abbrev pub HasVersions : Database → Type 0
 HasVersions db = (db.schema ≡ desk_schema) ⊎ (db.schema ≡ version_alone)
 
 -- the answer is yes where the claim holds, and there alone; nothing changed
-pub record Tells (yes : Bool) (claim : Type 0) (old new : State) : Type 0 where
+pub record TellsWhether (yes : Bool) (claim : Type 0) (old new : State) : Type 0 where
   pub only : IsTrue yes → claim
   pub all : claim → IsTrue yes
   pub same : IsUnchanged old new

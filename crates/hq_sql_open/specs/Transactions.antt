@@ -41,7 +41,7 @@ LeavesAlso old new trees = HasCleanDisk new → (db : Trees) → new.may_leave d
     ⊎ (db ≡ trees)
 
 -- What a call keeps that fails or answers no: what was committed; and what it keeps in any case.
-pub record KeepsOnErr {X : Type 0} (old new : State) (result : Result X Error) : Type 0 where
+pub record KeepsUnlessDone {X : Type 0} (old new : State) (result : Result X Error) : Type 0 where
   pub kept : HasCleanDisk new → OnErr result (KeepsCommit old new)
   -- what is clean now was clean
   pub quiet : IsQuiet old new
@@ -79,7 +79,7 @@ gone = SqliteFailure Closed
 
 -- What asking tells: a connection that answers is open, and one is gone where that is the error.
 -- Nothing is done.
-pub record Asks (old new : State) (result : Result ⊤ Error) : Type 0 where
+pub record Probes (old new : State) (result : Result ⊤ Error) : Type 0 where
   pub shown : HasCleanDisk new → OnOk result (IsUnchanged old new)
   pub shut : HasCleanDisk new → result ≡ Err gone → new.is_open ≡ false
   -- one in no transaction stays as it was

@@ -6,7 +6,7 @@ ghost use Rattle.sqlite.specs.Schema.{Schema};
 ghost use Rattle.sqlite.specs.State.{HasCleanDisk};
 ghost use Rattle.sqlite.specs.Table.{Table};
 ghost use Rattle.hq_keyed.specs.Left.{IsQuiet};
-ghost use Rattle.hq_keyed.specs.Made.{Makes};
+ghost use Rattle.hq_keyed.specs.Made.{CreatesTable};
 ghost use Rattle.hq_sql_open.specs.Making.{MakesTable, MakeTables, AreEmpty, HasMade};
 ghost use Rattle.hq_sql_open.specs.Transactions.{KeepsAll};
 
@@ -16,7 +16,7 @@ use sqlite::{Alter, Connection, Error};
 fn create<S: Alter>(conn: &mut Connection<S>, text: &str) -> Result<(), Error>
     ensures made { (s : Schema) → (table : Table) → MakesTable s text.now table
         → (state S.Store conn.old).now.schema ≡ s → HasCleanDisk (state S.Store conn.new)
-        → OnOk result (Makes (state S.Store conn.old) (state S.Store conn.new) s table) }
+        → OnOk result (CreatesTable (state S.Store conn.old) (state S.Store conn.new) s table) }
     ensures kept { (s : Schema) → (table : Table) → MakesTable s text.now table
         → (state S.Store conn.old).now.schema ≡ s → IsTrue (state S.Store conn.old).in_transaction
         → KeepsAll (state S.Store conn.old) (state S.Store conn.new) }

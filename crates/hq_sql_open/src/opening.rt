@@ -13,7 +13,7 @@ ghost use Rattle.hq_store.specs.Tables.{no_tables};
 ghost use Rattle.hq_sql.specs.Tables.{Leaves};
 ghost use Rattle.hq_sql_open.specs.Making.{MakeTables, AreEmpty};
 ghost use Rattle.hq_sql_open.specs.Opening.{IsVersioned, Opens, KeepsOpening, ShowVersions};
-ghost use Rattle.hq_sql_open.specs.Opening.{ShowsOne, HasVersions, Tells, KeepsReading};
+ghost use Rattle.hq_sql_open.specs.Opening.{ShowsOne, HasVersions, TellsWhether, KeepsReading};
 ghost use Rattle.hq_sql_open.specs.Transactions.{IsSettled, Commits, KeepsAll};
 
 use crate::create::create_all;
@@ -157,7 +157,7 @@ fn is_one(rows: &[Row]) -> bool
 pub fn is_current<S: Alter>(conn: &mut Connection<S>) -> Result<bool, Error>
     ensures found { HasCleanDisk (state S.Store conn.new)
         → HasVersions (state S.Store conn.old).now
-        → IfOk result (λ yes. Tells yes (IsVersioned (state S.Store conn.old).now)
+        → IfOk result (λ yes. TellsWhether yes (IsVersioned (state S.Store conn.old).now)
         (state S.Store conn.old) (state S.Store conn.new)) }
     ensures kept { KeepsReading (state S.Store conn.old) (state S.Store conn.new) result }
 {
@@ -175,7 +175,7 @@ fn are_none(rows: &[Row]) -> bool
 fn is_unversioned<S: Alter>(conn: &mut Connection<S>) -> Result<bool, Error>
     ensures found { HasCleanDisk (state S.Store conn.new)
         → HasVersions (state S.Store conn.old).now
-        → IfOk result (λ yes. Tells yes ((state S.Store conn.old).now.trees 0 ≡ [])
+        → IfOk result (λ yes. TellsWhether yes ((state S.Store conn.old).now.trees 0 ≡ [])
         (state S.Store conn.old) (state S.Store conn.new)) }
     ensures kept { KeepsReading (state S.Store conn.old) (state S.Store conn.new) result }
 {

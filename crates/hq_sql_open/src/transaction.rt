@@ -3,8 +3,8 @@
 ghost use Rattle.std.specs.Prelude.{OnOk};
 ghost use Rattle.sqlite.specs.Held.{state};
 ghost use Rattle.sqlite.specs.State.{HasCleanDisk};
-ghost use Rattle.hq_sql_open.specs.Transactions.{IsBegun, IsDone, KeepsOnErr, KeepsOrCommits};
-ghost use Rattle.hq_sql_open.specs.Transactions.{Undoes, Asks};
+ghost use Rattle.hq_sql_open.specs.Transactions.{IsBegun, IsDone, KeepsUnlessDone, KeepsOrCommits};
+ghost use Rattle.hq_sql_open.specs.Transactions.{Undoes, Probes};
 ghost use Rattle.hq_sql_open.specs.Standings.{Settles};
 
 use sqlite::{Alter, Connection, Error, ErrorCode};
@@ -24,7 +24,7 @@ pub enum Standing {
 pub fn begin<S: Alter>(conn: &mut Connection<S>) -> Result<(), Error>
     ensures begun { HasCleanDisk (state S.Store conn.new)
         → OnOk result (IsBegun (state S.Store conn.old) (state S.Store conn.new)) }
-    ensures kept { KeepsOnErr (state S.Store conn.old) (state S.Store conn.new) result }
+    ensures kept { KeepsUnlessDone (state S.Store conn.old) (state S.Store conn.new) result }
 {
     conn.execute("BEGIN", &[])?;
     Ok(())
@@ -52,7 +52,7 @@ fn roll_back<S: Alter>(conn: &mut Connection<S>)
 /// Asks whether the connection is open, by a statement that does nothing. It takes memory where the
 /// connection has not kept the statement from an earlier time.
 fn ask<S: Alter>(conn: &mut Connection<S>) -> Result<(), Error>
-    ensures { Asks (state S.Store conn.old) (state S.Store conn.new) result }
+    ensures { Probes (state S.Store conn.old) (state S.Store conn.new) result }
 {
     match conn.execute("", &[]) {
         Ok(_) => Ok(()),

@@ -22,13 +22,13 @@ use Rattle.hq_wire.specs.Exchanges.{Ask}
 use Rattle.hq_wire.specs.Replies.{SeenReply}
 use Rattle.hq_wire.specs.Runs.{AllReplied, Alone, Served}
 use Rattle.hq_wire.proofs.Serving.{all_replied}
-use Rattle.hq_lines.specs.Fields.{Request}
+use Rattle.hq_lines.specs.Fields.{LineRequest}
 use Rattle.hq_lines.specs.Lines.{Streams}
 use Rattle.hq_batch.specs.Batches.{ask_in}
 use Rattle.hq_program.specs.Runs.{ServesOver}
 use Rattle.hq_program.specs.declared.trouble.Trouble.{Trouble}
 use Rattle.hq_program.proofs.Ends.{run_ends_as}
-use Rattle.hq_sql_program.specs.Runs.{memory, FromEmpty, Serves, OpenedEnds, MemoryEnds}
+use Rattle.hq_sql_program.specs.Runs.{memory, FromEmpty, ServesFromEmpty, OpenedEnds, MemoryEnds}
 
 -- a store in memory is always open
 stands_in_memory : (standing : Standing) (c : Held MemStore) → Stands standing (state over_memory c)
@@ -67,8 +67,8 @@ from_empty settings shelf ours none old new named is asks replies p =
 
 serves : (settings : Settings) (shelf : SqlShelf MemStore) → IsOurs (state over_memory shelf.conn) →
     tables_in (state over_memory shelf.conn).committed ≡ no_tables
-    → (asked : List (Option Request)) (lines : List (List ℕ)) →
-    ServesOver memory settings shelf asked lines → Serves settings asked lines
+    → (asked : List (Option LineRequest)) (lines : List (List ℕ)) →
+    ServesOver memory settings shelf asked lines → ServesFromEmpty settings asked lines
 serves settings shelf ours none asked lines it = record {
   shelf = shelf;
   over = it;
@@ -83,6 +83,6 @@ pub memory_ends : (settings : Settings) (opened : Result (SqlShelf MemStore) Fau
     → OpenedEnds memory settings opened untouched old new result →
     MemoryEnds settings untouched old new result
 memory_ends settings (Ok shelf) untouched old new result ours none p =
-    inl (run_ends_as (ServesOver memory settings shelf) (Serves settings) untouched
+    inl (run_ends_as (ServesOver memory settings shelf) (ServesFromEmpty settings) untouched
     (serves settings shelf ours none) old new result p)
 memory_ends settings (Err fault) untouched old new result ours none p = inr (fault, p)

@@ -1,5 +1,5 @@
 -- What a batch of the program does over a store of `sqlite`, however it ends.
-use Rattle.std.specs.Prelude.{◌≡◌, ◌⊎◌, ⊤, ℕ, false, List, map, Option, Some, None, Result, Ok, Err}
+use Rattle.std.specs.Prelude.{◌≡◌, ⊤, ℕ, false, List, map, Option, Result, Err}
 use Rattle.sqlite.specs.Held.{state}
 use Rattle.sqlite.specs.Steps.{over_memory}
 use Rattle.sqlite_trees.specs.declared.memory.MemStore.{MemStore}
@@ -7,7 +7,7 @@ use Rattle.hq_base.specs.declared.failure.Fail.TheVariants.{Fault as AsFault}
 use Rattle.hq_base.specs.declared.failure.Fault.{Fault}
 use Rattle.hq_store.specs.Shelves.{Sight}
 use Rattle.hq_store.specs.Tables.{no_tables}
-use Rattle.hq_sql_file.specs.Opened.{OverFile}
+use Rattle.hq_sql_file.specs.Opened.{OverOpened, OverMemory, OverStore}
 use Rattle.hq_sql_shelf.specs.Shelf.{sight_over}
 use Rattle.hq_sql_shelf.specs.declared.shelf.SqlShelf.{SqlShelf}
 use Rattle.hq_desk.specs.Desks.{on}
@@ -16,7 +16,7 @@ use Rattle.hq_settings.specs.declared.settings.Settings.{Settings}
 use Rattle.hq_wire.specs.Exchanges.{Ask}
 use Rattle.hq_wire.specs.Replies.{SeenReply}
 use Rattle.hq_wire.specs.Runs.{AllReplied, Alone}
-use Rattle.hq_lines.specs.Fields.{Request}
+use Rattle.hq_lines.specs.Fields.{LineRequest}
 use Rattle.hq_lines.specs.Lines.{Streams}
 use Rattle.hq_batch.specs.Batches.{ask_in}
 use Rattle.hq_program.specs.Runs.{ServesOver, RunEnds}
@@ -31,9 +31,9 @@ IsUnopened untouched fault result = untouched × (result ≡ Err (OfDesk (AsFaul
 -- there is none.
 abbrev pub OpenedEnds : {S : Type 0} → Sight S → Settings → Result S Fault → Type 0 → Streams →
     Streams → Result ⊤ Trouble → Type 0
-OpenedEnds sight settings (Ok shelf) untouched old new result =
-    RunEnds (ServesOver sight settings shelf) untouched old new result
-OpenedEnds sight settings (Err fault) untouched old new result = IsUnopened untouched fault result
+OpenedEnds sight settings opened untouched old new result = OverOpened
+    (λ shelf. RunEnds (ServesOver sight settings shelf) untouched old new result)
+    (λ fault. IsUnopened untouched fault result) opened
 
 -- ---- in memory
 
@@ -52,23 +52,22 @@ pub record FromEmpty (settings : Settings) (asks : List Ask) (replies : List See
 
 -- Lines are replied to as a batch of these customers over a shelf in memory, which began with empty
 -- tables.
-pub record Serves (settings : Settings) (asked : List (Option Request)) (lines : List (List ℕ))
-    : Type 0 where
+pub record ServesFromEmpty (settings : Settings) (asked : List (Option LineRequest))
+    (lines : List (List ℕ)) : Type 0 where
   pub shelf : SqlShelf MemStore
   pub over : ServesOver memory settings shelf asked lines
   pub from_empty : FromEmpty settings (map (ask_in settings.directory) asked) over.replied.0
       over.new
 
 abbrev pub MemoryEnds : Settings → Type 0 → Streams → Streams → Result ⊤ Trouble → Type 0
-MemoryEnds settings untouched old new result =
-    RunEnds (Serves settings) untouched old new result
-    ⊎ ((fault : Fault) × IsUnopened untouched fault result)
+MemoryEnds settings untouched old new result = OverMemory
+    (RunEnds (ServesFromEmpty settings) untouched old new result)
+    (λ fault. IsUnopened untouched fault result)
 
 -- ---- in memory, or in the file of a path
 
 abbrev pub StoreEnds : {S : Type 0} → Sight S → Option (List ℕ) → Settings → Type 0 → Streams →
     Streams → Result ⊤ Trouble → Type 0
-StoreEnds sight None settings untouched old new result =
-    MemoryEnds settings untouched old new result
-StoreEnds sight (Some path) settings untouched old new result =
-    OverFile sight (λ opened. OpenedEnds sight settings opened untouched old new result)
+StoreEnds sight path settings untouched old new result = OverStore sight path
+    (MemoryEnds settings untouched old new result)
+    (λ opened. OpenedEnds sight settings opened untouched old new result)

@@ -18,7 +18,8 @@ use Rattle.hq_sql.specs.Tables.{IsDesk, tables_in}
 use Rattle.hq_sql.proofs.Statements.{lists_entries}
 use Rattle.hq_sql_holds.proofs.OnHolds.{holds_table}
 use Rattle.hq_sql_recipients.proofs.OnRecipients.{recipients_table}
-use Rattle.hq_sql_queue.specs.Dealt.{is_within, is_between}
+use Rattle.hq_queue.specs.Limits.{is_within}
+use Rattle.hq_sql_queue.specs.Dealt.{is_between}
 use Rattle.hq_sql_queue.specs.Giving.{hold_serial}
 use Rattle.hq_sql_queue.proofs.Texts as text
 

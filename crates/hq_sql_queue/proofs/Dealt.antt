@@ -1,10 +1,10 @@
 -- Recipients dealt to the messages of a page: what all rows give to each, and that this is its own.
 use Rattle.std.proofs.Common.{◌≡◌, ◌≢◌, inl, inr, ℕ, zero, suc, ◌+◌, ◌-◌, ◌<◌, ◌≤◌, Bool, true}
 use Rattle.std.proofs.Common.{false, cond, List, [], ◌∷◌, ◌++◌, map, filter, take, length, get_or}
-use Rattle.std.proofs.Common.{set, append-nil, append_assoc, Option, Some, None, slice_get}
+use Rattle.std.proofs.Common.{append-nil, append_assoc, Option, Some, None, slice_get}
 use Rattle.std.proofs.Common.{option_map, refl, sym, ap, ◌∙◌, subst, arith, nat_cmp, Ordering, Less}
 use Rattle.std.proofs.Common.{Equal, Greater}
-use Rattle.std.specs.Prelude.{◌==◌, unwrap_or}
+use Rattle.std.specs.Prelude.{◌==◌}
 use Rattle.std.specs.List.{AllByRecursion, FoldsTo}
 use Rattle.std.specs.Ordering.{eq_by_cmp, ordering_then}
 use Rattle.std.specs.Cmp.{ranked}
@@ -18,9 +18,10 @@ use Rattle.std.proofs.lemmas.Option.{slice_get-get_or}
 use Rattle.sqlite.specs.Order.{Row}
 use Rattle.sqlite_trees.specs.Tree.{IsAscending}
 use Rattle.sqlite_keyed.proofs.ListLemmas.{map-map, map_same, filter-map, filter-filter}
-use Rattle.sqlite_keyed.proofs.ListLemmas.{filter_same, all_weaker, all_unmap, all-slice_get}
+use Rattle.sqlite_keyed.proofs.ListLemmas.{filter_same, all_weaker, all_unmap}
 use Rattle.sqlite_keyed.proofs.ListLemmas.{ascending-map, ascending-filter, ascending_weaker}
 use Rattle.sqlite_keyed.proofs.ListLemmas.{ascending_from_map}
+use Rattle.hq_queue.specs.Limits.{is_within}
 use Rattle.hq_queue.specs.declared.message.Message.{Message}
 use Rattle.hq_queue.specs.declared.message.Pending.{Pending}
 use Rattle.hq_owned.specs.Rows.{pairs_of}
@@ -38,8 +39,9 @@ use Rattle.hq_sql_recipients.specs.Places.{is_of}
 use Rattle.hq_sql_messages.specs.Messages.{is_on_page, bare_entry}
 use Rattle.hq_sql_queue.proofs.Lists.{same_some, none_is, all_from_get, ascending_taken}
 use Rattle.hq_sql_queue.proofs.Lists.{map_same_on, unmoved, none_after, rises_at, map_at_place}
-use Rattle.hq_sql_queue.specs.Dealt.{is_within, is_between, serials_of, Rise, with_dealt, serial_in}
-use Rattle.hq_sql_queue.specs.Dealt.{recipient_in, dealt_one, at_place, IsPlaceFrom, Deals, Spans}
+use Rattle.hq_sql_queue.specs.Dealt.{is_between, serials_of, Rise, with_dealt}
+use Rattle.hq_sql_queue.specs.Dealt.{row_serial}
+use Rattle.hq_sql_queue.specs.Dealt.{recipient_in, dealt_one, IsPlaceFrom, Deals, Spans}
 use Rattle.hq_sql_recipients.proofs.InPlace.{Recipients}
 use Rattle.hq_sql_recipients.proofs.OnRecipients.{pending_is}
 
@@ -101,18 +103,18 @@ another serial p m apart = ap (λ b. cond b (record m { pending = m.pending ++ p
 
 module _ (before : List Message) (from : ℕ) (r : Row) (after : List Message) (place : ℕ)
     (rise : Rise (serials_of before)) (deals : Deals before from r after place) (below : (k n : ℕ) →
-    k < from → slice_get (serials_of before) k ≡ Some n → n < serial_in r) where
+    k < from → slice_get (serials_of before) k ≡ Some n → n < row_serial r) where
   -- what stands before the place is below the row's serial
-  below_place : (k n : ℕ) → k < place → slice_get (serials_of before) k ≡ Some n → n < serial_in r
+  below_place : (k n : ℕ) → k < place → slice_get (serials_of before) k ≡ Some n → n < row_serial r
   below_place k n less e = elim (cases_lt k from) [
     | inl early ↦ below k n early e
     | inr late ↦ deals.place_is.passed k n late less e
   ]
 
-  above_place : (k n : ℕ) → place < k → slice_get (serials_of before) k ≡ Some n → serial_in r < n
+  above_place : (k n : ℕ) → place < k → slice_get (serials_of before) k ≡ Some n → row_serial r < n
   above_place k n less e = go (slice_get (serials_of before) place) refl
     where
-      go : (o : Option ℕ) → slice_get (serials_of before) place ≡ o → serial_in r < n
+      go : (o : Option ℕ) → slice_get (serials_of before) place ≡ o → row_serial r < n
       go None none = absurd (none_after (serials_of before) place k n less none e)
       go (Some m) some =
           let least = deals.place_is.there m some in
@@ -120,23 +122,23 @@ module _ (before : List Message) (from : ℕ) (r : Row) (after : List Message) (
           omega arith
 
   others : (k : ℕ) (m : Message) → k ≢ place → slice_get before k ≡ Some m →
-      dealt_one (serial_in r) (recipient_in r) m ≡ m
+      dealt_one (row_serial r) (recipient_in r) m ≡ m
   others k m apart e =
       let at : slice_get (serials_of before) k ≡ Some m.serial =
       slice_get-map (λ (x : Message). x.serial) before k
       ∙ ap (option_map (λ (x : Message). x.serial)) e in
       elim (cases_lt k place) [
-        | inl early ↦ another (serial_in r) (recipient_in r) m
-            (below_test m.serial (serial_in r) (below_place k m.serial early at))
-        | inr late ↦ another (serial_in r) (recipient_in r) m
-            (above_test m.serial (serial_in r) (above_place k m.serial (later late) at))
+        | inl early ↦ another (row_serial r) (recipient_in r) m
+            (below_test m.serial (row_serial r) (below_place k m.serial early at))
+        | inr late ↦ another (row_serial r) (recipient_in r) m
+            (above_test m.serial (row_serial r) (above_place k m.serial (later late) at))
       ]
     where
       later : place ≤ k → place < k
       later late = omega (arith, apart)
 
-  dealt_to : after ≡ map (dealt_one (serial_in r) (recipient_in r)) before
-  dealt_to = deals.dealt ∙ map_at_place (dealt_one (serial_in r) (recipient_in r)) before place
+  dealt_to : after ≡ map (dealt_one (row_serial r) (recipient_in r)) before
+  dealt_to = deals.dealt ∙ map_at_place (dealt_one (row_serial r) (recipient_in r)) before place
       others
 
 -- ---- all rows
@@ -145,14 +147,14 @@ module _ (before : List Message) (from : ℕ) (r : Row) (after : List Message) (
 abbrev gets : List Row → Message → Message
 gets rows m = record m {
   pending = m.pending
-      ++ map recipient_in (filter (λ r. m.serial == serial_in r) rows);
+      ++ map recipient_in (filter (λ r. m.serial == row_serial r) rows);
 }
 
 gets_both : (r : Row) (rows : List Row) (m : Message) →
-    gets rows (dealt_one (serial_in r) (recipient_in r) m) ≡ gets (r ∷ rows) m
+    gets rows (dealt_one (row_serial r) (recipient_in r) m) ≡ gets (r ∷ rows) m
 gets_both r rows m =
-    let more = filter (λ x. m.serial == serial_in x) rows in
-    elim (m.serial == serial_in r) as (λ b. gets rows
+    let more = filter (λ x. m.serial == row_serial x) rows in
+    elim (m.serial == row_serial r) as (λ b. gets rows
     (cond b (record m { pending = m.pending ++ recipient_in r ∷ [] }) m) ≡ record m {
       pending = m.pending ++ map recipient_in (cond b (r ∷ more) more);
     }) [
@@ -167,9 +169,9 @@ gets_none m = λ i. record m { pending = sym (append-nil m.pending) i }
 
 module _ {T : Type 0} (page : T → List Message) (place : T → ℕ) where
   pub dealt_all : (rows : List Row) (p q : T) → Rise (serials_of (page p)) →
-      IsAscending (λ a b. serial_in a ≤ serial_in b) rows
+      IsAscending (λ a b. row_serial a ≤ row_serial b) rows
       → ((k n : ℕ) → k < place p → slice_get (serials_of (page p)) k ≡ Some n →
-      AllByRecursion (λ r. n < serial_in r) rows)
+      AllByRecursion (λ r. n < row_serial r) rows)
       → FoldsTo (λ p r q. Deals (page p) (place p) r (page q) (place q)) p rows q →
       page q ≡ map (gets rows) (page p)
   dealt_all [] p q rise sorted below h = ap page (sym h)
@@ -177,17 +179,19 @@ module _ {T : Type 0} (page : T → List Message) (place : T → ℕ) where
   dealt_all (r ∷ rows) p q rise sorted below h =
       let first = λ (k n : ℕ) (less : k < place p) (e : slice_get (serials_of (page p)) k ≡ Some n).
       (below k n less e).0 in
-      let give = dealt_one (serial_in r) (recipient_in r) in
+      let give = dealt_one (row_serial r) (recipient_in r) in
       let to = dealt_to (page p) (place p) r (page h.0) (place h.0) rise h.1 first in
       let same : serials_of (page h.0) ≡ serials_of (page p) = ap serials_of to
       ∙ map-map (λ (m : Message). m.serial) give (page p)
       ∙ map_same (λ m. (give m).serial) (λ (m : Message). m.serial)
-      (keeps_serial (serial_in r) (recipient_in r)) (page p) in
+      (keeps_serial (row_serial r) (recipient_in r)) (page p) in
       dealt_all rows h.0 q (subst Rise (sym same) rise) sorted.1
       (λ k n less e.
-      let least : n < serial_in r = below_place (page p) (place p) r (page h.0) (place h.0) rise h.1
+      let least : n < row_serial r = below_place (page p) (place p) r (page h.0) (place h.0) rise
+      h.1
       first k n less (ap (λ ns. slice_get ns k) (sym same) ∙ e) in
-      all_weaker (λ x. serial_in r ≤ serial_in x) (λ x. n < serial_in x) (λ x up. omega arith) rows
+      all_weaker (λ x. row_serial r ≤ row_serial x) (λ x. n < row_serial x) (λ x up. omega arith)
+      rows
       sorted.0)
       h.2
       ∙ ap (map (gets rows)) to ∙ map-map (gets rows) give (page p)
@@ -205,7 +209,7 @@ abbrev own : Entry → Own
 own e = (e.0.1, e.1)
 
 abbrev view : Row → Own
-view r = ((serial_in r, (recipient_shown r).place), recipient_in r)
+view r = ((row_serial r, (recipient_shown r).place), recipient_in r)
 
 lower : (x y : ℕ × ℕ) → by_both nat_cmp nat_cmp x y ≡ Less → x.0 ≤ y.0
 lower x y h = go (nat_cmp x.0 y.0) refl h
@@ -234,7 +238,7 @@ module _ (c : List ℕ) (low high : ℕ) (rs : Recipients) (rows : List Row)
       recipient_shown rows) ∙ seen)
       ∙ owned text_cmp inside c (entries rs)
 
-  pub in_order : IsAscending (λ a b. serial_in a ≤ serial_in b) rows
+  pub in_order : IsAscending (λ a b. row_serial a ≤ row_serial b) rows
   in_order =
       let R : Own → Own → Type 0 = λ a b. by_both nat_cmp nat_cmp a.0 b.0 ≡ Less in
       let S : Own → Own → Type 0 = λ a b. a.0.0 ≤ b.0.0 in
@@ -246,7 +250,7 @@ module _ (c : List ℕ) (low high : ℕ) (rs : Recipients) (rows : List Row)
       (ascending_weaker R S (λ a b h. lower a.0 b.0 h) (filter inside all) sorted))
 
   own_recipients : (serial : ℕ) → is_within low high serial ≡ true →
-      map recipient_in (filter (λ r. serial == serial_in r) rows) ≡ pending_of c serial rs
+      map recipient_in (filter (λ r. serial == row_serial r) rows) ≡ pending_of c serial rs
   own_recipients serial within =
       let value : Own → Pending = λ e. e.1 in
       let mine : Own → Bool = λ e. serial == e.0.0 in

@@ -7,13 +7,14 @@ use Rattle.std.specs.List.{FoldsTo}
 use Rattle.std.specs.FinMap.{entries, get}
 use Rattle.sqlite.specs.Order.{Row}
 use Rattle.sqlite_keyed.proofs.ListLemmas.{map-map}
+use Rattle.hq_queue.specs.Limits.{is_within}
 use Rattle.hq_queue.specs.declared.message.Message.{Message}
 use Rattle.hq_store.specs.Tables as store
 use Rattle.hq_store.specs.Tables.{Tables, text_cmp, joined, message_of, pending_of, reason_of}
 use Rattle.hq_rows.specs.Listed.{hold_value}
 use Rattle.hq_sql.specs.Rows.{hold_shown}
-use Rattle.hq_sql_queue.specs.Dealt.{is_within, serials_of, Rise, Spans, with_dealt}
-use Rattle.hq_sql_queue.specs.Giving.{Gives, put_reason, hold_serial, give_reason, with_held}
+use Rattle.hq_sql_queue.specs.Dealt.{serials_of, Rise, Spans, with_dealt}
+use Rattle.hq_sql_queue.specs.Giving.{Gives, put_reason, hold_serial, give_row_reason, with_held}
 use Rattle.hq_sql_queue.specs.Giving.{with_parts, first_given}
 use Rattle.hq_sql_messages.specs.Messages.{bare_entry}
 use Rattle.hq_sql_queue.proofs.Between.{Entry}
@@ -25,7 +26,7 @@ pub page_held : {T : Type 0} (page : T → List Message) (place : T → ℕ) (c 
     → Rise (serials_of (page p)) → Spans (page p) low high → place p ≡ 0
     → map (λ r. (((hold_shown r).customer, hold_serial r), hold_value (hold_shown r))) rows ≡ filter
     (λ (e : Entry). eq_by_cmp text_cmp c e.0.0 && is_within low high e.0.1) (entries t.holds)
-    → FoldsTo (λ p r q. Gives hold_serial give_reason (page p) (place p) r (page q) (place q)) p
+    → FoldsTo (λ p r q. Gives hold_serial give_row_reason (page p) (place p) r (page q) (place q)) p
     rows q → page q ≡ map (with_held c t) (page p)
 page_held page place c t low high rows p q rise spans start seen h =
     page_given (λ r. (hold_shown r).customer) hold_serial (λ r. hold_value (hold_shown r))

@@ -2,18 +2,17 @@
 use Rattle.std.proofs.Common.{◌≡◌, ℕ, true, List, [], ◌∷◌, map, filter, take, slice_get, option_map}
 use Rattle.std.proofs.Common.{Option, Some, None, Result, Ok, IfOk, refl, sym, ap, ◌∙◌, subst}
 use Rattle.std.specs.Ordering.{eq_by_cmp}
-use Rattle.std.specs.FinMap.{get, entries}
+use Rattle.std.specs.FinMap.{entries}
 use Rattle.std.specs.Prelude.{nat_lt}
 use Rattle.std.proofs.lemmas.List.{take-map}
 use Rattle.std.proofs.lemmas.Option.{slice_get-map}
-use Rattle.std.proofs.lemmas.Result.{on_ok_weaker, on_err_weaker}
 use Rattle.sqlite.specs.declared.error.Error.{Error}
 use Rattle.sqlite.specs.Order as sqlite
 use Rattle.sqlite.specs.State.{State, HasCleanDisk, IsUnchanged}
 use Rattle.sqlite_keyed.proofs.ListLemmas.{map-map, map_same, filter-map, slice_get-filter}
 use Rattle.sqlite_keyed.proofs.ListLemmas.{first_taken}
-use Rattle.hq_keyed.proofs.Left.{clean_before, quiet_then, keeps_then, unchanged_keeps}
-use Rattle.hq_keyed.proofs.Select.{option_map-map, find-map}
+use Rattle.hq_keyed.proofs.Left.{clean_before}
+use Rattle.hq_keyed.proofs.Select.{find-map}
 use Rattle.hq_queue.specs.declared.message.Message.{Message}
 use Rattle.hq_owned.specs.Owned.{rows_of}
 use Rattle.hq_owned.proofs.OwnedPages.{owned}
@@ -22,7 +21,7 @@ use Rattle.hq_store.specs.Tables.{Tables, Row, text_cmp, joined}
 use Rattle.hq_rows.specs.Listed.{message_key, message_value}
 use Rattle.hq_rows.specs.Lookups.{is_after}
 use Rattle.hq_store.specs.Readings.{read_tables, page_of, after_serial}
-use Rattle.hq_sql.specs.Kept.{Keeps}
+use Rattle.hq_sql.specs.Kept.{Intact}
 use Rattle.hq_sql.specs.Rows.{message_shown}
 use Rattle.hq_sql.specs.Tables.{IsDesk, tables_in}
 use Rattle.hq_sql_messages.specs.Messages.{is_on_page, has_spool_name, bare_entry}
@@ -100,18 +99,6 @@ spool_whole c t p rows h =
     ∙ sym (find-map (λ (m : Message). eq_by_cmp text_cmp p m.spool) (whole_own c t)
     (rows_of text_cmp c es))
 
--- the row at a serial, with its recipients
-pub message_whole : (c : List ℕ) (t : Tables) (serial : ℕ) (rows : List sqlite.Row) →
-    option_map (λ r. message_value (message_shown r)) (slice_get rows 0) ≡ get t.messages (
-      c,
-      serial,
-    )
-    → option_map (λ r. joined c t.recipients t.holds serial (message_value (message_shown r)))
-    (slice_get rows 0) ≡ (read_tables c t).message serial
-message_whole c t serial rows h = sym
-    (option_map-map (joined c t.recipients t.holds serial) (λ r. message_value (message_shown r))
-    (slice_get rows 0)) ∙ ap (option_map (joined c t.recipients t.holds serial)) h
-
 -- ---- reads one after another
 
 unchanged_then : (a b c : State) → IsUnchanged a b → IsUnchanged b c → IsUnchanged a c
@@ -128,25 +115,11 @@ unchanged_then a b c p q = (
 )
 
 -- a query that was answered, and another read after it
-module _ {X Y : Type 0} (a b c : State) (x : X) (r : Result Y Error) (first : Keeps a b (Ok x))
-    (second : Keeps b c r) where
+module _ {X Y : Type 0} (a b c : State) (x : X) (r : Result Y Error) (first : Intact a b (Ok x))
+    (second : Intact b c r) where
   desk_there : HasCleanDisk c → IsDesk a.now → IsDesk b.now
   desk_there clean desk = subst IsDesk
       (sym (first.same (clean_before b c second.quiet clean) desk).0.now_is) desk
-
-  pub keeps_both : Keeps a c r
-  keeps_both = record {
-    same = λ clean desk. on_ok_weaker r
-        (unchanged_then a b c (first.same (clean_before b c second.quiet clean) desk))
-        (second.same clean (desk_there clean desk));
-    kept = λ clean desk. on_err_weaker r
-        (keeps_then a b c (unchanged_keeps a b
-        (first.same (clean_before b c second.quiet clean) desk)))
-        (second.kept clean (desk_there clean desk));
-    quiet = quiet_then a b c first.quiet second.quiet;
-    stops = λ desk clean db may. first.stops desk (clean_before b c second.quiet clean) db
-        (second.stops (desk_there clean desk) clean db may);
-  }
 
   -- what the other read finds is of the tables before both
   pub finds_both : {Z : Type 0} (f : Tables → Z) (g : Y → Z) →

@@ -1,10 +1,11 @@
 -- Recipients dealt to the messages of a page as their rows come.
 -- Inner: it serves proofs alone, and no promise rests on it.
-use Rattle.std.specs.Prelude.{◌≡◌, ℕ, zero, suc, ◌-◌, ◌<◌, ◌≤◌, length, Bool, ◌==◌, ◌&&◌, nat_le}
+use Rattle.std.specs.Prelude.{◌≡◌, ℕ, zero, suc, ◌-◌, ◌<◌, ◌≤◌, length, Bool, ◌==◌, ◌&&◌}
 use Rattle.std.specs.Prelude.{List, [], ◌∷◌, ◌++◌, map, Some, slice_get, if◌then◌else◌}
 use Rattle.std.specs.Ordering.{eq_by_cmp}
 use Rattle.sqlite.specs.Order.{Row}
 use Rattle.sqlite_trees.specs.Tree.{IsAscending}
+use Rattle.hq_queue.specs.Limits.{is_within}
 use Rattle.hq_queue.specs.declared.message.Message.{Message}
 use Rattle.hq_queue.specs.declared.message.Pending.{Pending}
 use Rattle.hq_rows.specs.Listed.{recipient_value}
@@ -12,9 +13,6 @@ use Rattle.hq_store.specs.Tables.{Tables, text_cmp, pending_of}
 use Rattle.hq_sql.specs.Rows.{recipient_shown}
 
 -- ---- the rows of all messages of a page
-
-abbrev pub is_within : ℕ → ℕ → ℕ → Bool
-is_within low high serial = nat_le low serial && nat_le serial high
 
 -- a recipient of the customer's messages from one serial to another
 abbrev pub is_between : List ℕ → ℕ → ℕ → (List ℕ × (ℕ × ℕ)) × Pending → Bool
@@ -43,8 +41,8 @@ with_dealt customer t m = record m {
 
 -- ---- one row
 
-abbrev pub serial_in : Row → ℕ
-serial_in r = (recipient_shown r).serial
+abbrev pub row_serial : Row → ℕ
+row_serial r = (recipient_shown r).serial
 
 abbrev pub recipient_in : Row → Pending
 recipient_in r = recipient_value (recipient_shown r)
@@ -66,7 +64,7 @@ pub record IsPlaceFrom (serials : List ℕ) (from serial place : ℕ) : Type 0 w
   pub there : (n : ℕ) → slice_get serials place ≡ Some n → serial ≤ n
 
 -- a row's recipient is dealt to its message, sought from the place of the last one on
-pub record Deals (before : List Message) (from : ℕ) (r : Row) (after : List Message) (place : ℕ)
-    : Type 0 where
-  pub place_is : IsPlaceFrom (serials_of before) from (serial_in r) place
-  pub dealt : after ≡ at_place (dealt_one (serial_in r) (recipient_in r)) before place
+pub record Deals (before : List Message) (from : ℕ) (r : Row) (after : List Message) (place : ℕ) :
+    Type 0 where
+  pub place_is : IsPlaceFrom (serials_of before) from (row_serial r) place
+  pub dealt : after ≡ at_place (dealt_one (row_serial r) (recipient_in r)) before place

@@ -32,8 +32,8 @@ put_reason reason m = record m { reason = reason }
 abbrev pub hold_serial : Row → ℕ
 hold_serial r = (hold_shown r).serial
 
-abbrev pub give_reason : Row → Message → Message
-give_reason r = put_reason (hold_value (hold_shown r))
+abbrev pub give_row_reason : Row → Message → Message
+give_row_reason r = put_reason (hold_value (hold_shown r))
 
 -- the message with its reason, where there is one
 abbrev pub with_held : List ℕ → Tables → Message → Message

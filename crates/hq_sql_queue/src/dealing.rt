@@ -3,7 +3,7 @@
 
 ghost use Rattle.std.specs.Prelude.{◌≡◌, OnOk, IfSome, None, map, length};
 ghost use Rattle.sqlite.specs.Held.{state};
-ghost use Rattle.hq_sql.specs.Kept.{Shows, Keeps};
+ghost use Rattle.hq_sql.specs.Kept.{Shows, Intact};
 ghost use Rattle.hq_sql_queue.specs.Dealt.{serials_of, Rise, with_dealt, dealt_one, at_place};
 ghost use Rattle.hq_sql_queue.specs.Dealt.{IsPlaceFrom, Deals, Spans};
 
@@ -110,7 +110,7 @@ pub(crate) fn all<S: Alter>(
     ensures found { Spans page.items low high → Rise (serials_of page.items)
         → Shows (state S.Store conn.old) (state S.Store conn.new) result
         (λ dealt. dealt.items) (λ t. map (with_dealt customer.now t) page.items) }
-    ensures kept { Keeps (state S.Store conn.old) (state S.Store conn.new) result }
+    ensures kept { Intact (state S.Store conn.old) (state S.Store conn.new) result }
 {
     let params = bind::between(customer, low, high);
     let dealing = Dealing {

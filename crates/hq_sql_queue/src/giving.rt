@@ -3,9 +3,10 @@
 
 ghost use Rattle.std.specs.Prelude.{◌≡◌, map};
 ghost use Rattle.sqlite.specs.Held.{state};
-ghost use Rattle.hq_sql.specs.Kept.{Shows, Keeps};
+ghost use Rattle.hq_sql.specs.Kept.{Shows, Intact};
 ghost use Rattle.hq_sql_queue.specs.Dealt.{serials_of, Rise, at_place, Spans};
-ghost use Rattle.hq_sql_queue.specs.Giving.{Gives, given_one, put_reason, hold_serial, give_reason};
+ghost use Rattle.hq_sql_queue.specs.Giving.{Gives, given_one, put_reason, hold_serial};
+ghost use Rattle.hq_sql_queue.specs.Giving.{give_row_reason};
 ghost use Rattle.hq_sql_queue.specs.Giving.{with_held};
 
 use crate::dealing::place_from;
@@ -46,7 +47,7 @@ fn give_at(page: &mut Vec<Message>, place: usize, serial: u64, reason: Text)
 }
 
 impl Taker for Giving {
-    ghost takes = { λ before row after. Gives hold_serial give_reason
+    ghost takes = { λ before row after. Gives hold_serial give_row_reason
         before.page.items before.place row after.page.items after.place };
 
     fn take(&mut self, row: &Row) -> Result<(), Error> {
@@ -71,7 +72,7 @@ pub(crate) fn reasons<S: Alter>(
     ensures found { Spans page.items low high → Rise (serials_of page.items)
         → Shows (state S.Store conn.old) (state S.Store conn.new) result
         (λ given. given.items) (λ t. map (with_held customer.now t) page.items) }
-    ensures kept { Keeps (state S.Store conn.old) (state S.Store conn.new) result }
+    ensures kept { Intact (state S.Store conn.old) (state S.Store conn.new) result }
 {
     let params = bind::between(customer, low, high);
     let giving = Giving {

@@ -6,7 +6,7 @@ ghost use Rattle.hq_store.specs.Tables.{joined, pending_of, reason_of};
 ghost use Rattle.hq_rows.specs.Listed.{message_value};
 ghost use Rattle.hq_store.specs.Readings.{read_tables, page_of};
 ghost use Rattle.hq_sql.specs.Rows.{message_shown};
-ghost use Rattle.hq_sql.specs.Kept.{Finds, Shows, Keeps};
+ghost use Rattle.hq_sql.specs.Kept.{Yields, Shows, Intact};
 ghost use Rattle.hq_sql_queue.specs.Queued.{whole};
 ghost use Rattle.hq_sql_queue.specs.Dealt.{Spans, Rise, serials_of};
 ghost use Rattle.hq_sql_queue.specs.Giving.{with_parts};
@@ -27,12 +27,12 @@ fn parts<S: Alter>(
     customer: &Name,
     serial: Serial,
 ) -> Result<(Items<Pending>, Text), Error>
-    ensures found { Finds (state S.Store conn.old) (state S.Store conn.new) result
+    ensures found { Yields (state S.Store conn.old) (state S.Store conn.new) result
         (λ t. (
           pending_of customer.now serial t.recipients,
           reason_of customer.now serial t.holds,
         )) }
-    ensures kept { Keeps (state S.Store conn.old) (state S.Store conn.new) result }
+    ensures kept { Intact (state S.Store conn.old) (state S.Store conn.new) result }
 {
     let pending = recipients::pending(alloc, conn, customer, serial)?;
     let reason = holds::reason(alloc, conn, customer, serial)?;
@@ -48,10 +48,10 @@ fn joined<S: Alter>(
     serial: Serial,
     row: &Row,
 ) -> Result<Message, Error>
-    ensures found { Finds (state S.Store conn.old) (state S.Store conn.new) result
+    ensures found { Yields (state S.Store conn.old) (state S.Store conn.new) result
         (λ t. joined customer.now t.recipients t.holds serial
         (message_value (message_shown row.now))) }
-    ensures kept { Keeps (state S.Store conn.old) (state S.Store conn.new) result }
+    ensures kept { Intact (state S.Store conn.old) (state S.Store conn.new) result }
 {
     let (pending, reason) = parts(alloc, conn, customer, serial)?;
     decode::message(alloc, row, serial, reason, pending)
@@ -64,9 +64,9 @@ fn whole<S: Alter>(
     customer: &Name,
     row: &Row,
 ) -> Result<Message, Error>
-    ensures found { Finds (state S.Store conn.old) (state S.Store conn.new) result
+    ensures found { Yields (state S.Store conn.old) (state S.Store conn.new) result
         (λ t. whole customer.now t row.now) }
-    ensures kept { Keeps (state S.Store conn.old) (state S.Store conn.new) result }
+    ensures kept { Intact (state S.Store conn.old) (state S.Store conn.new) result }
 {
     let serial = decode::serial(row)?;
     let message = joined(alloc, conn, customer, serial, row)?;
@@ -80,9 +80,9 @@ pub fn message<S: Alter>(
     customer: &Name,
     serial: Serial,
 ) -> Result<Option<Message>, Error>
-    ensures found { Finds (state S.Store conn.old) (state S.Store conn.new) result
+    ensures found { Yields (state S.Store conn.old) (state S.Store conn.new) result
         (λ t. (read_tables customer.now t).message serial) }
-    ensures kept { Keeps (state S.Store conn.old) (state S.Store conn.new) result }
+    ensures kept { Intact (state S.Store conn.old) (state S.Store conn.new) result }
 {
     let rows = messages::query(conn, customer, serial)?;
     match rows.as_slice().first() {
@@ -102,9 +102,9 @@ pub fn by_spool<S: Alter>(
     customer: &Name,
     spool: &Spool,
 ) -> Result<Option<Message>, Error>
-    ensures found { Finds (state S.Store conn.old) (state S.Store conn.new) result
+    ensures found { Yields (state S.Store conn.old) (state S.Store conn.new) result
         (λ t. (read_tables customer.now t).by_spool spool.now) }
-    ensures kept { Keeps (state S.Store conn.old) (state S.Store conn.new) result }
+    ensures kept { Intact (state S.Store conn.old) (state S.Store conn.new) result }
 {
     let rows = messages::query_by_spool(conn, customer, spool)?;
     match rows.as_slice().first() {
@@ -129,7 +129,7 @@ fn filled<S: Alter>(
     ensures found { Spans page.items low high → Rise (serials_of page.items)
         → Shows (state S.Store conn.old) (state S.Store conn.new) result
         (λ filled. filled.items) (λ t. map (with_parts customer.now t) page.items) }
-    ensures kept { Keeps (state S.Store conn.old) (state S.Store conn.new) result }
+    ensures kept { Intact (state S.Store conn.old) (state S.Store conn.new) result }
 {
     let dealt = dealing::all(alloc, conn, customer, low, high, page)?;
     let given = giving::reasons(alloc, conn, customer, low, high, dealt)?;
@@ -147,9 +147,9 @@ pub fn page<S: Alter>(
     after: Option<Serial>,
     limit: usize,
 ) -> Result<Items<Message>, Error>
-    ensures found { Finds (state S.Store conn.old) (state S.Store conn.new) result
+    ensures found { Yields (state S.Store conn.old) (state S.Store conn.new) result
         (λ t. page_of after limit (read_tables customer.now t).messages) }
-    ensures kept { Keeps (state S.Store conn.old) (state S.Store conn.new) result }
+    ensures kept { Intact (state S.Store conn.old) (state S.Store conn.new) result }
 {
     let page = messages::page(alloc, conn, customer, after, limit)?;
     match dealing::ends(page.as_slice()) {

@@ -23,7 +23,7 @@ use Rattle.hq_rows.specs.declared.rows.RecipientRow.{RecipientRow}
 use Rattle.hq_store.specs.Tables.{text_cmp, recipient_cmp}
 use Rattle.hq_rows.specs.Listed.{recipient_key, recipient_value}
 use Rattle.hq_sql.specs.Rows.{recipient_shown}
-use Rattle.hq_sql_recipients.specs.Places.{is_far, is_beside, is_of, placed, Stands}
+use Rattle.hq_sql_recipients.specs.Places.{is_far, is_beside, is_of, placed, StandsAfter}
 use Rattle.hq_sql_recipients.proofs.InPlace.{Recipients, recipient_total, recipient_exact}
 
 -- ---- lists
@@ -145,7 +145,7 @@ module _ (c : List ℕ) (serial : ℕ) (rs : Recipients) where
         (subst (AllByRecursion IsAt) (sym seen) (own (entries rs) (all_got rs))))
 
     -- the recipient that a row shows stands in the table
-    pub stands_there : (n : ℕ) (p : Pending) → Stands rows n p →
+    pub stands_there : (n : ℕ) (p : Pending) → StandsAfter rows n p →
         get rs (c, (serial, n + 1)) ≡ Some p
     stands_there n p h = go (slice_get rows n) refl h
       where

@@ -16,9 +16,9 @@ use Rattle.hq_store.specs.Tables.{Tables, place_all}
 use Rattle.hq_rows.specs.Listed.{recipient_key, recipient_value}
 use Rattle.hq_sql.specs.Rows.{recipient_shown}
 use Rattle.hq_sql.specs.Tables.{IsDesk, Leaves, tables_in}
-use Rattle.hq_sql.specs.Kept.{Keeps, KeepsCommitted}
+use Rattle.hq_sql.specs.Kept.{Intact, KeepsCommitted}
 use Rattle.hq_sql.proofs.Tables.{leaves_then, leaves_keeps}
-use Rattle.hq_sql_recipients.specs.Places.{is_far, is_of, Stands}
+use Rattle.hq_sql_recipients.specs.Places.{is_far, is_of, StandsAfter}
 use Rattle.hq_sql_recipients.specs.Recipients.{recipient_row, with_recipient, without_beside}
 use Rattle.hq_sql_recipients.specs.Recipients.{with_pending}
 use Rattle.hq_sql_recipients.proofs.InPlace.{deal_in_place, deal_same, place_next, seen_next}
@@ -99,7 +99,8 @@ module _ (a b : State) (c : List ℕ) (serial : ℕ) (ps : List Pending) (rows :
   pub begun : {X : Type 0} (x : X) →
       (HasCleanDisk b → IsDesk a.now →
       pairs_of recipient_key recipient_value (map recipient_shown rows) ≡ filter (is_of c serial)
-      (entries (tables_in a.now).recipients)) → Keeps a b (Ok x) → Placed a b c serial ps rows 0
+      (entries (tables_in a.now).recipients)) → Intact a b (Ok x)
+      → Placed a b c serial ps rows 0
   begun x seen k = record {
     seen = seen;
     made = λ clean desk. unchanged_leaves a b desk (k.same clean desk);
@@ -112,7 +113,7 @@ module _ (a b : State) (c : List ℕ) (serial : ℕ) (ps : List Pending) (rows :
 
   module _ (n : ℕ) (it : Placed a b c serial ps rows n) where
     -- a recipient that stands already
-    pub skipped : (p : Pending) → slice_get ps n ≡ Some p → Stands rows n p →
+    pub skipped : (p : Pending) → slice_get ps n ≡ Some p → StandsAfter rows n p →
         Placed a b c serial ps rows (n + 1)
     skipped p item stands = record {
       seen = it.seen;

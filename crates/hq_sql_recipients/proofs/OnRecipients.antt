@@ -1,6 +1,6 @@
 -- What the statements on `recipients` do.
 use Rattle.std.proofs.Common.{◌≡◌, ◌&&◌, ℕ, ℤ, pos, Bool, true, false, List, [], ◌∷◌, map, filter}
-use Rattle.std.proofs.Common.{drop, not, Some, None, Ok, nat_cmp, refl, sym, ap, ◌∙◌}
+use Rattle.std.proofs.Common.{drop, not, None, Ok, nat_cmp, refl, sym, ap, ◌∙◌}
 use Rattle.std.specs.Prelude.{nat_eq}
 use Rattle.std.specs.List.{list_all}
 use Rattle.std.specs.Ordering.{eq_by_cmp}
@@ -27,7 +27,6 @@ use Rattle.sqlite_value.proofs.OrderLemmas.{value_cmp-Text}
 use Rattle.sqlite_typed.proofs.TestLemmas.{then_key, last_key}
 use Rattle.sqlite_keyed.proofs.ListLemmas.{map-map}
 use Rattle.hq_keyed.proofs.Terms.{number_beside, number_order}
-use Rattle.hq_queue.specs.Statuses.{status_in}
 use Rattle.hq_queue.specs.declared.message.Pending.{Pending}
 use Rattle.hq_owned.specs.Rows.{pairs_of}
 use Rattle.hq_owned.specs.Owned.{by_both, rows_of}
@@ -35,7 +34,7 @@ use Rattle.hq_owned.proofs.Parts.{entries_part}
 use Rattle.hq_rows.specs.declared.rows.RecipientRow.{RecipientRow}
 use Rattle.hq_store.specs.Tables.{text_cmp, recipient_cmp, pending_of}
 use Rattle.hq_rows.specs.Listed.{recipient_key, recipient_value}
-use Rattle.hq_sql.specs.Rows.{status_of, status_text, recipient_columns, recipient_stored}
+use Rattle.hq_sql.specs.Rows.{status_read, status_column, recipient_columns, recipient_stored}
 use Rattle.hq_sql.specs.Rows.{recipient_read, recipient_shown}
 use Rattle.hq_sql_recipients.specs.Places.{is_of, is_beside}
 use Rattle.hq_sql_recipients.specs.Recipients.{with_recipient, without_beside, range_columns}
@@ -138,13 +137,8 @@ pending_shown c serial rs rows h =
 
 -- ---- values
 
--- no status is empty
-pub status_back : (s : List ℕ) → status_in s ≡ Ok s → status_of s ≡ Some s
-status_back [] h = absurd (let f = h in cc)
-status_back (b ∷ bs) h = refl
-
 pub recipient_back : (r : RecipientRow) (n : ℤ) →
-    status_of (status_text r.pending.status) ≡ r.pending.status →
+    status_read (status_column r.pending.status) ≡ r.pending.status →
     recipient_read (recipient_stored (n, r)) ≡ r
 recipient_back r n status = λ i. record {
   customer = r.customer;
@@ -183,7 +177,7 @@ set_row r k = then_value (cast_int k.0)
     (then_value (cast_int (pos k.1.place)) refl)))
 
 module _ (old new : State) (r : RecipientRow) (count : ℕ) (desk : IsDesk old.now)
-    (status : status_of (status_text r.pending.status) ≡ r.pending.status) where
+    (status : status_read (status_column r.pending.status) ≡ r.pending.status) where
   pub recipient_updated : Executes text.recipient_update_text (recipient_columns r) old new
       (Ok count)
       → Updated (not (nat_eq count 0)) old new

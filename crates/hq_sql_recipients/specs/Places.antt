@@ -27,5 +27,5 @@ abbrev pub placed : Row → ℕ × Pending
 placed r = ((recipient_shown r).place, recipient_value (recipient_shown r))
 
 -- the recipient stands at the place after the first so many rows
-abbrev pub Stands : List Row → ℕ → Pending → Type 0
-Stands rows last pending = option_map placed (slice_get rows last) ≡ Some (last + 1, pending)
+abbrev pub StandsAfter : List Row → ℕ → Pending → Type 0
+StandsAfter rows last pending = option_map placed (slice_get rows last) ≡ Some (last + 1, pending)

@@ -5,9 +5,9 @@ ghost use Rattle.std.specs.List.{list_any};
 ghost use Rattle.sqlite.specs.Values.{bound};
 ghost use Rattle.sqlite.specs.Order.{column};
 ghost use Rattle.hq_rows.specs.Listed.{recipient_value};
-ghost use Rattle.hq_sql.specs.Rows.{text_in, status_of, status_text};
+ghost use Rattle.hq_sql.specs.Rows.{value_text, status_read, status_column};
 ghost use Rattle.hq_sql.specs.Rows.{recipient_columns, recipient_shown};
-ghost use Rattle.hq_sql_recipients.specs.Places.{is_far, Stands};
+ghost use Rattle.hq_sql_recipients.specs.Places.{is_far, StandsAfter};
 ghost use Rattle.hq_sql_recipients.specs.Recipients.{recipient_row, range_columns};
 
 use hq_envelope::{Address, Items, Name, Serial, Text};
@@ -19,8 +19,8 @@ use std::alloc::Global;
 
 /// The text of a status, which reads back as the status; the empty text of none.
 fn status_str(status: &Option<Status>) -> &str
-    ensures text { result.now ≡ status_text status.now }
-    ensures back { status_of (status_text status.now) ≡ status.now }
+    ensures text { result.now ≡ status_column status.now }
+    ensures back { status_read (status_column status.now) ≡ status.now }
 {
     match status {
         None => "",
@@ -50,7 +50,7 @@ pub(crate) fn columns<'a>(
 ) -> [ValueRef<'a>; 6]
     ensures columns { bound result
         ≡ recipient_columns (recipient_row customer.now serial place recipient.now) }
-    ensures back { status_of (status_text recipient.now.status) ≡ recipient.now.status }
+    ensures back { status_read (status_column recipient.now.status) ≡ recipient.now.status }
 {
     [
         ValueRef::Text(customer.as_str().as_bytes()),
@@ -74,7 +74,7 @@ pub(crate) fn range<'a>(customer: &'a Name, serial: Serial, last: u32) -> [Value
 }
 
 fn address(alloc: Global, row: &Row, at: usize) -> Result<Address, Error>
-    ensures { IfOk result (λ address. address ≡ text_in (column row.now at)) }
+    ensures { IfOk result (λ address. address ≡ value_text (column row.now at)) }
 {
     let text = read::text(row, at)?;
     match Address::parse(alloc, text.as_str()) {
@@ -85,7 +85,7 @@ fn address(alloc: Global, row: &Row, at: usize) -> Result<Address, Error>
 
 /// The status of a column: none, where its text is empty.
 fn status(row: &Row, at: usize) -> Result<Option<Status>, Error>
-    ensures { IfOk result (λ status. status ≡ status_of (text_in (column row.now at))) }
+    ensures { IfOk result (λ status. status ≡ status_read (value_text (column row.now at))) }
 {
     let text = read::text(row, at)?;
     if text.as_str().is_empty() {
@@ -98,7 +98,7 @@ fn status(row: &Row, at: usize) -> Result<Option<Status>, Error>
 }
 
 fn reason(alloc: Global, row: &Row, at: usize) -> Result<Text, Error>
-    ensures { IfOk result (λ reason. reason ≡ text_in (column row.now at)) }
+    ensures { IfOk result (λ reason. reason ≡ value_text (column row.now at)) }
 {
     let text = read::text(row, at)?;
     match Text::parse(alloc, text.as_str()) {
@@ -134,7 +134,7 @@ pub(crate) fn all(alloc: Global, rows: &[Row]) -> Result<Items<Pending>, Error>
 
 /// Whether a text is that of the column.
 fn is_text(row: &Row, at: usize, text: &str) -> Result<bool, Error>
-    ensures { IfOk result (λ is. (is ≡ true) ↔ (text_in (column row.now at) ≡ text.now)) }
+    ensures { IfOk result (λ is. (is ≡ true) ↔ (value_text (column row.now at) ≡ text.now)) }
 {
     let found = read::text(row, at)?;
     Ok(found.as_str() == text)
@@ -154,7 +154,7 @@ fn has(row: &Row, recipient: &Pending) -> Result<bool, Error>
 /// Whether the recipient stands already at the place after `last`. The rows are those of all places
 /// of the message, in order.
 pub(crate) fn stands(rows: &[Row], last: u32, recipient: &Pending) -> Result<bool, Error>
-    ensures { IfOk result (λ stands. (stands ≡ true) ↔ Stands rows.now last recipient.now) }
+    ensures { IfOk result (λ stands. (stands ≡ true) ↔ StandsAfter rows.now last recipient.now) }
 {
     match rows.get(last as usize) {
         None => Ok(false),

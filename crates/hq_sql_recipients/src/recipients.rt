@@ -7,7 +7,8 @@ ghost use Rattle.hq_owned.specs.Rows.{pairs_of};
 ghost use Rattle.hq_store.specs.Tables.{pending_of};
 ghost use Rattle.hq_rows.specs.Listed.{recipient_key, recipient_value};
 ghost use Rattle.hq_sql.specs.Rows.{recipient_shown};
-ghost use Rattle.hq_sql.specs.Kept.{Shows, Finds, Makes, Inserts, Updates, Keeps, KeepsCommitted};
+ghost use Rattle.hq_sql.specs.Kept.{Shows, Yields, Writes, Inserts, Updates, Intact};
+ghost use Rattle.hq_sql.specs.Kept.{KeepsCommitted};
 ghost use Rattle.hq_sql_recipients.specs.Places.{is_of};
 ghost use Rattle.hq_sql_recipients.specs.Recipients.{Puts, recipient_row, with_recipient};
 ghost use Rattle.hq_sql_recipients.specs.Recipients.{without_beside, with_pending};
@@ -28,7 +29,7 @@ fn query<S: Alter>(
     ensures found { Shows (state S.Store conn.old) (state S.Store conn.new) result
         (λ rows. pairs_of recipient_key recipient_value (map recipient_shown rows.items))
         (λ t. filter (is_of customer.now serial) (entries t.recipients)) }
-    ensures kept { Keeps (state S.Store conn.old) (state S.Store conn.new) result }
+    ensures kept { Intact (state S.Store conn.old) (state S.Store conn.new) result }
 {
     let params = bind::message_key(customer, serial);
     let rows = conn.query_all(
@@ -46,9 +47,9 @@ pub fn pending<S: Alter>(
     customer: &Name,
     serial: Serial,
 ) -> Result<Items<Pending>, Error>
-    ensures found { Finds (state S.Store conn.old) (state S.Store conn.new) result
+    ensures found { Yields (state S.Store conn.old) (state S.Store conn.new) result
         (λ t. pending_of customer.now serial t.recipients) }
-    ensures kept { Keeps (state S.Store conn.old) (state S.Store conn.new) result }
+    ensures kept { Intact (state S.Store conn.old) (state S.Store conn.new) result }
 {
     let rows = query(conn, customer, serial)?;
     places::all(alloc, rows.as_slice())
@@ -129,7 +130,7 @@ fn drop_beside<S: Alter>(
     serial: Serial,
     count: u32,
 ) -> Result<(), Error>
-    ensures made { Makes (state S.Store conn.old) (state S.Store conn.new) result
+    ensures made { Writes (state S.Store conn.old) (state S.Store conn.new) result
         (without_beside customer.now serial count) }
     ensures kept { KeepsCommitted (state S.Store conn.old) (state S.Store conn.new) }
 {
@@ -150,7 +151,7 @@ pub fn put<S: Alter>(
     serial: Serial,
     pending: &[Pending],
 ) -> Result<(), Error>
-    ensures made { Makes (state S.Store conn.old) (state S.Store conn.new) result
+    ensures made { Writes (state S.Store conn.old) (state S.Store conn.new) result
         (with_pending customer.now serial pending.now) }
     ensures kept { KeepsCommitted (state S.Store conn.old) (state S.Store conn.new) }
 {
@@ -177,7 +178,7 @@ pub fn remove<S: Alter>(
     customer: &Name,
     serial: Serial,
 ) -> Result<(), Error>
-    ensures made { Makes (state S.Store conn.old) (state S.Store conn.new) result
+    ensures made { Writes (state S.Store conn.old) (state S.Store conn.new) result
         (with_pending customer.now serial []) }
     ensures kept { KeepsCommitted (state S.Store conn.old) (state S.Store conn.new) }
 {

@@ -13,12 +13,12 @@ abbrev pub address_line : SocketAddr → List ℕ
 address_line address = codes "listening on " ++ socket_text address ++ 10 ∷ []
 
 -- An address is told: its line is written.
-abbrev pub IsTold : SocketAddr → Option (List ℕ) → Option (List ℕ) → Type 0
-IsTold address old new = Appends old new (address_line address)
+abbrev pub IsAddressTold : SocketAddr → Option (List ℕ) → Option (List ℕ) → Type 0
+IsAddressTold address old new = Appends old new (address_line address)
 
 -- some address is told
 abbrev pub HasTold : Option (List ℕ) → Option (List ℕ) → Type 0
-HasTold old new = (address : SocketAddr) × IsTold address old new
+HasTold old new = (address : SocketAddr) × IsAddressTold address old new
 
 -- why no address is told: memory ran out, and nothing is written; or the output fails
 abbrev pub IsUntold : Type 0 → Trouble → Type 0
@@ -26,9 +26,9 @@ IsUntold unwritten Output = ⊤
 IsUntold unwritten (Desk (AsFault fault)) = unwritten × (fault ≡ no_memory)
 IsUntold unwritten _ = ⊥
 
-abbrev pub TellsAddress : SocketAddr → Type 0 → Option (List ℕ) → Option (List ℕ) → Result ⊤ Trouble
-    → Type 0
-TellsAddress address unwritten old new (Ok _) = IsTold address old new
+abbrev pub TellsAddress : SocketAddr → Type 0 → Option (List ℕ) → Option (List ℕ) →
+    Result ⊤ Trouble → Type 0
+TellsAddress address unwritten old new (Ok _) = IsAddressTold address old new
 TellsAddress address unwritten old new (Err trouble) = IsUntold unwritten trouble
 
 -- why nothing is listened on: the address is none or cannot be bound, and nothing is written; or it
@@ -38,7 +38,7 @@ IsUnbound unwritten Network = unwritten
 IsUnbound unwritten trouble = IsUntold unwritten trouble
 
 -- An address is listened on and told; or there is none.
-abbrev pub ListenEnds : {A : Type 0} → Type 0 → Option (List ℕ) → Option (List ℕ) → Result A Trouble
-    → Type 0
+abbrev pub ListenEnds : {A : Type 0} → Type 0 → Option (List ℕ) → Option (List ℕ) →
+    Result A Trouble → Type 0
 ListenEnds unwritten old new (Ok listener) = HasTold old new
 ListenEnds unwritten old new (Err trouble) = IsUnbound unwritten trouble

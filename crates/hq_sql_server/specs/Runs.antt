@@ -1,9 +1,9 @@
 -- What a server of the program does over a store of `sqlite`, however it ends.
-use Rattle.std.specs.Prelude.{◌≡◌, ◌⊎◌, ⊤, ℕ, List, Option, Some, None, option_map, Result, Ok, Err}
+use Rattle.std.specs.Prelude.{◌≡◌, ◌⊎◌, ⊤, ℕ, List, Option, option_map, Result, Ok, Err}
 use Rattle.sqlite_trees.specs.declared.memory.MemStore.{MemStore}
 use Rattle.hq_base.specs.declared.failure.Fault.{Fault}
 use Rattle.hq_store.specs.Shelves.{Sight}
-use Rattle.hq_sql_file.specs.Opened.{OverFile}
+use Rattle.hq_sql_file.specs.Opened.{OverOpened, OverMemory, OverStore}
 use Rattle.hq_sql_shelf.specs.declared.shelf.SqlShelf.{SqlShelf}
 use Rattle.hq_desk.specs.Desks.{host_of, shelf_of}
 use Rattle.hq_desk.specs.declared.desk.Desk.{Desk}
@@ -52,12 +52,10 @@ ShelfEnds sight settings count shelf = ServedEnds (ServesConnections sight setti
 
 -- over a desk as it was opened: over this shelf, or there is none
 abbrev pub OpenedServerEnds : {S : Type 0} → Sight S → Settings → ℕ → Result S Fault → Type 0 →
-    Option (List ℕ) → Option (List ℕ)
-    → Result ⊤ Trouble → Type 0
-OpenedServerEnds sight settings count (Ok shelf) unwritten old new result =
-    ShelfEnds sight settings count shelf unwritten old new result
-OpenedServerEnds sight settings count (Err fault) unwritten old new result =
-    IsUnopened unwritten fault result
+    Option (List ℕ) → Option (List ℕ) → Result ⊤ Trouble → Type 0
+OpenedServerEnds sight settings count opened unwritten old new result = OverOpened
+    (λ shelf. ShelfEnds sight settings count shelf unwritten old new result)
+    (λ fault. IsUnopened unwritten fault result) opened
 
 -- ---- in memory
 
@@ -69,28 +67,23 @@ pub record ServesEmpty (settings : Settings) (count : ℕ) : Type 0 where
   pub from_empty : FromEmpty settings over.served.asks over.served.replies over.new
 
 abbrev pub MemoryServerEnds : Settings → ℕ → Type 0 → Option (List ℕ) → Option (List ℕ) →
-    Result ⊤ Trouble
-    → Type 0
-MemoryServerEnds settings count unwritten old new result =
-    ServedEnds (ServesEmpty settings count) unwritten old new result
-    ⊎ ((fault : Fault) × IsUnopened unwritten fault result)
+    Result ⊤ Trouble → Type 0
+MemoryServerEnds settings count unwritten old new result = OverMemory
+    (ServedEnds (ServesEmpty settings count) unwritten old new result)
+    (λ fault. IsUnopened unwritten fault result)
 
 -- ---- in memory, or in the file of a path
 
 abbrev pub StoreServerEnds : {S : Type 0} → Sight S → Option (List ℕ) → Settings → ℕ → Type 0 →
-    Option (List ℕ) → Option (List ℕ)
-    → Result ⊤ Trouble → Type 0
-StoreServerEnds sight None settings count unwritten old new result =
-    MemoryServerEnds settings count unwritten old new result
-StoreServerEnds sight (Some path) settings count unwritten old new result =
-    OverFile sight (λ opened. OpenedServerEnds sight settings count opened unwritten old new result)
+    Option (List ℕ) → Option (List ℕ) → Result ⊤ Trouble → Type 0
+StoreServerEnds sight path settings count unwritten old new result = OverStore sight path
+    (MemoryServerEnds settings count unwritten old new result)
+    (λ opened. OpenedServerEnds sight settings count opened unwritten old new result)
 
 -- How a server ends with the settings that its words name: with the trouble of these, and then
 -- nothing is printed; or as its store has it.
 abbrev pub SetServerEnds : {S : Type 0} → Sight S → Serve → Type 0 → Option (List ℕ) →
-    Option (List ℕ) →
-    Result Settings Trouble
-    → Result ⊤ Trouble → Type 0
+    Option (List ℕ) → Result Settings Trouble → Result ⊤ Trouble → Type 0
 SetServerEnds sight given unwritten old new (Err trouble) result = unwritten
     × (result ≡ Err trouble)
 SetServerEnds sight given unwritten old new (Ok set) result =

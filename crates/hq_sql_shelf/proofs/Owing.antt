@@ -19,22 +19,9 @@ use Rattle.hq_owned.proofs.Parts.{tied_true}
 use Rattle.hq_sql.specs.Heads.{with_account}
 use Rattle.hq_sql_shelf.specs.Accounts.{resized, counted_at, made_by, made_by_all, made_owing}
 use Rattle.hq_sql_shelf.specs.Accounts.{size_at, sized, unsized, with_rows, without_rows}
-use Rattle.hq_sql_shelf.proofs.Recounted.{put_twice, other_size, same_size}
+use Rattle.hq_sql_shelf.proofs.Recounted.{put_twice}
 
 -- ---- by the size that stands at the serial
-
-pub sized_same : (size : ℕ) (a : Account) (before : Option ℕ) → before ≡ Some size →
-    a ≡ sized size a before
-sized_same size a before e = ap (λ b. cond b a
-    (recounted (with_message size) (recounted (without_message size) a)))
-    (sym (same_size size size refl)) ∙ ap (sized size a) (sym e)
-
-pub sized_apart : (size : ℕ) (a : Account) (before : Option ℕ) → (before ≡ Some size → ⊥) →
-    recounted (with_message size) (unsized a before) ≡ sized size a before
-sized_apart size a None apart = refl
-sized_apart size a (Some before) apart = ap
-    (λ b. cond b a (recounted (with_message size) (recounted (without_message before) a)))
-    (sym (other_size before size (λ e. apart (ap Some e))))
 
 -- ---- a head row that is written behind another
 

@@ -1,7 +1,11 @@
 -- One statement after another, inside a transaction.
-use Rattle.std.proofs.Common.{◌≡◌, sym, ap, ◌∙◌, subst}
+use Rattle.std.proofs.Common.{◌≡◌, ℕ, List, sym, ap, ◌∙◌, subst}
+use Rattle.std.specs.FinMap.{FinMap, insert}
 use Rattle.sqlite.specs.State.{State, IsUnchanged}
-use Rattle.hq_store.specs.Tables.{Tables}
+use Rattle.sqlite.proofs.Callers.{unchanged_then}
+use Rattle.hq_store.specs.Tables.{Tables, account, text_cmp}
+use Rattle.hq_store.specs.declared.account.Account.{Account}
+use Rattle.hq_sql.specs.Heads.{with_account}
 use Rattle.hq_sql.specs.Tables.{IsDesk, Leaves, tables_in}
 use Rattle.hq_sql.proofs.Tables.{leaves_then}
 
@@ -38,6 +42,22 @@ pub made_behind : (f g : Tables → Tables) (old mid put new : State) (u : Table
 made_behind f g old mid put new u same p q e =
     made_after (λ t. g (f t)) old mid new u same
     (subst (Leaves mid new) (ap g p.tables) (leaves_then mid put new _ _ p q)) e
+
+-- behind a query an account is read, and another is put in its place
+pub put_after : (customer : List ℕ) (kept more : Account) (old a b new : State)
+    (heads : FinMap text_cmp Account) → IsDesk old.now → IsUnchanged old a →
+    (IsDesk a.now → IsUnchanged a b) →
+    (IsDesk a.now → kept ≡ account (tables_in a.now).heads customer) →
+    (IsDesk b.now → Leaves b new (with_account customer more (tables_in b.now))) →
+    (kept ≡ account (tables_in old.now).heads customer →
+    insert (tables_in old.now).heads customer more ≡ heads) →
+    Leaves old new (record (tables_in old.now) { heads = heads })
+put_after customer kept more old a b new heads desk first second found put is =
+    let desk1 = desk_after old a first desk in
+    let later = second desk1 in
+    made_after (with_account customer more) old b new _ (unchanged_then old a b first later)
+    (put (desk_after a b later desk1)) (ap (λ h. record (tables_in old.now) { heads = h })
+    (is (found desk1 ∙ ap (λ d. account (tables_in d).heads customer) first.0.now_is)))
 
 -- a query leaves what it found
 pub unchanged_leaves : (old new : State) → IsDesk old.now → IsUnchanged old new →

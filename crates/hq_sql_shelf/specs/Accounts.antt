@@ -97,7 +97,7 @@ abbrev pub size_at : List ℕ → ℕ → Tables → Option ℕ
 size_at customer serial t = option_map (λ (r : Row). r.size) (get t.messages (customer, serial))
 
 -- what is told stood in the tables before, and these are left
-pub record Told {X : Type 0} (old new : State) (told before : X) (t : Tables) : Type 0 where
+pub record ToldAndLeft {X : Type 0} (old new : State) (told before : X) (t : Tables) : Type 0 where
   pub is : told ≡ before
   pub left : Leaves old new t
 
@@ -105,7 +105,7 @@ pub record Told {X : Type 0} (old new : State) (told before : X) (t : Tables) : 
 abbrev pub MakesTelling : {X : Type 0} → State → State → Result X Error → (Tables → X) →
     (Tables → Tables) → Type 0
 MakesTelling old new result at f = HasCleanDisk new → IsDesk old.now →
-    IfOk result (λ told. Told old new told (at (tables_in old.now)) (f (tables_in old.now)))
+    IfOk result (λ told. ToldAndLeft old new told (at (tables_in old.now)) (f (tables_in old.now)))
 
 -- the account once a message is counted in it no more that was counted with a size, where it was
 abbrev pub unsized : Account → Option ℕ → Account

@@ -11,7 +11,7 @@ use Rattle.hq_store.specs.Lifted.{lift, FirstSound}
 use Rattle.hq_store.specs.Sound.{Sound}
 use Rattle.hq_store.specs.Tables.{own}
 use Rattle.hq_sql.specs.Tables.{IsDesk, tables_in}
-use Rattle.hq_sql_open.specs.Opening.{Stays}
+use Rattle.hq_sql_open.specs.Opening.{Rests}
 use Rattle.hq_sql_open.specs.Transactions.{IsSettled, IsUndone}
 use Rattle.hq_sql_migrate.specs.Migration.{IsFirstStore, IsSecondStore}
 use Rattle.hq_sql_migrate.specs.Stores.{first_tables_in, count_on_hold, IsLifted}
@@ -33,9 +33,9 @@ pub record IsMigrated (count : ℕ) (old new : State) : Type 0 where
 -- the connection is gone.
 abbrev pub TellsVersion : Result ℕ Fault → State → State → Type 0
 TellsVersion (Ok count) old new = IsFirstStore old.now
-    ⊎ (IsSecondStore old.now × (count ≡ 0) × Stays old new)
+    ⊎ (IsSecondStore old.now × (count ≡ 0) × Rests old new)
 TellsVersion (Err BadSchema) old new = (¬ IsFirstStore old.now) × (¬ IsSecondStore old.now)
-    × Stays old new
+    × Rests old new
 TellsVersion (Err Closed) old new = new.is_open ≡ false
 TellsVersion (Err _) old new = IsUndone old new
 

@@ -30,10 +30,10 @@ fault_left Gone error = Closed
 fault_left _ error = fault_in error
 
 -- how many 91 and 93 were answered, once this fault is
-abbrev pub counted : Fault → ℕ → ℕ
-counted Disk n = one_more n
-counted Closed n = one_more n
-counted _ n = n
+abbrev pub fault_counted : Fault → ℕ → ℕ
+fault_counted Disk n = one_more n
+fault_counted Closed n = one_more n
+fault_counted _ n = n
 
 abbrev pub is_gone : Standing → Bool
 is_gone Gone = true

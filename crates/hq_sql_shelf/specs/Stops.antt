@@ -12,17 +12,17 @@ use Rattle.hq_sql.specs.Tables.{tables_in}
 use Rattle.hq_sql_open.specs.Transactions.{IsAtRest}
 
 -- the tables of a desk's store with these trees
-abbrev pub tables_of : Trees → Tables
-tables_of trees = tables_in (record { schema = desk_schema; trees = trees })
+abbrev pub tables_with : Trees → Tables
+tables_with trees = tables_in (record { schema = desk_schema; trees = trees })
 
 -- an open after a crash may find what it might have found before, or these tables
 abbrev pub LeavesTables : State → State → Tables → Type 0
 LeavesTables old new t = HasCleanDisk new → (db : Trees) → new.may_leave db → old.may_leave db
-    ⊎ (tables_of db ≡ t)
+    ⊎ (tables_with db ≡ t)
 
 -- What a transaction keeps that is to leave the tables t.
-pub record KeepsTransaction {X : Type 0} (old new : State) (result : Result X Error) (t : Tables)
-    : Type 0 where
+pub record KeepsTransaction {X : Type 0} (old new : State) (result : Result X Error) (t : Tables) :
+    Type 0 where
   -- what was committed, where it fails
   pub kept : HasCleanDisk new → IsAtRest old → OnErr result (KeepsCommit old new)
   pub quiet : IsQuiet old new
@@ -32,8 +32,8 @@ pub record KeepsTransaction {X : Type 0} (old new : State) (result : Result X Er
 -- Wherever in a call a crash comes, it leaves the tables before or those after.
 abbrev pub LeavesWhole : State → State → Tables → Tables → Type 0
 LeavesWhole old new before after = HasCleanDisk new → (db : Trees) → new.may_leave db →
-    (tables_of db ≡ before) ⊎ (tables_of db ≡ after)
+    (tables_with db ≡ before) ⊎ (tables_with db ≡ after)
 
 -- Once a call has answered, a crash leaves these tables alone.
 abbrev pub LeavesOnly : State → Tables → Type 0
-LeavesOnly new t = (db : Trees) → new.may_leave db → tables_of db ≡ t
+LeavesOnly new t = (db : Trees) → new.may_leave db → tables_with db ≡ t

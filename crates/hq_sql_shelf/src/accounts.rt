@@ -4,7 +4,7 @@ ghost use Rattle.std.specs.Prelude.{◌≡◌, IfOk};
 ghost use Rattle.std.specs.FinMap.{get};
 ghost use Rattle.hq_store.specs.Tables.{account};
 ghost use Rattle.sqlite.specs.Held.{state};
-ghost use Rattle.hq_sql.specs.Kept.{Finds, Makes, Keeps, KeepsCommitted};
+ghost use Rattle.hq_sql.specs.Kept.{Yields, Writes, Intact, KeepsCommitted};
 ghost use Rattle.hq_sql_shelf.specs.Accounts.{with_head, counted_message, not_counted};
 ghost use Rattle.hq_sql_shelf.specs.Accounts.{counted_line, uncounted_line};
 ghost use Rattle.hq_sql_shelf.specs.Accounts.{resized_message, recounted_message, TellsFree, sized};
@@ -24,9 +24,9 @@ const TOO_MANY: Error = Error::SqliteFailure(ErrorCode::OutOfMemory);
 
 /// The customer's head and counts, or those of a customer of whom nothing is kept.
 pub(crate) fn account<S: Alter>(conn: &mut Connection<S>, customer: &Name) -> Result<Account, Error>
-    ensures found { Finds (state S.Store conn.old) (state S.Store conn.new) result
+    ensures found { Yields (state S.Store conn.old) (state S.Store conn.new) result
         (λ t. account t.heads customer.now) }
-    ensures kept { Keeps (state S.Store conn.old) (state S.Store conn.new) result }
+    ensures kept { Intact (state S.Store conn.old) (state S.Store conn.new) result }
 {
     match heads::account(conn, customer)? {
         Some(account) => Ok(account),
@@ -40,7 +40,7 @@ pub(crate) fn put_head<S: Alter>(
     customer: &Name,
     head: Head,
 ) -> Result<(), Error>
-    ensures made { Makes (state S.Store conn.old) (state S.Store conn.new) result
+    ensures made { Writes (state S.Store conn.old) (state S.Store conn.new) result
         (with_head customer.now head) }
     ensures kept { KeepsCommitted (state S.Store conn.old) (state S.Store conn.new) }
 {
@@ -55,7 +55,7 @@ fn count_message<S: Alter>(
     customer: &Name,
     size: u32,
 ) -> Result<(), Error>
-    ensures made { Makes (state S.Store conn.old) (state S.Store conn.new) result
+    ensures made { Writes (state S.Store conn.old) (state S.Store conn.new) result
         (counted_message customer.now size) }
     ensures kept { KeepsCommitted (state S.Store conn.old) (state S.Store conn.new) }
 {
@@ -74,7 +74,7 @@ fn resize_message<S: Alter>(
     before: u32,
     size: u32,
 ) -> Result<(), Error>
-    ensures made { Makes (state S.Store conn.old) (state S.Store conn.new) result
+    ensures made { Writes (state S.Store conn.old) (state S.Store conn.new) result
         (resized_message customer.now before size) }
     ensures kept { KeepsCommitted (state S.Store conn.old) (state S.Store conn.new) }
 {
@@ -95,7 +95,7 @@ pub(crate) fn recount_message<S: Alter>(
     serial: Serial,
     size: u32,
 ) -> Result<bool, Error>
-    ensures made { Makes (state S.Store conn.old) (state S.Store conn.new) result
+    ensures made { Writes (state S.Store conn.old) (state S.Store conn.new) result
         (recounted_message customer.now serial size) }
     ensures told { TellsFree (state S.Store conn.old) (state S.Store conn.new) result
         (λ t. get t.messages (customer.now, serial)) }
@@ -142,7 +142,7 @@ pub(crate) fn uncount_message<S: Alter>(
     customer: &Name,
     serial: Serial,
 ) -> Result<(), Error>
-    ensures made { Makes (state S.Store conn.old) (state S.Store conn.new) result
+    ensures made { Writes (state S.Store conn.old) (state S.Store conn.new) result
         (not_counted customer.now serial) }
     ensures kept { KeepsCommitted (state S.Store conn.old) (state S.Store conn.new) }
 {
@@ -160,7 +160,7 @@ pub(crate) fn count_line<S: Alter>(
     customer: &Name,
     pattern: &Pattern,
 ) -> Result<(), Error>
-    ensures made { Makes (state S.Store conn.old) (state S.Store conn.new) result
+    ensures made { Writes (state S.Store conn.old) (state S.Store conn.new) result
         (counted_line customer.now pattern.now) }
     ensures kept { KeepsCommitted (state S.Store conn.old) (state S.Store conn.new) }
 {
@@ -181,7 +181,7 @@ pub(crate) fn uncount_line<S: Alter>(
     customer: &Name,
     pattern: &Pattern,
 ) -> Result<(), Error>
-    ensures made { Makes (state S.Store conn.old) (state S.Store conn.new) result
+    ensures made { Writes (state S.Store conn.old) (state S.Store conn.new) result
         (uncounted_line customer.now pattern.now) }
     ensures kept { KeepsCommitted (state S.Store conn.old) (state S.Store conn.new) }
 {

@@ -6,7 +6,7 @@ ghost use Rattle.hq_store.specs.declared.change.Change.TheVariants.{PutHead, Put
 ghost use Rattle.hq_store.specs.declared.change.Change.TheVariants.{DropMessage, PutLine, DropLine};
 ghost use Rattle.sqlite.specs.Held.{state};
 ghost use Rattle.sqlite.specs.State.{HasCleanDisk};
-ghost use Rattle.hq_sql.specs.Kept.{Makes, KeepsCommitted};
+ghost use Rattle.hq_sql.specs.Kept.{Writes, KeepsCommitted};
 ghost use Rattle.hq_sql.specs.Tables.{tables_in};
 ghost use Rattle.hq_sql_open.specs.Transactions.{IsAtRest, Commits};
 ghost use Rattle.hq_store.specs.Sound.{AreCounted};
@@ -38,7 +38,7 @@ fn put_recounted_row<S: Alter>(
     customer: &Name,
     message: &Message,
 ) -> Result<(), Error>
-    ensures made { Makes (state S.Store conn.old) (state S.Store conn.new) result
+    ensures made { Writes (state S.Store conn.old) (state S.Store conn.new) result
         (with_counted_row customer.now message.now) }
     ensures kept { KeepsCommitted (state S.Store conn.old) (state S.Store conn.new) }
 {
@@ -55,7 +55,7 @@ fn put_row<S: Alter>(
     customer: &Name,
     message: &Message,
 ) -> Result<(), Error>
-    ensures made { Makes (state S.Store conn.old) (state S.Store conn.new) result
+    ensures made { Writes (state S.Store conn.old) (state S.Store conn.new) result
         (with_counted_row customer.now message.now) }
     ensures kept { KeepsCommitted (state S.Store conn.old) (state S.Store conn.new) }
 {
@@ -71,7 +71,7 @@ fn put_message<S: Alter>(
     customer: &Name,
     message: &Message,
 ) -> Result<(), Error>
-    ensures made { Makes (state S.Store conn.old) (state S.Store conn.new) result
+    ensures made { Writes (state S.Store conn.old) (state S.Store conn.new) result
         (made_by customer.now (PutMessage message.now)) }
     ensures kept { KeepsCommitted (state S.Store conn.old) (state S.Store conn.new) }
 {
@@ -123,7 +123,7 @@ fn drop_rows<S: Alter>(
     customer: &Name,
     serial: Serial,
 ) -> Result<(), Error>
-    ensures made { Makes (state S.Store conn.old) (state S.Store conn.new) result
+    ensures made { Writes (state S.Store conn.old) (state S.Store conn.new) result
         (without_rows customer.now serial) }
     ensures kept { KeepsCommitted (state S.Store conn.old) (state S.Store conn.new) }
 {
@@ -139,7 +139,7 @@ fn drop_message<S: Alter>(
     customer: &Name,
     serial: Serial,
 ) -> Result<(), Error>
-    ensures made { Makes (state S.Store conn.old) (state S.Store conn.new) result
+    ensures made { Writes (state S.Store conn.old) (state S.Store conn.new) result
         (write customer.now (DropMessage serial)) }
     ensures kept { KeepsCommitted (state S.Store conn.old) (state S.Store conn.new) }
 {
@@ -154,7 +154,7 @@ fn put_line<S: Alter>(
     customer: &Name,
     line: &Line,
 ) -> Result<(), Error>
-    ensures made { Makes (state S.Store conn.old) (state S.Store conn.new) result
+    ensures made { Writes (state S.Store conn.old) (state S.Store conn.new) result
         (write customer.now (PutLine line.now)) }
     ensures kept { KeepsCommitted (state S.Store conn.old) (state S.Store conn.new) }
 {
@@ -169,7 +169,7 @@ fn drop_line<S: Alter>(
     customer: &Name,
     pattern: &Pattern,
 ) -> Result<(), Error>
-    ensures made { Makes (state S.Store conn.old) (state S.Store conn.new) result
+    ensures made { Writes (state S.Store conn.old) (state S.Store conn.new) result
         (write customer.now (DropLine pattern.now)) }
     ensures kept { KeepsCommitted (state S.Store conn.old) (state S.Store conn.new) }
 {
@@ -185,7 +185,7 @@ fn make<S: Alter>(
     customer: &Name,
     change: &Change,
 ) -> Result<(), Error>
-    ensures made { Makes (state S.Store conn.old) (state S.Store conn.new) result
+    ensures made { Writes (state S.Store conn.old) (state S.Store conn.new) result
         (made_by customer.now change.now) }
     ensures kept { KeepsCommitted (state S.Store conn.old) (state S.Store conn.new) }
 {
@@ -212,7 +212,7 @@ fn make_owing_from<S: Alter>(
     first: &Change,
     rest: &[Change],
 ) -> Result<(), Error>
-    ensures made { Makes (state S.Store conn.old) (state S.Store conn.new) result
+    ensures made { Writes (state S.Store conn.old) (state S.Store conn.new) result
         (made_owing customer.now account (first.now ∷ rest.now)) }
     ensures kept { KeepsCommitted (state S.Store conn.old) (state S.Store conn.new) }
 {
@@ -250,7 +250,7 @@ fn make_owing<S: Alter>(
     account: Account,
     changes: &[Change],
 ) -> Result<(), Error>
-    ensures made { Makes (state S.Store conn.old) (state S.Store conn.new) result
+    ensures made { Writes (state S.Store conn.old) (state S.Store conn.new) result
         (made_owing customer.now account changes.now) }
     ensures kept { KeepsCommitted (state S.Store conn.old) (state S.Store conn.new) }
 {
@@ -269,7 +269,7 @@ fn make_behind_drop<S: Alter>(
     serial: Serial,
     rest: &[Change],
 ) -> Result<(), Error>
-    ensures made { Makes (state S.Store conn.old) (state S.Store conn.new) result
+    ensures made { Writes (state S.Store conn.old) (state S.Store conn.new) result
         (made_by_all customer.now (DropMessage serial ∷ rest.now)) }
     ensures kept { KeepsCommitted (state S.Store conn.old) (state S.Store conn.new) }
 {
@@ -291,7 +291,7 @@ fn make_behind_head<S: Alter>(
     head: Head,
     rest: &[Change],
 ) -> Result<(), Error>
-    ensures made { Makes (state S.Store conn.old) (state S.Store conn.new) result
+    ensures made { Writes (state S.Store conn.old) (state S.Store conn.new) result
         (made_by_all customer.now (PutHead head ∷ rest.now)) }
     ensures kept { KeepsCommitted (state S.Store conn.old) (state S.Store conn.new) }
 {
@@ -309,7 +309,7 @@ pub(crate) fn make_all<S: Alter>(
     changes: &[Change],
 ) -> Result<(), Error>
     ensures made { IsTrue (state S.Store conn.old).is_open
-        → Makes (state S.Store conn.old) (state S.Store conn.new) result
+        → Writes (state S.Store conn.old) (state S.Store conn.new) result
         (made_by_all customer.now changes.now) }
     ensures kept { KeepsCommitted (state S.Store conn.old) (state S.Store conn.new) }
 {

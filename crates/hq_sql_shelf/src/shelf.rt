@@ -9,12 +9,12 @@ ghost use Rattle.hq_keyed.specs.Left.{IsQuiet, LeavesNoMore};
 ghost use Rattle.hq_store.specs.Shelves.{Keeps};
 ghost use Rattle.hq_store.specs.Tables.{no_tables};
 ghost use Rattle.hq_sql.specs.Tables.{tables_in};
-ghost use Rattle.hq_sql_open.specs.Opening.{IsForeign, Stays};
+ghost use Rattle.hq_sql_open.specs.Opening.{IsForeign, Rests};
 ghost use Rattle.hq_sql_open.specs.Standings.{Settles};
 ghost use Rattle.hq_sql_open.specs.Transactions.{IsSettled, IsUndone};
 ghost use Rattle.hq_sql_open.specs.declared.transaction.Standing.TheVariants.{Open};
-ghost use Rattle.hq_sql_shelf.specs.Shelf.{sight_over, fault_in, fault_left, counted, is_gone};
-ghost use Rattle.hq_sql_shelf.specs.Shelf.{GivesUp, Adopts, IsOurs};
+ghost use Rattle.hq_sql_shelf.specs.Shelf.{sight_over, fault_in, fault_left, fault_counted};
+ghost use Rattle.hq_sql_shelf.specs.Shelf.{is_gone, GivesUp, Adopts, IsOurs};
 
 use hq_envelope::Fault;
 use hq_sql_open::open;
@@ -85,7 +85,7 @@ impl<S: Alter> SqlShelf<S> {
         ensures fresh { IfOk result (λ s. (s.standing ≡ Open) × (s.faults ≡ 0)) }
         ensures refused { IfErr result (λ e. HasCleanDisk (state S.Store e.1)
             → IsSettled (state S.Store conn) → e.0 ≡ BadSchema
-            → IsForeign (state S.Store conn).now × Stays (state S.Store conn) (state S.Store e.1)) }
+            → IsForeign (state S.Store conn).now × Rests (state S.Store conn) (state S.Store e.1)) }
         ensures kept { IfErr result (λ e. HasCleanDisk (state S.Store e.1)
             → IsSettled (state S.Store conn)
             → IsUndone (state S.Store conn) (state S.Store e.1)) }
@@ -149,7 +149,8 @@ impl<S: Alter> SqlShelf<S> {
 
     /// Counts a fault: 91 and 93, and nothing else.
     fn count(&mut self, fault: Fault) -> Fault
-        ensures counted { self.new ≡ record self.old { faults = counted fault self.old.faults } }
+        ensures counted { self.new ≡ record self.old
+            { faults = fault_counted fault self.old.faults } }
         ensures same { result ≡ fault }
     {
         if matches!(fault, Fault::Disk | Fault::Closed) {

@@ -1,19 +1,19 @@
 -- One message's change keeps a customer's state sound: put in place of another with as many
 -- recipients, dropped, or queued anew.
-use Rattle.std.proofs.Common.{◌≡◌, ◌≢◌, Option, ℕ, ◌+◌, ◌-◌, ◌*◌, ◌<◌, ◌≤◌, length, subst, sym}
-use Rattle.std.proofs.Common.{refl, ap, ◌∙◌, Some, None, arith}
-use Rattle.std.specs.FinMap.{FinMap, get, insert, remove, len, values}
+use Rattle.std.proofs.Common.{◌≡◌, Option, ℕ, ◌+◌, ◌-◌, ◌*◌, ◌<◌, ◌≤◌, length, subst, sym}
+use Rattle.std.proofs.Common.{refl, ap, Some, None, arith}
+use Rattle.std.specs.FinMap.{FinMap, get, insert, remove, values}
 use Rattle.std.specs.Ordering.{nat_cmp}
 use Rattle.std.specs.Cmp.{nat_cmp_total}
 use Rattle.std.proofs.lemmas.Map.Lookups.{exact_unsigned}
 use Rattle.hq_queue.specs.declared.account.Head.{Head}
 use Rattle.hq_queue.specs.declared.message.Message.{Message}
-use Rattle.hq_store.specs.declared.change.Change.TheVariants.{PutHead, PutMessage, DropMessage}
+use Rattle.hq_store.specs.declared.change.Change.TheVariants.{PutHead, DropMessage}
 use Rattle.hq_owned.specs.Owned.{given}
 use Rattle.hq_owned.proofs.Totals.{total-insert, total-remove}
 use Rattle.hq_store.specs.Tables.{State, change}
-use Rattle.hq_store.specs.Sound.{SoundState, IsReasoned, IsQueued, IsNext, AreApart, pending_count}
-use Rattle.hq_store.proofs.States.{change_shaped, none_some}
+use Rattle.hq_store.specs.Sound.{SoundState, IsNext, pending_count}
+use Rattle.hq_store.proofs.States.{change_shaped}
 
 abbrev Queue : Type 0
 Queue = FinMap nat_cmp Message
@@ -30,24 +30,6 @@ pending_put q m = total-insert nat_cmp_total exact_unsigned pending q m.serial m
 pub pending_drop : (q : Queue) (k : ℕ) →
     pending_count (values (remove q k)) + given 0 pending (get q k) ≡ pending_count (values q)
 pending_drop q k = total-remove nat_cmp_total exact_unsigned pending q k
-
--- in place of a message with its spool name and as many recipients
-pub replaced_sound : (s : State) (o n : Message) → SoundState s → get s.messages n.serial ≡ Some o →
-    o.spool ≡ n.spool → pending o ≡ pending n → IsQueued s.head.next_serial n.serial n →
-    SoundState (change (PutMessage n) s)
-replaced_sound s o n h there spool same queued =
-    let put = pending_put s.messages n in
-    let old : given 0 pending (get s.messages n.serial) ≡ pending o = ap (given 0 pending) there in
-    let was = h.conserved in
-    record {
-      shaped = change_shaped s (PutMessage n) h.shaped (record {
-        queued = queued;
-        spool = λ serial m at e. h.shaped.spools serial n.serial m o at there (e ∙ sym spool);
-        room = λ none. absurd (none_some o (sym none ∙ there));
-      });
-      conserved = omega arith;
-      bounded = h.bounded;
-    }
 
 -- a dropped message, whose recipients the new head tells as delivered, failed, deleted or expired
 pub dropped_sound : (s : State) (m : Message) (head : Head) → SoundState s →
@@ -85,45 +67,3 @@ free s h = cases (get s.messages s.head.next_serial) refl where
   cases None e = e
   cases (Some m) e = let below = (h.shaped.messages s.head.next_serial m e).below in
       absurd (omega arith)
-
--- a message queued under the next serial: the head is put first, so that the serial is below the
--- next one
-pub queued_sound : (s : State) (m : Message) (head : Head) → SoundState s
-    → m.serial ≡ s.head.next_serial → head.next_serial ≡ s.head.next_serial + 1 →
-    IsNext head.next_serial → IsNext head.next_notice → s.head.next_notice ≤ head.next_notice
-    → head.tally.accepted ≡ s.head.tally.accepted + pending m
-    → head.tally.delivered + head.tally.failed + head.tally.deleted + head.tally.expired ≡
-    s.head.tally.delivered + s.head.tally.failed + s.head.tally.deleted + s.head.tally.expired
-    → 0 < pending m → pending m ≤ 100 → AreApart m.pending → IsReasoned m →
-    ((serial : ℕ) (n : Message) → get s.messages serial ≡ Some n → n.spool ≢ m.spool) →
-    len s.messages < 1000
-    → SoundState (change (PutMessage m) (change (PutHead head) s))
-queued_sound s m head h own next serial notice later accepted told some few apart right new room =
-    let put = pending_put s.messages m in
-    let none : given 0 pending (get s.messages m.serial) ≡ 0 =
-    ap (given 0 pending) (ap (get s.messages) own ∙ free s h) in
-    let was = h.conserved in
-    let bound = h.bounded in
-    let positive = h.shaped.next_serial.0 in
-    let headed = change_shaped s (PutHead head) h.shaped (record {
-      next_serial = serial;
-      next_notice = notice;
-      above = λ k n at. let below = (h.shaped.messages k n at).below in omega arith;
-      above_notices = λ k n at. let below = (h.shaped.notices k n at).1 in omega arith;
-    }) in
-    record {
-      shaped = change_shaped (change (PutHead head) s) (PutMessage m) headed (record {
-        queued = record {
-          own_serial = refl;
-          positive = omega arith;
-          below = omega arith;
-          some_pending = some;
-          apart = apart;
-          right = right;
-        };
-        spool = λ k n at e. absurd (new k n at e);
-        room = λ empty. room;
-      });
-      conserved = omega arith;
-      bounded = omega arith;
-    }

@@ -20,7 +20,7 @@ use Rattle.hq_owned.proofs.Totals.{total_put, total_drop, many_put}
 use Rattle.hq_store.specs.Tables.{Tables, Row, text_cmp, line_cmp, row_of, account, counted}
 use Rattle.hq_store.specs.Tables.{with_message, without_message, with_line, without_line}
 use Rattle.hq_store.specs.Tables.{uncounted_message, write, write_all}
-use Rattle.hq_store.specs.Readings.{kept_in, told, read_tables}
+use Rattle.hq_store.specs.Readings.{kept_in, counts_told, read_tables}
 use Rattle.hq_access.specs.declared.action.Action.{Action}
 use Rattle.hq_access.specs.declared.pattern.Class.{Class}
 use Rattle.hq_store.specs.Sound.{AreCounted}
@@ -240,5 +240,5 @@ counts_stay c (ch ∷ chs) t h = counts_stay c chs (write c ch t) (counts_follow
 
 -- what is read of a customer's counts stands in its head row
 pub counts_kept : (t : Tables) → AreCounted t → (c : List ℕ) →
-    (read_tables c t).counts ≡ told (account t.heads c).counts
-counts_kept t h c = ap told (sym (h c))
+    (read_tables c t).counts ≡ counts_told (account t.heads c).counts
+counts_kept t h c = ap counts_told (sym (h c))

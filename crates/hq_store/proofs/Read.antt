@@ -18,7 +18,7 @@ use Rattle.hq_store.proofs.Customers.{read_own, rows_own}
 use Rattle.hq_store.proofs.Orders.{line_total, line_exact}
 use Rattle.hq_store.specs.Tables.{Tables, Row, Noted, text_cmp, line_cmp, own, joined, notice_of}
 use Rattle.hq_store.specs.Readings.{read_state, read_tables, messages_in, with_spool, kept_of}
-use Rattle.hq_store.specs.Readings.{kept_in, told, line_of}
+use Rattle.hq_store.specs.Readings.{kept_in, counts_told, line_of}
 
 seconds : {K X Y : Type 0} (f : K → X → Y) (es : List (K × X)) →
     map (λ (e : K × Y). e.1) (map (λ (e : K × X). (e.0, f e.0 e.1)) es) ≡ map (λ e. f e.0 e.1) es
@@ -69,7 +69,7 @@ same_readings customer t =
     let messages = same_messages customer t in
     λ i. record {
       head = (own customer t).head;
-      counts = told (same_kept customer t i);
+      counts = counts_told (same_kept customer t i);
       message = λ serial. sym (get-map_values nat_cmp whole exact_unsigned rows serial
           ∙ ap (option_map (whole serial))
           (read_own nat_cmp_total exact_unsigned customer t.messages serial)) i;

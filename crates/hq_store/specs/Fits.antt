@@ -9,6 +9,7 @@ use Rattle.hq_store.specs.declared.change.Change.TheVariants.{PutLine, DropLine,
 use Rattle.hq_store.specs.declared.change.Change.TheVariants.{DropNoticesBelow}
 use Rattle.hq_store.specs.Tables.{State, Noted, change}
 use Rattle.hq_store.specs.Sound.{IsNext, IsQueued}
+use Rattle.hq_queue.specs.Limits.{most_messages, most_lines}
 
 -- next numbers in range, above every serial and every number of a notice that is there
 pub record HeadFits (s : State) (head : Head) : Type 0 where
@@ -25,7 +26,7 @@ pub record MessageFits (s : State) (m : Message) : Type 0 where
   pub queued : IsQueued s.head.next_serial m.serial m
   pub spool : (serial : ℕ) (n : Message) → get s.messages serial ≡ Some n → n.spool ≡ m.spool →
       serial ≡ m.serial
-  pub room : get s.messages m.serial ≡ None → len s.messages < 1000
+  pub room : get s.messages m.serial ≡ None → len s.messages < most_messages
 
 -- drops always fit; a line fits with room where its pattern is new, an import under a new label,
 -- and a notice with a new number below the next
@@ -33,7 +34,7 @@ abbrev pub Fits : State → Change → Type 0
 Fits s (PutHead head) = HeadFits s head
 Fits s (PutMessage m) = MessageFits s m
 Fits s (DropMessage serial) = ⊤
-Fits s (PutLine line) = get s.lines line.pattern ≡ None → len s.lines < 5000
+Fits s (PutLine line) = get s.lines line.pattern ≡ None → len s.lines < most_lines
 Fits s (DropLine pattern) = ⊤
 Fits s (PutMark mark) = get s.marks mark.label ≡ None
 Fits s (AddNotice notice) = (0 < notice.number)

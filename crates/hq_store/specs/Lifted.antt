@@ -1,5 +1,5 @@
 -- Tables that were kept before reasons were, and what a migration makes of them.
-use Rattle.std.specs.Prelude.{ℕ, Bool, ⊤, List, [], map, filter, if◌then◌else◌, Option, Some, None}
+use Rattle.std.specs.Prelude.{ℕ, Bool, ⊤, List, [], map, filter, if◌then◌else◌}
 use Rattle.std.specs.FinMap.{FinMap, entries, from_entries}
 use Rattle.hq_envelope.specs.Words.{earlier_hold}
 use Rattle.hq_queue.specs.Moves.{is_on_hold}

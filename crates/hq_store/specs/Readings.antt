@@ -38,8 +38,8 @@ abbrev pub kept_of : {X Y : Type 0} → (X → ℕ) → List X → List Y → Co
 kept_of size xs ls = record { messages = length xs; bytes = sum_by size xs; lines = length ls }
 
 -- counts as they are told: bytes stay at the greatest number of 64 bits
-abbrev pub told : Counts → Counts
-told n = record { messages = n.messages; bytes = saturated n.bytes; lines = n.lines }
+abbrev pub counts_told : Counts → Counts
+counts_told n = record { messages = n.messages; bytes = saturated n.bytes; lines = n.lines }
 
 -- a line of a pattern and its action
 abbrev pub line_of : (Class × List ℕ) × Action → Line
@@ -72,7 +72,7 @@ page_of after limit ms = take limit (after_serial after ms)
 abbrev pub read_state : State → Readings
 read_state s = record {
   head = s.head;
-  counts = told (kept_of (λ (m : Message). m.size) (values s.messages) (entries s.lines));
+  counts = counts_told (kept_of (λ (m : Message). m.size) (values s.messages) (entries s.lines));
   message = get s.messages;
   by_spool = λ spool. with_spool spool (values s.messages);
   messages = values s.messages;
@@ -98,7 +98,7 @@ kept_in customer t = kept_of (λ (e : ℕ × Row). e.1.size)
 abbrev pub read_tables : List ℕ → Tables → Readings
 read_tables customer t = record {
   head = (account t.heads customer).head;
-  counts = told (kept_in customer t);
+  counts = counts_told (kept_in customer t);
   message = λ serial. option_map (joined customer t.recipients t.holds serial)
       (get t.messages (customer, serial));
   by_spool = λ spool. with_spool spool (messages_in customer t);

@@ -11,6 +11,7 @@ use Rattle.hq_queue.specs.declared.message.Pending.{Pending}
 use Rattle.hq_store.specs.Tables.{State, Tables, Noted, text_cmp, own, account, pending_of}
 use Rattle.hq_store.specs.Readings.{kept_in}
 use Rattle.hq_owned.specs.Owned.{part_of}
+use Rattle.hq_queue.specs.Limits.{most_messages, most_lines, most_recipients}
 
 -- no two recipients have the same address
 abbrev pub AreApart : List Pending → Type 0
@@ -46,8 +47,8 @@ pub record ShapedStateBy (IsRight : Message → Type 0) (s : State) : Type 0 whe
   -- a spool name stands once
   pub spools : (k l : ℕ) (m n : Message) → get s.messages k ≡ Some m → get s.messages l ≡ Some n →
       m.spool ≡ n.spool → k ≡ l
-  pub few_messages : len s.messages ≤ 1000
-  pub few_lines : len s.lines ≤ 5000
+  pub few_messages : len s.messages ≤ most_messages
+  pub few_lines : len s.lines ≤ most_lines
   -- numbers of notices were given out
   pub notices : (number : ℕ) (n : Noted) → get s.notices number ≡ Some n → (0 < number)
       × (number < s.head.next_notice)
@@ -98,7 +99,7 @@ IsConserved s = let tally = s.head.tally in
 
 -- a serial was used for at most 100 accepted recipients
 abbrev pub IsBounded : State → Type 0
-IsBounded s = s.head.tally.accepted ≤ 100 * (s.head.next_serial - 1)
+IsBounded s = s.head.tally.accepted ≤ most_recipients * (s.head.next_serial - 1)
 
 -- a sound state
 pub record SoundStateBy (IsRight : Message → Type 0) (s : State) : Type 0 where

@@ -2,7 +2,6 @@
 use Rattle.std.specs.Prelude.{ℕ, suc, nat_le, ◌+◌, ◌-◌, Bool, not, ◌&&◌, List, [], ◌∷◌, unwrap_or}
 use Rattle.std.specs.declared.cmp.Ordering.{Ordering}
 use Rattle.std.specs.Ordering.{nat_cmp, eq_by_cmp}
-use Rattle.std.specs.Cmp.Lexicographic.{slice_cmp}
 use Rattle.std.specs.FinMap.{FinMap, empty, get, insert, remove, retain_keys, values}
 use Rattle.hq_envelope.specs.declared.address.Sender.{Sender}
 use Rattle.hq_access.specs.Patterns.{class_name}
@@ -22,10 +21,7 @@ use Rattle.hq_store.specs.declared.mark.Mark.{Mark}
 use Rattle.hq_store.specs.declared.notice.Notice.{Notice}
 use Rattle.hq_queue.specs.declared.kind.Kind.{Kind}
 use Rattle.hq_owned.specs.Owned.{by_both, part_of, map_values, given}
-
--- names and texts in the order of their bytes
-abbrev pub text_cmp : List ℕ → List ℕ → Ordering
-text_cmp = slice_cmp nat_cmp
+pub use Rattle.hq_owned.specs.Owned.{text_cmp}
 
 -- by customer, then by serial
 abbrev pub message_cmp : List ℕ × ℕ → List ℕ × ℕ → Ordering

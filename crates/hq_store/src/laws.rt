@@ -6,7 +6,7 @@ ghost use Rattle.hq_access.specs.declared.pattern.Class.{Class};
 ghost use Rattle.hq_store.specs.declared.change.Change.{Change};
 ghost use Rattle.hq_store.specs.Tables.{Tables, account, opening, no_tables, own, change_all};
 ghost use Rattle.hq_store.specs.Tables.{write_all};
-ghost use Rattle.hq_store.specs.Readings.{read_state, read_tables, told};
+ghost use Rattle.hq_store.specs.Readings.{read_state, read_tables, counts_told};
 ghost use Rattle.hq_store.specs.Sound.{AreCounted, Shaped, Sound, SoundState};
 ghost use Rattle.hq_store.specs.Fits.{AllFit};
 ghost use Rattle.hq_store.specs.Lifted.{lift, lifted_tables, FirstSound};
@@ -48,7 +48,7 @@ pub fn counts_are_kept()
     ensures stay { (customer : List ℕ) (changes : List Change) (t : Tables)
         → AreCounted t → AreCounted (write_all customer changes t) }
     ensures read { (t : Tables) → AreCounted t → (customer : List ℕ)
-        → (read_tables customer t).counts ≡ told (account t.heads customer).counts }
+        → (read_tables customer t).counts ≡ counts_told (account t.heads customer).counts }
 {}
 
 /// A customer that keeps no line has none at any key.

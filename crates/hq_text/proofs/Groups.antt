@@ -16,7 +16,7 @@ use Rattle.hq_queue.specs.declared.outcome.Told.{Told}
 use Rattle.hq_text.specs.Dates.{date_text}
 use Rattle.hq_text.specs.Determined.{is_told, AreValues, AreAlike}
 use Rattle.hq_text.specs.Notices.{action, diagnostic_lines, retry_lines, retry_date, retry_until}
-use Rattle.hq_text.specs.Notices.{recipient_lines, message_lines, status_lines, status_text}
+use Rattle.hq_text.specs.Notices.{recipient_fields, message_fields, status_lines, status_text}
 use Rattle.hq_queue.specs.declared.kind.Kind.{Kind}
 use Rattle.hq_queue.specs.declared.kind.Kind.TheVariants.{Failure, Delay}
 use Rattle.hq_text.proofs.DateTexts.{date_printed, date_determines}
@@ -75,8 +75,8 @@ told_is t h =
     record { address = two.0; status = two.1; text = last.1 }
 
 recipient_printed : (kind : Kind) (arrival : ℕ) (t : Told) → is_told t ≡ true →
-    are_printed (recipient_lines kind (retry_date kind arrival) t) ≡ true
-unfolding recipient_lines
+    are_printed (recipient_fields kind (retry_date kind arrival) t) ≡ true
+unfolding recipient_fields
 recipient_printed kind arrival t h =
     let is = told_is t h in
     let rest : List (List ℕ) = diagnostic_lines t.text ++ retry_lines (retry_date kind arrival) in
@@ -96,17 +96,17 @@ recipient_printed kind arrival t h =
     (diagnostic_printed t.text (text_printed t.text is.text)) (retry_printed kind arrival)))))
 
 told_printed : (kind : Kind) (arrival : ℕ) (told : List Told) → list_all is_told told ≡ true →
-    are_printed (flat_map (recipient_lines kind (retry_date kind arrival)) told) ≡ true
+    are_printed (flat_map (recipient_fields kind (retry_date kind arrival)) told) ≡ true
 told_printed kind arrival [] h = refl
 told_printed kind arrival (t ∷ told) h =
     let parts = both (is_told t) (list_all is_told told) h in
-    both_printed (recipient_lines kind (retry_date kind arrival) t)
-    (flat_map (recipient_lines kind (retry_date kind arrival)) told)
+    both_printed (recipient_fields kind (retry_date kind arrival) t)
+    (flat_map (recipient_fields kind (retry_date kind arrival)) told)
     (recipient_printed kind arrival t parts.0) (told_printed kind arrival told parts.1)
 
 message_printed : (host : List ℕ) (m : Message) (told : List Told) → AreValues host m told →
-    are_printed (message_lines host m) ≡ true
-unfolding message_lines
+    are_printed (message_fields host m) ≡ true
+unfolding message_fields
 message_printed host m told v =
     let from_id : List (List ℕ) = (codes "X-Desk-Queue-Id: " ++ serial_text m.serial) ∷ [] in
     let from_date : List (List ℕ) = (codes "Arrival-Date: " ++ date_text m.arrival) ∷ from_id in
@@ -123,7 +123,7 @@ lines_printed : (host : List ℕ) (m : Message) (kind : Kind) (told : List Told)
     AreValues host m told → are_printed (status_lines host m kind told) ≡ true
 unfolding status_lines
 lines_printed host m kind told v =
-    both_printed (message_lines host m) _ (message_printed host m told v)
+    both_printed (message_fields host m) _ (message_printed host m told v)
     (told_printed kind m.arrival told v.told_are)
 
 -- ---- groups of lines
@@ -135,8 +135,8 @@ AreGroups ([] ∷ lines) = Unit {0}
 AreGroups ((b ∷ line) ∷ lines) = ⊥
 
 groups : (kind : Kind) (until : Option (List ℕ)) (told : List Told) →
-    AreGroups (flat_map (recipient_lines kind until) told)
-unfolding recipient_lines
+    AreGroups (flat_map (recipient_fields kind until) told)
+unfolding recipient_fields
 groups kind until [] = tt
 groups kind until (t ∷ told) = tt
 
@@ -210,9 +210,9 @@ same_told t u address status text =
 group_same : (kind other : Kind) (until other_until : Option (List ℕ)) (t u : Told)
     (rest others : List (List ℕ)) → AreGroups rest → AreGroups others →
     (kind ≡ other → until ≡ other_until)
-    → recipient_lines kind until t ++ rest ≡ recipient_lines other other_until u ++ others →
+    → recipient_fields kind until t ++ rest ≡ recipient_fields other other_until u ++ others →
     (kind ≡ other) × (t ≡ u) × (rest ≡ others)
-unfolding recipient_lines
+unfolding recipient_fields
 group_same kind other until other_until t u rest others g h dates e =
     let address = heads_same _ _ _ _ (heads_same _ _ _ _ e).1 in
     let acted = heads_same _ _ _ _ address.1 in
@@ -230,9 +230,9 @@ group_same kind other until other_until t u rest others g h dates e =
 -- the lines of all recipients tell who is told of, and the kind
 told_same : (kind other : Kind) (until other_until : Option (List ℕ)) →
     (kind ≡ other → until ≡ other_until) → (told others : List Told)
-    → flat_map (recipient_lines kind until) told ≡ flat_map (recipient_lines other other_until)
+    → flat_map (recipient_fields kind until) told ≡ flat_map (recipient_fields other other_until)
     others → (told ≡ others) × (0 < length told → kind ≡ other)
-unfolding recipient_lines
+unfolding recipient_fields
 told_same kind other until other_until dates [] [] e = (refl, λ some. absurd (omega (arith, some)))
 told_same kind other until other_until dates [] (u ∷ others) e = absurd (cc)
 told_same kind other until other_until dates (t ∷ told) [] e = absurd (cc)
@@ -249,7 +249,7 @@ pub determined : (host other : List ℕ) (m n : Message) (kind other_kind : Kind
     (told others : List Told) → AreValues host m told → AreValues other n others
     → status_text host m kind told ≡ status_text other n other_kind others →
     AreAlike host other m n kind other_kind told others
-unfolding status_text status_lines message_lines
+unfolding status_text status_lines message_fields
 determined host other m n kind other_kind told others v w e =
     let lines = parted (status_lines host m kind told) (status_lines other n other_kind others)
     (lines_printed host m kind told v) (lines_printed other n other_kind others w) e in

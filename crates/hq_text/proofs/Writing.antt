@@ -9,7 +9,7 @@ use Rattle.hq_queue.specs.declared.message.Message.{Message}
 use Rattle.hq_queue.specs.Moves.{is_on_hold}
 use Rattle.hq_text.specs.Lines.{lf, text_of}
 use Rattle.hq_text.specs.Reports.{Written, header, head_lines, message_lines, bytes_of, held_of}
-use Rattle.hq_text.specs.Reports.{written, with_message, added_lines, last_lines, summary}
+use Rattle.hq_text.specs.Reports.{written, written_with, added_lines, last_lines, summary}
 use Rattle.hq_text.specs.Reports.{report_lines, report_text}
 use Rattle.hq_text.proofs.Joined.{text_of-nil, text_of-append}
 
@@ -67,16 +67,16 @@ same_written a b text queued bytes held =
 
 -- one message more
 pub written_more : (ms : List Message) (m : Message) →
-    written (ms ++ m ∷ []) ≡ with_message m (written ms)
-unfolding written with_message
+    written (ms ++ m ∷ []) ≡ written_with m (written ms)
+unfolding written written_with
 written_more ms m = same_written _ _ (lines_more ms m) (length_more ms m) (bytes_more ms m)
     (held_more ms m)
 
 with_one : (old new : Written) (m : Message) → new.text ≡ old.text
     ++ text_of lf (added_lines old.queued m) → new.queued ≡ old.queued + 1 →
     new.bytes ≡ old.bytes + m.size
-    → new.held ≡ old.held + (if is_on_hold m.state then 1 else 0) → new ≡ with_message m old
-unfolding with_message
+    → new.held ≡ old.held + (if is_on_hold m.state then 1 else 0) → new ≡ written_with m old
+unfolding written_with
 with_one old new m text queued bytes held = same_written new _ text queued bytes held
 
 -- what is added to a report is that of one message more
@@ -86,7 +86,7 @@ pub added_is : (old new : Written) (m : Message) → new.text ≡ old.text
     → new.held ≡ old.held + (if is_on_hold m.state then 1 else 0) → (messages : List Message) →
     old ≡ written messages → new ≡ written (messages ++ m ∷ [])
 added_is old new m text queued bytes held messages is = with_one old new m text queued bytes held
-    ∙ ap (with_message m) is ∙ sym (written_more messages m)
+    ∙ ap (written_with m) is ∙ sym (written_more messages m)
 
 -- the report with its last line
 pub finished : (ms : List Message) → (written ms).text

@@ -5,7 +5,7 @@ use Rattle.std.specs.Prelude.{codes, if◌then◌else◌}
 use Rattle.std.specs.List.{flat_map}
 use Rattle.hq_base.specs.Moments.{no_later}
 use Rattle.hq_base.specs.Serials.{serial_text}
-use Rattle.hq_queue.specs.Sweeps.{expiry}
+use Rattle.hq_queue.specs.Limits.{expiry}
 use Rattle.hq_queue.specs.declared.message.Message.{Message}
 use Rattle.hq_queue.specs.declared.outcome.Told.{Told}
 use Rattle.hq_text.specs.Dates.{date_text}
@@ -25,8 +25,8 @@ retry_date Delay arrival = Some (date_text (retry_until arrival))
 -- ---- for programs
 
 -- the fields of the message: two of RFC 3464 (2.2.2 and 2.2.5), and the queue ID
-unfoldable pub message_lines : List ℕ → Message → List (List ℕ)
-message_lines host m =
+unfoldable pub message_fields : List ℕ → Message → List (List ℕ)
+message_fields host m =
     (codes "Reporting-MTA: dns; " ++ host) ∷
     (codes "Arrival-Date: " ++ date_text m.arrival) ∷
     (codes "X-Desk-Queue-Id: " ++ serial_text m.serial) ∷ []
@@ -47,8 +47,8 @@ retry_lines None = []
 retry_lines (Some date) = (codes "Will-Retry-Until: " ++ date) ∷ []
 
 -- the fields of a recipient, behind an empty line (RFC 3464, 2.3.2 to 2.3.4, 2.3.6 and 2.3.9)
-unfoldable pub recipient_lines : Kind → Option (List ℕ) → Told → List (List ℕ)
-recipient_lines kind until t =
+unfoldable pub recipient_fields : Kind → Option (List ℕ) → Told → List (List ℕ)
+recipient_fields kind until t =
     [] ∷
     (codes "Final-Recipient: rfc822; " ++ t.address) ∷
     (codes "Action: " ++ action kind) ∷
@@ -56,8 +56,8 @@ recipient_lines kind until t =
     (diagnostic_lines t.text ++ retry_lines until)
 
 unfoldable pub status_lines : List ℕ → Message → Kind → List Told → List (List ℕ)
-status_lines host m kind told = message_lines host m
-    ++ flat_map (recipient_lines kind (retry_date kind m.arrival)) told
+status_lines host m kind told = message_fields host m
+    ++ flat_map (recipient_fields kind (retry_date kind m.arrival)) told
 
 unfoldable pub status_text : List ℕ → Message → Kind → List Told → List ℕ
 status_text host m kind told = text_of crlf (status_lines host m kind told)

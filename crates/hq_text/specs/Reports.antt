@@ -113,8 +113,8 @@ abbrev pub added_lines : ℕ → Message → List (List ℕ)
 added_lines queued m = (if queued == 0 then header ∷ [] else []) ++ message_lines m
 
 -- what is written with one more message
-unfoldable pub with_message : Message → Written → Written
-with_message m w = record {
+unfoldable pub written_with : Message → Written → Written
+written_with m w = record {
   text = w.text ++ text_of lf (added_lines w.queued m);
   queued = w.queued + 1;
   bytes = w.bytes + m.size;

@@ -63,7 +63,7 @@ fn put_message(
     message: &Message,
 ) -> Result<(), AllocError>
     ensures { OnOk result (string_bytes text.new
-        ≡ string_bytes text.old ++ text_of crlf (notices.message_lines host.now message.now)) }
+        ≡ string_bytes text.old ++ text_of crlf (notices.message_fields host.now message.now)) }
 {
     let arrival = date_text(alloc, message.arrival)?;
     let id = queue_id(alloc, message.serial)?;
@@ -118,7 +118,7 @@ fn put_recipient(
     told: &Told,
 ) -> Result<(), AllocError>
     ensures { OnOk result (string_bytes text.new ≡ string_bytes text.old
-        ++ text_of crlf (notices.recipient_lines kind (option_map (λ date. date.now) until.entry)
+        ++ text_of crlf (notices.recipient_fields kind (option_map (λ date. date.now) until.entry)
         told.now)) }
 {
     put_field(text, "", "")?;

@@ -11,8 +11,8 @@ use Rattle.hq_trial.specs.declared.failure.Failure.TheVariants.{DiskOnce, Closed
 use Rattle.hq_trial.specs.declared.failure.Trial.{Trial}
 
 -- nothing was called yet
-abbrev pub opening : Failure → Trial
-opening failure = record { failure = failure; calls = 0; faults = 0; closed = false }
+abbrev pub uncalled : Failure → Trial
+uncalled failure = record { failure = failure; calls = 0; faults = 0; closed = false }
 
 -- the fault of the call of this number, by the plan alone
 abbrev pub planned_at : Failure → ℕ → Option Fault
@@ -20,12 +20,12 @@ planned_at (DiskOnce at) call = if at == call then Some Disk else None
 planned_at (ClosedFrom at) call = if nat_le at call then Some Closed else None
 
 -- the fault of the call that was counted last; after one 93 every call answers 93
-abbrev pub planned : Trial → Option Fault
-planned trial = if trial.closed then Some Closed else planned_at trial.failure trial.calls
+abbrev pub fault_planned : Trial → Option Fault
+fault_planned trial = if trial.closed then Some Closed else planned_at trial.failure trial.calls
 
 -- one call more
-abbrev pub counted : Trial → Trial
-counted trial = record trial { calls = one_more trial.calls }
+abbrev pub call_counted : Trial → Trial
+call_counted trial = record trial { calls = one_more trial.calls }
 
 -- 91 and 93 are counted, and 93 closes
 abbrev pub after_fault : Fault → Trial → Trial

@@ -1,7 +1,7 @@
 //! The shelf that fails as told.
 
 ghost use Rattle.std.specs.Prelude.{◌≡◌, ◌⊎◌};
-ghost use Rattle.hq_trial.specs.Trials.{opening};
+ghost use Rattle.hq_trial.specs.Trials.{uncalled};
 ghost use Rattle.hq_trial.specs.Shelves.{inner_of, trial_of, greatest_limit_of};
 
 use crate::failure::{Failure, Trial};
@@ -26,7 +26,7 @@ impl<S> FailingShelf<S> {
     /// A shelf before this one, of which nothing was asked yet. Takes no memory.
     pub fn new(inner: S, failure: Failure) -> FailingShelf<S>
         ensures inner { inner_of result ≡ inner }
-        ensures trial { trial_of result ≡ opening failure }
+        ensures trial { trial_of result ≡ uncalled failure }
         ensures limit { greatest_limit_of result ≡ 0 }
     {
         FailingShelf {

@@ -1,7 +1,7 @@
 //! When a shelf fails, and what it remembers of its calls.
 
 ghost use Rattle.std.specs.Prelude.{◌≡◌};
-ghost use Rattle.hq_trial.specs.Trials.{planned, counted, opening, after_answer};
+ghost use Rattle.hq_trial.specs.Trials.{fault_planned, call_counted, uncalled, after_answer};
 
 use hq_envelope::Fault;
 
@@ -36,7 +36,7 @@ pub(crate) struct Trial {
 impl Trial {
     /// Nothing was called yet.
     pub(crate) fn new(failure: Failure) -> Trial
-        ensures { result ≡ opening failure }
+        ensures { result ≡ uncalled failure }
     {
         Trial {
             failure,
@@ -47,8 +47,8 @@ impl Trial {
     }
 
     /// The fault of the call that was counted last, if it is to fail.
-    fn planned(&self) -> Option<Fault>
-        ensures { result ≡ planned self.now }
+    fn fault_planned(&self) -> Option<Fault>
+        ensures { result ≡ fault_planned self.now }
     {
         if self.closed {
             return Some(Fault::Closed);
@@ -62,11 +62,11 @@ impl Trial {
 
     /// Counts a call, and tells whether it is to fail.
     pub(crate) fn count(&mut self) -> Option<Fault>
-        ensures counted { self.new ≡ counted self.old }
-        ensures planned { result ≡ planned (counted self.old) }
+        ensures counted { self.new ≡ call_counted self.old }
+        ensures planned { result ≡ fault_planned (call_counted self.old) }
     {
         self.calls = self.calls.saturating_add(1);
-        self.planned()
+        self.fault_planned()
     }
 
     /// Remembers the fault of an answer, and hands the answer on.

@@ -21,7 +21,8 @@ use Rattle.hq_json.proofs.OneLine.{answer_one_line, both_one_line}
 use Rattle.hq_requests.specs.Calls.{Asked, CallOf, SweepOfAll}
 use Rattle.hq_requests.specs.Directories.{entry_of, names_of}
 use Rattle.hq_wire.specs.Exchanges.{AllDone, EndsAt, InPart, IsStruck, MayReplyTo, Sweeps, of_part}
-use Rattle.hq_wire.specs.Replies.{Part, SeenReply, Stop, closing, fault_text, for_customer, joined}
+use Rattle.hq_wire.specs.Replies.{Part, SeenReply, Stop, closing, fault_text, for_customer}
+use Rattle.hq_wire.specs.Replies.{comma_joined}
 use Rattle.hq_wire.specs.Replies.{part_text, reply_of, reply_of_fault, stopped_text}
 use Rattle.hq_requests.specs.declared.directory.Directory.{Directory}
 
@@ -104,7 +105,7 @@ module _ (host : List ℕ) (d : Directory) (at : ℕ) where
       (behind_one (shared host (entry_of d p.customer) t at Sweep).1 t' ps rest done.1)
 
   joined_one : (t t' : Tables) (ps : List Part) → list_all is_name (map whose ps) ≡ true →
-      AllDone host d t (map (of_part at) ps) t' → is_one_line (joined ps) ≡ true
+      AllDone host d t (map (of_part at) ps) t' → is_one_line (comma_joined ps) ≡ true
   joined_one t t' [] known done = refl
   joined_one t t' (p ∷ ps) known done =
       let this = first (is_name p.customer) (list_all is_name (map whose ps)) known in
@@ -139,8 +140,8 @@ module _ (host : List ℕ) (d : Directory) (at : ℕ) where
           ++ stopped_text r.stopped) (codes "}") (both_one_line (codes "],\"stopped\":")
           (stopped_text r.stopped) refl stop) refl in
           ap (λ (x : SeenReply). is_one_line x.body) did.reply
-          ∙ both_one_line (codes "{\"done\":[" ++ joined r.parts) (closing r.stopped)
-          (both_one_line (codes "{\"done\":[") (joined r.parts) refl parts) end
+          ∙ both_one_line (codes "{\"done\":[" ++ comma_joined r.parts) (closing r.stopped)
+          (both_one_line (codes "{\"done\":[") (comma_joined r.parts) refl parts) end
 
       pub reply_one_line_of : (asked : Result Asked Refusal) (r : SeenReply) →
           MayReplyTo may host d t at asked r t' → is_one_line r.body ≡ true

@@ -14,7 +14,8 @@ use Rattle.hq_calls.specs.declared.call.Call.{Call}
 use Rattle.hq_requests.specs.Calls.{Asked, CallOf, SweepOfAll}
 use Rattle.hq_wire.specs.Exchanges.{EndsAt, IsRefused, MayReplyTo, Sweeps}
 use Rattle.hq_wire.specs.Replies.{AreObjects, Closes, Part, SeenReply, Stop, closing, fault_text}
-use Rattle.hq_wire.specs.Replies.{for_customer, is_inside, joined, opening, plain, reply_of_fault}
+use Rattle.hq_wire.specs.Replies.{for_customer, is_inside, comma_joined, parts_opening, plain}
+use Rattle.hq_wire.specs.Replies.{reply_of_fault}
 use Rattle.hq_wire.specs.Replies.{stopped_text, swept_reply}
 use Rattle.hq_requests.specs.declared.directory.Directory.{Directory}
 use Rattle.hq_wire.proofs.Swept.{customer_of_part}
@@ -95,8 +96,9 @@ begins_apart (x ∷ q) more others begins e = false≢true (ap (λ n. n == 123) 
     ∙ (cons _ _ _ _ begins).0))
 
 -- all parts, up to the bracket
-parts_apart : (ps qs : List Part) (more others : List ℕ) → AreObjects ps → AreObjects qs → joined ps
-    ++ 93 ∷ more ≡ joined qs ++ 93 ∷ others → (map text_of_part ps ≡ map text_of_part qs)
+parts_apart : (ps qs : List Part) (more others : List ℕ) → AreObjects ps → AreObjects qs
+    → comma_joined ps
+    ++ 93 ∷ more ≡ comma_joined qs ++ 93 ∷ others → (map text_of_part ps ≡ map text_of_part qs)
     × (more ≡ others)
 parts_apart [] [] more others h k e = (refl, (cons _ _ _ _ e).1)
 parts_apart [] (q ∷ qs) more others h k e =
@@ -180,12 +182,13 @@ sweeps_apart : (may mights : Fault → Type 0) (host name : List ℕ) (d : Direc
     (t t' u u' : Tables) (r q : SeenReply) → Sweeps may host d t at r t' →
     Sweeps mights name d u moment q u' → r.body ≡ q.body → r ≡ q
 sweeps_apart may mights host name d at moment t t' u u' r q one other e =
-    let same : (opening ++ joined r.parts) ++ closing r.stopped ≡ (opening ++ joined q.parts)
+    let same : (parts_opening ++ comma_joined r.parts) ++ closing r.stopped
+    ≡ (parts_opening ++ comma_joined q.parts)
     ++ closing q.stopped = sym (ap (λ (x : SeenReply). x.body) one.reply) ∙ e
     ∙ ap (λ (x : SeenReply). x.body) other.reply in
-    let behind = append_cancel_left opening _ _
-    (sym (append_assoc opening (joined r.parts) (closing r.stopped)) ∙ same
-    ∙ append_assoc opening (joined q.parts) (closing q.stopped)) in
+    let behind = append_cancel_left parts_opening _ _
+    (sym (append_assoc parts_opening (comma_joined r.parts) (closing r.stopped)) ∙ same
+    ∙ append_assoc parts_opening (comma_joined q.parts) (closing q.stopped)) in
     let texts = parts_apart r.parts q.parts (drop 1 (closing r.stopped))
     (drop 1 (closing q.stopped)) one.objects other.objects behind in
     let names = named r.parts q.parts one.left other.left texts.0 (sym one.order ∙ other.order) in

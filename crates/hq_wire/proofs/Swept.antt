@@ -19,7 +19,8 @@ use Rattle.hq_desk.specs.declared.desk.Rendered.{Rendered}
 use Rattle.hq_requests.specs.Calls.{SweepOfAll}
 use Rattle.hq_requests.specs.Directories.{entry_of, names_of}
 use Rattle.hq_wire.specs.Exchanges.{AllDone, Exchanged, InPart, StopsClosed, of_part}
-use Rattle.hq_wire.specs.Replies.{AreObjects, IsObject, Part, is_memory, joined, opening, part_text}
+use Rattle.hq_wire.specs.Replies.{AreObjects, IsObject, Part, is_memory, comma_joined}
+use Rattle.hq_wire.specs.Replies.{parts_opening, part_text}
 use Rattle.hq_wire.specs.Replies.{separated, swept_reply}
 use Rattle.hq_requests.specs.declared.directory.Directory.{Directory}
 use Rattle.hq_wire.proofs.Alone.{all_done_on}
@@ -43,7 +44,7 @@ abbrev behind_comma : Part → List ℕ
 behind_comma p = 44 ∷ p.text
 
 -- one more part
-joined_more : (ps : List Part) (p : Part) → joined (ps ++ p ∷ []) ≡ joined ps
+joined_more : (ps : List Part) (p : Part) → comma_joined (ps ++ p ∷ []) ≡ comma_joined ps
     ++ separated (has_none ps) p.text
 joined_more [] p = on_end p.text
 joined_more (x ∷ ps) p =
@@ -107,7 +108,7 @@ module _ {S : Type 0} (sight : Sight S) (d : Directory) (at : ℕ) where
   pub record SoFar (old : Desk S) (names : List (List ℕ)) (new : Desk S) (body : List ℕ)
       (is_first : Bool) : Type 0 where
     pub parts : List Part
-    pub text : body ≡ opening ++ joined parts
+    pub text : body ≡ parts_opening ++ comma_joined parts
     pub first : is_first ≡ has_none parts
     pub whose : map customer_of_part parts ≡ names
     pub done : OnOpenSound (on sight) old new
@@ -118,10 +119,10 @@ module _ {S : Type 0} (sight : Sight S) (d : Directory) (at : ℕ) where
     pub objects : AreObjects parts
     pub open_ : (names ≡ []) ⊎ ((on sight).is_closed new ≡ false)
 
-  pub none_yet : (old : Desk S) (body : List ℕ) → body ≡ opening → SoFar old [] old body true
+  pub none_yet : (old : Desk S) (body : List ℕ) → body ≡ parts_opening → SoFar old [] old body true
   none_yet old body is = record {
     parts = [];
-    text = is ∙ sym (on_end opening);
+    text = is ∙ sym (on_end parts_opening);
     first = refl;
     whose = refl;
     done = λ clean ours open_ sound. refl;
@@ -163,8 +164,9 @@ module _ {S : Type 0} (sight : Sight S) (d : Directory) (at : ℕ) where
       record {
         parts = before.parts ++ p ∷ [];
         text = put ∙ (λ i. before.text i ++ separated (before.first i) p.text)
-            ∙ in_threes opening (joined before.parts) (separated (has_none before.parts) p.text)
-            ∙ ap (λ ys. opening ++ ys) (sym (joined_more before.parts p));
+            ∙ in_threes parts_opening (comma_joined before.parts)
+            (separated (has_none before.parts) p.text)
+            ∙ ap (λ ys. parts_opening ++ ys) (sym (joined_more before.parts p));
         first = sym (none_more before.parts p);
         whose = map-append customer_of_part before.parts (p ∷ [])
             ∙ ap (λ ns. ns ++ entry.name ∷ []) before.whose;

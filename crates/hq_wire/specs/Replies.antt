@@ -95,17 +95,17 @@ separated true part = part
 separated false part = 44 ∷ part
 
 -- the parts, with commas between them
-abbrev pub joined : List Part → List ℕ
-joined [] = []
-joined (p ∷ ps) = p.text ++ flat_map (λ (q : Part). 44 ∷ q.text) ps
+abbrev pub comma_joined : List Part → List ℕ
+comma_joined [] = []
+comma_joined (p ∷ ps) = p.text ++ flat_map (λ (q : Part). 44 ∷ q.text) ps
 
 abbrev pub stopped_text : Option Stop → List ℕ
 stopped_text None = codes "null"
 stopped_text (Some stop) = for_customer stop.customer (fault_text stop.fault)
 
 -- up to the first part
-abbrev pub opening : List ℕ
-opening = codes "{\"done\":["
+abbrev pub parts_opening : List ℕ
+parts_opening = codes "{\"done\":["
 
 -- behind the last part
 abbrev pub closing : Option Stop → List ℕ
@@ -115,7 +115,7 @@ closing stopped = codes "],\"stopped\":" ++ stopped_text stopped ++ codes "}"
 abbrev pub swept_reply : List Part → Option Stop → SeenReply
 swept_reply parts stopped = record {
   status = 200;
-  body = opening ++ joined parts
+  body = parts_opening ++ comma_joined parts
       ++ closing stopped;
   parts = parts;
   stopped = stopped;

@@ -6,7 +6,7 @@ ghost use Rattle.std.specs.List.{list_all};
 ghost use Rattle.hq_requests.specs.Calls.{SweepOfAll};
 ghost use Rattle.hq_wire.specs.Exchanges.{Exchanged};
 ghost use Rattle.hq_wire.specs.Replies.{SeenReply, IsSent, Closes, is_inside, for_customer};
-ghost use Rattle.hq_wire.specs.Replies.{fault_text, separated, opening, closing};
+ghost use Rattle.hq_wire.specs.Replies.{fault_text, separated, parts_opening, closing};
 
 use crate::reply::{Body, Reply, fault_reply, fault_text};
 use hq_desk::{Answer, Call, Desk, Render};
@@ -123,7 +123,7 @@ fn put(body: &mut Vec<u8>, bytes: &[u8])
 
 /// Room for the longest reply about so many customers, with what stands before their parts.
 fn room_for(alloc: Global, customers: usize) -> Option<Vec<u8>>
-    ensures opened { IfSome result (λ body. body.items ≡ opening) }
+    ensures opened { IfSome result (λ body. body.items ≡ parts_opening) }
     ensures room { IfSome result (λ body. vec_len body + (customers * 140 + 93)
         ≤ vec_capacity body) }
 {

@@ -8,6 +8,7 @@ use Rattle.clap.specs.Simple.{subcommand_of}
 use Rattle.clap.specs.Walk.{Row, Text, first_of}
 use Rattle.clap.specs.declared.error.kind.ErrorKind.{ErrorKind}
 use Rattle.clap.specs.declared.error.kind.ErrorKind.TheVariants.{DisplayHelp}
+use Rattle.hq_base.specs.Options.{◌>>=◌}
 use Rattle.hq_words.specs.Program.{program}
 use Rattle.hq_words.specs.declared.options.Serve.{Serve}
 use Rattle.hq_words.specs.declared.options.Batch.{Batch}
@@ -15,10 +16,11 @@ use Rattle.hq_words.specs.declared.options.Queue.{Queue}
 use Rattle.hq_words.specs.declared.options.Import.{Import}
 use Rattle.hq_words.specs.declared.options.Sweep.{Sweep}
 use Rattle.hq_words.specs.declared.options.Migrate.{Migrate}
-use Rattle.hq_words.specs.declared.words.Asked.{Asked}
-use Rattle.hq_words.specs.declared.words.Asked.TheVariants as asked
+use Rattle.hq_words.specs.declared.words.Word.{Word}
+use Rattle.hq_words.specs.declared.words.Word.TheVariants as asked
 use Rattle.hq_words.specs.declared.words.Words.{Words}
-use Rattle.hq_words.specs.declared.words.Words.TheVariants.{Builtin, Asked as OfWord, Help, Refused}
+use Rattle.hq_words.specs.declared.words.Words.TheVariants.{Builtin, Word as OfWord, Help, Refused}
+use Rattle.hq_base.specs.Moments.{last_moment}
 
 -- ---- the texts that words are given
 
@@ -67,11 +69,6 @@ pub data Given : Type 0 where
   OfImport : ImportGiven → Given
   OfSweep : SweepGiven → Given
   OfMigrate : MigrateGiven → Given
-
-infixl 10 ◌>>=◌
--- a value, and what is made of it
-abbrev pub ◌>>=◌ : {A B : Type 0} → Option A → (A → Option B) → Option B
-found >>= next = option_and_then next found
 
 -- the values of the options of each word, the first of each, in the written order; all but the
 -- store of a server or of a batch, and the customer of a sweep, are there
@@ -166,25 +163,25 @@ given_by words = option_and_then (λ found. given_in found.0 found.1) (subcomman
 -- ---- what they ask for
 
 -- the number that a text writes in decimal digits, behind a plus sign or not
-abbrev pub number_of : Text → ℕ
-number_of text = digits_value 10 (without_leading_plus text)
+abbrev pub numeral_value : Text → ℕ
+numeral_value text = digits_value 10 (without_leading_plus text)
 
 -- a text of a moment, in seconds since 1970, up to the last one of the year 2099
 abbrev pub NamesAMoment : Text → Type 0
-NamesAMoment text = IsNumeral 10 (without_leading_plus text) × (number_of text ≤ 4102444799)
+NamesAMoment text = IsNumeral 10 (without_leading_plus text) × (numeral_value text ≤ last_moment)
 
 -- the moment that a text names, or none where it names none
 abbrev pub IsMoment : Text → Option ℕ → Type 0
-IsMoment text (Some seconds) = NamesAMoment text × (seconds ≡ number_of text)
+IsMoment text (Some seconds) = NamesAMoment text × (seconds ≡ numeral_value text)
 IsMoment text None = NamesAMoment text → ⊥
 
 -- a text of a number below 2^32
 abbrev pub NamesANumber : Text → Type 0
-NamesANumber text = IsNumeral 10 (without_leading_plus text) × (number_of text ≤ 4294967295)
+NamesANumber text = IsNumeral 10 (without_leading_plus text) × (numeral_value text ≤ 4294967295)
 
 -- the number that a text names, or none where it names none
 abbrev pub IsNumber : Text → Option ℕ → Type 0
-IsNumber text (Some number) = NamesANumber text × (number ≡ number_of text)
+IsNumber text (Some number) = NamesANumber text × (number ≡ numeral_value text)
 IsNumber text None = NamesANumber text → ⊥
 
 abbrev pub given_of : Batch → BatchGiven
@@ -264,7 +261,7 @@ ServeIs None (Some serve) = ⊥
 ServeIs None None = ⊤
 
 -- what is asked for by what is given
-abbrev pub Asks : Option Given → Option Asked → Type 0
+abbrev pub Asks : Option Given → Option Word → Type 0
 Asks (Some (OfServe given)) (Some (asked.Serve s)) = ServeIs (Some given) (Some s)
 Asks (Some (OfServe given)) None = ServeIs (Some given) None
 Asks (Some (OfBatch given)) (Some (asked.Batch b)) = given ≡ given_of b

@@ -4,6 +4,7 @@ use Rattle.std.specs.Prelude.{Bool, true, false, ℕ, List, [], ◌∷◌, codes
 use Rattle.clap.specs.Simple.{App, Shape, new_app, new_rule, new_shape, with_subcommand}
 use Rattle.clap.specs.Walk.{Rule, Text}
 use Rattle.clap.specs.declared.builder.value_parser.ValueParser.TheVariants.{Unsigned}
+use Rattle.hq_base.specs.Moments.{last_moment}
 
 -- an option `--NAME` with one value
 abbrev pub option_rule : Text → Bool → Rule
@@ -27,7 +28,7 @@ number_rule name value most = record (default_rule name value) { parser = Some (
 
 -- the option `--at`, asked for: a number, up to the last second of the year 2099
 abbrev pub moment_rule : Rule
-moment_rule = record (needed (codes "at")) { parser = Some (Unsigned 0 4102444799) }
+moment_rule = record (needed (codes "at")) { parser = Some (Unsigned 0 last_moment) }
 
 -- a word with options
 abbrev pub word_shape : Text → List Rule → Shape

@@ -8,4 +8,4 @@ mod texts;
 mod words;
 
 pub use options::{Batch, Import, Migrate, Queue, Serve, Sweep};
-pub use words::{Asked, Words, read_words};
+pub use words::{Word, Words, read_words};

@@ -22,9 +22,9 @@ use std::alloc::{AllocError, Global};
 /// What is told where an option that is asked for has no value, or not one that is read.
 const NOT_GIVEN: &str = "error: an option has no value\n";
 
-/// What a word asks for, and with what.
+/// A word of the program, with its options.
 #[derive(Clone, Copy, Debug, PartialEq, Eq, Drop)]
-pub enum Asked<'w> {
+pub enum Word<'w> {
     /// `serve`: HTTP connections of the customers of a directory.
     Serve(Serve<'w>),
     /// `batch`: lines of the customers of a directory.
@@ -46,7 +46,7 @@ pub enum Words<'w> {
     /// No words: lines of the built-in customers.
     Builtin,
     /// A word of the program, with its options.
-    Asked(Asked<'w>),
+    Word(Word<'w>),
     /// `--help` or `-h`, of the program or of one of its words: the text for standard output.
     Help(String),
     /// Words that are not taken: the text for standard error that tells why.
@@ -54,28 +54,28 @@ pub enum Words<'w> {
 }
 
 /// What matches of a word ask for.
-fn asked_in<'w>(word: &str, given: &ArgMatches<'w>) -> Option<Asked<'w>>
+fn asked_in<'w>(word: &str, given: &ArgMatches<'w>) -> Option<Word<'w>>
     ensures { Asks (given_in word.now (rows_of (found_of given.now))) result }
 {
     match word {
         "serve" => match serve_in(given) {
-            Some(serve) => Some(Asked::Serve(serve)),
+            Some(serve) => Some(Word::Serve(serve)),
             None => None,
         },
-        "batch" => Some(Asked::Batch(batch_in(given)?)),
-        "queue" => Some(Asked::Queue(queue_in(given)?)),
-        "import" => Some(Asked::Import(import_in(given)?)),
+        "batch" => Some(Word::Batch(batch_in(given)?)),
+        "queue" => Some(Word::Queue(queue_in(given)?)),
+        "import" => Some(Word::Import(import_in(given)?)),
         "sweep" => match sweep_in(given) {
-            Some(sweep) => Some(Asked::Sweep(sweep)),
+            Some(sweep) => Some(Word::Sweep(sweep)),
             None => None,
         },
-        "migrate" => Some(Asked::Migrate(migrate_in(given)?)),
+        "migrate" => Some(Word::Migrate(migrate_in(given)?)),
         _ => None,
     }
 }
 
 /// What matches ask for.
-fn asked_of<'w>(matches: &ArgMatches<'w>) -> Option<Asked<'w>>
+fn asked_of<'w>(matches: &ArgMatches<'w>) -> Option<Word<'w>>
     ensures { Asks (option_and_then (λ found. given_in found.0 found.1)
         (subcommand_rows_of matches.now)) result }
 {
@@ -106,7 +106,7 @@ pub fn read_words<'w>(alloc: Global, words: &'w [String]) -> Result<Words<'w>, A
     match program(alloc)?.try_get_matches_from(words) {
         Err(error) => told(alloc, &error),
         Ok(matches) => match asked_of(&matches) {
-            Some(asked) => Ok(Words::Asked(asked)),
+            Some(asked) => Ok(Words::Word(asked)),
             // (`clap` asks for the options and looks at the numbers, so that they are there)
             None => Ok(Words::Refused(String::from_str(alloc, NOT_GIVEN)?)),
         },

@@ -1,13 +1,12 @@
 use Rattle.std.proofs.Common.{◌≡◌, ◌≤◌, map, take, length, vec_len, vec_capacity}
-use Rattle.hq_desk.specs.Desks.{host_of, shelf_of}
-use Rattle.hq_admin.specs.Sweeps.{entry_of}
+use Rattle.hq_admin.specs.Sweeps.{customer_entry}
 use Rattle.hq_admin.proofs.Swept.{SoFar}
 use Rattle.hq_admin.proofs.sweeping.sweep_all.Given as goal
 
 abbrev pub invariant-loop-customer : goal.invariant-loop-customer
 invariant-loop-customer g l = record {
   so_far : SoFar g.S.Shelf.sight l.at (record { shelf = l.fn.shelf; host = l.fn.host })
-      (map entry_of (take l.customer-index l.customers)) l.told.items l.desk;
+      (map customer_entry (take l.customer-index l.customers)) l.told.items l.desk;
   count : vec_len l.told ≡ l.customer-index;
   room : length l.customers ≤ vec_capacity l.told;
 }

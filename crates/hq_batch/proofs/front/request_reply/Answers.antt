@@ -1,6 +1,6 @@
 use Rattle.std.proofs.Common.{ℕ, Result, Some, refl, subst}
 use Rattle.hq_base.specs.declared.failure.Refusal.{Refusal}
-use Rattle.hq_lines.specs.Fields.{shown}
+use Rattle.hq_lines.specs.Fields.{line_request}
 use Rattle.hq_requests.specs.Calls.{Asked, call_from}
 use Rattle.hq_wire.specs.Replies.{seen}
 use Rattle.hq_wire.specs.Runs.{RepliesSo}
@@ -21,7 +21,7 @@ returns-in-Ok g c =
 pub returns-in-Err : goal.returns-in-Err
 returns-in-Err g c =
     let d = c.args.directory.now in
-    let ask = ask_in d (Some (shown c.args.line.now)) in
+    let ask = ask_in d (Some (line_request c.args.line.now)) in
     let r = seen c.fault_reply.result in
     told_once g.S.Shelf.sight d c.args.desk.now c.args.desk.now ask c.fault_reply.result r (
       refl,

@@ -1,13 +1,13 @@
 use Rattle.std.proofs.Common.{◌≡◌, Ok, List, ℕ, IsTrue, length, map, string_bytes, sym, ap, subst}
 use Rattle.std.proofs.Common.{◌∙◌}
 use Rattle.hq_calls.specs.Limits.{is_recipient_count}
-use Rattle.hq_bodies.specs.Submissions.{addresses_in, shown}
+use Rattle.hq_bodies.specs.Submissions.{addresses_in, texts_shown}
 use Rattle.hq_bodies.proofs.Submitted.{texts_read, submission_taken}
 use Rattle.hq_bodies.proofs.submission.submission_from.Goals as goal
 
 pub invariant_of-result : goal.invariant_of-result
 invariant_of-result c =
-    let fields = shown c.args.fields.now in
+    let fields = texts_shown c.args.fields.now in
     let read : addresses_in fields.recipients.texts ≡ Ok c.in_ok-recipients.recipients.items =
     ap (λ texts. addresses_in (map (λ text. string_bytes text) texts))
     (sym c.as_slice.ensures.value) ∙ c.in_ok-recipients.ensures in
@@ -21,7 +21,7 @@ invariant_of-result c =
 
 pub returns : goal.returns
 returns c =
-    let fields = shown c.args.fields.now in
+    let fields = texts_shown c.args.fields.now in
     let read : addresses_in fields.recipients.texts ≡ Ok c.in_ok-recipients.recipients.items =
     ap (λ texts. addresses_in (map (λ text. string_bytes text) texts))
     (sym c.as_slice.ensures.value) ∙ c.in_ok-recipients.ensures in

@@ -3,7 +3,7 @@ use Rattle.sha2.specs.Sha256.{sha256}
 use Rattle.hq_store.specs.Readings.{read_tables}
 use Rattle.hq_store.proofs.Then.{finds_on}
 use Rattle.hq_desk.specs.Desks.{with_memory}
-use Rattle.hq_calls.specs.Imports.{met, taken, first_import}
+use Rattle.hq_calls.specs.Imports.{line_met, taken, first_import}
 use Rattle.hq_desk.proofs.Reading.{keeps_more}
 use Rattle.hq_desk.proofs.imports.decide_first.Goals as goal
 
@@ -17,8 +17,8 @@ returns-clause-found g c = λ opened clean ours.
     let kept = c.in_ok-rows.ensures.kept first.kept.tally.1 in
     let looked = c.in_ok-rows.ensures.found first.kept.tally.1 in
     let counts : c.in_ok-counts.counts ≡ now.counts = first.found (kept.quiet clean) ours in
-    let rows : c.in_ok-rows.rows ≡ map (met now) c.in-Ok.lines.items =
-    finds_on (with_memory sight) _ _ _ _ _ name (λ rows. map (met rows) c.in-Ok.lines.items)
+    let rows : c.in_ok-rows.rows ≡ map (line_met now) c.in-Ok.lines.items =
+    finds_on (with_memory sight) _ _ _ _ _ name (λ rows. map (line_met rows) c.in-Ok.lines.items)
     (keeps_more sight _ _ _ first.kept) kept looked clean ours in
     c.in_ok-decision.ensures
     ∙ (λ i. taken quota (counts i).lines c.args.label (c.digest.ensures i) (rows i))

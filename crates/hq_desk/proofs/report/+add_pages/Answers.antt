@@ -1,8 +1,7 @@
-use Rattle.std.proofs.Common.{◌≡◌, ◌++◌, ◌+◌, ◌-◌, ◌*◌, ◌≤◌, List, Some, None, length, take, drop}
+use Rattle.std.proofs.Common.{◌≡◌, ◌++◌, ◌+◌, ◌-◌, Some, None, take, drop}
 use Rattle.std.proofs.Common.{sym, ap, subst, ◌∙◌, arith}
 use Rattle.std.specs.Prelude.{OnOk}
 use Rattle.std.proofs.lemmas.List.{take_all}
-use Rattle.hq_queue.specs.declared.message.Message.{Message}
 use Rattle.hq_store.specs.Readings.{read_tables, after_serial}
 use Rattle.hq_store.specs.Sound.{Sound}
 use Rattle.hq_text.specs.Reports.{written}

@@ -1,6 +1,4 @@
-use Rattle.std.proofs.Common.{◌≡◌, [], ap, ◌∙◌}
-use Rattle.std.specs.Prelude.{string_bytes}
-use Rattle.hq_text.specs.Reports.{report_text}
+use Rattle.std.proofs.Common.{[], ap, ◌∙◌}
 use Rattle.hq_store.specs.Readings.{read_tables}
 use Rattle.hq_calls.specs.Answering.{tell}
 use Rattle.hq_calls.specs.declared.answer.Answer.TheVariants as answer

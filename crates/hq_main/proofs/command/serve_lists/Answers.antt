@@ -1,10 +1,11 @@
 use Rattle.hq_program.specs.Runs.{ServesOver}
 use Rattle.hq_program.proofs.Ends.{run_ends_as}
-use Rattle.hq_main.specs.Runs.{Serves}
+use Rattle.hq_main.specs.Runs.{ServesBuiltin}
 use Rattle.hq_main.proofs.Plain.{plain, serves}
 use Rattle.hq_main.proofs.command.serve_lists.Goals as goal
 
 pub returns : goal.returns
-returns g c = run_ends_as (ServesOver plain c.in_ok-settings.settings c.new-shelf.result) Serves _
+returns g c = run_ends_as (ServesOver plain c.in_ok-settings.settings c.new-shelf.result)
+    ServesBuiltin _
     (serves c.in_ok-settings.settings c.in_ok-settings.ensures c.new-shelf.result
     c.new-shelf.ensures) _ _ c.serve.result c.serve.ensures

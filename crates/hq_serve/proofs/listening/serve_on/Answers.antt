@@ -1,23 +1,26 @@
 use Rattle.std.proofs.Common.{ap}
-use Rattle.hq_serve.specs.Listening.{left_of}
+use Rattle.hq_serve.specs.Listening.{connections_left}
 use Rattle.hq_serve.proofs.Runs.{none_came, one_more, one_unserved}
 use Rattle.hq_serve.proofs.listening.serve_on.Goals as goal
 
 pub loop-stream-init : goal.loop-stream-init
 loop-stream-init g c =
-    none_came g.S.Shelf.sight c.args.directory.now (left_of c.args.connections.now) c.args.desk.now
+    none_came g.S.Shelf.sight c.args.directory.now (connections_left c.args.connections.now)
+    c.args.desk.now
 
 pub returns-in_default : goal.returns-in_default
 returns-in_default g c =
     let came = rw c.in-Ok-Some.field-0-is at c.in-Ok-Some.ensures in
-    one_unserved g.S.Shelf.sight c.args.directory.now (left_of c.args.connections.now)
-    (left_of c.loop-stream.connections) (left_of c.accept.new.self) c.args.desk.now
-    c.loop-stream.desk c.loop-stream.invariant came.0 (ap left_of came.1)
+    one_unserved g.S.Shelf.sight c.args.directory.now (connections_left c.args.connections.now)
+    (connections_left c.loop-stream.connections) (connections_left c.accept.new.self)
+    c.args.desk.now
+    c.loop-stream.desk c.loop-stream.invariant came.0 (ap connections_left came.1)
 
 pub loop-stream-preserved : goal.loop-stream-preserved
 loop-stream-preserved g c =
     let came = rw c.in-Ok-Some.field-0-is at c.in-Ok-Some.ensures in
-    one_more g.S.Shelf.sight c.args.directory.now (left_of c.args.connections.now)
-    (left_of c.loop-stream.connections) (left_of c.accept.new.self) c.args.desk.now
+    one_more g.S.Shelf.sight c.args.directory.now (connections_left c.args.connections.now)
+    (connections_left c.loop-stream.connections) (connections_left c.accept.new.self)
+    c.args.desk.now
     c.loop-stream.desk c.serve_stream-served.new.desk c.loop-stream.invariant came.0
-    (ap left_of came.1) c.serve_stream-served.ensures
+    (ap connections_left came.1) c.serve_stream-served.ensures

@@ -1,5 +1,5 @@
 use Rattle.std.proofs.Common.{None, Some, inr, refl, ap, subst}
-use Rattle.hq_http.specs.Stages.{shown, InputIs}
+use Rattle.hq_http.specs.Stages.{request_seen, InputIs}
 use Rattle.hq_wire.specs.Replies.{seen}
 use Rattle.hq_serve.proofs.Connected.{of_nothing, of_refusal, of_request}
 use Rattle.hq_serve.proofs.serving.reply_to.Goals as goal
@@ -35,7 +35,7 @@ returns-in-Request g c = λ a b h.
       Some so.told,
       so.sent,
       of_request g.S.Shelf.sight c.args.directory.now c.args.at a b
-          c.args.desk.now (shown c.in-Request.request) c.exchange_of-asked.result so.told
+          c.args.desk.now (request_seen c.in-Request.request) c.exchange_of-asked.result so.told
           c.exchange.new.desk (subst (InputIs a b) c.in-Request.is h) c.exchange_of-asked.ensures
           so.done,
     )

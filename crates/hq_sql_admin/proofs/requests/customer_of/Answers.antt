@@ -1,6 +1,6 @@
 use Rattle.std.proofs.Common.{◌≡◌, rules, Ok, Err}
 use Rattle.hq_base.specs.Readers.{Fails}
-use Rattle.hq_admin.specs.Customers.{entry_in}
+use Rattle.hq_admin.specs.Customers.{entry_named}
 use Rattle.hq_program.specs.declared.trouble.Trouble.TheVariants.{Desk}
 use Rattle.hq_sql_admin.proofs.requests.customer_of.Goals as goal
 
@@ -12,7 +12,7 @@ returns-in_err-customer_in c =
     let told : c.from_residual-in_err-customer_in.result ≡ Err (Desk c.in_err-customer_in.field-0.0)
     = search rules in
     let fails : Fails c.in_err-customer_in.field-0.0
-    (entry_in c.in_ok-file.file.items c.args.name.now) = search rules in
+    (entry_named c.in_ok-file.file.items c.args.name.now) = search rules in
     (Ok c.in_ok-file.file.items, tt, rw told fails)
 
 pub returns : goal.returns

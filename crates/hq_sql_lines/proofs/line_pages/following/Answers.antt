@@ -1,6 +1,6 @@
 use Rattle.std.proofs.Common.{ap, ◌++◌, ◌∙◌}
 use Rattle.sqlite.specs.Held.{state}
-use Rattle.hq_sql_lines.specs.LinePages.{line_in, lines_in}
+use Rattle.hq_sql_lines.specs.LinePages.{page_line, page_lines}
 use Rattle.hq_sql_lines.specs.declared.line_pages.TakenLines.{TakenLines}
 use Rattle.hq_sql.proofs.Keeping.{keeps_ok, keeps_err}
 use Rattle.hq_sql_lines.proofs.OnLinePages.{after_shown}
@@ -16,9 +16,9 @@ pub returns-clause-found : goal.returns-clause-found
 returns-clause-found g c clean desk =
     let all = rw (c.lines_after-params.ensures c.args.limit c.in_ok-most.ensures) at
     (c.in_ok-taken.ensures.found (record { plain = lines_after_known.plain }) clean desk) in
-    c.from_vec.ensures ∙ pushed_all (λ (it : TakenLines). it.lines.items) line_in all.rows _
+    c.from_vec.ensures ∙ pushed_all (λ (it : TakenLines). it.lines.items) page_line all.rows _
     c.in_ok-taken.taken all.taken
-    ∙ ap (λ l. l ++ lines_in all.rows) c.new-lines.ensures.items
+    ∙ ap (λ l. l ++ page_lines all.rows) c.new-lines.ensures.items
     ∙ after_shown (state g.S.Store c.args.conn.now) (state g.S.Store c.walk.new.conn)
     c.args.customer.now c.args.last.now c.args.limit all.rows desk all.shown
 

@@ -6,7 +6,7 @@ use Rattle.sqlite.specs.State.{HasCleanDisk}
 use Rattle.hq_sql.specs.Rows.{recipient_shown}
 use Rattle.hq_sql.specs.Tables.{IsDesk, Leaves, tables_in}
 use Rattle.hq_sql.specs.Kept.{KeepsCommitted}
-use Rattle.hq_sql_recipients.specs.Places.{is_far, Stands}
+use Rattle.hq_sql_recipients.specs.Places.{is_far, StandsAfter}
 use Rattle.hq_sql_recipients.specs.Recipients.{without_beside, with_pending}
 use Rattle.hq_sql_recipients.proofs.Loop.{Placed, no_rows, begun, skipped, stepped, kept_on, ended}
 use Rattle.hq_sql_recipients.proofs.Loop.{dropped}
@@ -64,7 +64,7 @@ loop-recipient-preserved g c =
             (skipped (state g.S.Store c.args.conn.now) (state g.S.Store c.loop-recipient.conn)
             c.args.customer.now c.args.serial c.args.pending.now c.in_ok-rows.rows.items
             c.loop-recipient.last c.loop-recipient.invariant.placed c.recipient-item.result item
-            (subst (λ rows. Stands rows c.loop-recipient.last c.recipient-item.result)
+            (subst (λ rows. StandsAfter rows c.loop-recipient.last c.recipient-item.result)
             c.as_slice-in-loop-recipient.ensures.value
             (c.in_ok-is_there.ensures.0 w.if-not-is_there.false)));
       }

@@ -1,5 +1,5 @@
 use Rattle.std.proofs.Common.{inr, subst}
-use Rattle.hq_serve.specs.Listening.{DoesSome, left_of}
+use Rattle.hq_serve.specs.Listening.{DoesSome, connections_left}
 use Rattle.hq_serve.proofs.Runs.{of_coming}
 use Rattle.hq_sql_server.proofs.serving.serve_over.Goals as goal
 
@@ -16,8 +16,8 @@ returns g c =
         new = c.serve_on.new.desk;
         served = subst (λ n. DoesSome g.S.Shelf.sight directory n c.new-desk.result
             c.serve_on.new.desk) c.new-connections.ensures
-            (of_coming g.S.Shelf.sight directory (left_of c.new-connections.result)
-            (left_of c.serve_on.new.connections) c.serve_on.result c.new-desk.result
+            (of_coming g.S.Shelf.sight directory (connections_left c.new-connections.result)
+            (connections_left c.serve_on.new.connections) c.serve_on.result c.new-desk.result
             c.serve_on.new.desk c.serve_on.ensures);
       },
     )

@@ -1,11 +1,11 @@
 use Rattle.std.proofs.Common.{codes, ◌∙◌}
 use Rattle.hq_text.proofs.Joined.{field_then, no_line}
 use Rattle.hq_text.specs.Lines.{crlf}
-use Rattle.hq_text.specs.Notices.{message_lines}
+use Rattle.hq_text.specs.Notices.{message_fields}
 use Rattle.hq_text.proofs.notices.put_message.Goals as goal
 
 pub returns : goal.returns
-unfolding message_lines
+unfolding message_fields
 returns c =
     field_then crlf _ _ _ (codes "Reporting-MTA: dns; ") _ _ _ c.in_ok-put_field.ensures
     c.as_str.ensures

@@ -1,11 +1,11 @@
 use Rattle.std.proofs.Common.{[], codes, refl}
 use Rattle.hq_text.proofs.Joined.{field_then, lines_then}
 use Rattle.hq_text.specs.Lines.{crlf}
-use Rattle.hq_text.specs.Notices.{recipient_lines}
+use Rattle.hq_text.specs.Notices.{recipient_fields}
 use Rattle.hq_text.proofs.notices.put_recipient.Goals as goal
 
 pub returns : goal.returns
-unfolding recipient_lines
+unfolding recipient_fields
 returns c =
     let said = rw c.as_str-3.ensures at c.in_ok-put_diagnostic.ensures in
     field_then crlf _ _ _ [] [] [] _ c.in_ok-put_field.ensures refl

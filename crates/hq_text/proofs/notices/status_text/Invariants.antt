@@ -2,11 +2,11 @@ use Rattle.std.proofs.Common.{◌≡◌, ◌++◌, take, string_bytes}
 use Rattle.std.specs.Prelude.{option_map}
 use Rattle.std.specs.List.{flat_map}
 use Rattle.hq_text.specs.Lines.{crlf, text_of}
-use Rattle.hq_text.specs.Notices.{message_lines, recipient_lines}
+use Rattle.hq_text.specs.Notices.{message_fields, recipient_fields}
 use Rattle.hq_text.proofs.notices.status_text.Given as goal
 
 abbrev pub invariant-loop-one : goal.invariant-loop-one
 invariant-loop-one l =
-    string_bytes l.text ≡ text_of crlf (message_lines l.host l.message
-    ++ flat_map (recipient_lines l.kind (option_map (λ date. date.now) l.until))
+    string_bytes l.text ≡ text_of crlf (message_fields l.host l.message
+    ++ flat_map (recipient_fields l.kind (option_map (λ date. date.now) l.until))
     (take l.one-index l.told))

@@ -3,7 +3,7 @@ use Rattle.std.proofs.lemmas.Result.{IfOk-weaker}
 use Rattle.clap.specs.Simple.{App, app_of, app_of_fields, new_app, with_rule}
 use Rattle.clap.specs.Walk.{rule_of}
 use Rattle.clap.specs.declared.builder.command.Command.TheViews.{out-Command}
-use Rattle.hq_words.specs.Program.{needed, option_rule, default_rule, number_rule}
+use Rattle.hq_words.specs.Program.{needed, option_rule}
 use Rattle.hq_words.proofs.command.serve.Goals as goal
 
 pub returns-clause-shape : goal.returns-clause-shape

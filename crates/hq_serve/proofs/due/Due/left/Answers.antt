@@ -1,12 +1,13 @@
 use Rattle.std.proofs.Common.{ℕ, refl, ap}
 use Rattle.std.specs.Time.{instant_nanos}
 use Rattle.std.specs.declared.time.Instant.{Instant}
-use Rattle.hq_serve.specs.Deadlines.{IsEnd, IsFixed}
+use Rattle.hq_serve.specs.Deadlines.{IsDeadline, IsFixed}
 use Rattle.hq_serve.specs.declared.due.Until.{Until}
 use Rattle.hq_serve.specs.declared.due.Until.TheVariants.{At, After}
 use Rattle.hq_serve.proofs.due.Due.left.Goals as goal
 
-fixed : (until : Until) (now : ℕ) (end : Instant) → IsEnd until now end → IsFixed until (At end)
+fixed : (until : Until) (now : ℕ) (end : Instant) → IsDeadline until now end
+    → IsFixed until (At end)
 fixed (At until) now end is = ap At is
 fixed (After time) now end is = (end, refl)
 

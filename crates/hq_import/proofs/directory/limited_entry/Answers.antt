@@ -1,7 +1,7 @@
 use Rattle.std.proofs.Common.{sym, arith}
 use Rattle.std.proofs.lemmas.Bool.Decides.{nat_tests}
 use Rattle.hq_import.proofs.Limits.{entry_taken, entry_refused}
-use Rattle.hq_import.proofs.directory.entry_of.Goals as goal
+use Rattle.hq_import.proofs.directory.limited_entry.Goals as goal
 
 pub returns-then-delay-gt431999 : goal.returns-then-delay-gt431999
 returns-then-delay-gt431999 c = sym (entry_refused _ _ _ _ (grind (arith, nat_tests)))

@@ -9,19 +9,20 @@ use Rattle.matchit.specs.Seek.{first}
 use Rattle.matchit.specs.Level.{IsText}
 use Rattle.matchit.specs.Router.{RouteOf, map_key}
 use Rattle.matchit.proofs.RenameLemmas.{seek-rename}
-use Rattle.hq_routes.specs.Routes.{path_of}
-use Rattle.hq_routes.specs.declared.Path.{Path}
-use Rattle.hq_routes.proofs.Seek.{IsSimple, AllSimple, Before, Sorted, first-route}
+use Rattle.hq_routes.proofs.Seek.{IsSimple, AllSimple, Before, Sorted, first-fits}
 use Rattle.matchit.proofs.OnLiterals.{matchit_on_literals}
 use Rattle.matchit.specs.Router.{rename}
-use Rattle.hq_routes.specs.Routes.{added_all, can_add_all, table}
-use Rattle.hq_routes.specs.declared.TheConstants.{PATHS}
+use Rattle.hq_routes.specs.Adding.{added_all, can_add_all}
+use Rattle.hq_routes.specs.Routes.{methods_at, routes}
+use Rattle.hq_routes.specs.declared.table.Methods.{Methods}
+use Rattle.hq_routes.specs.declared.table.TheConstants.{TABLE}
 
-pub rows_are : rename (λ e. e.value) (added_all (map (λ e. (e.0.now, e.1)) PATHS) []) ≡ table
-unfolding matchit_on_literals table
+pub rows_are : rename (λ e. e.value)
+    (added_all (map (λ e. (e.0.now, e.1)) TABLE) []) ≡ routes
+unfolding matchit_on_literals routes
 rows_are = refl
 
-pub can_add_paths : can_add_all (map (λ e. (e.0.now, e.1)) PATHS) [] ≡ true
+pub can_add_paths : can_add_all (map (λ e. (e.0.now, e.1)) TABLE) [] ≡ true
 unfolding matchit_on_literals
 can_add_paths = refl
 
@@ -85,12 +86,12 @@ module _ {K : Type 0} where
   sorted_from ((t, k) ∷ rest) e = let p = and_parts (is_before t rest) (is_sorted rest) e in
       (before_from t rest p.0, sorted_from rest p.1)
 
-table_simple : are_simple table ≡ true
-unfolding table
+table_simple : are_simple routes ≡ true
+unfolding routes
 table_simple = refl
 
-table_sorted : is_sorted table ≡ true
-unfolding table
+table_sorted : is_sorted routes ≡ true
+unfolding routes
 table_sorted = refl
 
 pub text_from : (bytes : List ℕ) → ((i : ℕ) → get_or bytes i 0 < 256) → IsText bytes
@@ -98,8 +99,10 @@ text_from [] h = tt
 text_from (b ∷ bytes) h = (h 0, text_from bytes (λ i. h (suc i)))
 
 -- what the router finds is what the table says
-pub found : (rows : RowsOf (RouteOf Path)) (path : List ℕ) → rename (λ e. e.value) rows ≡ table →
-    IsText path → map_key (λ e. e.value) (first rows path) ≡ path_of path
-unfolding path_of
+pub found : (rows : RowsOf (RouteOf Methods)) (path : List ℕ) → rename (λ e. e.value) rows
+    ≡ routes →
+    IsText path → map_key (λ e. e.value) (first rows path) ≡ methods_at path
+unfolding methods_at
 found rows path h t = sym (seek-rename (λ e. e.value) 0 rows path) ∙ ap (λ r. first r path) h
-    ∙ first-route table path (all_simple_from table table_simple) (sorted_from table table_sorted) t
+    ∙ first-fits routes path (all_simple_from routes table_simple) (sorted_from routes table_sorted)
+    t
