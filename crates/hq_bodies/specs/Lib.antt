@@ -1,5 +1,5 @@
-pub mod Due
 pub mod Outcomes
+pub mod Queries
 pub mod Reading
 pub mod Tables
 pub mod Submissions

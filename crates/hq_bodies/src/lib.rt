@@ -3,14 +3,14 @@
 //! belongs to is not said here.
 #![tactic(auto)]
 
-mod due;
 mod members;
 mod outcomes;
+mod queries;
 mod reading;
 mod submission;
 mod tables;
 
-pub use due::read_due;
 pub use outcomes::read_report;
+pub use queries::{read_message_after, read_message_id, read_notice_after, read_notice_number};
 pub use submission::read_submission;
 pub use tables::{read_check, read_import, read_line, read_pattern};

@@ -9,8 +9,9 @@ use Rattle.hq_base.specs.declared.failure.Refusal.TheVariants.{BodyTooLong, NoRo
 use Rattle.hq_base.specs.declared.failure.Refusal.TheVariants.{BadField}
 use Rattle.hq_calls.specs.declared.call.Call.{Call}
 use Rattle.hq_calls.specs.declared.call.Call.TheVariants as call
-use Rattle.hq_bodies.specs.Due.{read_due}
 use Rattle.hq_bodies.specs.Outcomes.{read_report}
+use Rattle.hq_bodies.specs.Queries.{read_message_after, read_message_id}
+use Rattle.hq_bodies.specs.Queries.{read_notice_after, read_notice_number}
 use Rattle.hq_bodies.specs.Tables.{read_pattern, read_line, read_check, read_import}
 use Rattle.hq_bodies.specs.Submissions.{read_submission}
 use Rattle.hq_routes.specs.Routes.{methods_at, route_of, last_segment}
@@ -104,9 +105,21 @@ asked_of route.Outcome segment body = do
   report ← read_report body
   Ok (call.Outcome report)
 asked_of route.Due segment body = do
-  after ← read_due body
+  after ← read_message_after body
   Ok (call.Due after)
 asked_of route.Sweep segment body = Ok call.Sweep
+asked_of route.MessagesByBody segment body = do
+  after ← read_message_after body
+  Ok (call.List after)
+asked_of route.ShowByBody segment body = do
+  serial ← read_message_id body
+  Ok (call.Show serial)
+asked_of route.NoticesByBody segment body = do
+  after ← read_notice_after body
+  Ok (call.Notices after)
+asked_of route.NoticeByBody segment body = do
+  number ← read_notice_number body
+  Ok (call.Notice number)
 
 -- the call of one customer: the key and whom it serves, the parameter, the body
 abbrev pub asked_of_one : Directory → Role → Route → Option (List ℕ) → (segment body : List ℕ) →

@@ -11,7 +11,8 @@ use crate::directory::Directory;
 use crate::exchanges::Exchange;
 use crate::number::notice_number;
 use hq_bodies::{
-    read_check, read_due, read_import, read_line, read_pattern, read_report, read_submission,
+    read_check, read_import, read_line, read_message_after, read_message_id, read_notice_after,
+    read_notice_number, read_pattern, read_report, read_submission,
 };
 use hq_calls::Call;
 use hq_envelope::{Fail, Refusal, Serial};
@@ -80,8 +81,12 @@ fn asked_of(alloc: Global, route: Route, segment: &str, body: &[u8]) -> Result<C
         Route::Report => Ok(Call::Report),
         Route::Submit => Ok(Call::Submit(read_submission(alloc, body)?)),
         Route::Outcome => Ok(Call::Outcome(read_report(alloc, body)?)),
-        Route::Due => Ok(Call::Due(read_due(alloc, body)?)),
+        Route::Due => Ok(Call::Due(read_message_after(alloc, body)?)),
         Route::Sweep => Ok(Call::Sweep),
+        Route::MessagesByBody => Ok(Call::List(read_message_after(alloc, body)?)),
+        Route::ShowByBody => Ok(Call::Show(read_message_id(alloc, body)?)),
+        Route::NoticesByBody => Ok(Call::Notices(read_notice_after(alloc, body)?)),
+        Route::NoticeByBody => Ok(Call::Notice(read_notice_number(alloc, body)?)),
     }
 }
 

@@ -14,6 +14,8 @@ use Rattle.hq_routes.specs.declared.table.Route.TheVariants.{ReleaseAll, DeleteA
 use Rattle.hq_routes.specs.declared.table.Route.TheVariants.{LinesAfter, PutLine, DropLine, Check}
 use Rattle.hq_routes.specs.declared.table.Route.TheVariants.{Notices, NoticesAfter, Notice, Usage}
 use Rattle.hq_routes.specs.declared.table.Route.TheVariants.{Report, Submit, Outcome, Due, Sweep}
+use Rattle.hq_routes.specs.declared.table.Route.TheVariants.{MessagesByBody, ShowByBody}
+use Rattle.hq_routes.specs.declared.table.Route.TheVariants.{NoticesByBody, NoticeByBody}
 
 -- what stands for a parameter at the end of a pattern: it is no byte
 abbrev pub parameter : ℕ
@@ -27,6 +29,10 @@ with_parameter text = text ++ parameter ∷ []
 unfoldable pub routes : RowsOf Methods
 routes =
     (with_parameter (codes "/relay/due/"), Post Relay Due)
+    ∷ (with_parameter (codes "/relay/message/"), Post Relay ShowByBody)
+    ∷ (with_parameter (codes "/relay/messages/"), Post Relay MessagesByBody)
+    ∷ (with_parameter (codes "/relay/notice/"), Post Relay NoticeByBody)
+    ∷ (with_parameter (codes "/relay/notices/"), Post Relay NoticesByBody)
     ∷ (with_parameter (codes "/relay/outcome/"), Post Relay Outcome)
     ∷ (with_parameter (codes "/relay/submit/"), Post Relay Submit)
     ∷ (with_parameter (codes "/relay/sweep/"), Post Relay Sweep)

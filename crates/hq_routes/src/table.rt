@@ -8,8 +8,8 @@ use Methods::{Get, GetOrDelete, Post};
 use Role::{Customer, Relay, RelayForAll};
 use Route::{
     Check, Delete, DeleteAll, DropLine, Due, Hold, HoldAll, Import, Lines, LinesAfter, Messages,
-    MessagesAfter, Notice, Notices, NoticesAfter, Outcome, PutLine, Release, ReleaseAll, Report,
-    Requeue, Show, Submit, Sweep, Usage,
+    MessagesAfter, MessagesByBody, Notice, NoticeByBody, Notices, NoticesAfter, NoticesByBody,
+    Outcome, PutLine, Release, ReleaseAll, Report, Requeue, Show, ShowByBody, Submit, Sweep, Usage,
 };
 
 /// The methods of a path, whose key they take, and what each asks for.
@@ -103,10 +103,18 @@ pub enum Route {
     Due,
     /// What is too old given up, and senders warned.
     Sweep,
+    /// The messages after the queue ID of the body, or from the start.
+    MessagesByBody,
+    /// The message whose queue ID is in the body, whole.
+    ShowByBody,
+    /// The notices after the number of the body, or from the start.
+    NoticesByBody,
+    /// The notice whose number is in the body.
+    NoticeByBody,
 }
 
 /// Every path of the desk, as the router spells it, with its methods.
-pub(crate) const TABLE: [(&str, Methods); 25] = [
+pub(crate) const TABLE: [(&str, Methods); 29] = [
     ("/v1/messages", Get(Customer, Messages)),
     ("/v1/messages-after/{id}", Get(Customer, MessagesAfter)),
     ("/v1/message/{id}", GetOrDelete(Customer, Show, Delete)),
@@ -131,5 +139,9 @@ pub(crate) const TABLE: [(&str, Methods); 25] = [
     ("/relay/outcome/{customer}", Post(Relay, Outcome)),
     ("/relay/due/{customer}", Post(Relay, Due)),
     ("/relay/sweep/{customer}", Post(Relay, Sweep)),
+    ("/relay/messages/{customer}", Post(Relay, MessagesByBody)),
+    ("/relay/message/{customer}", Post(Relay, ShowByBody)),
+    ("/relay/notices/{customer}", Post(Relay, NoticesByBody)),
+    ("/relay/notice/{customer}", Post(Relay, NoticeByBody)),
     ("/relay/sweep", Post(RelayForAll, Sweep)),
 ];
