@@ -1,7 +1,7 @@
 //! The tests of the wire that lines of a batch cannot say: bodies at their longest, desks whose
-//! serials or notices are nearly spent, directories that are refused, sweeps of all over stores that
-//! fail, and runs. What lines can say stands in `tests/examples/`. The tests stand apart so that the
-//! wire is proved once, and not again with them.
+//! serials or notices are nearly spent, directories that are refused, sweeps of all over stores
+//! that fail, and runs. What lines can say stands in `tests/examples/`. The tests stand apart so
+//! that the wire is proved once, and not again with them.
 #![tactic(auto)]
 
 #[cfg(test)]

@@ -1,0 +1,208 @@
+"""The worker's book, a database of SQLite in the spool's folder.
+
+What a call has written is synced to the disk when it returns. The tables:
+
+`names`: spool names that were taken, and what was answered; a record outlives the MTA's retries.
+`finished` are those of which all was told, `gone` is since when one is in no list of the desk.
+`messages`: which spool name a queue ID of the desk stands for.
+`journal`: outcomes that the desk was not told yet.
+`notices`: for each customer the number of the last notice that was mailed.
+"""
+import json
+import sqlite3
+import threading
+import time
+from contextlib import contextmanager
+from dataclasses import dataclass
+from pathlib import Path
+from typing import Dict, List, Optional, Set, Tuple
+
+SCHEMA = """
+CREATE TABLE IF NOT EXISTS names (
+  spool TEXT PRIMARY KEY, customer TEXT NOT NULL, answer TEXT NOT NULL, at INTEGER NOT NULL,
+  finished INTEGER NOT NULL DEFAULT 0, gone INTEGER, cleaned INTEGER NOT NULL DEFAULT 0);
+CREATE INDEX IF NOT EXISTS uncleaned ON names (customer) WHERE NOT cleaned;
+CREATE TABLE IF NOT EXISTS messages (
+  customer TEXT NOT NULL, id TEXT NOT NULL, spool TEXT NOT NULL, at INTEGER NOT NULL,
+  PRIMARY KEY (customer, id));
+CREATE TABLE IF NOT EXISTS journal (
+  number INTEGER PRIMARY KEY, customer TEXT NOT NULL, spool TEXT NOT NULL, id TEXT NOT NULL,
+  attempt INTEGER NOT NULL, outcomes TEXT NOT NULL);
+CREATE TABLE IF NOT EXISTS notices (customer TEXT PRIMARY KEY, number INTEGER NOT NULL);
+"""
+# How many seconds a thread waits for another one's writing.
+LONGEST_WAIT = 60
+
+
+@dataclass(frozen=True)
+class Report:
+    """What an attempt came to, and the desk is to be told."""
+    customer: str
+    spool: str
+    id: str
+    attempt: int
+    outcomes: List[Dict[str, str]]
+
+
+class Book:
+    def __init__(self, folder: Path):
+        self.path, self.own = folder / "book.db", threading.local()
+        with self.writing() as database:
+            for statement in SCHEMA.split(";"):
+                database.execute(statement)
+
+    def database(self) -> sqlite3.Connection:
+        """The connection of this thread."""
+        if not hasattr(self.own, "database"):
+            database = sqlite3.connect(str(self.path), timeout=LONGEST_WAIT, isolation_level=None)
+            database.execute("PRAGMA journal_mode = WAL")
+            database.execute("PRAGMA synchronous = FULL")
+            self.own.database = database
+        return self.own.database
+
+    @contextmanager
+    def writing(self):
+        """A transaction: all of it is done and synced, or nothing."""
+        database = self.database()
+        database.execute("BEGIN IMMEDIATE")
+        try:
+            yield database
+            database.execute("COMMIT")
+        except BaseException:
+            if database.in_transaction:
+                database.execute("ROLLBACK")
+            raise
+
+    def one(self, asked: str, *values):
+        """The first value of the first row; None where there is none."""
+        row = self.database().execute(asked, values).fetchone()
+        return row and row[0]
+
+    # ---- names and messages
+
+    def answer(self, spool: str) -> Optional[str]:
+        """What was answered for a name that was taken."""
+        return self.one("SELECT answer FROM names WHERE spool = ?", spool)
+
+    def taken(self, customer: str, spool: str, id: Optional[str], answer: str) -> None:
+        """A name was taken, under this ID where it was queued, else it is finished. The first
+        answer stays."""
+        with self.writing() as database:
+            database.execute(
+                "INSERT OR IGNORE INTO names (spool, customer, answer, at, finished) "
+                "VALUES (?, ?, ?, ?, ?)", (spool, customer, answer, int(time.time()), not id))
+            if id:
+                self.name(database, customer, id, spool)
+
+    def named(self, customer: str, id: str, spool: str) -> None:
+        with self.writing() as database:
+            self.name(database, customer, id, spool)
+
+    @staticmethod
+    def name(database, customer: str, id: str, spool: str) -> None:
+        database.execute(
+            "INSERT OR REPLACE INTO messages (customer, id, spool, at) VALUES (?, ?, ?, ?)",
+            (customer, id, spool, int(time.time())))
+
+    def spool_of(self, customer: str, id: str, since: int = 0) -> Optional[str]:
+        """The name that an ID stands for, if that was written down at this moment or later."""
+        asked = "SELECT spool FROM messages WHERE customer = ? AND id = ? AND at >= ?"
+        return self.one(asked, customer, id, since)
+
+    def finished(self, spool: str) -> None:
+        """The message left the queue by its last outcome, and its notices were mailed."""
+        with self.writing() as database:
+            database.execute("UPDATE names SET finished = 1 WHERE spool = ?", (spool,))
+
+    def is_finished(self, spool: str) -> bool:
+        return bool(self.one("SELECT finished OR cleaned FROM names WHERE spool = ?", spool))
+
+    def uncleaned(self, customer: str) -> Dict[str, Tuple[bool, Optional[int]]]:
+        """The customer's names whose content was not cleaned away: whether they are finished, and
+        since when they are gone."""
+        asked = "SELECT spool, finished, gone FROM names WHERE customer = ? AND NOT cleaned"
+        rows = self.database().execute(asked, (customer,))
+        return {spool: (bool(finished), gone) for spool, finished, gone in rows}
+
+    def gone(self, spools: List[str], since: Optional[int]) -> None:
+        """These are in no list of the desk since a moment; None for those that are again."""
+        with self.writing() as database:
+            database.executemany("UPDATE names SET gone = ? WHERE spool = ?",
+                                 [(since, it) for it in spools])
+
+    def cleaned(self, spools: List[str]) -> None:
+        with self.writing() as database:
+            database.executemany(
+                "UPDATE names SET cleaned = 1 WHERE spool = ?", [(it,) for it in spools])
+
+    def forget(self, customer: str, ids: Set[str], before: float) -> None:
+        """Drops records older than a moment, but those of messages queued under these IDs."""
+        old = (customer, int(before))
+        with self.writing() as database:
+            rows = database.execute("SELECT id FROM messages WHERE customer = ? AND at < ?", old)
+            gone = [(customer, id) for id, in rows.fetchall() if id not in ids]
+            database.executemany("DELETE FROM messages WHERE customer = ? AND id = ?", gone)
+            database.execute(
+                "DELETE FROM names WHERE customer = ? AND at < ? AND cleaned AND spool NOT IN "
+                "(SELECT spool FROM messages WHERE customer = ?)", (*old, customer))
+
+    def forget_messages(self, customer: str) -> None:
+        with self.writing() as database:
+            database.execute("DELETE FROM messages WHERE customer = ?", (customer,))
+
+    # ---- outcomes that the desk was not told yet
+
+    def attempted(self, report: Report) -> None:
+        """An attempt with one destination ended so; further destinations are added to it."""
+        with self.writing() as database:
+            self.journal(database, report)
+
+    def moved(self, report: Report) -> None:
+        """The outcomes of a name are to be told so, and not as it stood."""
+        with self.writing() as database:
+            self.forget_report(database, report)
+            self.journal(database, report)
+
+    def reported(self, report: Report) -> None:
+        """The outcomes of a name need not be told any more."""
+        with self.writing() as database:
+            self.forget_report(database, report)
+
+    @staticmethod
+    def journal(database, report: Report) -> None:
+        database.execute(
+            "INSERT INTO journal (customer, spool, id, attempt, outcomes) VALUES (?, ?, ?, ?, ?)",
+            (report.customer, report.spool, report.id, report.attempt,
+             json.dumps(report.outcomes)))
+
+    @staticmethod
+    def forget_report(database, report: Report) -> None:
+        database.execute("DELETE FROM journal WHERE customer = ? AND spool = ?",
+                         (report.customer, report.spool))
+
+    def report(self, customer: str, spool: str) -> Optional[Report]:
+        """What the desk is to be told of a name."""
+        rows = self.database().execute(
+            "SELECT id, attempt, outcomes FROM journal WHERE customer = ? AND spool = ? "
+            "ORDER BY number", (customer, spool)).fetchall()
+        if not rows:
+            return None
+        id, attempt, _ = rows[0]
+        outcomes = [it for row in rows for it in json.loads(row[2])]
+        return Report(customer, spool, id, attempt, outcomes)
+
+    def untold(self, customer: str) -> List[str]:
+        """The names whose outcomes the desk was not told."""
+        asked = "SELECT DISTINCT spool FROM journal WHERE customer = ?"
+        return [spool for spool, in self.database().execute(asked, (customer,)).fetchall()]
+
+    # ---- notices
+
+    def last_notice(self, customer: str) -> int:
+        return self.one("SELECT number FROM notices WHERE customer = ?", customer) or 0
+
+    def told(self, customer: str, number: int) -> None:
+        """The notices of a customer up to this number were mailed."""
+        with self.writing() as database:
+            database.execute("INSERT OR REPLACE INTO notices (customer, number) VALUES (?, ?)",
+                             (customer, number))

@@ -1,0 +1,46 @@
+"""Clean-up of the spool: content of messages that have left the queue, and old records."""
+import time
+from typing import List
+
+import log
+from book import Book
+from names import Names
+from settings import Settings
+from spool import Spool
+
+
+# How many seconds the content stays of what left the queue without a last outcome: it was deleted
+# or has expired, or the desk has lost it by a restore that nobody told the worker of.
+KEPT_GONE = 86400
+
+
+class Cleaning:
+    def __init__(self, settings: Settings, spool: Spool, book: Book, names: Names):
+        self.settings, self.spool, self.book, self.names = settings, spool, book, names
+
+    def clean(self, customer: str, is_busy) -> None:
+        """Removes the content of what has left the queue by its last outcome, or for long.
+
+        The book is read first: a name in it was submitted before the list is made, so what is not
+        in the list has left.
+        """
+        now = int(time.time())
+        names, untold = self.book.uncleaned(customer), self.book.untold(customer)
+        queued = self.names.queued(customer)
+        kept = {*queued.values(), *untold}
+        left = [it for it in names if it not in kept and not is_busy(customer, it)]
+        done = [it for it in left if names[it][0] or (names[it][1] or now) <= now - KEPT_GONE]
+        for spool in done:
+            self.spool.remove(spool)
+            log.info("cleaned", customer=customer, spool=spool)
+        self.book.cleaned(done)
+        self.book.gone([it for it in left if not names[it][1]], now)
+        self.book.gone([it for it in names if it in kept and names[it][1]], None)
+        self.book.forget(customer, set(queued), now - self.settings.keep_days * 86400)
+
+    def unknown(self) -> List[str]:
+        """The names whose content belongs to no message: none is queued, and no record is there."""
+        kept = self.spool.names()
+        for customer in self.settings.customers:
+            self.names.queued(customer)
+        return [it for it in kept if not self.book.answer(it)]

@@ -1,0 +1,91 @@
+"""The desk's calls that a worker makes, each over a connection of its own."""
+import http.client
+import json
+from typing import Dict, Iterator, List, Optional
+
+from settings import Address
+
+# Numbers of refusals that the worker tells apart.
+NO_MESSAGE, BAD_ADDRESS, ATTEMPT_AHEAD, UNKNOWN_RECIPIENT = 10, 20, 30, 31
+QUOTA_MESSAGES, QUOTA_BYTES, SERIALS_SPENT = 40, 41, 43
+
+
+class Refused(Exception):
+    """The desk refused a call, and nothing was changed."""
+
+    def __init__(self, body: dict):
+        super().__init__(f"{body['error']} {body.get('name')}")
+        self.body, self.number = body, body["error"]
+
+
+class Away(Exception):
+    """No reply, or a fault: nobody knows whether the call was done. It may be asked again."""
+
+
+class Desk:
+    def __init__(self, address: Address, key: str, timeout: float):
+        self.address, self.key, self.timeout = address, key, timeout
+
+    def ask(self, path: str, body: Optional[dict] = None) -> dict:
+        """The body of the reply to one call."""
+        connection = http.client.HTTPConnection(*self.address, timeout=self.timeout)
+        try:
+            sent = json.dumps(body).encode() if body is not None else b""
+            connection.request("POST", path, sent, {"X-Desk-Key": self.key})
+            response = connection.getresponse()
+            told = json.loads(response.read())
+        except (OSError, http.client.HTTPException, ValueError) as error:
+            raise Away(f"{path}: {error!r}") from error
+        finally:
+            connection.close()
+        if response.status == 200:
+            return told
+        if response.status == 503 or not isinstance(told, dict) or "error" not in told:
+            raise Away(f"{path}: {response.status} {told}")
+        raise Refused(told)
+
+    def submit(self, customer: str, spool: str, sender: str, recipient: str, size: int) -> dict:
+        body = {"spool": spool, "sender": sender, "recipients": [recipient], "size": size}
+        return self.ask(f"/relay/submit/{customer}", body)
+
+    def outcome(self, customer: str, id: str, attempt: int, outcomes: List[Dict[str, str]]) -> dict:
+        body = {"id": id, "attempt": attempt, "outcomes": outcomes}
+        return self.ask(f"/relay/outcome/{customer}", body)
+
+    def sweep(self, customer: str) -> dict:
+        return self.ask(f"/relay/sweep/{customer}")
+
+    def message(self, customer: str, id: str) -> Optional[dict]:
+        """A message shown whole; None where it has left the queue, or has another ID by now."""
+        try:
+            return self.ask(f"/relay/message/{customer}", {"id": id})
+        except Refused as refusal:
+            if refusal.number != NO_MESSAGE:
+                raise
+            return None
+
+    def notice(self, customer: str, number: int) -> dict:
+        return self.ask(f"/relay/notice/{customer}", {"number": number})
+
+    def due(self, customer: str) -> Iterator[dict]:
+        return self.pages("due", customer, "due", "id")
+
+    def messages(self, customer: str, after: Optional[str] = None) -> Iterator[dict]:
+        return self.pages("messages", customer, "messages", "id", after)
+
+    def notices(self, customer: str, after: Optional[int] = None) -> Iterator[dict]:
+        return self.pages("notices", customer, "notices", "number", after)
+
+    def pages(self, kind: str, customer: str, members: str, last: str,
+              after=None) -> Iterator[dict]:
+        """All entries of a list, page by page.
+
+        A page is asked for when those before it were looked at, until one is empty: so a message
+        that is requeued meanwhile is met again, behind all others.
+        """
+        while True:
+            page = self.ask(f"/relay/{kind}/{customer}", {"after": after})[members]
+            if not page:
+                return
+            yield from page
+            after = page[-1][last]

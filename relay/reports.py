@@ -1,0 +1,76 @@
+"""Telling the desk what came of attempts: what is in the journal, until the desk has heard it."""
+from dataclasses import replace
+from typing import Optional
+
+import desk as desks
+import log
+from book import Book, Report
+from desk import Desk, Refused
+from names import Names
+from notices import Notices
+
+
+class Reports:
+    def __init__(self, desk: Desk, book: Book, names: Names, notices: Notices):
+        self.desk, self.book, self.names, self.notices = desk, book, names, notices
+
+    def tell(self, customer: str, spool: str) -> None:
+        """Tells the outcomes of a name, and mails the notices that come of them.
+
+        What the desk does not take stays in the journal, and until it is told the message is not
+        tried again. Away is raised where the desk is.
+        """
+        report = self.book.report(customer, spool)
+        while report:
+            is_failure = any(it["result"] == "failed" for it in report.outcomes)
+            if is_failure and not self.notices.has_room(customer):
+                log.error("no room for a notice", customer=customer, id=report.id, spool=spool)
+                return
+            try:
+                reply = self.desk.outcome(customer, report.id, report.attempt, report.outcomes)
+            except Refused as refusal:
+                report = self.mended(report, refusal)
+                continue
+            self.book.reported(report)
+            log.info("outcome", customer=customer, id=report.id, spool=spool,
+                     attempt=report.attempt, outcomes=words_of(report), result=reply["result"])
+            if self.notices.send(customer) and reply.get("left") == 0:
+                self.book.finished(spool)
+            return
+
+    def mended(self, report: Report, refusal: Refused) -> Optional[Report]:
+        """The report as the desk may take it; None where it is not to be told, or not now."""
+        if refusal.number == desks.ATTEMPT_AHEAD:
+            mended = replace(report, attempt=refusal.body["attempts"] + 1)
+        elif refusal.number in (desks.NO_MESSAGE, desks.UNKNOWN_RECIPIENT):
+            mended = self.fitted(report)
+        else:
+            log.error("outcome refused", customer=report.customer, id=report.id,
+                      spool=report.spool, why=refusal)
+            return None
+        if mended:
+            self.book.moved(mended)
+            log.warning("outcome told anew", customer=report.customer, id=mended.id,
+                        spool=report.spool, attempt=mended.attempt, why=refusal)
+        else:
+            self.book.reported(report)
+            log.warning("gone in the middle", customer=report.customer, id=report.id,
+                        spool=report.spool, outcomes=words_of(report),
+                        means="deleted or expired during the attempt")
+        return mended
+
+    def fitted(self, report: Report) -> Optional[Report]:
+        """The report for the message as the customer made it meanwhile: under a new ID where it
+        was requeued, and of those recipients alone that are still pending."""
+        message = self.desk.message(report.customer, report.id)
+        if not message or message["spool"] != report.spool:
+            message = self.names.message(report.customer, report.spool, report.id)
+        pending = {it["address"].lower() for it in message["pending"]} if message else set()
+        outcomes = [it for it in report.outcomes if it["recipient"].lower() in pending]
+        if not outcomes:
+            return None
+        return replace(report, id=message["id"], attempt=message["attempts"] + 1, outcomes=outcomes)
+
+
+def words_of(report: Report) -> str:
+    return ",".join(f"{it['recipient']}:{it['result']}" for it in report.outcomes)

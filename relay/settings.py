@@ -1,0 +1,218 @@
+"""The settings of the worker: an INI file, read whole, with all its faults told at once."""
+import configparser
+import csv
+import re
+from dataclasses import dataclass
+from pathlib import Path
+from typing import Dict, Optional, Tuple
+
+Address = Tuple[str, int]
+# A next hop: a host and a port, or None for the MX of the domain.
+Hop = Optional[Address]
+
+CUSTOMER = re.compile(r"[a-z0-9-]{1,32}")
+KEY = re.compile(r"[A-Za-z0-9]{16,64}")
+DOMAIN = re.compile(r"[A-Za-z0-9_-]+(\.[A-Za-z0-9_-]+)*")
+COLUMNS = ["name", "key", "messages", "bytes", "lines", "notices", "delay"]
+TABLES = ("logins", "domains", "next-hops")
+REQUIRED = object()
+
+
+class BadSettings(Exception):
+    """The settings cannot be taken; `faults` has a line for each reason."""
+
+    def __init__(self, faults):
+        super().__init__(*faults)
+        self.faults = faults
+
+
+@dataclass(frozen=True)
+class Customer:
+    """A row of the desk's directory, as far as the worker wants it."""
+    name: str
+    messages: int
+    notices: int
+
+
+@dataclass(frozen=True)
+class Settings:
+    desk: Address
+    desk_timeout: float
+    key: str
+    customers: Dict[str, Customer]
+    folder: Path
+    keep_days: float
+    listen: Address
+    largest: int
+    connections: int
+    logins: Dict[str, str]
+    domains: Dict[str, str]
+    host: str
+    next_hop: Hop
+    next_hops: Dict[str, Hop]
+    resolver: Optional[Address]
+    sessions: int
+    timeout: float
+    pause: float
+    sweep_every: float
+    clean_every: float
+    notices_hop: Address
+    notices_from: str
+
+    def hop(self, domain: str) -> Hop:
+        return self.next_hops.get(domain.lower(), self.next_hop)
+
+
+# ---- values, each of which is refused by ValueError with its reason
+
+def address(text: str) -> Address:
+    host, colon, port = text.rpartition(":")
+    if not (colon and host and port.isdecimal() and int(port) < 65536):
+        raise ValueError("is not HOST:PORT")
+    return host.strip("[]"), int(port)
+
+
+def hop(text: str) -> Hop:
+    return None if text == "mx" else address(text)
+
+
+def domain(text: str) -> str:
+    if not DOMAIN.fullmatch(text):
+        raise ValueError("is not a domain")
+    return text.lower()
+
+
+def sender(text: str) -> str:
+    if not DOMAIN.fullmatch(text.rpartition("@")[2]) or not text.rpartition("@")[0].isprintable():
+        raise ValueError("is not an address")
+    return text
+
+
+def seconds(text: str) -> float:
+    if not re.fullmatch(r"[0-9]+(\.[0-9]+)?", text):
+        raise ValueError("is not a number")
+    return float(text)
+
+
+def wait(text: str) -> float:
+    if not seconds(text):
+        raise ValueError("is 0")
+    return seconds(text)
+
+
+def count(text: str) -> int:
+    if not text.isdecimal() or int(text) < 1:
+        raise ValueError("is not a number of at least 1")
+    return int(text)
+
+
+def key_of(path: Path) -> str:
+    try:
+        text = path.read_text(encoding="ascii", errors="replace").strip()
+    except OSError as error:
+        raise ValueError(f"cannot be read: {error.strerror}") from None
+    if not KEY.fullmatch(text):
+        raise ValueError("has no key: one line of 16 to 64 letters and digits")
+    return text
+
+
+def customers_of(path: Path) -> Dict[str, Customer]:
+    """The customers of the desk's directory, in its order."""
+    try:
+        with open(path, newline="", encoding="utf-8-sig") as file:
+            rows = list(csv.reader(file))
+    except (OSError, ValueError, csv.Error) as error:
+        raise ValueError(f"cannot be read: {error}") from None
+    if not rows or rows[0] != COLUMNS:
+        raise ValueError(f"has not the header {','.join(COLUMNS)}")
+    found = {}
+    for number, row in enumerate(filter(None, rows[1:]), 1):
+        if len(row) != len(COLUMNS) or not CUSTOMER.fullmatch(row[0]) or row[0] in found:
+            raise ValueError(f"row {number} is not a customer")
+        found[row[0]] = Customer(row[0], count(row[2]), count(row[5]))
+    return found
+
+
+# ---- the file
+
+class Reader:
+    """Reads the options of a file one after the other, and gathers what is wrong."""
+
+    def __init__(self, path: Path):
+        self.folder, self.faults, self.known = path.resolve().parent, [], set()
+        self.parser = configparser.ConfigParser(
+            interpolation=None, delimiters=("=",), inline_comment_prefixes=(";",))
+        self.parser.optionxform = str
+        try:
+            self.parser.read_string(path.read_text(encoding="utf-8"), str(path))
+        except (OSError, ValueError, configparser.Error) as error:
+            raise BadSettings([f"{path}: {error}"]) from None
+
+    def read(self, section: str, name: str, kind, default=REQUIRED):
+        """The value of an option; None where it is faulty or missing."""
+        self.known.add((section, name))
+        text = self.parser.get(section, name, fallback=None)
+        try:
+            if text is not None:
+                return kind(text)
+            if default is REQUIRED:
+                raise ValueError("is missing")
+            return default
+        except ValueError as error:
+            self.faults.append(f"[{section}] {name}: {error}")
+        return None
+
+    def path(self, text: str) -> Path:
+        return self.folder / text
+
+    def table(self, section: str, kind, name_of=str) -> dict:
+        """All options of a section, with their names as `name_of` makes them."""
+        found = {}
+        for name in self.parser[section] if self.parser.has_section(section) else ():
+            found[name_of(name)] = self.read(section, name, kind)
+        return found
+
+    def end(self) -> None:
+        for section in self.parser.sections():
+            for name in self.parser[section]:
+                if (section, name) not in self.known:
+                    self.faults.append(f"[{section}] {name}: is not known")
+        if self.faults:
+            raise BadSettings(self.faults)
+
+
+def load(name: str) -> Settings:
+    """The settings of a file. Paths in it are meant from its folder."""
+    reader = Reader(Path(name))
+    customers = reader.read("desk", "directory", lambda it: customers_of(reader.path(it))) or {}
+
+    def customer(text):
+        if text not in customers:
+            raise ValueError(f"{text} is not in the directory")
+        return text
+
+    found = Settings(
+        desk=reader.read("desk", "address", address),
+        desk_timeout=reader.read("desk", "timeout", wait, 60.0),
+        key=reader.read("desk", "key-file", lambda it: key_of(reader.path(it))),
+        customers=customers,
+        folder=reader.read("spool", "folder", reader.path),
+        keep_days=reader.read("spool", "keep-days", seconds, 7.0),
+        listen=reader.read("intake", "listen", address),
+        largest=reader.read("intake", "largest", count, 11_000_000),
+        connections=reader.read("intake", "connections", count, 50),
+        logins=reader.table("logins", customer),
+        domains=reader.table("domains", customer, str.lower),
+        host=reader.read("delivery", "host", domain),
+        next_hop=reader.read("delivery", "next-hop", hop, None),
+        next_hops=reader.table("next-hops", hop, str.lower),
+        resolver=reader.read("delivery", "resolver", address, None),
+        sessions=reader.read("delivery", "sessions", count, 4),
+        timeout=reader.read("delivery", "timeout", wait, 60.0),
+        pause=reader.read("delivery", "pause", wait, 10.0),
+        sweep_every=reader.read("delivery", "sweep-every", wait, 300.0),
+        clean_every=reader.read("delivery", "clean-every", wait, 300.0),
+        notices_hop=reader.read("notices", "next-hop", address),
+        notices_from=reader.read("notices", "from", sender))
+    reader.end()
+    return found
