@@ -7,6 +7,7 @@ book know.
 import email.parser
 import hashlib
 import re
+import sqlite3
 import threading
 from contextlib import contextmanager
 from email.utils import formatdate
@@ -16,6 +17,7 @@ import desk as desks
 import log
 from book import Book
 from desk import Away, Desk, Refused
+from names import Names
 from settings import Settings
 from spool import Envelope, Spool
 
@@ -49,7 +51,10 @@ def login_of(content: bytes, ident: str) -> Optional[str]:
 class Intake:
     def __init__(self, settings: Settings, desk: Desk, spool: Spool, book: Book):
         self.settings, self.desk, self.spool, self.book = settings, desk, spool, book
+        self.names = Names(desk, spool, book)
         self.changed, self.busy = threading.Condition(), set()
+        # the customers of whom a submit was begun, and nobody knows whether it was done
+        self.unsettled = self.names.unrecorded().intersection(settings.customers)
 
     @contextmanager
     def alone_with(self, name: str):
@@ -97,8 +102,25 @@ class Intake:
             return self.refused(envelope, refusal)
         except Away as error:
             log.warning("desk away", spool=envelope.spool, why=error)
+            with self.changed:
+                self.unsettled.add(envelope.customer)
             return "451 4.3.0 the desk is away"
         return self.judged(envelope, reply)
+
+    def settle(self) -> None:
+        """Learns which submits were done that nobody heard of, before the MTA tries them again: a
+        customer may have deleted them by then. While the desk is away they wait."""
+        with self.changed:
+            customers, self.unsettled = self.unsettled, set()
+        for customer in sorted(customers):
+            try:
+                self.names.queued(customer)
+            except (Away, Refused, OSError, sqlite3.Error) as error:
+                log.warning("not settled", customer=customer, why=repr(error))
+                with self.changed:
+                    self.unsettled.add(customer)
+            else:
+                log.info("settled", customer=customer)
 
     def customer(self, ident: str, name: str, sender: str, content: bytes) -> Optional[str]:
         """Whose message it is: as at an earlier try, by the login, or by the sender's domain."""

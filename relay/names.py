@@ -1,5 +1,5 @@
 """Spool names and queue IDs: what the book learns from the desk's lists."""
-from typing import Dict, Iterable, Optional
+from typing import Dict, Optional, Set
 
 from book import Book
 from desk import Desk
@@ -60,9 +60,8 @@ class Names:
                     return message
         return None
 
-    def learn_unrecorded(self, customers: Iterable[str]) -> None:
-        """Looks for messages whose submit was done when the intake was stopped: before the MTA
-        tries them again, and their customers delete them."""
+    def unrecorded(self) -> Set[str]:
+        """The customers of contents that have no record: nobody knows whether their submits were
+        done."""
         kept = (self.spool.envelope(it) for it in self.spool.names() if not self.book.answer(it))
-        for customer in {it.customer for it in kept if it}.intersection(customers):
-            self.queued(customer)
+        return {it.customer for it in kept if it}

@@ -1,0 +1,100 @@
+"""Time: a destination that hangs, and mail that is late or too old."""
+import subprocess
+import time
+
+from lacking import lacks
+from postfix import free_address
+from relay_machine import HERE, WIDE, Relay, until
+from serving import expect
+
+HOUR, DAY = 3600, 86_400
+# a customer whose senders are warned after an hour
+WARNED = f"1000,500000000,1000,1000,{HOUR}"
+
+
+def hanging_holds_up_nobody(program, shared):
+    """One customer's mail goes to a destination that says nothing: that of another one is delivered
+    meanwhile."""
+    settings = {"delivery": {"timeout": "30", "sessions": "2"}}
+    slow, good = ([f"p{it}@{name}.example" for it in range(6)] for name in ("slow", "good"))
+    with Relay(program, shared, settings=settings) as it:
+        shared.slow.hangs = True
+        shared.slow.gate.clear()
+        it.intake()
+        it.take("acme", *slow)
+        it.postfix.empty()
+        it.run("deliver")
+        until(lambda: shared.slow.asked, "an attempt that hangs")
+        it.take("birch", *good)
+        until(lambda: len(shared.good.mail) == len(good), "the mail of the other customer", 15)
+        expect(not shared.slow.mail, "the mail that hangs was delivered")
+        expect(shared.slow.most <= 2, "sessions at once were", shared.slow.most)
+        shared.slow.gate.set()
+        until(lambda: len(shared.slow.mail) == len(slow), "the mail that hung")
+        until(lambda: not it.desk.usage("acme")["pending"], "its outcomes")
+        it.expect_delivered(*slow, *good)
+        it.desk.expect_usage("acme", delivered=len(slow))
+    return len(slow) + len(good)
+
+
+def clock(it, seconds):
+    """The desk is started again, and its clock tells a later moment."""
+    library = it.folder / "interpose.so"
+    source = HERE / "interpose.c"
+    if not library.exists():
+        subprocess.run(["cc", "-shared", "-fPIC", "-O1", "-o", library, source, "-ldl"], check=True)
+    at = str(int(time.time()) + seconds)
+    it.desk.kill()
+    it.desk.environment = {"LD_PRELOAD": str(library), "CLOCK_AT": at}
+    it.desk.start()
+
+
+def late_and_given_up(program, shared):
+    """A sweep warns of late mail and gives old mail up; each is told to the sender once."""
+    if lacks("cc", "mail that is late"):
+        return 0
+    with Relay(program, shared, {"acme": WARNED, "birch": WIDE}) as it:
+        it.intake()
+        it.take("acme", "p@soft.example")
+        it.take("birch", "q@soft.example")
+        it.postfix.empty()
+        it.deliver()
+        expect(not it.notices(), "notices were", it.notices())
+        clock(it, 2 * HOUR)
+        it.deliver()
+        it.deliver()
+        expect(it.notices() == {"p@soft.example": 1}, "of late mail notices were", it.notices())
+        expect(b"\nAction: delayed" in it.senders.mail[0][2], "the notice is", it.senders.mail)
+        clock(it, 6 * DAY)
+        it.deliver()
+        it.deliver()
+        expect(it.notices() == {"p@soft.example": 2, "q@soft.example": 1}, "at last notices were",
+               it.notices())
+        expect(b"\nStatus: 4.4.7" in it.senders.mail[-1][2], "the notice is", it.senders.mail)
+        for customer in ("acme", "birch"):
+            it.desk.expect_usage(customer, expired=1)
+    return 2
+
+
+def next_hop_away(program, shared):
+    """Nobody listens at a next hop: the mail is deferred with a status of the connection, and goes
+    later."""
+    nobody = "{}:{}".format(*free_address())
+    with Relay(program, shared) as it:
+        it.set(next_hops={"good.example": nobody})
+        it.intake()
+        it.take("acme", "p@good.example")
+        it.postfix.empty()
+        it.deliver()
+        shown = it.desk.own("acme", "GET", f"/v1/message/{it.desk.only('acme')}")
+        found = (shown["attempts"], shown["state"], shown["pending"][0]["status"][:4])
+        expect(found == (1, "deferred", "4.4."), "the message is", shown)
+        it.set()
+        it.again("acme")
+        it.deliver()
+        it.expect_delivered("p@good.example")
+        it.desk.expect_usage("acme", delivered=1)
+    return 1
+
+
+TIME = [hanging_holds_up_nobody, late_and_given_up, next_hop_away]
