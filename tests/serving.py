@@ -179,19 +179,21 @@ http {{
   fastcgi_temp_path {folder}/t3;
   uwsgi_temp_path {folder}/t4;
   scgi_temp_path {folder}/t5;
+  {before}
   server {{ listen 127.0.0.1:{port}; {serves} }}
 }}
 """
 
 
 class Nginx:
-    """nginx with one worker on a free port, its files in a folder; `serves` is what its configuration has of its server."""
+    """nginx with one worker on a free port, its files in a folder; `serves` is what its configuration has of its server, and
+    `before` what it has before that."""
 
-    def __init__(self, folder, serves, keeps_alive):
+    def __init__(self, folder, serves, keeps_alive, before=""):
         with socket.create_server(("127.0.0.1", 0)) as free:
             self.address = free.getsockname()
         seconds = 60 if keeps_alive else 0
-        text = NGINX.format(folder=folder, port=self.address[1], seconds=seconds, serves=serves)
+        text = NGINX.format(folder=folder, port=self.address[1], seconds=seconds, serves=serves, before=before)
         (folder / "nginx.conf").write_text(text)
         # its worker is nobody where it is begun by root
         folder.chmod(0o755)
