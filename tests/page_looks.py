@@ -175,6 +175,8 @@ def what_happened_is_read_aloud(visit):
     regions = [more for role, _, more in tree(browser) if role == "status"]
     expect(len(regions) == 1 and regions[0].get("live") == "polite", "the region is told as",
            regions)
+    live = browser.run("document.querySelector('#shown').getAttribute('aria-live')")
+    expect(live == "polite", "how many are found is told as", live)
     alerts = browser.run("document.querySelector('#key-fault').getAttribute('role')")
     expect(alerts == "alert", "the fault of a key is told as", alerts)
 

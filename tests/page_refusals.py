@@ -148,6 +148,7 @@ def one_thing_at_a_time(visit):
     asks = browser.run("document.querySelector('#question').open")
     expect(not asks, "a question is put meanwhile")
     browser.tells("0000000001: held")
+    visit.rests()
     browser.click("[data-all=delete]")
     visit.answer(False)
 

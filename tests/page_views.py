@@ -188,6 +188,7 @@ def refusals_of_rules(visit):
                                   for it in visit.told()), number)
     full = "42 QuotaLines: You would have more rules than you may keep. Drop some first."
     expect(visit.told() == [full], "told is", visit.told())
+    browser.until(lambda: len(lines_shown(visit)) == 3, "shown are", lines_shown(visit))
     visit.desk.ask("POST", "/v1/line-drop", CEDAR, {"class": "sender", "pattern": "d1.example"})
     browser.click("#lines tbody tr:nth-child(2) button")
     visit.answer(True)

@@ -68,6 +68,11 @@ class Visit:
         self.browser.tells(f"The {view} {'are' if view == 'notices' else 'is'} loaded again.")
         self.settled()
 
+    def rests(self):
+        """Waits until what was begun for marked or all messages is done."""
+        script = "document.querySelector('#queue').ariaBusy !== 'true'"
+        self.browser.until(lambda: self.browser.run(script), "the page is still at work")
+
     def press(self, queue_id, does):
         """Presses a button in the row of a message."""
         self.browser.click(f"tr[data-id='{queue_id}'] [data-does={does}]")

@@ -53,7 +53,6 @@ const waiting = new Set();
 let asking = 0;
 let loading = 0;
 let report = null;
-let working = false;
 
 // ---- the list
 
@@ -247,10 +246,11 @@ async function each(some, name) {
 
 // Does what may take long, and nothing else of that kind meanwhile.
 async function alone(does) {
-  if (working) return say("Not done: wait until what was begun is done.");
-  working = true;
+  const queue = by("queue");
+  if (queue.ariaBusy === "true") return say("Not done: wait until what was begun is done.");
+  queue.ariaBusy = "true";
   await trying(does);
-  working = false;
+  queue.ariaBusy = "false";
 }
 
 async function doMarked(name) {

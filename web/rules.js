@@ -108,12 +108,12 @@ async function importFile(event) {
     const set = `${count(reply.added)} added, ${count(reply.changed)} changed`;
     const line = `Imported: ${set}, ${count(reply.same)} there already.`;
     by("imported").replaceChildren(element("p", {}, line));
-    await open();
   } catch (fault) {
     if (fault.row === undefined) throw fault;
     by("imported").replaceChildren(...faultOf(fault, csv));
   }
   by("imported").focus();
+  await open();
 }
 
 by("put-action").append(
