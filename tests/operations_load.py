@@ -4,7 +4,7 @@ import threading
 import time
 from typing import Dict, List, NamedTuple, Set
 
-from deploying import Wrong, asked, done, expect
+from deploying import Wrong, asked, done, expect, until
 from serving import LONGEST, RELAY
 
 # A customer asks so often, well within its limits; a worker without a pause.
@@ -34,18 +34,23 @@ class Load:
     def __enter__(self):
         for it in self.threads:
             it.start()
-        time.sleep(0.4)
+        self.goes_on(float("-inf"))
         return self
 
     def __exit__(self, kind, *_):
         if not kind:
-            time.sleep(0.4)
+            self.goes_on(time.monotonic())
         self.runs = False
         for it in self.threads:
             it.join(LONGEST)
         if not kind:
             expect(not self.wrong, *self.wrong[:1])
             expect(self.accepted, "nothing was accepted")
+
+    def goes_on(self, since):
+        """Waits until each had a submission accepted that was sent since then."""
+        until(lambda: self.wrong or all(self.ids(name, lambda it: it.sent > since)
+                                        for name in self.customers), "the load does not go on")
 
     def guarded(self, each, name):
         try:
