@@ -78,7 +78,7 @@ def to_all(recipients: List[str], result: str, status: str, text: str) -> List[O
 
 def attempt(settings: Settings, hosts: List[Host], sender: str, recipients: List[str],
             content: bytes) -> List[Outcome]:
-    """One attempt of a message with one destination."""
+    """One attempt of a customer's message with one destination. (Notices are sent beside these.)"""
     return send(settings, hosts, sender, recipients, content)
 
 

@@ -1,8 +1,7 @@
 """The ways in which a worker that is written without care loses or doubles mail, each tried by its
 name.
 
-L is a loss, D a doubling, T what cannot be helped and must be told. Each takes the program of the
-desk and what all share.
+Each takes the program of the desk and what all share.
 """
 import shutil
 
@@ -12,7 +11,7 @@ from serving import RELAY, expect
 FAR = "good.example"
 
 
-def l1_many_recipients(program, shared):
+def many_recipients(program, shared):
     """A message of 150 recipients comes in many transactions: each recipient gets it once."""
     recipients = [f"r{it}@{FAR}" for it in range(150)]
     with Relay(program, shared) as it:
@@ -24,10 +23,10 @@ def l1_many_recipients(program, shared):
         it.desk.expect_usage("acme", delivered=150)
         expect(not it.bounces() and not it.notices(), "a sender was told", it.bounces(),
                it.notices())
-    return "L1: 150 recipients once each"
+    return "many recipients: 150 once each"
 
 
-def l2_death_before_the_answer(program, shared):
+def death_before_the_answer(program, shared):
     """Of three recipients one is refused, and the intake dies before one of the answers: that one
     is told, the others get the message."""
     for at in (1, 2, 3):
@@ -42,10 +41,10 @@ def l2_death_before_the_answer(program, shared):
             it.expect_delivered(f"yes@{FAR}", f"ok@{FAR}")
             it.expect_bounced({f"no@{FAR}": "554 5.7.1 not wanted here"})
             it.desk.expect_usage("acme", delivered=2)
-    return "L2: 3 deaths before an answer, the refused one told each time"
+    return "death before the answer: 3, the refused one told each time"
 
 
-def l3_more_failures_than_notices(program, shared):
+def more_failures_than_notices(program, shared):
     """20 messages fail where 10 notices are kept: all are told in one round, and also where none
     can be mailed for a while. Where somebody else makes too many, those lost are told loudly."""
     limits = {"acme": WIDE, "birch": "1000,500000000,1000,10,0"}
@@ -64,7 +63,8 @@ def l3_more_failures_than_notices(program, shared):
         told += notices_wait(it)
         expect("lost notices" not in told, "notices were lost", told)
         lost_and_told(it)
-    return "L3: 20 of 20 told in a round, 20 of 20 after a wait, 5 of another's named as lost"
+    return ("more failures than notices: 20 of 20 told in a round, 20 of 20 after a wait, 5 of "
+            "another's named as lost")
 
 
 def notices_wait(it):
@@ -101,7 +101,7 @@ def lost_and_told(it):
            "told were", it.notices())
 
 
-def l4_the_relays_key_alone(program, shared):
+def the_relays_key_alone(program, shared):
     """The worker has no customer's key, and mails notices nevertheless."""
     with Relay(program, shared) as it:
         for made in it.folder.iterdir():
@@ -115,10 +115,10 @@ def l4_the_relays_key_alone(program, shared):
         it.expect_delivered(f"p@{FAR}")
         expect(it.notices() == {"x@hard.example": 1}, "notices were", it.notices())
         expect("relaykey00000001" not in told + it.told(), "the relay's key is told")
-    return "L4: a notice by the relay's key alone"
+    return "the relay's key alone: a notice by it"
 
 
-def l5_after_a_restore(program, shared):
+def after_a_restore(program, shared):
     """The desk's store comes back from a backup. What it forgot is submitted again, what it has
     again and was delivered is not sent again, and notices are mailed though their numbers were
     used before."""
@@ -146,7 +146,7 @@ def l5_after_a_restore(program, shared):
         it.deliver()
         it.expect_delivered("before@soft.example", "forgotten@soft.example", f"held@{FAR}")
         expect(not it.desk.usage("acme")["pending"], "pending is", it.desk.messages("acme"))
-    return "L5: forgotten mail delivered, delivered mail left alone, used numbers mailed again"
+    return "after a restore: forgotten mail delivered, delivered mail left alone, numbers used again"
 
 
 def copy_store(it, before, behind):
@@ -165,7 +165,7 @@ def round_of(it, *recipients):
     it.deliver()
 
 
-def d1_death_behind_the_submit(program, shared):
+def death_behind_the_submit(program, shared):
     """The intake dies behind the submit, or before its record; the message is delivered and gone,
     and Postfix tries again."""
     for step, when in (("desk.Desk.submit", "behind"), ("book.Book.taken", "before")):
@@ -181,10 +181,10 @@ def d1_death_behind_the_submit(program, shared):
             it.deliver()
             it.expect_delivered(f"p@{FAR}")
             it.desk.expect_usage("acme", delivered=1)
-    return "D1: 2 deaths behind a submit, no second message"
+    return "death behind the submit: 2, no second message"
 
 
-def d2_requeued_meanwhile(program, shared):
+def requeued_meanwhile(program, shared):
     """A customer requeues a message while an attempt is under way: it is delivered once, and counts
     so."""
     with Relay(program, shared) as it:
@@ -200,10 +200,10 @@ def d2_requeued_meanwhile(program, shared):
         it.deliver()
         it.expect_delivered(f"p@{FAR}")
         it.desk.expect_usage("acme", delivered=1)
-    return "D2: requeued meanwhile, delivered once"
+    return "requeued meanwhile: delivered once"
 
 
-def d3_two_workers(program, shared):
+def two_workers(program, shared):
     """Two workers at once: the second leaves the customer alone, and says so."""
     recipients = [f"p{it}@{FAR}" for it in range(6)]
     with Relay(program, shared) as it:
@@ -221,10 +221,10 @@ def d3_two_workers(program, shared):
         first.ends()
         it.expect_delivered(*recipients)
         it.desk.expect_usage("acme", delivered=6)
-    return "D3: 6 messages, 2 workers, each delivered once"
+    return "two workers: 6 messages, each delivered once"
 
 
-def d4_retry_of_a_part(program, shared):
+def retry_of_a_part(program, shared):
     """Postfix tries a part of a message again, under its queue ID: no other part comes twice."""
     for at in (1, 2):
         with Relay(program, shared) as it:
@@ -242,10 +242,10 @@ def d4_retry_of_a_part(program, shared):
             it.deliver()
             it.expect_delivered(f"a@{FAR}", f"b@{FAR}", f"later@{FAR}")
             it.desk.expect_usage("acme", delivered=3)
-    return "D4: a part tried again after 2 deaths, 3 of 3 once"
+    return "retry of a part: after 2 deaths 3 of 3 once"
 
 
-def t1_deleted_meanwhile(program, shared):
+def deleted_meanwhile(program, shared):
     """A customer deletes a message while an attempt is under way: it is delivered, counts as
     deleted, and that is told."""
     with Relay(program, shared) as it:
@@ -263,9 +263,9 @@ def t1_deleted_meanwhile(program, shared):
         it.deliver()
         it.expect_delivered(f"p@{FAR}")
         it.desk.expect_usage("acme", deleted=1)
-    return "T1: deleted meanwhile, delivered once and told"
+    return "deleted meanwhile: delivered once and told"
 
 
-NAMED = [l1_many_recipients, l2_death_before_the_answer, l3_more_failures_than_notices,
-         l4_the_relays_key_alone, l5_after_a_restore, d1_death_behind_the_submit,
-         d2_requeued_meanwhile, d3_two_workers, d4_retry_of_a_part, t1_deleted_meanwhile]
+NAMED = [many_recipients, death_before_the_answer, more_failures_than_notices, the_relays_key_alone,
+         after_a_restore, death_behind_the_submit, requeued_meanwhile, two_workers, retry_of_a_part,
+         deleted_meanwhile]
