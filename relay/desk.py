@@ -55,6 +55,13 @@ class Desk:
     def sweep(self, customer: str) -> dict:
         return self.ask(f"/relay/sweep/{customer}")
 
+    def usages(self) -> List[dict]:
+        """What each customer of the desk has there, and what became of its recipients."""
+        told = self.ask("/relay/usage")
+        if told["stopped"]:
+            raise Away(f"/relay/usage: {told}")
+        return told["done"]
+
     def message(self, customer: str, id: str) -> Optional[dict]:
         """A message shown whole; None where it has left the queue, or has another ID by now."""
         try:

@@ -183,8 +183,8 @@ def nginx_serves_what_it_must(visit):
         got = {name: reply.headers[name] for name in wanted}
         expect((reply.status, reply.headers["Content-Type"], got) == (200, kind, wanted), path,
                "is served with", [*reply.headers.items()])
-    for method, path, status in (("POST", "/relay/sweep", 404), ("GET", "/v1/usage", 200),
-                                 ("GET", "/none", 404)):
+    for method, path, status in (("POST", "/relay/sweep", 404), ("POST", "/relay/usage", 404),
+                                 ("GET", "/v1/usage", 200), ("GET", "/none", 404)):
         client.request(method, path, headers={"X-Desk-Key": RELAY if "relay" in path else CEDAR})
         reply = client.getresponse()
         reply.read()

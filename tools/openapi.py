@@ -12,8 +12,8 @@ METHODS = {"Get": ["get"], "Post": ["post"], "GetOrDelete": ["get", "delete"]}
 CALL, REFUSAL = re.compile(r"`(GET|POST|DELETE) (/[^`]+)`"), re.compile(r"(\d+) `\w+`")
 # The refusals of every call, and of the relay's calls for a customer.
 COMMON, NO_CUSTOMER = {1, 2, 3, 6}, {13}
-# The faults of every call; a sweep of all tells the others within its reply.
-FAULTS, OF_A_SWEEP_OF_ALL = {90, 91, 93}, {90}
+# The faults of every call; a call of all customers tells the others within its reply.
+FAULTS, OF_ALL, FAULTS_OF_ALL = {90, 91, 93}, {"/relay/sweep", "/relay/usage"}, {90}
 
 # What a request that has the form of the file never gets.
 AGAINST_THE_FORM = {7, 8, 20, 23, 27, 28}
@@ -73,7 +73,7 @@ def refusal_faults(calls, pages):
         if key not in rows:
             yield f"{key[1]} {key[0]} has no row in a table of the pages"
             continue
-        wanted = rows[key] | COMMON | (OF_A_SWEEP_OF_ALL if key[0] == "/relay/sweep" else FAULTS)
+        wanted = rows[key] | COMMON | (FAULTS_OF_ALL if key[0] in OF_ALL else FAULTS)
         wanted |= NO_CUSTOMER if "{customer}" in key[0] else set()
         found = set(calls.numbers(call))
         if found != {(it, status[str(it)]) for it in wanted}:

@@ -1,6 +1,6 @@
 -- From an exchange to a call: the refusals in the order of the steps here.
 use Rattle.std.specs.Prelude.{ℕ, ⊤, ◌≡◌, nat_le, List, length}
-use Rattle.std.specs.Prelude.{string_bytes, Option, None, Some, option_map, Result, Ok}
+use Rattle.std.specs.Prelude.{string_bytes, Option, None, Some, option_map, Result, Ok, Err}
 use Rattle.hq_base.specs.Limits.{most_bytes}
 use Rattle.hq_base.specs.Readers.{◌>>=◌, guard, or_refuse}
 use Rattle.hq_base.specs.Serials.{serial_in}
@@ -25,21 +25,33 @@ use Rattle.hq_requests.specs.declared.directory.Directory.{Directory}
 use Rattle.hq_requests.specs.declared.exchanges.Exchange.{Exchange}
 use Rattle.hq_requests.specs.declared.request.Asking.{Asking}
 use Rattle.hq_requests.specs.declared.request.Asking.TheVariants as asking
+use Rattle.hq_requests.specs.declared.request.EachCall.{EachCall}
+use Rattle.hq_requests.specs.declared.request.EachCall.TheVariants as each
 
--- What an exchange asks: a call of one customer, or a sweep of all customers.
+-- What an exchange asks: a call of one customer, or the same call of every customer.
 pub data Asked : Type 0 where
   CallOf : List ℕ → Call → Asked
-  SweepOfAll : Asked
+  CallOfAll : Call → Asked
+
+-- the call of each customer
+abbrev pub each_call : EachCall → Call
+each_call each.Sweep = call.Sweep
+each_call each.Usage = call.Usage
+
+-- the call that is asked, of one customer or of each
+abbrev pub call_in : Asked → Call
+call_in (CallOf name call) = call
+call_in (CallOfAll call) = call
 
 -- as the code has it
 abbrev pub asked_seen : Asking → Asked
 asked_seen (asking.CallOf entry call) = CallOf entry.now.name call
-asked_seen asking.SweepOfAll = SweepOfAll
+asked_seen (asking.CallOfAll each) = CallOfAll (each_call each)
 
 -- whose call it is, the directory knows
 abbrev pub IsKnown : Directory → Asking → Type 0
 IsKnown d (asking.CallOf entry call) = entry.now ≡ entry_of d entry.now.name
-IsKnown d asking.SweepOfAll = ⊤
+IsKnown d (asking.CallOfAll each) = ⊤
 
 -- the serial of the message whose queue ID is the parameter
 abbrev pub serial_of : List ℕ → Result ℕ Refusal
@@ -129,16 +141,23 @@ asked_of_one d role route key segment body = do
   call ← asked_of route segment body
   Ok (CallOf name call)
 
--- the sweep of all: the relay's key, and neither parameter nor body
-abbrev pub asked_of_all : Directory → Option (List ℕ) → Result Asked Refusal
-asked_of_all d key = do
-  relay ← relay_alone d key
-  Ok SweepOfAll
+-- what a route for all asks of each customer: only these two are such routes
+abbrev pub asked_of_each : Route → Result Call Refusal
+asked_of_each route.Sweep = Ok call.Sweep
+asked_of_each route.Usage = Ok call.Usage
+asked_of_each _ = Err NoRoute
 
--- what a route of a role asks: for all customers together it is the sweep of all
+-- the call of all customers: the relay's key, a route for all, and neither parameter nor body
+abbrev pub asked_of_all : Directory → Route → Option (List ℕ) → Result Asked Refusal
+asked_of_all d route key = do
+  relay ← relay_alone d key
+  call ← asked_of_each route
+  Ok (CallOfAll call)
+
+-- what a route of a role asks
 abbrev pub asked_as : Directory → Role → Route → Option (List ℕ) → (segment body : List ℕ) →
     Result Asked Refusal
-asked_as d role.RelayForAll route key segment body = asked_of_all d key
+asked_as d role.RelayForAll route key segment body = asked_of_all d route key
 asked_as d role route key segment body = asked_of_one d role route key segment body
 
 -- what is asked, or the refusal: the body's length, the path, the method, and then those of the

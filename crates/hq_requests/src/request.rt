@@ -28,8 +28,29 @@ const BODY_BYTES: usize = 262_144;
 pub enum Asking<'d> {
     /// A call of a customer.
     CallOf(&'d Entry, Call),
-    /// A sweep of all customers.
-    SweepOfAll,
+    /// The same call of every customer.
+    CallOfAll(EachCall),
+}
+
+/// A call that can be asked of every customer at once.
+#[derive(Clone, Copy, Debug, PartialEq, Eq)]
+pub enum EachCall {
+    /// `Call::Sweep`.
+    Sweep,
+    /// `Call::Usage`.
+    Usage,
+}
+
+impl EachCall {
+    /// The call, for one of them.
+    pub fn call(self) -> Call
+        ensures { result ≡ calls.each_call self }
+    {
+        match self {
+            EachCall::Sweep => Call::Sweep,
+            EachCall::Usage => Call::Usage,
+        }
+    }
 }
 
 /// The serial of the message whose queue ID is the parameter: else 8 `BadField`.
@@ -120,14 +141,30 @@ fn asked_of_one<'d>(
     Ok(Asking::CallOf(entry, call))
 }
 
-/// The sweep of all customers that is asked for: refused as 2 `NoKey` or 3 `WrongRole`.
-fn asked_of_all<'d>(directory: &'d Directory, exchange: &Exchange) -> Result<Asking<'d>, Fail>
+/// What a route asks of every customer: else 4 `NoRoute`.
+fn asked_of_each(route: Route) -> Result<EachCall, Refusal>
+    ensures { seen_by calls.each_call result ≡ calls.asked_of_each route }
+{
+    match route {
+        Route::Sweep => Ok(EachCall::Sweep),
+        Route::Usage => Ok(EachCall::Usage),
+        _ => Err(Refusal::NoRoute),
+    }
+}
+
+/// The call of all customers that is asked for: refused as 2 `NoKey` or 3 `WrongRole`.
+fn asked_of_all<'d>(
+    directory: &'d Directory,
+    route: Route,
+    exchange: &Exchange,
+) -> Result<Asking<'d>, Fail>
     ensures call { Reads (seen_by calls.asked_seen result)
-        (calls.asked_of_all directory.now (option_map string_bytes exchange.now.key)) }
+        (calls.asked_of_all directory.now route (option_map string_bytes exchange.now.key)) }
     ensures known { IfOk result (calls.IsKnown directory.now) }
 {
     directory.relay_alone(key_of(exchange))?;
-    Ok(Asking::SweepOfAll)
+    let each = asked_of_each(route)?;
+    Ok(Asking::CallOfAll(each))
 }
 
 /// What an exchange asks, or the first refusal in the order: 6 `BodyTooLong`, 4 `NoRoute`, 5
@@ -153,7 +190,7 @@ pub fn call_of<'d>(
         .route(exchange.method.as_str())
         .ok_or(Refusal::WrongMethod)?;
     match role {
-        Role::RelayForAll => asked_of_all(directory, exchange),
+        Role::RelayForAll => asked_of_all(directory, route, exchange),
         Role::Customer | Role::Relay => asked_of_one(alloc, directory, role, route, exchange),
     }
 }

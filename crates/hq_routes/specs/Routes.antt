@@ -37,6 +37,7 @@ routes =
     ∷ (with_parameter (codes "/relay/submit/"), Post Relay Submit)
     ∷ (with_parameter (codes "/relay/sweep/"), Post Relay Sweep)
     ∷ (codes "/relay/sweep", Post RelayForAll Sweep)
+    ∷ (codes "/relay/usage", Post RelayForAll Usage)
     ∷ (codes "/v1/check", Post Customer Check)
     ∷ (codes "/v1/delete-all", Post Customer DeleteAll)
     ∷ (codes "/v1/hold-all", Post Customer HoldAll)

@@ -114,7 +114,7 @@ pub enum Route {
 }
 
 /// Every path of the desk, as the router spells it, with its methods.
-pub(crate) const TABLE: [(&str, Methods); 29] = [
+pub(crate) const TABLE: [(&str, Methods); 30] = [
     ("/v1/messages", Get(Customer, Messages)),
     ("/v1/messages-after/{id}", Get(Customer, MessagesAfter)),
     ("/v1/message/{id}", GetOrDelete(Customer, Show, Delete)),
@@ -144,4 +144,5 @@ pub(crate) const TABLE: [(&str, Methods); 29] = [
     ("/relay/notices/{customer}", Post(Relay, NoticesByBody)),
     ("/relay/notice/{customer}", Post(Relay, NoticeByBody)),
     ("/relay/sweep", Post(RelayForAll, Sweep)),
+    ("/relay/usage", Post(RelayForAll, Usage)),
 ];

@@ -19,9 +19,9 @@ use Rattle.hq_calls.specs.Answers.{answer_number}
 use Rattle.hq_calls.specs.Machine.{step, shared, answers, state_after}
 use Rattle.hq_calls.specs.declared.answer.Answer.{Answer}
 use Rattle.hq_calls.proofs.Isolation.{caller, others}
-use Rattle.hq_requests.specs.Calls.{Asked, CallOf, SweepOfAll}
+use Rattle.hq_requests.specs.Calls.{Asked, CallOf, CallOfAll}
 use Rattle.hq_requests.specs.Directories.{entry_of}
-use Rattle.hq_wire.specs.Exchanges.{Ask, Deed, Whole, AllDone, Sweeps, MayReplyTo, IsStruck}
+use Rattle.hq_wire.specs.Exchanges.{AllDone, Ask, CallsAll, Deed, IsStruck, MayReplyTo, Whole}
 use Rattle.hq_wire.specs.Exchanges.{deeds_of, of_part, told_as}
 use Rattle.hq_wire.specs.Replies.{SeenReply, plain, reply_of, status_of, reply_of_fault, fault_text}
 use Rattle.hq_wire.specs.Replies.{is_missing, is_conflict, tells_store}
@@ -161,10 +161,10 @@ module _ (may : Fault → Type 0) (host : List ℕ) (d : Directory) where
       (λ (no : (fault : Fault) × ((fault ≡ no_memory) ⊎ may fault) × IsStruck fault t r t'). subst
       Out (sym (eq-eqb r.status 503 (ap (λ (x : SeenReply). x.status) no.2.0
       ∙ fault_status no.0))) no.2.1) h
-  done_once t t' at (Ok SweepOfAll) r h = ⊎_elim
-      (λ (did : Sweeps may host d t at r t'). did.done)
+  done_once t t' at (Ok (CallOfAll call)) r h = ⊎_elim
+      (λ (did : CallsAll may host d t at call r t'). did.done)
       (λ (no : IsStruck no_memory t r t'). subst
-      (λ parts. AllDone host d t (map (of_part at) parts) t')
+      (λ parts. AllDone host d t (map (of_part at call) parts) t')
       (sym (ap (λ (x : SeenReply). x.parts) no.0 ∙ no_parts no_memory)) no.1) h
 
   all_done : (t t' : Tables) (asks : List Ask) (rs : List SeenReply) →

@@ -3,6 +3,7 @@ use Rattle.std.proofs.Common.{◌≡◌, inl, inr, ⊎_elim, ℕ, ◌+◌, ◌�
 use Rattle.std.proofs.Common.{◌&&◌, ◌||◌, eqb, List, Option, None, Some, Result, Ok, Err, refl, sym}
 use Rattle.std.proofs.Common.{ap, ◌∙◌, subst, arith}
 use Rattle.std.specs.Prelude.{bytes_eq}
+use Rattle.std.proofs.lemmas.Bool.{false≢true}
 use Rattle.hq_base.specs.Refusals.{no_memory}
 use Rattle.hq_base.specs.declared.failure.Fault.{Fault}
 use Rattle.hq_base.specs.declared.failure.Fault.TheVariants.{WantOfMemory, Disk, BadSchema, Closed}
@@ -12,11 +13,11 @@ use Rattle.hq_store.specs.Tables.{Tables}
 use Rattle.hq_desk.specs.Desks.{Stays, on}
 use Rattle.hq_desk.specs.declared.desk.Desk.{Desk}
 use Rattle.hq_desk.specs.declared.desk.Rendered.{Rendered}
-use Rattle.hq_requests.specs.Calls.{Asked, CallOf, SweepOfAll}
+use Rattle.hq_requests.specs.Calls.{Asked, CallOf, CallOfAll}
 use Rattle.hq_wire.specs.Exchanges.{Ask, MayReplyTo, IsRefused, RepliesAnyway, StopsClosed}
 use Rattle.hq_wire.specs.Exchanges.{TellsClosed, Exchanged}
 use Rattle.hq_wire.specs.Replies.{Part, SeenReply, Stop, fault_text, reply_of_fault, stops_by_store}
-use Rattle.hq_wire.specs.Replies.{swept_reply, tells_store}
+use Rattle.hq_wire.specs.Replies.{parted_reply, tells_store}
 use Rattle.hq_requests.specs.declared.directory.Directory.{Directory}
 
 -- no calls keep all
@@ -45,14 +46,14 @@ pub without_room : (may : Fault → Type 0) (host : List ℕ) (d : Directory) (t
     MayReplyTo may host d t at called r t
 without_room may host d t at (Err e) r h = (inr h, refl)
 without_room may host d t at (Ok (CallOf name call)) r h = inr (no_memory, inl refl, (h, refl))
-without_room may host d t at (Ok SweepOfAll) r h = inr (h, refl)
+without_room may host d t at (Ok (CallOfAll call)) r h = inr (h, refl)
 
 room_anyway : {S : Type 0} (sight : Sight (Desk S)) (d : Directory) (desk : Desk S)
     (called : Result Asked Refusal) (r : SeenReply) → r ≡ reply_of_fault no_memory →
     RepliesAnyway sight d desk called r desk
 room_anyway sight d desk (Err e) r h = (inr h, refl)
 room_anyway sight d desk (Ok (CallOf name call)) r h = λ closed. inr h
-room_anyway sight d desk (Ok SweepOfAll) r h = λ closed. inr (inl h)
+room_anyway sight d desk (Ok (CallOfAll call)) r h = λ closed. inr (inl h)
 
 none_more : (b : Bool) (n : ℕ) → b ≡ false → cond b 1 0 + n ≤ n
 none_more b n h = subst (λ (x : Bool). cond x 1 0 + n ≤ n) (sym h) (omega arith)
@@ -63,10 +64,8 @@ memory_is_none = refl
 
 -- ---- 93 is told
 
-apart : {A : Type 0} → false ≡ true → A
-apart e = absurd (not_so e) where
-  not_so : false ≡ true → ⊥
-  not_so e = cc
+pub apart : {A : Type 0} → false ≡ true → A
+apart e = absurd (false≢true e)
 
 either_way : (b : Bool) → (b || true) ≡ true
 either_way true = refl
@@ -118,24 +117,24 @@ stops_closed None = false
 stops_closed (Some stop) = is_closed stop.fault
 
 not_whole : {A : Type 0} (parts : List Part) (stopped : Option Stop) →
-    swept_reply parts stopped ≡ reply_of_fault Closed → A
+    parted_reply parts stopped ≡ reply_of_fault Closed → A
 unfolding reply_of_fault
 not_whole parts stopped e = apart (ap (λ (x : SeenReply). eqb x.status 503) e)
 
 by_another : {A : Type 0} (fault : Fault) (parts : List Part) (name : List ℕ) →
-    is_closed fault ≡ false → TellsClosed (swept_reply parts
+    is_closed fault ≡ false → TellsClosed (parted_reply parts
     (Some (record { customer = name; fault = fault }))) → A
 unfolding is_closed stops_closed
 by_another fault parts name another told = ⊎_elim
-    (λ (whole : swept_reply parts (Some (record { customer = name; fault = fault })) ≡
+    (λ (whole : parted_reply parts (Some (record { customer = name; fault = fault })) ≡
     reply_of_fault Closed). not_whole parts _ whole)
     (λ (stops : StopsClosed (Some (record { customer = name; fault = fault }))). apart (sym another
     ∙ ap stops_closed stops.1)) told
 
--- and so of a fault that stopped a sweep of all
+-- and so of a fault that stopped a call of all
 pub stop_closes : (fault : Fault) (was is : Bool) (m n : ℕ) (parts : List Part) (name : List ℕ) →
     IsTallied {X = Rendered} was is m n (Err fault) →
-    TellsClosed (swept_reply parts (Some (record { customer = name; fault = fault }))) → is ≡ true
+    TellsClosed (parted_reply parts (Some (record { customer = name; fault = fault }))) → is ≡ true
 unfolding is_closed
 stop_closes WantOfMemory was is m n parts name h told = by_another WantOfMemory parts name refl told
 stop_closes Disk was is m n parts name h told = by_another Disk parts name refl told

@@ -1,5 +1,6 @@
 -- Which replies leave the tables as they were.
-use Rattle.std.proofs.Common.{◌≡◌, ◌≢◌, ◌⊎◌, ⊎_elim, ℕ, true, List, Result, Ok, Err, refl, ap, ◌∙◌}
+use Rattle.std.proofs.Common.{◌≡◌, ◌≢◌, ◌⊎◌, ⊎_elim, ℕ, true, List, [], ◌∷◌, map}
+use Rattle.std.proofs.Common.{Result, Ok, Err, refl, ap, ◌∙◌}
 use Rattle.hq_base.specs.Refusals.{no_memory}
 use Rattle.hq_base.specs.declared.failure.Fault.{Fault}
 use Rattle.hq_base.specs.declared.failure.Refusal.{Refusal}
@@ -13,10 +14,10 @@ use Rattle.hq_calls.specs.declared.answer.Answer.{Answer}
 use Rattle.hq_calls.specs.declared.answer.Answer.TheVariants.{Refused}
 use Rattle.hq_calls.specs.declared.call.Call.{Call}
 use Rattle.hq_calls.proofs.Unchanged.{no_changes, reading_has_none}
-use Rattle.hq_requests.specs.Calls.{Asked, CallOf, SweepOfAll}
+use Rattle.hq_requests.specs.Calls.{Asked, CallOf, CallOfAll, call_in}
 use Rattle.hq_requests.specs.Directories.{entry_of}
-use Rattle.hq_wire.specs.Exchanges.{IsStruck, MayReplyTo, Sweeps}
-use Rattle.hq_wire.specs.Replies.{SeenReply, reply_of, status_of}
+use Rattle.hq_wire.specs.Exchanges.{AllDone, CallsAll, IsStruck, MayReplyTo, of_part}
+use Rattle.hq_wire.specs.Replies.{Part, SeenReply, reply_of, status_of}
 use Rattle.hq_requests.specs.declared.directory.Directory.{Directory}
 
 -- an answer with another status than 200 is a refusal
@@ -46,18 +47,32 @@ module _ (may : Fault → Type 0) (host : List ℕ) (d : Directory) (t t' : Tabl
       ∙ called name call (λ same. other (ap (λ (x : SeenReply). x.status) did.0 ∙ same)))
       (λ (struck : (fault : Fault) × ((fault ≡ no_memory) ⊎ may fault) × IsStruck fault t r t').
       struck.2.1) h
-  left_by_others (Ok SweepOfAll) r h other = ⊎_elim
-      (λ (did : Sweeps may host d t at r t'). absurd
+  left_by_others (Ok (CallOfAll call)) r h other = ⊎_elim
+      (λ (did : CallsAll may host d t at call r t'). absurd
       (other (ap (λ (x : SeenReply). x.status) did.reply)))
       (λ (struck : IsStruck no_memory t r t'). struck.1) h
 
-  pub left_by_reading : (name : List ℕ) (call : Call) (r : SeenReply) →
-      MayReplyTo may host d t at (Ok (CallOf name call)) r t' → only_reads call ≡ true → t' ≡ t
-  left_by_reading name call r h reads =
+  read : (name : List ℕ) (call : Call) (s : Tables) → only_reads call ≡ true →
+      (shared host (entry_of d name) s at call).1 ≡ s
+  read name call s reads =
       let entry = entry_of d name in
-      ⊎_elim
+      ap (λ (cs : List Change). write_all entry.name cs s)
+      (reading_has_none host entry (read_tables entry.name s) at call reads)
+
+  all_read : (call : Call) (s : Tables) (ps : List Part) → only_reads call ≡ true →
+      AllDone host d s (map (of_part at call) ps) t' → t' ≡ s
+  all_read call s [] reads done = done
+  all_read call s (p ∷ ps) reads done =
+      all_read call (shared host (entry_of d p.customer) s at call).1 ps reads done.1
+      ∙ read p.customer call s reads
+
+  pub left_by_reading : (asked : Asked) (r : SeenReply) → MayReplyTo may host d t at (Ok asked) r t'
+      → only_reads (call_in asked) ≡ true → t' ≡ t
+  left_by_reading (CallOf name call) r h reads = ⊎_elim
       (λ (did : (r ≡ reply_of (done_by name call).0) × (t' ≡ (done_by name call).1)). did.1
-      ∙ ap (λ (cs : List Change). write_all entry.name cs t)
-      (reading_has_none host entry (read_tables entry.name t) at call reads))
+      ∙ read name call t reads)
       (λ (struck : (fault : Fault) × ((fault ≡ no_memory) ⊎ may fault) × IsStruck fault t r t').
       struck.2.1) h
+  left_by_reading (CallOfAll call) r h reads = ⊎_elim
+      (λ (did : CallsAll may host d t at call r t'). all_read call t r.parts reads did.done)
+      (λ (struck : IsStruck no_memory t r t'). struck.1) h

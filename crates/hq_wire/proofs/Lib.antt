@@ -4,4 +4,4 @@ pub mod Left
 pub mod OneLine
 pub mod Readings
 pub mod Serving
-pub mod Swept
+pub mod Called

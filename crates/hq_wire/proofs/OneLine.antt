@@ -1,10 +1,11 @@
 -- Every reply is one line, where the names of the customers are names.
-use Rattle.std.proofs.Common.{◌≡◌, ◌⊎◌, ⊎_elim, ℕ, Bool, true, false, List, [], ◌∷◌, ◌++◌, map}
+use Rattle.std.proofs.Common.{◌≡◌, ◌⊎◌, ⊎_elim, ℕ, true, List, [], ◌∷◌, ◌++◌, map}
 use Rattle.std.proofs.Common.{drop, Option, Some, None, Result, Ok, Err, refl, sym, ap, ◌∙◌, arith}
 use Rattle.std.specs.Prelude.{◌&&◌, nat_le, nat_lt, length, codes}
 use Rattle.std.specs.List.{flat_map, list_all}
 use Rattle.std.specs.Cmp.Derive.{both_true}
 use Rattle.std.proofs.lemmas.Bool.Decides.{nat_tests}
+use Rattle.std.proofs.lemmas.Bool.{and_parts}
 use Rattle.std.proofs.lemmas.List.Folds.{list_all-append}
 use Rattle.hq_base.specs.Refusals.{no_memory}
 use Rattle.hq_base.specs.declared.failure.Fault.{Fault}
@@ -14,25 +15,19 @@ use Rattle.hq_envelope.specs.Words.{is_name, is_name_byte}
 use Rattle.hq_store.specs.Tables.{Tables}
 use Rattle.hq_calls.specs.Machine.{shared}
 use Rattle.hq_calls.specs.declared.answer.Answer.TheVariants.{Refused}
-use Rattle.hq_calls.specs.declared.call.Call.TheVariants.{Sweep}
+use Rattle.hq_calls.specs.declared.call.Call.{Call}
 use Rattle.hq_json.specs.OneLine.{is_in_line, is_one_line}
 use Rattle.hq_json.specs.Replies.{answer_text}
 use Rattle.hq_json.proofs.OneLine.{answer_one_line, both_one_line}
-use Rattle.hq_requests.specs.Calls.{Asked, CallOf, SweepOfAll}
+use Rattle.hq_requests.specs.Calls.{Asked, CallOf, CallOfAll}
 use Rattle.hq_requests.specs.Directories.{entry_of, names_of}
-use Rattle.hq_wire.specs.Exchanges.{AllDone, EndsAt, InPart, IsStruck, MayReplyTo, Sweeps, of_part}
+use Rattle.hq_wire.specs.Exchanges.{AllDone, CallsAll, EndsAt, InPart, IsStruck, MayReplyTo}
+use Rattle.hq_wire.specs.Exchanges.{of_part}
 use Rattle.hq_wire.specs.Replies.{Part, SeenReply, Stop, closing, fault_text, for_customer}
 use Rattle.hq_wire.specs.Replies.{comma_joined}
 use Rattle.hq_wire.specs.Replies.{part_text, reply_of, reply_of_fault, stopped_text}
 use Rattle.hq_requests.specs.declared.directory.Directory.{Directory}
-
-first : (a b : Bool) → (a && b) ≡ true → a ≡ true
-first true b h = refl
-first false b h = cc
-
-second : (a b : Bool) → (a && b) ≡ true → b ≡ true
-second true b h = h
-second false b h = cc
+use Rattle.hq_wire.proofs.Called.{behind_comma, customer_of_part as whose}
 
 -- ---- names
 
@@ -41,19 +36,19 @@ name_byte b h = grind (arith, nat_tests)
 
 name_bytes : (bytes : List ℕ) → list_all is_name_byte bytes ≡ true → is_one_line bytes ≡ true
 name_bytes [] h = refl
-name_bytes (b ∷ bs) h = both_true
-    (name_byte b (first (is_name_byte b) (list_all is_name_byte bs) h))
-    (name_bytes bs (second (is_name_byte b) (list_all is_name_byte bs) h))
+name_bytes (b ∷ bs) h =
+    let parts = and_parts (is_name_byte b) (list_all is_name_byte bs) h in
+    both_true (name_byte b parts.0) (name_bytes bs parts.1)
 
 name_one : (name : List ℕ) → is_name name ≡ true → is_one_line name ≡ true
-name_one name h = name_bytes name (second (nat_lt 0 (length name) && nat_le (length name) 32)
-    (list_all is_name_byte name) h)
+name_one name h = name_bytes name (and_parts (nat_lt 0 (length name) && nat_le (length name) 32)
+    (list_all is_name_byte name) h).1
 
 -- ---- what a customer is told
 
 behind_first : (xs : List ℕ) → is_one_line xs ≡ true → is_one_line (drop 1 xs) ≡ true
 behind_first [] h = refl
-behind_first (x ∷ xs) h = second (is_in_line x) (is_one_line xs) h
+behind_first (x ∷ xs) h = (and_parts (is_in_line x) (is_one_line xs) h).1
 
 customer_one : (name object : List ℕ) → is_name name ≡ true → is_one_line object ≡ true →
     is_one_line (for_customer name object) ≡ true
@@ -79,39 +74,33 @@ same_part a b h = cc
 
 -- ---- all parts
 
-abbrev whose : Part → List ℕ
-whose p = p.customer
-
-abbrev behind_comma : Part → List ℕ
-behind_comma p = 44 ∷ p.text
-
 module _ (host : List ℕ) (d : Directory) (at : ℕ) where
-  part_one : (t : Tables) (p : Part) → is_name p.customer ≡ true →
+  part_one : (call : Call) (t : Tables) (p : Part) → is_name p.customer ≡ true →
       InPart p.text ≡ InPart (part_text p.customer
-      (shared host (entry_of d p.customer) t at Sweep).0)
+      (shared host (entry_of d p.customer) t at call).0)
       → is_one_line p.text ≡ true
-  part_one t p known told =
-      let answer = (shared host (entry_of d p.customer) t at Sweep).0 in
+  part_one call t p known told =
+      let answer = (shared host (entry_of d p.customer) t at call).0 in
       ap is_one_line (same_part p.text (part_text p.customer answer) told)
       ∙ customer_one p.customer (answer_text answer) known (answer_one_line answer)
 
-  behind_one : (t t' : Tables) (ps : List Part) → list_all is_name (map whose ps) ≡ true →
-      AllDone host d t (map (of_part at) ps) t' → is_one_line (flat_map behind_comma ps) ≡ true
-  behind_one t t' [] known done = refl
-  behind_one t t' (p ∷ ps) known done =
-      let this = first (is_name p.customer) (list_all is_name (map whose ps)) known in
-      let rest = second (is_name p.customer) (list_all is_name (map whose ps)) known in
-      both_one_line (44 ∷ p.text) (flat_map behind_comma ps) (part_one t p this done.0)
-      (behind_one (shared host (entry_of d p.customer) t at Sweep).1 t' ps rest done.1)
+  behind_one : (call : Call) (t t' : Tables) (ps : List Part) →
+      list_all is_name (map whose ps) ≡ true → AllDone host d t (map (of_part at call) ps) t' →
+      is_one_line (flat_map behind_comma ps) ≡ true
+  behind_one call t t' [] known done = refl
+  behind_one call t t' (p ∷ ps) known done =
+      let each = and_parts (is_name p.customer) (list_all is_name (map whose ps)) known in
+      both_one_line (44 ∷ p.text) (flat_map behind_comma ps) (part_one call t p each.0 done.0)
+      (behind_one call (shared host (entry_of d p.customer) t at call).1 t' ps each.1 done.1)
 
-  joined_one : (t t' : Tables) (ps : List Part) → list_all is_name (map whose ps) ≡ true →
-      AllDone host d t (map (of_part at) ps) t' → is_one_line (comma_joined ps) ≡ true
-  joined_one t t' [] known done = refl
-  joined_one t t' (p ∷ ps) known done =
-      let this = first (is_name p.customer) (list_all is_name (map whose ps)) known in
-      let rest = second (is_name p.customer) (list_all is_name (map whose ps)) known in
-      both_one_line p.text (flat_map behind_comma ps) (part_one t p this done.0)
-      (behind_one (shared host (entry_of d p.customer) t at Sweep).1 t' ps rest done.1)
+  joined_one : (call : Call) (t t' : Tables) (ps : List Part) →
+      list_all is_name (map whose ps) ≡ true → AllDone host d t (map (of_part at call) ps) t' →
+      is_one_line (comma_joined ps) ≡ true
+  joined_one call t t' [] known done = refl
+  joined_one call t t' (p ∷ ps) known done =
+      let each = and_parts (is_name p.customer) (list_all is_name (map whose ps)) known in
+      both_one_line p.text (flat_map behind_comma ps) (part_one call t p each.0 done.0)
+      (behind_one call (shared host (entry_of d p.customer) t at call).1 t' ps each.1 done.1)
 
   stopped_one : (may : Fault → Type 0) (left : List (List ℕ)) (stopped : Option Stop) →
       list_all is_name left ≡ true → EndsAt may left stopped →
@@ -120,22 +109,21 @@ module _ (host : List ℕ) (d : Directory) (at : ℕ) where
   stopped_one may left (Some stop) known ends =
       let more = ends.1.0 in
       customer_one stop.customer (fault_text stop.fault)
-      (first (is_name stop.customer) (list_all is_name more)
-      (ap (list_all is_name) (sym ends.1.1) ∙ known)) (fault_one stop.fault)
+      (and_parts (is_name stop.customer) (list_all is_name more)
+      (ap (list_all is_name) (sym ends.1.1) ∙ known)).0 (fault_one stop.fault)
 
   module _ (may : Fault → Type 0) (t t' : Tables) (names : list_all is_name (names_of d) ≡ true)
     where
-      swept_one : (r : SeenReply) → Sweeps may host d t at r t' → is_one_line r.body ≡ true
-      swept_one r did =
+      called_one : (call : Call) (r : SeenReply) → CallsAll may host d t at call r t' →
+          is_one_line r.body ≡ true
+      called_one call r did =
           let known : (list_all is_name (map whose r.parts) && list_all is_name did.left) ≡ true =
           sym (list_all-append is_name (map whose r.parts) did.left)
           ∙ ap (list_all is_name) (sym did.order) ∙ names in
-          let parts = joined_one t t' r.parts
-          (first (list_all is_name (map whose r.parts)) (list_all is_name did.left) known)
-          did.done in
-          let stop = stopped_one may did.left r.stopped
-          (second (list_all is_name (map whose r.parts)) (list_all is_name did.left) known)
-          did.ends in
+          let both = and_parts (list_all is_name (map whose r.parts)) (list_all is_name did.left)
+          known in
+          let parts = joined_one call t t' r.parts both.0 did.done in
+          let stop = stopped_one may did.left r.stopped both.1 did.ends in
           let end : is_one_line (closing r.stopped) ≡ true = both_one_line (codes "],\"stopped\":"
           ++ stopped_text r.stopped) (codes "}") (both_one_line (codes "],\"stopped\":")
           (stopped_text r.stopped) refl stop) refl in
@@ -158,8 +146,8 @@ module _ (host : List ℕ) (d : Directory) (at : ℕ) where
           ∙ answer_one_line (shared host (entry_of d name) t at call).0)
           (λ (struck : (fault : Fault) × ((fault ≡ no_memory) ⊎ may fault) × IsStruck fault t r t').
           ap (λ (x : SeenReply). is_one_line x.body) struck.2.0 ∙ struck_one struck.0) h
-      reply_one_line_of (Ok SweepOfAll) r h = ⊎_elim
-          (λ (did : Sweeps may host d t at r t'). swept_one r did)
+      reply_one_line_of (Ok (CallOfAll call)) r h = ⊎_elim
+          (λ (did : CallsAll may host d t at call r t'). called_one call r did)
           (λ (struck : IsStruck no_memory t r t'). ap (λ (x : SeenReply). is_one_line x.body)
           struck.0
           ∙ struck_one no_memory) h

@@ -1,9 +1,9 @@
--- The bytes of the reply to a sweep of all are read in one way.
-use Rattle.std.proofs.Common.{◌≡◌, ℕ, Bool, true, false, ◌==◌, ◌&&◌, if◌then◌else◌, List, [], ◌∷◌}
+-- The bytes of the reply to a call of all are read in one way.
+use Rattle.std.proofs.Common.{◌≡◌, ℕ, true, ◌==◌, if◌then◌else◌, List, [], ◌∷◌}
 use Rattle.std.proofs.Common.{◌++◌, map, get_or, take, drop, codes, Option, Some, None, Result, Ok}
 use Rattle.std.proofs.Common.{Err, inl, inr, refl, sym, ap, ◌∙◌, append_assoc}
 use Rattle.std.specs.List.{flat_map, list_all}
-use Rattle.std.proofs.lemmas.Bool.{false≢true}
+use Rattle.std.proofs.lemmas.Bool.{and_parts, false≢true}
 use Rattle.std.proofs.lemmas.List.{append_cancel_left}
 use Rattle.hq_base.specs.Refusals.{no_memory}
 use Rattle.hq_base.specs.declared.failure.Fault.{Fault}
@@ -11,23 +11,18 @@ use Rattle.hq_base.specs.declared.failure.Fault.TheVariants.{WantOfMemory, Disk,
 use Rattle.hq_base.specs.declared.failure.Refusal.{Refusal}
 use Rattle.hq_store.specs.Tables.{Tables}
 use Rattle.hq_calls.specs.declared.call.Call.{Call}
-use Rattle.hq_requests.specs.Calls.{Asked, CallOf, SweepOfAll}
-use Rattle.hq_wire.specs.Exchanges.{EndsAt, IsRefused, MayReplyTo, Sweeps}
+use Rattle.hq_requests.specs.Calls.{Asked, CallOf, CallOfAll}
+use Rattle.hq_wire.specs.Exchanges.{CallsAll, EndsAt, IsRefused, MayReplyTo}
 use Rattle.hq_wire.specs.Replies.{AreObjects, Closes, Part, SeenReply, Stop, closing, fault_text}
 use Rattle.hq_wire.specs.Replies.{for_customer, is_inside, comma_joined, parts_opening, plain}
 use Rattle.hq_wire.specs.Replies.{reply_of_fault}
-use Rattle.hq_wire.specs.Replies.{stopped_text, swept_reply}
+use Rattle.hq_wire.specs.Replies.{stopped_text, parted_reply}
 use Rattle.hq_requests.specs.declared.directory.Directory.{Directory}
-use Rattle.hq_wire.proofs.Swept.{customer_of_part}
+use Rattle.hq_wire.proofs.Called.{behind_comma, customer_of_part}
 
 cons : {X : Type 0} (a b : X) (xs ys : List X) → ◌≡◌ {A = List X} (a ∷ xs) (b ∷ ys) → (a ≡ b)
     × (xs ≡ ys)
 cons a b xs ys e = (cc, cc)
-
-both : (a b : Bool) → a && b ≡ true → (a ≡ true) × (b ≡ true)
-both true true e = (refl, refl)
-both true false e = absurd (false≢true e)
-both false b e = absurd (false≢true e)
 
 not_brace : (b : ℕ) → is_inside b ≡ true → b ≡ 125 → ⊥
 not_brace b h e = false≢true (ap is_inside (sym e) ∙ h)
@@ -38,13 +33,14 @@ inside_apart : (xs ys more others : List ℕ) → list_all is_inside xs ≡ true
     × (more ≡ others)
 inside_apart [] [] more others h k e = (refl, (cons _ _ _ _ e).1)
 inside_apart [] (y ∷ ys) more others h k e =
-    absurd (not_brace y (both (is_inside y) (list_all is_inside ys) k).0 (sym (cons _ _ _ _ e).0))
+    absurd (not_brace y (and_parts (is_inside y) (list_all is_inside ys) k).0
+    (sym (cons _ _ _ _ e).0))
 inside_apart (x ∷ xs) [] more others h k e =
-    absurd (not_brace x (both (is_inside x) (list_all is_inside xs) h).0 (cons _ _ _ _ e).0)
+    absurd (not_brace x (and_parts (is_inside x) (list_all is_inside xs) h).0 (cons _ _ _ _ e).0)
 inside_apart (x ∷ xs) (y ∷ ys) more others h k e =
     let same = cons _ _ _ _ e in
-    let rest = inside_apart xs ys more others (both (is_inside x) (list_all is_inside xs) h).1
-    (both (is_inside y) (list_all is_inside ys) k).1 same.1 in
+    let rest = inside_apart xs ys more others (and_parts (is_inside x) (list_all is_inside xs) h).1
+    (and_parts (is_inside y) (list_all is_inside ys) k).1 same.1 in
     (ap (λ c. c ∷ xs) same.0 ∙ ap (λ zs. y ∷ zs) rest.0, rest.1)
 
 -- so does an object
@@ -61,9 +57,6 @@ object_apart x y more others h k e =
 
 abbrev text_of_part : Part → List ℕ
 text_of_part p = p.text
-
-abbrev behind_comma : Part → List ℕ
-behind_comma p = 44 ∷ p.text
 
 -- parts that stand behind others, up to the bracket
 others_apart : (ps qs : List Part) (more others : List ℕ) → AreObjects ps → AreObjects qs →
@@ -177,11 +170,11 @@ stops_apart may mights ls ms (Some s) (Some t) same h k e =
 
 -- ---- the law
 
--- of two sweeps of all under one directory
-sweeps_apart : (may mights : Fault → Type 0) (host name : List ℕ) (d : Directory) (at moment : ℕ)
-    (t t' u u' : Tables) (r q : SeenReply) → Sweeps may host d t at r t' →
-    Sweeps mights name d u moment q u' → r.body ≡ q.body → r ≡ q
-sweeps_apart may mights host name d at moment t t' u u' r q one other e =
+-- of two calls of all under one directory
+calls_apart : (call : Call) (may mights : Fault → Type 0) (host name : List ℕ) (d : Directory)
+    (at moment : ℕ) (t t' u u' : Tables) (r q : SeenReply) → CallsAll may host d t at call r t' →
+    CallsAll mights name d u moment call q u' → r.body ≡ q.body → r ≡ q
+calls_apart call may mights host name d at moment t t' u u' r q one other e =
     let same : (parts_opening ++ comma_joined r.parts) ++ closing r.stopped
     ≡ (parts_opening ++ comma_joined q.parts)
     ++ closing q.stopped = sym (ap (λ (x : SeenReply). x.body) one.reply) ∙ e
@@ -194,9 +187,9 @@ sweeps_apart may mights host name d at moment t t' u u' r q one other e =
     let names = named r.parts q.parts one.left other.left texts.0 (sym one.order ∙ other.order) in
     let stops = stops_apart may mights one.left other.left r.stopped q.stopped names.1 one.ends
     other.ends (ap (drop 11) texts.1) in
-    one.reply ∙ (λ i. swept_reply (names.0 i) (stops i)) ∙ sym other.reply
+    one.reply ∙ (λ i. parted_reply (names.0 i) (stops i)) ∙ sym other.reply
 
--- a reply that is no sweep's has no parts
+-- a reply to no call of all has no parts
 refusal_plain : (refusal : Refusal) (r : SeenReply) → IsRefused refusal r →
     r ≡ plain r.status r.body
 unfolding reply_of_fault
@@ -207,7 +200,7 @@ fault_plain : (fault : Fault) (r : SeenReply) → r ≡ reply_of_fault fault →
 unfolding reply_of_fault
 fault_plain fault r is = is ∙ sym (ap (λ (x : SeenReply). plain x.status x.body) is)
 
-no_fault : (fault : Fault) (r q : SeenReply) → r ≡ swept_reply r.parts r.stopped →
+no_fault : (fault : Fault) (r q : SeenReply) → r ≡ parted_reply r.parts r.stopped →
     q ≡ reply_of_fault fault → r.status ≡ q.status → ⊥
 unfolding reply_of_fault
 no_fault fault r q one other e = false≢true (ap (λ n. n == 503)
@@ -230,10 +223,10 @@ module _ (may mights : Fault → Type 0) (host name : List ℕ) (d : Directory) 
   one_reading (Ok (CallOf c call)) r q one other status body =
       call_plain may host t t' at c call r one ∙ (λ i. plain (status i) (body i))
       ∙ sym (call_plain mights name u u' moment c call q other)
-  one_reading (Ok SweepOfAll) r q (inl one) (inl other) status body =
-      sweeps_apart may mights host name d at moment t t' u u' r q one other body
-  one_reading (Ok SweepOfAll) r q (inl one) (inr other) status body =
+  one_reading (Ok (CallOfAll call)) r q (inl one) (inl other) status body =
+      calls_apart call may mights host name d at moment t t' u u' r q one other body
+  one_reading (Ok (CallOfAll call)) r q (inl one) (inr other) status body =
       absurd (no_fault no_memory r q one.reply other.0 status)
-  one_reading (Ok SweepOfAll) r q (inr one) (inl other) status body =
+  one_reading (Ok (CallOfAll call)) r q (inr one) (inl other) status body =
       absurd (no_fault no_memory q r other.reply one.0 (sym status))
-  one_reading (Ok SweepOfAll) r q (inr one) (inr other) status body = one.0 ∙ sym other.0
+  one_reading (Ok (CallOfAll call)) r q (inr one) (inr other) status body = one.0 ∙ sym other.0

@@ -14,12 +14,11 @@ use Rattle.hq_calls.specs.Machine.{shared}
 use Rattle.hq_calls.specs.declared.answer.Answer.{Answer}
 use Rattle.hq_calls.specs.declared.answer.Answer.TheVariants.{Refused}
 use Rattle.hq_calls.specs.declared.call.Call.{Call}
-use Rattle.hq_calls.specs.declared.call.Call.TheVariants.{Sweep}
 use Rattle.hq_desk.specs.declared.desk.Desk.{Desk}
-use Rattle.hq_requests.specs.Calls.{Asked, CallOf, SweepOfAll, call_of}
+use Rattle.hq_requests.specs.Calls.{Asked, CallOf, CallOfAll, call_of}
 use Rattle.hq_requests.specs.Directories.{entry_of, names_of}
 use Rattle.hq_wire.specs.Replies.{SeenReply, Part, Stop, AreObjects, part_text, reply_of}
-use Rattle.hq_wire.specs.Replies.{reply_of_fault, swept_reply, tells_store}
+use Rattle.hq_wire.specs.Replies.{reply_of_fault, parted_reply, tells_store}
 use Rattle.hq_requests.specs.declared.directory.Directory.{Directory}
 use Rattle.hq_requests.specs.declared.exchanges.Exchange.{Exchange}
 
@@ -41,7 +40,7 @@ IsStruck fault t r t' = (r ≡ reply_of_fault fault) × (t' ≡ t)
 
 -- ---- the calls of customers that were done
 
--- what a customer is told: a whole reply, or a part of the reply to a sweep of all
+-- what a customer is told: a whole reply, or a part of the reply to a call of all
 pub data Told : Type 0 where
   Whole : SeenReply → Told
   InPart : List ℕ → Told
@@ -56,26 +55,26 @@ pub record Deed : Type 0 where
   pub customer : List ℕ
   pub at : ℕ
   pub call : Call
-  -- whether it was done in a sweep of all
+  -- whether it was done in a call of all
   pub in_part : Bool
   pub told : Told
 
-abbrev pub of_part : ℕ → Part → Deed
-of_part at part = record {
+abbrev pub of_part : ℕ → Call → Part → Deed
+of_part at call part = record {
   customer = part.customer;
   at = at;
-  call = Sweep;
+  call = call;
   in_part = true;
   told = InPart part.text;
 }
 
 -- What one exchange did. A call that was answered 503, the status of faults alone, was not done; of
--- a sweep of all the calls were done that have their parts.
+-- a call of all those were done that have their parts.
 abbrev pub deeds_of : ℕ → Result Asked Refusal → SeenReply → List Deed
 deeds_of at (Err refusal) r = []
 deeds_of at (Ok (CallOf name call)) r = if r.status == 503 then [] else
     record { customer = name; at = at; call = call; in_part = false; told = Whole r } ∷ []
-deeds_of at (Ok SweepOfAll) r = map (of_part at) r.parts
+deeds_of at (Ok (CallOfAll call)) r = map (of_part at call) r.parts
 
 -- Each by the shared step, from the tables that the one before it left.
 abbrev pub AllDone : List ℕ → Directory → Tables → List Deed → Tables → Type 0
@@ -86,27 +85,27 @@ AllDone host d t (deed ∷ deeds) t' =
 
 -- ---- what may be replied
 
--- A sweep of all ends with the last customer; or at the first of those that are left, by a fault.
+-- A call of all ends with the last customer; or at the first of those that are left, by a fault.
 abbrev pub EndsAt : (Fault → Type 0) → List (List ℕ) → Option Stop → Type 0
 EndsAt may left None = left ≡ []
 EndsAt may left (Some stop) = ((stop.fault ≡ no_memory) ⊎ may stop.fault)
     × ((more : List (List ℕ)) × (left ≡ stop.customer ∷ more))
 
--- A sweep of all: the first customers of the directory are done, each in its turn, and nothing else
--- is.
-pub record Sweeps (may : Fault → Type 0) (host : List ℕ) (d : Directory) (t : Tables) (at : ℕ)
-    (r : SeenReply) (t' : Tables) : Type 0 where
+-- A call of all: of the first customers of the directory it is done, of each in its turn, and
+-- nothing else is.
+pub record CallsAll (may : Fault → Type 0) (host : List ℕ) (d : Directory) (t : Tables) (at : ℕ)
+    (call : Call) (r : SeenReply) (t' : Tables) : Type 0 where
   pub left : List (List ℕ)
   pub order : names_of d ≡ map (λ (part : Part). part.customer) r.parts ++ left
-  pub done : AllDone host d t (map (of_part at) r.parts) t'
+  pub done : AllDone host d t (map (of_part at call) r.parts) t'
   pub ends : EndsAt may left r.stopped
   -- so that the parts are told by the bytes
   pub objects : AreObjects r.parts
-  pub reply : r ≡ swept_reply r.parts r.stopped
+  pub reply : r ≡ parted_reply r.parts r.stopped
 
 -- From the tables t, what was asked may get the reply r and leave the tables t': a refusal, which
 -- changes nothing; or the shared step's answer and its tables; or, in place of either, a fault that
--- changes nothing. So of a sweep of all, in whose place want of memory may be told.
+-- changes nothing. So of a call of all, in whose place want of memory may be told.
 abbrev pub MayReplyTo : (Fault → Type 0) → List ℕ → Directory → Tables → ℕ → Result Asked Refusal →
     SeenReply → Tables → Type 0
 MayReplyTo may host d t at (Err refusal) r t' = IsRefused refusal r × (t' ≡ t)
@@ -114,32 +113,32 @@ MayReplyTo may host d t at (Ok (CallOf name call)) r t' =
     let done = shared host (entry_of d name) t at call in
     ((r ≡ reply_of done.0) × (t' ≡ done.1)) ⊎ ((fault : Fault) × ((fault ≡ no_memory) ⊎ may fault)
     × IsStruck fault t r t')
-MayReplyTo may host d t at (Ok SweepOfAll) r t' = Sweeps may host d t at r t'
+MayReplyTo may host d t at (Ok (CallOfAll call)) r t' = CallsAll may host d t at call r t'
     ⊎ IsStruck no_memory t r t'
 
 abbrev pub MayReply : (Fault → Type 0) → List ℕ → Directory → Tables → Ask → SeenReply → Tables →
     Type 0
 MayReply may host d t a r t' = MayReplyTo may host d t a.at a.called r t'
 
--- a sweep of all was stopped by 93
+-- a call of all was stopped by 93
 abbrev pub StopsClosed : Option Stop → Type 0
 StopsClosed stopped = (customer : List ℕ) × (stopped ≡ Some
     (record { customer = customer; fault = Closed }))
 
--- the reply tells 93, whole or as what stopped a sweep of all
+-- the reply tells 93, whole or as what stopped a call of all
 abbrev pub TellsClosed : SeenReply → Type 0
 TellsClosed r = (r ≡ reply_of_fault Closed) ⊎ StopsClosed r.stopped
 
 -- Whatever the store is: a refusal is told, and the desk stays as it is; and where the store is
--- closed after a call, the reply tells this, or want of memory; and so of a sweep of all, unless
+-- closed after a call, the reply tells this, or want of memory; and so of a call of all, unless
 -- there is no customer.
 abbrev pub RepliesAnyway : {S : Type 0} → Sight (Desk S) → Directory → Desk S → Result Asked Refusal
     → SeenReply → Desk S → Type 0
 RepliesAnyway sight d old (Err refusal) r new = IsRefused refusal r × (new ≡ old)
 RepliesAnyway sight d old (Ok (CallOf name call)) r new = sight.is_closed new ≡ true →
     (r ≡ reply_of_fault Closed) ⊎ (r ≡ reply_of_fault no_memory)
-RepliesAnyway sight d old (Ok SweepOfAll) r new = sight.is_closed new ≡ true → StopsClosed r.stopped
-    ⊎ ((r ≡ reply_of_fault no_memory) ⊎ (names_of d ≡ []))
+RepliesAnyway sight d old (Ok (CallOfAll call)) r new = sight.is_closed new ≡ true →
+    StopsClosed r.stopped ⊎ ((r ≡ reply_of_fault no_memory) ⊎ (names_of d ≡ []))
 
 -- What one exchange does to a desk, by what is seen of its shelf.
 pub record Exchanged {S : Type 0} (sight : Sight S) (d : Directory) (old : Desk S) (a : Ask)

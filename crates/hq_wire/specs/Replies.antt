@@ -12,17 +12,17 @@ use Rattle.hq_wire.specs.declared.reply.Body.{Body}
 use Rattle.hq_wire.specs.declared.reply.Body.TheVariants as body
 use Rattle.hq_wire.specs.declared.reply.Reply.{Reply}
 
--- what one customer is told in the reply to a sweep of all
+-- what one customer is told in the reply to a call of all
 pub record Part : Type 0 where
   pub customer : List ℕ
   pub text : List ℕ
 
--- the customer at whom a sweep of all stopped, and the fault
+-- the customer at whom a call of all stopped, and the fault
 pub record Stop : Type 0 where
   pub customer : List ℕ
   pub fault : Fault
 
--- A reply as it is seen. A sweep of all is told in parts, and where it stopped.
+-- A reply as it is seen. A call of all is told in parts, and where it stopped.
 pub record SeenReply : Type 0 where
   pub status : ℕ
   pub body : List ℕ
@@ -79,7 +79,7 @@ fault_text Closed = codes "{\"error\":93,\"name\":\"Closed\"}"
 unfoldable pub reply_of_fault : Fault → SeenReply
 reply_of_fault fault = plain 503 (fault_text fault)
 
--- ---- a sweep of all
+-- ---- a call of all
 
 -- an object's text with the member `customer` before its others
 abbrev pub for_customer : List ℕ → List ℕ → List ℕ
@@ -111,9 +111,9 @@ parts_opening = codes "{\"done\":["
 abbrev pub closing : Option Stop → List ℕ
 closing stopped = codes "],\"stopped\":" ++ stopped_text stopped ++ codes "}"
 
--- the reply to a sweep of all
-abbrev pub swept_reply : List Part → Option Stop → SeenReply
-swept_reply parts stopped = record {
+-- the reply to a call of all
+abbrev pub parted_reply : List Part → Option Stop → SeenReply
+parted_reply parts stopped = record {
   status = 200;
   body = parts_opening ++ comma_joined parts
       ++ closing stopped;
@@ -151,8 +151,8 @@ abbrev pub stops_by_store : Option Stop → Bool
 stops_by_store None = false
 stops_by_store (Some stop) = not (is_memory stop.fault)
 
--- the reply tells a fault that is not want of memory, whole or as what stopped a sweep: one that
--- the store counts
+-- the reply tells a fault that is not want of memory, whole or as what stopped a call of all: one
+-- that the store counts
 abbrev pub tells_store : SeenReply → Bool
 tells_store r = (r.status == 503 && not (bytes_eq r.body (fault_text WantOfMemory)))
     || stops_by_store r.stopped

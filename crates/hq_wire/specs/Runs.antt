@@ -35,7 +35,7 @@ deeds _ _ = []
 abbrev pub deeds_for : List ℕ → List Deed → List Deed
 deeds_for c done = filter (λ (deed : Deed). eq_by_cmp text_cmp c deed.customer) done
 
--- A call of a customer's share. A call in a sweep of all is marked.
+-- A call of a customer's share. A call that was made for all is marked.
 pub record Shared : Type 0 where
   pub at : ℕ
   pub call : Call

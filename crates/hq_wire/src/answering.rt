@@ -8,8 +8,8 @@ ghost use Rattle.hq_wire.specs.Replies.{seen, tells_store};
 ghost use Rattle.hq_wire.specs.Runs.{RepliesSo};
 ghost use Rattle.hq_requests.specs.declared.directory.Directory.{Directory};
 
+use crate::calling::call_all;
 use crate::reply::{Body, Reply, fault_reply, status_of};
-use crate::sweeping::sweep_all;
 use hq_desk::{Call, Desk};
 use hq_envelope::{Fail, Fault, Moment, Refusal};
 use hq_json::{Json, refusal_text};
@@ -60,7 +60,7 @@ fn call_reply<S: Shelf + Drop>(
 /// want of memory, and only where there was a call with a fault that the shelf can answer, and the
 /// tables are as before. It always replies.
 ///
-/// A sweep of all is replied to with a part for each customer that is done, which are the first of
+/// A call of all is replied to with a part for each customer that is done, which are the first of
 /// the directory, each by the shared step; and with the customer and the fault that stopped it.
 ///
 /// What is said of tables is said where the store is clean and open as the call ends, its rows were
@@ -78,7 +78,7 @@ pub fn exchange<S: Shelf + Drop>(
 {
     match call_of(alloc, directory, exchange) {
         Ok(Asking::CallOf(entry, call)) => call_reply(alloc, desk, exchange.at, entry, call),
-        Ok(Asking::SweepOfAll) => sweep_all(alloc, desk, directory, exchange.at),
+        Ok(Asking::CallOfAll(each)) => call_all(alloc, desk, directory, exchange.at, each),
         Err(Fail::Refused(refusal)) => refusal_reply(alloc, refusal),
         Err(Fail::Fault(fault)) => fault_reply(fault),
     }

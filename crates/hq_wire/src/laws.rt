@@ -6,9 +6,8 @@ ghost use Rattle.std.specs.List.{list_all};
 ghost use Rattle.hq_envelope.specs.Words.{is_name};
 ghost use Rattle.hq_store.specs.Tables.{Tables, own};
 ghost use Rattle.hq_calls.specs.Unchanged.{only_reads};
-ghost use Rattle.hq_calls.specs.declared.call.Call.{Call};
 ghost use Rattle.hq_json.specs.OneLine.{is_one_line};
-ghost use Rattle.hq_requests.specs.Calls.{CallOf};
+ghost use Rattle.hq_requests.specs.Calls.{Asked, call_in};
 ghost use Rattle.hq_requests.specs.Directories.{names_of};
 ghost use Rattle.hq_wire.specs.Exchanges.{Ask, MayReply};
 ghost use Rattle.hq_wire.specs.Replies.{SeenReply};
@@ -35,7 +34,7 @@ pub fn nobody_else_matters<S: Shelf, R: Shelf>()
 {}
 
 /// A reply is read in one way: two replies of the same bytes and status to what was asked, over any
-/// tables and any kinds of shelf, are the same. So the bytes of the reply to a sweep of all tell
+/// tables and any kinds of shelf, are the same. So the bytes of the reply to a call of all tell
 /// which customers were done, what each of them was told, and at whom it stopped by which fault.
 pub fn one_reading<S: Shelf, R: Shelf>()
     ensures { (host : List ℕ) (d : Directory) (a : Ask) (r q : SeenReply) (t t' u u' : Tables)
@@ -45,13 +44,13 @@ pub fn one_reading<S: Shelf, R: Shelf>()
 {}
 
 /// The tables of all customers stay as they were where the status of a reply is not 200, so after
-/// every refusal; and whatever is replied to a call that only reads.
+/// every refusal; and whatever is replied to a call that only reads, of one customer or of all.
 pub fn tables_stay<S: Shelf>()
     ensures refused { (host : List ℕ) (d : Directory) (a : Ask) (r : SeenReply) (t t' : Tables)
         → MayReply S.sight.may_answer host d t a r t' → r.status ≢ 200 → t' ≡ t }
     ensures reads { (host : List ℕ) (d : Directory) (a : Ask) (r : SeenReply) (t t' : Tables)
-        (name : List ℕ) (call : Call) → MayReply S.sight.may_answer host d t a r t'
-        → a.called ≡ Ok (CallOf name call) → only_reads call ≡ true → t' ≡ t }
+        (asked : Asked) → MayReply S.sight.may_answer host d t a r t'
+        → a.called ≡ Ok asked → only_reads (call_in asked) ≡ true → t' ≡ t }
 {}
 
 /// Every reply is one line: its bytes have no LF, whatever texts they tell of.

@@ -12,10 +12,10 @@
 #![tactic(auto)]
 
 mod answering;
+mod calling;
 mod headline;
 pub mod laws;
 mod reply;
-mod sweeping;
 
 pub use answering::{exchange, refusal_reply};
 pub use headline::run;

@@ -1,6 +1,6 @@
 //! The tests of the wire that lines of a batch cannot say: bodies at their longest, desks whose
-//! serials or notices are nearly spent, directories that are refused, sweeps of all over stores
-//! that fail, and runs. What lines can say stands in `tests/examples/`. The tests stand apart so
+//! serials or notices are nearly spent, directories that are refused, calls of all over stores that
+//! fail, and runs. What lines can say stands in `tests/examples/`. The tests stand apart so
 //! that the wire is proved once, and not again with them.
 #![tactic(auto)]
 
@@ -14,3 +14,5 @@ mod runs;
 mod spent;
 #[cfg(test)]
 mod sweeps;
+#[cfg(test)]
+mod usages;

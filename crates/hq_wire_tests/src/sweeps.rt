@@ -14,7 +14,7 @@ use std::test::Fail;
 const QUEUED: &str = "200 {\"id\":\"0000000001\",\"recipients\":[\"bob@far.example\"],\
     \"refused\":[],\"state\":\"incoming\",\"verdict\":\"queued\"}";
 
-fn submit_both<S: Shelf + Drop>(
+pub fn submit_both<S: Shelf + Drop>(
     rt: &(impl Abort + AllocGlobal),
     desk: &mut Desk<S>,
 ) -> Result<(), Fail> {
@@ -130,31 +130,33 @@ const CLOSED_AT_BIRCH: &str = "200 {\"done\":[\
     {\"customer\":\"acme\",\"expired\":1,\"notices\":1,\"warned\":0}],\
     \"stopped\":{\"customer\":\"birch\",\"error\":93,\"name\":\"Closed\"}}";
 
-/// What a sweep of all is told where the shelf fails so, and what another one is told then.
+/// What a line is told where the shelf fails so, and what the same is told then.
 fn expect_stop_over<S: Shelf + Drop>(
     rt: &(impl Abort + AllocGlobal),
     shelf: S,
     plan: Plan,
+    line: &str,
     told: &str,
     then: &str,
 ) -> Result<(), Fail> {
     let mut desk = desk_over(rt.alloc(), shelf)?;
     submit_both(rt, &mut desk)?;
     let mut desk = desk_over(rt.alloc(), FailingShelf::new(desk.into_shelf(), plan))?;
-    expect_at(rt, &mut desk, 432_000, SWEEP, told)?;
-    expect_at(rt, &mut desk, 432_000, SWEEP, then)
+    expect_at(rt, &mut desk, 432_000, line, told)?;
+    expect_at(rt, &mut desk, 432_000, line, then)
 }
 
 /// The same over plain lists, and over a store in memory.
-fn expect_stop(
+pub fn expect_stop(
     rt: &(impl Abort + AllocGlobal),
     plan: Plan,
+    line: &str,
     told: &str,
     then: &str,
 ) -> Result<(), Fail> {
-    expect_stop_over(rt, ListShelf::new(rt.alloc()), plan, told, then)?;
+    expect_stop_over(rt, ListShelf::new(rt.alloc()), plan, line, told, then)?;
     let shelf = SqlShelf::open_memory(rt.alloc())?;
-    expect_stop_over(rt, shelf, plan, told, then)
+    expect_stop_over(rt, shelf, plan, line, told, then)
 }
 
 /// Each customer's sweep makes three calls of the shelf: each of the six fails once.
@@ -165,10 +167,16 @@ fn a_fault_stops_it(rt: HostRuntime) -> Result<(), Fail> {
         (4, STOPPED_AT_BIRCH, BIRCH_SWEPT),
     ] {
         for at in first..first + 3 {
-            expect_stop(&rt, Plan::DiskOnce { at }, told, then)?;
+            expect_stop(&rt, Plan::DiskOnce { at }, SWEEP, told, then)?;
         }
     }
-    expect_stop(&rt, Plan::DiskOnce { at: 7 }, ALL_SWEPT, STOPPED_AT_ACME)
+    expect_stop(
+        &rt,
+        Plan::DiskOnce { at: 7 },
+        SWEEP,
+        ALL_SWEPT,
+        STOPPED_AT_ACME,
+    )
 }
 
 #[test]
@@ -176,7 +184,7 @@ fn a_closed_store_stops_it(rt: HostRuntime) -> Result<(), Fail> {
     let closed = "200 {\"done\":[],\"stopped\":\
         {\"customer\":\"acme\",\"error\":93,\"name\":\"Closed\"}}";
     for at in 4..7 {
-        expect_stop(&rt, Plan::ClosedFrom { at }, CLOSED_AT_BIRCH, closed)?;
+        expect_stop(&rt, Plan::ClosedFrom { at }, SWEEP, CLOSED_AT_BIRCH, closed)?;
     }
     Ok(())
 }

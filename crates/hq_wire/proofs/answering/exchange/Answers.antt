@@ -1,7 +1,8 @@
 use Rattle.std.proofs.Common.{◌≡◌, Result, Ok, Err, refl, sym, ap, ◌∙◌, subst}
 use Rattle.hq_base.specs.Readers.{Fails}
 use Rattle.hq_base.specs.declared.failure.Refusal.{Refusal}
-use Rattle.hq_requests.specs.Calls.{Asked, CallOf, IsKnown, SweepOfAll, asked_seen, call_of}
+use Rattle.hq_requests.specs.Calls.{Asked, CallOf, CallOfAll, IsKnown, asked_seen, call_of}
+use Rattle.hq_requests.specs.Calls.{each_call}
 use Rattle.hq_wire.specs.Exchanges.{ask_of, Exchanged}
 use Rattle.hq_wire.specs.Replies.{seen, reply_of_fault}
 use Rattle.hq_wire.proofs.Exchanging.{no_room, refused}
@@ -24,17 +25,17 @@ returns-in-Ok-CallOf g c =
     (subst (λ (asked : Result Asked Refusal). Exchanged sight d old
     (record { at = x.at; called = asked }) r new) (sym called) done)
 
-pub returns-in-Ok-SweepOfAll : goal.returns-in-Ok-SweepOfAll
-returns-in-Ok-SweepOfAll g c =
+pub returns-in-Ok-CallOfAll : goal.returns-in-Ok-CallOfAll
+returns-in-Ok-CallOfAll g c =
     let sight = g.S.Shelf.sight in
     let d = c.args.directory.now in
     let x = c.args.exchange.now in
     let old = c.args.desk.now in
-    let new = c.sweep_all.new.desk in
-    let so = c.sweep_all.ensures in
-    let called : call_of d x ≡ Ok SweepOfAll = c.in-Ok-SweepOfAll.ensures.call
-    ∙ (λ i. Ok (asked_seen (c.in-Ok-SweepOfAll.field-0-is i))) in
-    told_once sight d old new (ask_of d x) c.sweep_all.result so.0 so.1
+    let new = c.call_all.new.desk in
+    let so = c.call_all.ensures in
+    let called : call_of d x ≡ Ok (CallOfAll (each_call c.in-Ok-CallOfAll.each)) =
+    c.in-Ok-CallOfAll.ensures.call ∙ (λ i. Ok (asked_seen (c.in-Ok-CallOfAll.field-0-is i))) in
+    told_once sight d old new (ask_of d x) c.call_all.result so.0 so.1
     (subst (λ (asked : Result Asked Refusal). Exchanged sight d old
     (record { at = x.at; called = asked }) so.0 new) (sym called) so.2)
 

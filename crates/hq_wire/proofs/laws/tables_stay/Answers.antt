@@ -10,7 +10,7 @@ returns-clause-refused g c = λ host d a r t t' replied other.
     left_by_others g.S.Shelf.sight.may_answer host d t t' a.at a.called r replied other
 
 pub returns-clause-reads : goal.returns-clause-reads
-returns-clause-reads g c = λ host d a r t t' name call replied asked reads.
-    left_by_reading g.S.Shelf.sight.may_answer host d t t' a.at name call r
+returns-clause-reads g c = λ host d a r t t' asked replied is reads.
+    left_by_reading g.S.Shelf.sight.may_answer host d t t' a.at asked r
     (subst (λ (called : Result Asked Refusal). MayReplyTo g.S.Shelf.sight.may_answer host d t
-    a.at called r t') asked replied) reads
+    a.at called r t') is replied) reads

@@ -1,7 +1,8 @@
--- A sweep of all customers, one after the other.
+-- A call of all customers, one after the other.
 use Rattle.std.proofs.Common.{◌≡◌, ◌⊎◌, inl, inr, ℕ, zero, suc, length, get_or, take, drop, ◌+◌}
 use Rattle.std.proofs.Common.{◌-◌, ◌^◌, ◌<◌, ◌≤◌, Bool, true, false, cond, not, List, [], ◌∷◌, ◌++◌}
 use Rattle.std.proofs.Common.{map, Some, None, Ok, Err, refl, sym, ap, ◌∙◌, subst, arith}
+use Rattle.std.proofs.Common.{append-nil, append_assoc}
 use Rattle.std.specs.List.{flat_map}
 use Rattle.std.proofs.lemmas.List.{map-append}
 use Rattle.std.proofs.lemmas.List.Concat.{flat_map-append}
@@ -12,19 +13,19 @@ use Rattle.hq_store.specs.Shelves.{Sight, IsTallied, KeepsOnErr, OnSound, OnOpen
 use Rattle.hq_store.specs.Sound.{Sound}
 use Rattle.hq_store.specs.Tables.{Tables}
 use Rattle.hq_calls.specs.Machine.{shared}
-use Rattle.hq_calls.specs.declared.call.Call.TheVariants.{Sweep}
+use Rattle.hq_calls.specs.declared.call.Call.{Call}
 use Rattle.hq_desk.specs.Desks.{Stays, IsRendered, host_of, on, stepped}
 use Rattle.hq_desk.specs.declared.desk.Desk.{Desk}
 use Rattle.hq_desk.specs.declared.desk.Rendered.{Rendered}
-use Rattle.hq_requests.specs.Calls.{SweepOfAll}
+use Rattle.hq_requests.specs.Calls.{CallOfAll}
 use Rattle.hq_requests.specs.Directories.{entry_of, names_of}
 use Rattle.hq_wire.specs.Exchanges.{AllDone, Exchanged, InPart, StopsClosed, of_part}
 use Rattle.hq_wire.specs.Replies.{AreObjects, IsObject, Part, is_memory, comma_joined}
 use Rattle.hq_wire.specs.Replies.{parts_opening, part_text}
-use Rattle.hq_wire.specs.Replies.{separated, swept_reply}
+use Rattle.hq_wire.specs.Replies.{separated, parted_reply}
 use Rattle.hq_requests.specs.declared.directory.Directory.{Directory}
 use Rattle.hq_wire.proofs.Alone.{all_done_on}
-use Rattle.hq_wire.proofs.Exchanging.{stay_put, stay_on, stop_closes, tells_none}
+use Rattle.hq_wire.proofs.Exchanging.{apart, stay_put, stay_on, stop_closes, tells_none}
 
 -- ---- the text of parts
 
@@ -32,27 +33,19 @@ abbrev pub has_none : {A : Type 0} → List A → Bool
 has_none [] = true
 has_none (x ∷ xs) = false
 
-on_end : (xs : List ℕ) → xs ++ [] ≡ xs
-on_end [] = refl
-on_end (x ∷ xs) = ap (λ ys. x ∷ ys) (on_end xs)
-
-in_threes : (xs ys zs : List ℕ) → (xs ++ ys) ++ zs ≡ xs ++ (ys ++ zs)
-in_threes [] ys zs = refl
-in_threes (x ∷ xs) ys zs = ap (λ rest. x ∷ rest) (in_threes xs ys zs)
-
-abbrev behind_comma : Part → List ℕ
+abbrev pub behind_comma : Part → List ℕ
 behind_comma p = 44 ∷ p.text
 
 -- one more part
 joined_more : (ps : List Part) (p : Part) → comma_joined (ps ++ p ∷ []) ≡ comma_joined ps
     ++ separated (has_none ps) p.text
-joined_more [] p = on_end p.text
+joined_more [] p = append-nil p.text
 joined_more (x ∷ ps) p =
     let more : flat_map behind_comma (ps ++ p ∷ []) ≡ flat_map behind_comma ps ++ behind_comma p =
     flat_map-append behind_comma ps (p ∷ []) ∙ ap (λ ys. flat_map behind_comma ps ++ ys)
-    (on_end (behind_comma p)) in
+    (append-nil (behind_comma p)) in
     ap (λ ys. x.text ++ ys) more
-    ∙ sym (in_threes x.text (flat_map behind_comma ps) (behind_comma p))
+    ∙ sym (append_assoc x.text (flat_map behind_comma ps) (behind_comma p))
 
 none_more : (ps : List Part) (p : Part) → has_none (ps ++ p ∷ []) ≡ false
 none_more [] p = refl
@@ -65,23 +58,18 @@ more_objects (x ∷ ps) p before object = (before.0, more_objects ps p before.1 
 
 -- ---- faults, as they are counted
 
-differ : {A : Type 0} → false ≡ true → A
-differ e = absurd (not_so e) where
-  not_so : false ≡ true → ⊥
-  not_so e = cc
-
 was_open : (fault : Fault) (was is : Bool) (m n : ℕ) →
     IsTallied {X = Rendered} was is m n (Err fault) → is ≡ false → was ≡ false
 was_open WantOfMemory was is m n h open_ = h.0
 was_open Disk was is m n h open_ = h.0
 was_open BadSchema was is m n h open_ = absurd h
-was_open Closed was is m n h open_ = differ (sym open_ ∙ h.0)
+was_open Closed was is m n h open_ = apart (sym open_ ∙ h.0)
 
 tells_closed : (fault : Fault) (was is : Bool) (m n : ℕ) (name : List ℕ) →
     IsTallied {X = Rendered} was is m n (Err fault) → is ≡ true →
     StopsClosed (Some (record { customer = name; fault = fault }))
-tells_closed WantOfMemory was is m n name h closed = differ (sym h.1 ∙ closed)
-tells_closed Disk was is m n name h closed = differ (sym h.1 ∙ closed)
+tells_closed WantOfMemory was is m n name h closed = apart (sym h.1 ∙ closed)
+tells_closed Disk was is m n name h closed = apart (sym h.1 ∙ closed)
 tells_closed BadSchema was is m n name h closed = absurd h
 tells_closed Closed was is m n name h closed = (name, refl)
 
@@ -100,7 +88,7 @@ counts Closed was is m n h small = one_more_is m n h.1 small
 abbrev pub customer_of_part : Part → List ℕ
 customer_of_part p = p.customer
 
-module _ {S : Type 0} (sight : Sight S) (d : Directory) (at : ℕ) where
+module _ {S : Type 0} (sight : Sight S) (d : Directory) (at : ℕ) (call : Call) where
   abbrev tables : Desk S → Tables
   tables = (on sight).tables
 
@@ -112,7 +100,7 @@ module _ {S : Type 0} (sight : Sight S) (d : Directory) (at : ℕ) where
     pub first : is_first ≡ has_none parts
     pub whose : map customer_of_part parts ≡ names
     pub done : OnOpenSound (on sight) old new
-        (AllDone (host_of old) d (tables old) (map (of_part at) parts) (tables new))
+        (AllDone (host_of old) d (tables old) (map (of_part at call) parts) (tables new))
     pub sound : OnOpenSound (on sight) old new (Sound (tables new))
     pub stays : Stays (on sight) old new
     pub tally : (on sight).fault_count new ≡ (on sight).fault_count old
@@ -122,7 +110,7 @@ module _ {S : Type 0} (sight : Sight S) (d : Directory) (at : ℕ) where
   pub none_yet : (old : Desk S) (body : List ℕ) → body ≡ parts_opening → SoFar old [] old body true
   none_yet old body is = record {
     parts = [];
-    text = is ∙ sym (on_end parts_opening);
+    text = is ∙ sym (append-nil parts_opening);
     first = refl;
     whose = refl;
     done = λ clean ours open_ sound. refl;
@@ -135,20 +123,21 @@ module _ {S : Type 0} (sight : Sight S) (d : Directory) (at : ℕ) where
 
   -- the call of one customer was done
   pub one_more_done : (old mid new : Desk S) (names : List (List ℕ)) (body longer : List ℕ)
-      (is_first : Bool) (entry : Entry) (rendered : Rendered)
+      (is_first : Bool) (entry : Entry) (made_call : Call) (rendered : Rendered)
       → SoFar old names mid body is_first
       → entry ≡ entry_of d entry.name
+      → made_call ≡ call
       → longer ≡ body ++ separated is_first rendered.bytes.items
       → OnSound (on sight) mid new (IsRendered (part_text entry.name)
-      (stepped (on sight) mid entry at Sweep).0 rendered)
-      → OnSound (on sight) mid new (tables new ≡ (stepped (on sight) mid entry at Sweep).1)
+      (stepped (on sight) mid entry at made_call).0 rendered)
+      → OnSound (on sight) mid new (tables new ≡ (stepped (on sight) mid entry at made_call).1)
       → OnOpenSound (on sight) mid new (Sound (tables new))
       → KeepsOnErr (on sight) mid new (Ok rendered)
       → host_of new ≡ host_of mid
       → IsObject rendered.bytes.items
       → SoFar old (names ++ entry.name ∷ []) new longer false
-  one_more_done old mid new names body longer is_first entry rendered before known put answer made
-      sound kept host object =
+  one_more_done old mid new names body longer is_first entry made_call rendered before known same
+      put answer made sound kept host object =
       let p : Part = record { customer = entry.name; text = rendered.bytes.items } in
       let was_open = kept.tally.0 in
       let keeps : Stays (on sight) mid new =
@@ -158,13 +147,13 @@ module _ {S : Type 0} (sight : Sight S) (d : Directory) (at : ℕ) where
         stays_open = λ open_. was_open;
         host = host;
       } in
-      let step : List ℕ → Entry → Type 0 =
-      λ h e. (InPart p.text ≡ InPart (part_text entry.name (shared h e (tables mid) at Sweep).0))
-      × (tables new ≡ (shared h e (tables mid) at Sweep).1) in
+      let step : List ℕ → Entry → Call → Type 0 =
+      λ h e k. (InPart p.text ≡ InPart (part_text entry.name (shared h e (tables mid) at k).0))
+      × (tables new ≡ (shared h e (tables mid) at k).1) in
       record {
         parts = before.parts ++ p ∷ [];
         text = put ∙ (λ i. before.text i ++ separated (before.first i) p.text)
-            ∙ in_threes parts_opening (comma_joined before.parts)
+            ∙ append_assoc parts_opening (comma_joined before.parts)
             (separated (has_none before.parts) p.text)
             ∙ ap (λ ys. parts_opening ++ ys) (sym (joined_more before.parts p));
         first = sym (none_more before.parts p);
@@ -175,13 +164,14 @@ module _ {S : Type 0} (sight : Sight S) (d : Directory) (at : ℕ) where
             let rows = before.stays.ours then ours was_open in
             let fit = before.sound then ours was_open sound in
             let told = answer clean rows fit in
-            let this : step (host_of old) (entry_of d entry.name) =
-            subst (λ h. step h (entry_of d entry.name)) before.stays.host
-            (subst (λ e. step (host_of mid) e) known (ap InPart told.1, made clean rows fit)) in
+            let this : step (host_of old) (entry_of d entry.name) call =
+            subst (λ h. step h (entry_of d entry.name) call) before.stays.host
+            (subst (λ e. step (host_of mid) e call) known
+            (subst (step (host_of mid) entry) same (ap InPart told.1, made clean rows fit))) in
             subst (λ ds. AllDone (host_of old) d (tables old) ds (tables new))
-            (sym (map-append (of_part at) before.parts (p ∷ [])))
+            (sym (map-append (of_part at call) before.parts (p ∷ [])))
             (all_done_on (host_of old) d (tables old) (tables mid) (tables new)
-            (map (of_part at) before.parts) (of_part at p ∷ []) (before.done then
+            (map (of_part at call) before.parts) (of_part at call p ∷ []) (before.done then
             ours was_open sound) this);
         sound = λ clean ours open_ fit.
             let then = kept.quiet clean in
@@ -196,31 +186,27 @@ module _ {S : Type 0} (sight : Sight S) (d : Directory) (at : ℕ) where
   -- all customers were done
   pub done_by_all : (old new : Desk S) (names : List (List ℕ)) (body : List ℕ) (is_first : Bool)
       (so_far : SoFar old names new body is_first) → names ≡ names_of d →
-      Exchanged sight d old (record { at = at; called = Ok SweepOfAll })
-      (swept_reply so_far.parts None) new
+      Exchanged sight d old (record { at = at; called = Ok (CallOfAll call) })
+      (parted_reply so_far.parts None) new
   done_by_all old new names body is_first so_far all = record {
     replied = λ clean ours open_ sound. inl (record {
       left = [];
-      order = sym (all_left (map customer_of_part so_far.parts) ∙ so_far.whose ∙ all);
+      order = sym (append-nil (map customer_of_part so_far.parts) ∙ so_far.whose ∙ all);
       done = so_far.done clean ours open_ sound;
       ends = refl;
       objects = so_far.objects;
       reply = refl;
     });
     anyway = λ closed. inr (inr (either so_far.open_ closed));
-    closed = tells_none (swept_reply so_far.parts None) refl;
+    closed = tells_none (parted_reply so_far.parts None) refl;
     sound = so_far.sound;
     stays = so_far.stays;
     counted = λ small. let same = so_far.tally in omega (arith, same);
   } where
-    all_left : (xs : List (List ℕ)) → xs ++ [] ≡ xs
-    all_left [] = refl
-    all_left (x ∷ xs) = ap (λ ys. x ∷ ys) (all_left xs)
-
     either : (names ≡ []) ⊎ ((on sight).is_closed new ≡ false) → (on sight).is_closed new ≡ true →
         names_of d ≡ []
     either (inl none) closed = sym all ∙ none
-    either (inr open_) closed = differ (sym open_ ∙ closed)
+    either (inr open_) closed = apart (sym open_ ∙ closed)
 
   -- a fault stopped it at a customer
   pub stopped_at : (old mid new : Desk S) (names : List (List ℕ)) (body : List ℕ) (is_first : Bool)
@@ -230,8 +216,8 @@ module _ {S : Type 0} (sight : Sight S) (d : Directory) (at : ℕ) where
       → OnOpenSound (on sight) mid new (Sound (tables new))
       → KeepsOnErr {X = Rendered} (on sight) mid new (Err fault)
       → host_of new ≡ host_of mid
-      → Exchanged sight d old (record { at = at; called = Ok SweepOfAll })
-      (swept_reply so_far.parts (Some (record { customer = name; fault = fault }))) new
+      → Exchanged sight d old (record { at = at; called = Ok (CallOfAll call) })
+      (parted_reply so_far.parts (Some (record { customer = name; fault = fault }))) new
   stopped_at old mid new names body is_first name more fault so_far all sound kept host =
       let opens = was_open fault _ _ _ _ kept.tally in
       let keeps : Stays (on sight) mid new =
@@ -244,7 +230,7 @@ module _ {S : Type 0} (sight : Sight S) (d : Directory) (at : ℕ) where
               left = name ∷ more;
               order = all ∙ ap (λ ns. ns ++ name ∷ more) (sym so_far.whose);
               done = subst (λ t. AllDone (host_of old) d (tables old)
-                  (map (of_part at) so_far.parts) t) (sym (kept.none clean rows open_))
+                  (map (of_part at call) so_far.parts) t) (sym (kept.none clean rows open_))
                   (so_far.done then ours (opens open_) fit);
               ends = (kept.cause, (more, refl));
               objects = so_far.objects;

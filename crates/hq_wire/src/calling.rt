@@ -1,26 +1,29 @@
-//! A sweep of all customers: each by a call of its own, and all told in one reply.
+//! The same call of all customers: each by a call of its own, and all told in one reply.
 
 ghost use Rattle.std.specs.Prelude.{◌≡◌, ◌+◌, ◌*◌, ◌≤◌, ◌++◌, true, Ok, Some, None, length, drop};
 ghost use Rattle.std.specs.Prelude.{vec_len, vec_capacity, IfOk, IfSome};
 ghost use Rattle.std.specs.List.{list_all};
-ghost use Rattle.hq_requests.specs.Calls.{SweepOfAll};
+ghost use Rattle.hq_requests.specs.Calls.{CallOfAll, each_call};
 ghost use Rattle.hq_wire.specs.Exchanges.{Exchanged};
 ghost use Rattle.hq_wire.specs.Replies.{SeenReply, IsSent, Closes, is_inside, for_customer};
 ghost use Rattle.hq_wire.specs.Replies.{fault_text, separated, parts_opening, closing};
 
 use crate::reply::{Body, Reply, fault_reply, fault_text};
-use hq_desk::{Answer, Call, Desk, Render};
+use hq_desk::{Answer, Desk, Render};
 use hq_envelope::{Fault, Moment, Name};
 use hq_json::Json;
-use hq_requests::Directory;
+use hq_requests::{Directory, EachCall};
 use hq_store::Shelf;
 use std::alloc::{AllocError, Global};
 
-/// The most bytes of a part: a name has 32 at most, and each of three counts 20 digits.
-const PART_BYTES: usize = 139;
-
-/// Room for a part and a comma.
-const PART_ROOM: usize = 140;
+/// Room for the longest part and a comma: a name has 32 bytes at most, and each count 20 digits, of
+/// which a sweep tells three and a usage nine.
+fn part_room(each: EachCall) -> usize {
+    match each {
+        EachCall::Sweep => 140,
+        EachCall::Usage => 326,
+    }
+}
 
 /// Room for what stands before the parts and behind them.
 const OTHER_ROOM: usize = 102;
@@ -72,10 +75,10 @@ fn closes_last(text: &[u8]) -> bool
 }
 
 /// The text of an object with the customer before its other members.
-fn part_bytes(alloc: Global, name: &Name, object: &[u8]) -> Result<Vec<u8>, AllocError>
+fn part_bytes(alloc: Global, room: usize, name: &Name, object: &[u8]) -> Result<Vec<u8>, AllocError>
     ensures { IfOk result (λ bytes. bytes.items ≡ for_customer name.now object.now) }
 {
-    let mut bytes = Vec::with_capacity(alloc, PART_BYTES)?;
+    let mut bytes = Vec::with_capacity(alloc, room)?;
     bytes.extend_from_slice(b"{\"customer\":\"")?;
     bytes.extend_from_slice(name_bytes(name))?;
     bytes.extend_from_slice(b"\",")?;
@@ -87,22 +90,24 @@ fn part_bytes(alloc: Global, name: &Name, object: &[u8]) -> Result<Vec<u8>, Allo
 #[derive(Drop)]
 struct PartText<'n> {
     name: &'n Name,
+    /// For the part and a comma.
+    room: usize,
 }
 
 impl Render for PartText<'_> {
-    ghost use Rattle.std.specs.Prelude.{◌≤◌, length};
+    ghost use Rattle.std.specs.Prelude.{◌+◌, ◌≤◌, length};
     ghost use Rattle.hq_wire.specs.Replies.{IsObject, part_text};
 
     ghost text = { λ part answer. part_text part.name.now answer };
 
-    ghost fits = { λ _ bytes. (length bytes ≤ 139) × IsObject bytes };
+    ghost fits = { λ part bytes. (1 + length bytes ≤ part.room) × IsObject bytes };
 
     fn render(&self, alloc: Global, answer: &Answer) -> Result<Vec<u8>, AllocError> {
         let told = Json.render(alloc, answer)?;
-        let bytes = part_bytes(alloc, self.name, told.as_slice())?;
-        // So is every answer to a sweep: checked here, it is known of the part whatever the store
-        // is.
-        if bytes.len() > PART_BYTES || !closes_last(bytes.as_slice()) {
+        let bytes = part_bytes(alloc, self.room, self.name, told.as_slice())?;
+        // So is every answer to such a call: checked here, it is known of the part whatever the
+        // store is.
+        if bytes.len() >= self.room || !closes_last(bytes.as_slice()) {
             return Err(AllocError);
         }
         Ok(bytes)
@@ -121,13 +126,14 @@ fn put(body: &mut Vec<u8>, bytes: &[u8])
     };
 }
 
-/// Room for the longest reply about so many customers, with what stands before their parts.
-fn room_for(alloc: Global, customers: usize) -> Option<Vec<u8>>
+/// Room for the longest reply about so many customers, each with this room for its part, with what
+/// stands before the parts.
+fn room_for(alloc: Global, customers: usize, part: usize) -> Option<Vec<u8>>
     ensures opened { IfSome result (λ body. body.items ≡ parts_opening) }
-    ensures room { IfSome result (λ body. vec_len body + (customers * 140 + 93)
+    ensures room { IfSome result (λ body. vec_len body + (customers * part + 93)
         ≤ vec_capacity body) }
 {
-    let room = customers.checked_mul(PART_ROOM)?.checked_add(OTHER_ROOM)?;
+    let room = customers.checked_mul(part)?.checked_add(OTHER_ROOM)?;
     let Ok(mut body) = Vec::with_capacity(alloc, room) else {
         return None;
     };
@@ -156,7 +162,7 @@ fn put_all_done(body: &mut Vec<u8>)
     put(body, b"],\"stopped\":null}");
 }
 
-/// Adds what stands behind the parts where a fault stopped the sweep at a customer.
+/// Adds what stands behind the parts where a fault stopped it at a customer.
 fn put_stop(body: &mut Vec<u8>, name: &Name, fault: Fault)
     requires { vec_len body.old + 93 ≤ vec_capacity body.old }
     ensures { body.new.items ≡ body.old.items
@@ -169,28 +175,31 @@ fn put_stop(body: &mut Vec<u8>, name: &Name, fault: Fault)
     put(body, b"}");
 }
 
-/// Sweeps every customer at a moment, in the order of the directory, each by a call of its own, and
-/// stops at the first fault. A refusal is told as the customer's part.
+/// Makes a call for every customer at a moment, in the order of the directory, and stops at the
+/// first fault. A refusal is told as the customer's part.
 ///
 /// Room for the longest reply is taken first; where it is refused, nothing is done, and 90 is told.
 /// Each part is written before its customer's changes are made, and added without taking memory.
-pub(crate) fn sweep_all<S: Shelf + Drop>(
+pub(crate) fn call_all<S: Shelf + Drop>(
     alloc: Global,
     desk: &mut Desk<S>,
     directory: &Directory,
     at: Moment,
+    each: EachCall,
 ) -> Reply
     ensures { (r : SeenReply) × IsSent result r × Exchanged S.sight directory.now desk.old
-        (record { at = at; called = Ok SweepOfAll }) r desk.new }
+        (record { at = at; called = Ok (CallOfAll (each_call each)) }) r desk.new }
 {
     let customers = directory.customers();
-    let Some(mut body) = room_for(alloc, customers.len()) else {
+    let room = part_room(each);
+    let Some(mut body) = room_for(alloc, customers.len(), room) else {
         return fault_reply(Fault::WantOfMemory);
     };
     let mut is_first = true;
     for customer in customers {
         let name = &customer.entry.name;
-        match desk.act(alloc, at, &customer.entry, Call::Sweep, &PartText { name }) {
+        let part = PartText { name, room };
+        match desk.act(alloc, at, &customer.entry, each.call(), &part) {
             Ok(rendered) => put_part(&mut body, is_first, rendered.bytes.as_slice()),
             Err(fault) => {
                 put_stop(&mut body, name, fault);

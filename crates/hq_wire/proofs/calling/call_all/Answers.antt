@@ -2,13 +2,13 @@ use Rattle.std.proofs.Common.{◌≡◌, ◌≤◌, ◌+◌, ◌++◌, ◌∷◌
 use Rattle.std.proofs.Common.{None, length, map, take, drop, refl, sym, ap, ◌∙◌, subst, arith}
 use Rattle.std.proofs.lemmas.List.{take_all, take_more, map-append}
 use Rattle.hq_queue.specs.Customers.{are_customers}
-use Rattle.hq_requests.specs.Calls.{SweepOfAll}
+use Rattle.hq_requests.specs.Calls.{CallOfAll, each_call}
 use Rattle.hq_requests.specs.Directories.{entry_in, entry_of, name_of, names_of}
-use Rattle.hq_wire.specs.Replies.{Stop, closing, seen, separated, swept_reply}
+use Rattle.hq_wire.specs.Replies.{Stop, closing, seen, separated, parted_reply}
 use Rattle.hq_requests.proofs.Entries.{entry_at}
 use Rattle.hq_wire.proofs.Exchanging.{no_room}
-use Rattle.hq_wire.proofs.Swept.{SoFar, done_by_all, none_yet, one_more_done, split_at, stopped_at}
-use Rattle.hq_wire.proofs.sweeping.sweep_all.Goals as goal
+use Rattle.hq_wire.proofs.Called.{SoFar, done_by_all, none_yet, one_more_done, split_at, stopped_at}
+use Rattle.hq_wire.proofs.calling.call_all.Goals as goal
 
 pub returns-in_default : goal.returns-in_default
 returns-in_default g c =
@@ -16,13 +16,14 @@ returns-in_default g c =
       r,
       (refl, refl),
       no_room g.S.Shelf.sight c.args.directory.now c.args.desk.now
-          (record { at = c.args.at; called = Ok SweepOfAll }) r c.fault_reply.ensures.told,
+          (record { at = c.args.at; called = Ok (CallOfAll (each_call c.args.each)) }) r
+          c.fault_reply.ensures.told,
     )
 
 pub loop-customer-init : goal.loop-customer-init
 loop-customer-init g c = record {
-  so_far = none_yet g.S.Shelf.sight c.args.directory.now c.args.at c.args.desk.now
-      c.in-Some.body.items c.in-Some.ensures.opened;
+  so_far = none_yet g.S.Shelf.sight c.args.directory.now c.args.at (each_call c.args.each)
+      c.args.desk.now c.in-Some.body.items c.in-Some.ensures.opened;
   room = omega (arith, c.in-Some.ensures.room);
 }
 
@@ -30,6 +31,7 @@ pub loop-customer-preserved : goal.loop-customer-preserved
 loop-customer-preserved g c =
     let sight = g.S.Shelf.sight in
     let d = c.args.directory.now in
+    let call = each_call c.args.each in
     let i = c.loop-customer.customer-index in
     let xs = c.customers-customers.result.now in
     let item = c.customer-item.result in
@@ -48,16 +50,17 @@ loop-customer-preserved g c =
     let more : map name_of (take (i + 1) xs) ≡ map name_of (take i xs) ++ name ∷ [] =
     ap (map name_of) (take_more xs i item c.loop-customer-test.true ∙ ap (λ x. take i xs ++ x
     ∷ []) (sym c.customer-item.is)) ∙ map-append name_of (take i xs) (item ∷ []) in
-    let short : length c.as_slice.result.now ≤ 139 = subst (λ (part : List ℕ). length part ≤ 139)
+    let short : 1 + length c.as_slice.result.now ≤ c.part_room-room.result = subst
+    (λ (part : List ℕ). 1 + length part ≤ c.part_room-room.result)
     (sym c.as_slice.ensures.value) c.in-Ok.ensures.fits.0 in
     record {
-      so_far = subst (λ names. SoFar sight d c.args.at c.args.desk.now names c.act.new.self
+      so_far = subst (λ names. SoFar sight d c.args.at call c.args.desk.now names c.act.new.self
           c.put_part.new.body.items false) (sym more)
-          (one_more_done sight d c.args.at c.args.desk.now c.loop-customer.desk c.act.new.self
+          (one_more_done sight d c.args.at call c.args.desk.now c.loop-customer.desk c.act.new.self
           (map name_of (take i xs)) c.loop-customer.body.items c.put_part.new.body.items
-          is_first item.entry c.in-Ok.rendered so_far known put c.in-Ok.ensures.answer
-          c.in-Ok.ensures.tables c.in-Ok.ensures.sound c.in-Ok.ensures.kept c.in-Ok.ensures.host
-          c.in-Ok.ensures.fits.1);
+          is_first item.entry c.call.result c.in-Ok.rendered so_far known c.call.ensures put
+          c.in-Ok.ensures.answer c.in-Ok.ensures.tables c.in-Ok.ensures.sound c.in-Ok.ensures.kept
+          c.in-Ok.ensures.host c.in-Ok.ensures.fits.1);
       room = omega (
         arith,
         c.put_part.ensures.len,
@@ -78,12 +81,12 @@ returns-in-Err g c =
     let all : names_of d ≡ map name_of (take i xs) ++ item.entry.name
     ∷ map name_of (drop (suc i) xs) = ap (map name_of) (sym c.customers-customers.ensures)
     ∙ split_at name_of xs i item c.loop-customer-test.true c.customer-item.is in (
-      swept_reply so_far.parts (Some stop),
+      parted_reply so_far.parts (Some stop),
       (refl, sym (c.put_stop.ensures ∙ ap (λ body. body ++ closing (Some stop)) so_far.text)),
-      stopped_at g.S.Shelf.sight d c.args.at c.args.desk.now c.loop-customer.desk c.act.new.self
-          (map name_of (take i xs)) c.loop-customer.body.items c.loop-customer.is_first
-          item.entry.name (map name_of (drop (suc i) xs)) c.in-Err.fault so_far all
-          c.in-Err.ensures.sound c.in-Err.ensures.kept c.in-Err.ensures.host,
+      stopped_at g.S.Shelf.sight d c.args.at (each_call c.args.each) c.args.desk.now
+          c.loop-customer.desk c.act.new.self (map name_of (take i xs)) c.loop-customer.body.items
+          c.loop-customer.is_first item.entry.name (map name_of (drop (suc i) xs)) c.in-Err.fault
+          so_far all c.in-Err.ensures.sound c.in-Err.ensures.kept c.in-Err.ensures.host,
     )
 
 pub returns : goal.returns
@@ -94,8 +97,9 @@ returns g c =
     let so_far = c.loop-customer.invariant.so_far in
     let all : map name_of (take i xs) ≡ names_of d =
     ap (map name_of) (take_all i xs (omega arith) ∙ c.customers-customers.ensures) in (
-      swept_reply so_far.parts None,
+      parted_reply so_far.parts None,
       (refl, sym (c.put_all_done.ensures ∙ ap (λ body. body ++ closing None) so_far.text)),
-      done_by_all g.S.Shelf.sight d c.args.at c.args.desk.now c.loop-customer.desk
-          (map name_of (take i xs)) c.loop-customer.body.items c.loop-customer.is_first so_far all,
+      done_by_all g.S.Shelf.sight d c.args.at (each_call c.args.each) c.args.desk.now
+          c.loop-customer.desk (map name_of (take i xs)) c.loop-customer.body.items
+          c.loop-customer.is_first so_far all,
     )
