@@ -69,7 +69,8 @@ class Desk:
         self.address, self.process, self.keeper, self.runs = free_address(), None, None, False
         self.directory, self.store = self.folder / f"{name}.csv", self.folder / f"{name}.db"
         self.has(rows)
-        settings = {"HOST": "relay.example", "RELAY_KEY": RELAY, "LISTEN": self.address}
+        (self.folder / f"{name}.key").write_text(f"{RELAY}\n")
+        settings = {"HOST": "relay.example", "LISTEN": self.address}
         lines = "".join(f"{it}={value}\n" for it, value in settings.items())
         (self.folder / f"{name}.env").write_text(lines)
         self.unit = settings_of(DEPLOY / "hq-desk@.service")

@@ -12,20 +12,25 @@ Usage: hq_main [COMMAND]
 Commands:
   serve    Serve the customers of a directory over HTTP/1.1
   batch    Reply to the lines of standard input, for the customers of a directory
+  check    Check a relay's name, its key and its directory, as a start would
   queue    Print the queue report of a customer
+  usage    Print what each customer uses
   import   Set lines of a customer's access tables by the rows of a file
   sweep    Give up messages that are too old, and warn of late ones
   migrate  Make a store of the release before one of this release
 
 Options:
-  -h, --help  Print help
+  -h, --help     Print help
+  -V, --version  Print version
 
 Examples:
   hq_main < lines
   hq_main serve --help
   hq_main serve --directory customers.csv --host relay.example --relay-key relaykey00000001
   hq_main batch --directory customers.csv --host relay.example --relay-key relaykey00000001 < lines
+  hq_main check --directory customers.csv --host relay.example
   hq_main queue --directory customers.csv --store desk.db --customer acme
+  hq_main usage --directory customers.csv --store desk.db
 
 The exit status is 0 when done; 1 for a refusal or a fault, which is told in one line on standard
 error, as `hq: 53 BadDirectory row 3`; 2 for words that are not taken.
@@ -33,7 +38,7 @@ error, as `hq: 53 BadDirectory row 3`; 2 for words that are not taken.
 SERVE_HELP = b"""\
 Serve the customers of a directory over HTTP/1.1
 
-Usage: hq_main serve [OPTIONS] --directory <FILE> --host <HOST> --relay-key <KEY>
+Usage: hq_main serve [OPTIONS] --directory <FILE> --host <HOST>
 
 Options:
       --directory <FILE>           The customers: a CSV file of 1 to 1,000 rows under the header
@@ -42,8 +47,11 @@ Options:
       --host <HOST>                The name of the relay, a domain. No default.
                                    Example: --host relay.example
       --relay-key <KEY>            The key of the relay's workers: 16 to 64 letters and digits,
-                                   and no customer's key. No default.
-                                   Example: --relay-key relaykey00000001
+                                   and no customer's key. No default: this one is wanted, or
+                                   --relay-key-file. Example: --relay-key relaykey00000001
+      --relay-key-file <FILE>      The file of that key, which is its one line. Other users of
+                                   the machine do not see it there.
+                                   Example: --relay-key-file relay.key
       --store <FILE>               The file that keeps what is done, a database of SQLite, made
                                    where it is missing. By default the desk stands in memory,
                                    and is empty at first. Example: --store desk.db
@@ -56,6 +64,9 @@ Options:
       --request-timeout <SECONDS>  How long a client may take to send its whole request,
                                    in seconds, 1 to 3600; for the response it is as long again.
                                    Example: --request-timeout 60 [default: 30]
+      --log <FILE>                 The file to which a line of JSON is appended for each exchange
+                                   that was answered; - is standard error. By default none is.
+                                   Example: --log desk.log
   -h, --help                       Print help
 
 When it listens it prints the address that was bound, `listening on 127.0.0.1:8025`. It serves one
@@ -72,27 +83,33 @@ Example of a request:
 
 Examples:
   hq_main serve --directory customers.csv --host relay.example --relay-key relaykey00000001
-  hq_main serve --directory customers.csv --host relay.example --relay-key relaykey00000001 \\
-    --store desk.db --listen 127.0.0.1:0 --count 100
+  hq_main serve --directory customers.csv --host relay.example --relay-key-file relay.key \\
+    --store desk.db --listen 127.0.0.1:0 --count 100 --log desk.log
 """
 BATCH_HELP = b"""\
 Reply to the lines of standard input, for the customers of a directory
 
-Usage: hq_main batch [OPTIONS] --directory <FILE> --host <HOST> --relay-key <KEY>
+Usage: hq_main batch [OPTIONS] --directory <FILE> --host <HOST>
 
 Options:
-      --directory <FILE>  The customers: a CSV file of 1 to 1,000 rows under the header
-                          name,key,messages,bytes,lines,notices,delay. No default.
-                          Example: --directory customers.csv
-      --host <HOST>       The name of the relay, a domain. No default.
-                          Example: --host relay.example
-      --relay-key <KEY>   The key of the relay's workers: 16 to 64 letters and digits,
-                          and no customer's key. No default.
-                          Example: --relay-key relaykey00000001
-      --store <FILE>      The file that keeps what is done, a database of SQLite, made
-                          where it is missing. By default the desk stands in memory,
-                          and is empty at first. Example: --store desk.db
-  -h, --help              Print help
+      --directory <FILE>       The customers: a CSV file of 1 to 1,000 rows under the header
+                               name,key,messages,bytes,lines,notices,delay. No default.
+                               Example: --directory customers.csv
+      --host <HOST>            The name of the relay, a domain. No default.
+                               Example: --host relay.example
+      --relay-key <KEY>        The key of the relay's workers: 16 to 64 letters and digits,
+                               and no customer's key. No default: this one is wanted, or
+                               --relay-key-file. Example: --relay-key relaykey00000001
+      --relay-key-file <FILE>  The file of that key, which is its one line. Other users of
+                               the machine do not see it there.
+                               Example: --relay-key-file relay.key
+      --store <FILE>           The file that keeps what is done, a database of SQLite, made
+                               where it is missing. By default the desk stands in memory,
+                               and is empty at first. Example: --store desk.db
+      --log <FILE>             The file to which a line of JSON is appended for each exchange
+                               that was answered; - is standard error. By default none is.
+                               Example: --log desk.log
+  -h, --help                   Print help
 
 A line is `AT METHOD PATH KEY BODY`: seconds since 1970, an HTTP method, a path, a key or `-`, and a
 body that may be missing. Each line gets one reply line on standard output, at once.
@@ -106,8 +123,37 @@ Example of a line:
 
 Examples:
   hq_main batch --directory customers.csv --host relay.example --relay-key relaykey00000001 < lines
-  hq_main batch --directory customers.csv --host relay.example --relay-key relaykey00000001 \\
+  hq_main batch --directory customers.csv --host relay.example --relay-key-file relay.key \\
     --store desk.db < lines
+"""
+CHECK_HELP = b"""\
+Check a relay's name, its key and its directory, as a start would
+
+Usage: hq_main check [OPTIONS] --directory <FILE> --host <HOST>
+
+Options:
+      --directory <FILE>       The customers: a CSV file of 1 to 1,000 rows under the header
+                               name,key,messages,bytes,lines,notices,delay. No default.
+                               Example: --directory customers.csv
+      --host <HOST>            The name of the relay, a domain. No default.
+                               Example: --host relay.example
+      --relay-key <KEY>        The key of the relay's workers: 16 to 64 letters and digits,
+                               and no customer's key. By default none is checked.
+                               Example: --relay-key relaykey00000001
+      --relay-key-file <FILE>  The file of that key, which is its one line. Other users of
+                               the machine do not see it there.
+                               Example: --relay-key-file relay.key
+  -h, --help                   Print help
+
+It reads what `serve` would read before it opens its store, and touches nothing else. Where all is
+good it prints how many customers there are: `3 customers`. Else it tells what a start would tell,
+as `hq: 53 BadDirectory row 3`, and, where a row of the directory is not good, the column and why:
+`hq: row 3, column bytes: no number from 1 to 2147483647000`. No key is printed. Without a key all
+but the key is checked.
+
+Examples:
+  hq_main check --directory customers.csv --host relay.example
+  hq_main check --directory customers.csv --host relay.example --relay-key-file relay.key
 """
 QUEUE_HELP = b"""\
 Print the queue report of a customer
@@ -129,6 +175,31 @@ queue is empty.
 
 Example:
   hq_main queue --directory customers.csv --store desk.db --customer acme
+"""
+USAGE_HELP = b"""\
+Print what each customer uses
+
+Usage: hq_main usage --directory <FILE> --store <FILE>
+
+Options:
+      --directory <FILE>  The customers: a CSV file of 1 to 1,000 rows under the header
+                          name,key,messages,bytes,lines,notices,delay. No default.
+                          Example: --directory customers.csv
+      --store <FILE>      The file that keeps what is done, a database of SQLite, made
+                          where it is missing. No default. Example: --store desk.db
+  -h, --help              Print help
+
+Each customer has a line, in the order of the directory: how many messages are queued, their bytes
+together, how many lines its access tables have, and how many recipients were accepted, are pending,
+and were delivered, failed, deleted with their message and given up for age:
+
+  acme: messages 1, bytes 900, lines 0, accepted 3, pending 1, delivered 1, failed 1, deleted 0, \
+expired 0
+
+It reads only. A fault ends it, and the exit status is 1.
+
+Example:
+  hq_main usage --directory customers.csv --store desk.db
 """
 IMPORT_HELP = b"""\
 Set lines of a customer's access tables by the rows of a file

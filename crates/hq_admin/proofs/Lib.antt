@@ -1,1 +1,1 @@
-pub mod Swept
+pub mod Called

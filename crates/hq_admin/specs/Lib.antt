@@ -1,4 +1,4 @@
 pub mod Customers
 pub mod Performs
 pub mod Printed
-pub mod Sweeps
+pub mod Rounds

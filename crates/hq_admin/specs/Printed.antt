@@ -3,8 +3,12 @@ use Rattle.std.specs.Prelude.{ℕ, ◌++◌, List, [], codes, decimal}
 use Rattle.hq_base.specs.Refusals.{refusal_shown}
 use Rattle.hq_calls.specs.declared.answer.Answer.{Answer}
 use Rattle.hq_calls.specs.declared.answer.Answer.TheVariants.{Refused, Reported, Imported, Swept}
+use Rattle.hq_calls.specs.declared.answer.Answer.TheVariants.{Used}
 use Rattle.hq_calls.specs.declared.answer.ImportCounts.{ImportCounts}
 use Rattle.hq_calls.specs.declared.answer.SweepCounts.{SweepCounts}
+use Rattle.hq_calls.specs.declared.answer.Usage.{Usage}
+use Rattle.hq_queue.specs.declared.account.Counts.{Counts}
+use Rattle.hq_queue.specs.declared.account.Tally.{Tally}
 
 -- what an import set, on a line
 unfoldable pub import_line : ImportCounts → List ℕ
@@ -16,11 +20,34 @@ unfoldable pub sweep_line : SweepCounts → List ℕ
 sweep_line counts = codes "expired " ++ decimal counts.expired ++ codes ", warned "
     ++ decimal counts.warned ++ codes ", notices " ++ decimal counts.notices ++ codes "\n"
 
--- the queue report as it is, the counts of an import and of a sweep, a refusal as it is shown, and
--- nothing of all else
+-- how much a customer keeps
+unfoldable pub kept_text : Counts → List ℕ
+kept_text counts = codes "messages " ++ decimal counts.messages ++ codes ", bytes "
+    ++ decimal counts.bytes ++ codes ", lines " ++ decimal counts.lines
+
+-- how many of its recipients were accepted, and are pending
+unfoldable pub left_text : ℕ → ℕ → List ℕ
+left_text accepted pending = codes ", accepted " ++ decimal accepted ++ codes ", pending "
+    ++ decimal pending
+
+-- what became of the others
+unfoldable pub gone_text : Tally → List ℕ
+gone_text tally = codes ", delivered " ++ decimal tally.delivered ++ codes ", failed "
+    ++ decimal tally.failed ++ codes ", deleted " ++ decimal tally.deleted ++ codes ", expired "
+    ++ decimal tally.expired
+
+-- what a customer uses, on a line
+abbrev pub usage_line : Usage → List ℕ
+usage_line usage = kept_text usage.counts ++ left_text usage.tally.accepted usage.pending
+    ++ gone_text usage.tally
+    ++ codes "\n"
+
+-- the queue report as it is, the counts of an import, of a sweep and of a usage, a refusal as it is
+-- shown, and nothing of all else
 abbrev pub printed : Answer → List ℕ
 printed (Refused refusal) = refusal_shown refusal
 printed (Reported report) = report
 printed (Imported counts) = import_line counts
 printed (Swept counts) = sweep_line counts
+printed (Used usage) = usage_line usage
 printed _ = []

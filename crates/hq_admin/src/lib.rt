@@ -1,14 +1,14 @@
 //! What an administrator has done at the desk by one word: one call of one customer, that the
-//! directory names, or a sweep of each of its customers, over any shelf, and what is printed of
-//! the answers.
+//! directory names, or a round, one call of each of its customers, over any shelf; and what is
+//! printed of the answers.
 #![tactic(auto)]
 
 mod customer;
 mod performing;
 mod printed;
-mod sweeping;
+mod rounds;
 
 pub use customer::customer_in;
 pub use performing::{Request, perform};
 pub use printed::Printed;
-pub use sweeping::{SweptAll, sweep_all};
+pub use rounds::{Each, ToldAll, call_each};

@@ -3,7 +3,8 @@
 ghost use Rattle.std.specs.Prelude.{◌≡◌, ◌++◌, OnOk, string_bytes};
 ghost use Rattle.hq_admin.specs.Printed as texts;
 
-use hq_desk::{Answer, ImportCounts, Render, SweepCounts};
+use hq_desk::{Answer, ImportCounts, Render, SweepCounts, Usage};
+use hq_queue::{Counts, Tally};
 use std::alloc::{AllocError, Global};
 use std::fmt::Write;
 
@@ -38,6 +39,59 @@ fn put_swept(text: &mut String, counts: SweepCounts) -> Result<(), AllocError>
     )
 }
 
+/// Adds how much a customer keeps.
+#[tactic(auto, unfolding(crate::specs::Printed::kept_text))]
+fn put_kept(text: &mut String, counts: Counts) -> Result<(), AllocError>
+    ensures { OnOk result (string_bytes text.new
+        ≡ string_bytes text.old ++ texts.kept_text counts) }
+{
+    let Counts {
+        messages,
+        bytes,
+        lines,
+    } = counts;
+    write!(text, "messages {messages}, bytes {bytes}, lines {lines}")
+}
+
+/// Adds how many of its recipients were accepted and are pending.
+#[tactic(auto, unfolding(crate::specs::Printed::left_text))]
+fn put_left(text: &mut String, accepted: u64, pending: u64) -> Result<(), AllocError>
+    ensures { OnOk result (string_bytes text.new
+        ≡ string_bytes text.old ++ texts.left_text accepted pending) }
+{
+    write!(text, ", accepted {accepted}, pending {pending}")
+}
+
+/// Adds what became of the others.
+#[tactic(auto, unfolding(crate::specs::Printed::gone_text))]
+fn put_gone(text: &mut String, tally: Tally) -> Result<(), AllocError>
+    ensures { OnOk result (string_bytes text.new
+        ≡ string_bytes text.old ++ texts.gone_text tally) }
+{
+    let Tally {
+        delivered,
+        failed,
+        deleted,
+        expired,
+        ..
+    } = tally;
+    write!(
+        text,
+        ", delivered {delivered}, failed {failed}, deleted {deleted}, expired {expired}"
+    )
+}
+
+/// Adds what a customer uses.
+fn put_used(text: &mut String, usage: &Usage) -> Result<(), AllocError>
+    ensures { OnOk result (string_bytes text.new
+        ≡ string_bytes text.old ++ texts.usage_line usage.now) }
+{
+    put_kept(text, usage.counts)?;
+    put_left(text, usage.tally.accepted, usage.pending)?;
+    put_gone(text, usage.tally)?;
+    text.push_str("\n")
+}
+
 /// Adds what is printed of an answer.
 pub(crate) fn put_answer(text: &mut String, answer: &Answer) -> Result<(), AllocError>
     ensures { OnOk result (string_bytes text.new
@@ -48,12 +102,14 @@ pub(crate) fn put_answer(text: &mut String, answer: &Answer) -> Result<(), Alloc
         Answer::Reported(report) => text.push_str(report.as_str()),
         Answer::Imported(counts) => put_imported(text, *counts),
         Answer::Swept(counts) => put_swept(text, *counts),
+        Answer::Used(usage) => put_used(text, usage),
         _ => Ok(()),
     }
 }
 
-/// Prints the queue report, what an import set and what a sweep did, and refusals as they are
-/// shown: `52 LabelUsed`. Nothing is printed of other answers, for which there is no word.
+/// Prints the queue report, what an import set, what a sweep did, what a customer uses, and
+/// refusals as they are shown: `52 LabelUsed`. Nothing is printed of other answers, for which there
+/// is no word.
 #[derive(Clone, Copy, Debug)]
 pub struct Printed;
 

@@ -9,11 +9,14 @@ use hq_batch::{EngineFault, batch};
 use hq_desk::Desk;
 use hq_envelope::Fault;
 use hq_lists::ListShelf;
-use hq_program::{Trouble, set_up, words};
+use hq_program::words;
+use hq_set_up::set_up;
 use hq_settings::Settings;
 use hq_sql_shelf::SqlShelf;
 use hq_store::Shelf;
 use hq_trial::{FailingShelf, Failure};
+use hq_trouble::Trouble;
+use hq_words::RelayKey;
 use std::io::{self, BufWriter, Write};
 
 /// What is shown for any other count of words.
@@ -80,7 +83,8 @@ fn main(rt: HostRuntime) -> Result<(), TrialError> {
         return Ok(());
     };
     let failure = failure(how.as_str(), number.as_str())?;
-    let settings = set_up(&rt, "relay.example", "relaykey00000001", directory.as_str()).map_err(
+    let key = RelayKey::Given("relaykey00000001");
+    let settings = set_up(&rt, "relay.example", key, directory.as_str()).map_err(
         TrialError::SetUp,
     )?;
     match store.as_str() {

@@ -17,20 +17,24 @@ use Rattle.hq_lines.specs.Lines.{Streams}
 use Rattle.hq_batch.specs.Batches.{ask_in, reply_line}
 use Rattle.hq_program.specs.Builtin.{settings}
 use Rattle.hq_program.specs.Runs.{RunEnds, Exits}
-use Rattle.hq_program.specs.SettingUp.{SetsUp}
-use Rattle.hq_program.specs.declared.trouble.Trouble.{Trouble}
+use Rattle.hq_set_up.specs.SettingUp.{SetsUp}
+use Rattle.hq_check.specs.Checks.{CheckEnds, Checks}
+use Rattle.hq_admin.specs.declared.rounds.ToldAll.{ToldAll}
+use Rattle.hq_trouble.specs.declared.trouble.Trouble.{Trouble}
 use Rattle.hq_sql_program.specs.Runs.{StoreEnds}
 use Rattle.hq_program.specs.Printing.{IsPrinted}
 use Rattle.hq_sql_server.specs.Runs.{ServeEnds}
 use Rattle.hq_sql_admin.specs.Migrations.{MigrateEnds}
+use Rattle.hq_sql_admin.specs.Rounds.{UsageEnds}
 use Rattle.hq_sql_admin.specs.Words.{QueueEnds, ImportEnds}
-use Rattle.hq_words.specs.Asked.{BatchGiven, Says, given_of}
+use Rattle.hq_words.specs.Asked.{Says, check_of, given_of}
+use Rattle.hq_words.specs.Given.{BatchGiven}
 use Rattle.hq_words.specs.declared.words.Word.{Word}
 use Rattle.hq_words.specs.declared.words.Word.TheVariants.{Serve, Batch, Queue, Import, Sweep}
-use Rattle.hq_words.specs.declared.words.Word.TheVariants.{Migrate}
+use Rattle.hq_words.specs.declared.words.Word.TheVariants.{Migrate, Check, Usage}
 use Rattle.hq_words.specs.declared.words.Words.{Words}
-use Rattle.hq_words.specs.declared.words.Words.TheVariants.{Builtin, Word as OfWord, Help, Refused}
-use Rattle.hq_main.specs.Sweeps.{DoesSweep}
+use Rattle.hq_words.specs.declared.words.Words.TheVariants.{Builtin, Word as OfWord, Shown, Refused}
+use Rattle.hq_main.specs.Rounds.{DoesSweep, IsRoundPrinted}
 
 -- What lines ask for is replied to as a batch of the built-in customers from empty tables, with no
 -- fault but want of memory; to each customer the desk is its own.
@@ -74,6 +78,11 @@ DoesWord sight (Serve given) unread unwritten old new status =
     unread × Exits (ServeEnds sight given unwritten old.output new.output) status
 DoesWord sight (Batch given) unread unwritten old new status =
     Exits (BatchEnds sight (given_of given) (unread × unwritten) old new) status
+DoesWord sight (Check given) unread unwritten old new status =
+    unread × Checks (CheckEnds (check_of given)) unwritten old.output new.output status
+DoesWord sight (Usage given) unread unwritten old new status =
+    unread × ((done : Result ToldAll Trouble) × UsageEnds sight given done
+    × IsRoundPrinted done unwritten old.output new.output status)
 DoesWord sight (Queue given) unread unwritten old new status =
     Prints (QueueEnds sight given) unread unwritten old new status
 DoesWord sight (Import given) unread unwritten old new status =
@@ -92,7 +101,7 @@ Does sight (Ok Builtin) unread unwritten old new status =
     Exits (RunEnds ServesBuiltin (unread × unwritten) old new) status
 Does sight (Ok (OfWord asked)) unread unwritten old new status =
     DoesWord sight asked unread unwritten old new status
-Does sight (Ok (Help text)) unread unwritten old new status =
+Does sight (Ok (Shown text)) unread unwritten old new status =
     unread × (status ≤ 1) × (status ≡ 0 → Appends old.output new.output (string_bytes text))
 Does sight (Ok (Refused text)) unread unwritten old new status = unread × unwritten × (status ≡ 2)
 Does sight (Err error) unread unwritten old new status = unread × unwritten × (status ≡ 1)

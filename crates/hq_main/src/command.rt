@@ -5,15 +5,18 @@ ghost use Rattle.hq_program.specs.Runs.{RunEnds, Exits};
 ghost use Rattle.hq_words.specs.Asked.{given_of};
 ghost use Rattle.hq_main.specs.Runs.{ServesBuiltin, BatchEnds, DoesWord, Commands};
 
-use crate::sweeping::do_sweep;
+use crate::rounds::{do_sweep, print_round};
+use hq_check::check;
 use hq_envelope::Fault;
 use hq_lists::ListShelf;
-use hq_program::{Trouble, builtin_settings, print, refuse, serve, set_up, show, tell};
-use hq_sql_admin::{import, migrate, queue};
+use hq_program::{builtin_settings, print, refuse, serve, show, tell};
+use hq_set_up::set_up;
+use hq_sql_admin::{import, migrate, queue, usage};
 use hq_sql_file::FileShelf;
 use hq_sql_program::serve_stored;
 use hq_sql_server::serve_http;
 use hq_store::Shelf;
+use hq_trouble::Trouble;
 use hq_words::{Batch, Word, Words, read_words};
 use std::io::{Read, Write};
 
@@ -67,7 +70,9 @@ fn do_word<R: Read, W: Write, E: Write>(
             tell(served, errors)
         }
         Word::Batch(batch) => tell(serve_batch(rt, batch, input, output), errors),
+        Word::Check(given) => check(rt, given, output, errors),
         Word::Queue(given) => print(queue(rt, given), output, errors),
+        Word::Usage(given) => print_round(usage(rt, given), output, errors),
         Word::Import(given) => print(import(rt, given), output, errors),
         Word::Sweep(given) => do_sweep(rt, given, output, errors),
         Word::Migrate(given) => print(migrate(rt, given), output, errors),
@@ -75,9 +80,9 @@ fn do_word<R: Read, W: Write, E: Write>(
 }
 
 /// Runs the program with the words after its name, and answers its exit status: 0 when the input
-/// has ended, all connections were served, a call, a sweep of all or a migration was done and
-/// printed, or help was shown; 1 for a refusal or a fault; 2 for words that are not taken. Each of
-/// the last two is told on `errors`, where that can be written.
+/// has ended, all connections were served, a check, a call, one of each customer or a migration was
+/// done and printed, or help or the version was shown; 1 for a refusal or a fault; 2 for words that
+/// are not taken. Each of the last two is told on `errors`, where that can be written.
 ///
 /// After a failed input the whole lines before are replied to; after a failed output the exchanges
 /// of the first lines, or the calls, are done; where the desk could not begin, nothing is read or
@@ -104,7 +109,7 @@ pub fn command<R: Read, W: Write, E: Write>(
             tell(ended, errors)
         }
         Ok(Words::Word(asked)) => do_word(rt, &asked, input, output, errors),
-        Ok(Words::Help(text)) => show(text.as_str(), output, errors),
+        Ok(Words::Shown(text)) => show(text.as_str(), output, errors),
         Ok(Words::Refused(text)) => refuse(text.as_str(), errors),
         Err(_) => tell(Err(Trouble::from(Fault::WantOfMemory)), errors),
     }

@@ -2,13 +2,13 @@
 //!
 //! `serve` serves the customers of a directory over HTTP and `batch` over lines, in memory or over
 //! a file; without words two built-in customers are served over lines, from an empty desk in
-//! memory. `queue`, `import` and `sweep` do one call of one customer over a store in a file and
-//! print its answer, and `sweep` without a customer one of each; `migrate` makes a store of the
-//! release before one of this release.
+//! memory. `check` tells whether a desk would start. `queue`, `import` and `sweep` do one call of
+//! one customer over a store in a file and print its answer, `usage`, and `sweep` without a
+//! customer, one of each; `migrate` makes a store of the release before one of this release.
 #![tactic(auto)]
 
 mod command;
-mod sweeping;
+mod rounds;
 
 use command::command;
 use hq_program::{not_begun, words};

@@ -5,7 +5,7 @@ use Rattle.hq_lines.specs.Fields.{LineRequest}
 use Rattle.hq_lines.specs.Lines.{Streams}
 use Rattle.hq_lines.proofs.Steps.{ends_as}
 use Rattle.hq_program.specs.Runs.{RunEnds}
-use Rattle.hq_program.specs.declared.trouble.Trouble.{Trouble}
+use Rattle.hq_trouble.specs.declared.trouble.Trouble.{Trouble}
 
 module _ (done other : List (Option LineRequest) → List (List ℕ) → Type 0) (untouched : Type 0)
     (so : (asked : List (Option LineRequest)) (replies : List (List ℕ)) → done asked replies →

@@ -1,4 +1,3 @@
 pub mod Builtin
 pub mod Printing
 pub mod Runs
-pub mod SettingUp

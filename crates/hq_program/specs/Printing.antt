@@ -5,8 +5,8 @@ use Rattle.std.specs.Io.KnownBytes.{Appends}
 use Rattle.std.specs.List.{concat, list_all}
 use Rattle.hq_desk.specs.declared.desk.Rendered.{Rendered}
 use Rattle.hq_program.specs.Runs.{status}
-use Rattle.hq_program.specs.declared.trouble.Trouble.{Trouble}
-use Rattle.hq_program.specs.declared.trouble.Trouble.TheVariants.{Output}
+use Rattle.hq_trouble.specs.declared.trouble.Trouble.{Trouble}
+use Rattle.hq_trouble.specs.declared.trouble.Trouble.TheVariants.{Output}
 
 -- A text is written to the output, or the output fails, which is told.
 abbrev pub IsPut : List ℕ → Option (List ℕ) → Option (List ℕ) → Result ⊤ Trouble → Type 0

@@ -1,6 +1,5 @@
 -- What a run of a program does, however it ends.
-use Rattle.std.specs.Prelude.{◌≡◌, ⊤, ℕ, List, codes, Option, Result, Ok, Err}
-use Rattle.hq_base.specs.Refusals.{fail_shown, no_memory_fail}
+use Rattle.std.specs.Prelude.{◌≡◌, ⊤, ℕ, List, Option, Result, Ok, Err}
 use Rattle.hq_store.specs.Shelves.{Sight}
 use Rattle.hq_desk.specs.Desks.{host_of, shelf_of}
 use Rattle.hq_desk.specs.declared.desk.Desk.{Desk}
@@ -9,12 +8,9 @@ use Rattle.hq_lines.specs.Ends.{InputEnds}
 use Rattle.hq_lines.specs.Fields.{LineRequest}
 use Rattle.hq_lines.specs.Lines.{Streams}
 use Rattle.hq_base.specs.declared.engine.EngineFault.{EngineFault}
-use Rattle.hq_base.specs.declared.engine.EngineFault.TheVariants.{Read, Write, TooManyReads}
-use Rattle.hq_base.specs.declared.engine.EngineFault.TheVariants.{WantOfMemory}
 use Rattle.hq_batch.specs.Batches.{Replied}
-use Rattle.hq_program.specs.declared.trouble.Trouble.{Trouble}
-use Rattle.hq_program.specs.declared.trouble.Trouble.TheVariants.{File, Input, Output, Network}
-use Rattle.hq_program.specs.declared.trouble.Trouble.TheVariants.{Clock, Desk as OfDesk}
+use Rattle.hq_trouble.specs.Troubles.{trouble_of}
+use Rattle.hq_trouble.specs.declared.trouble.Trouble.{Trouble}
 
 -- What lines ask for is replied to as a batch of the customers of these settings, with a desk over
 -- this shelf.
@@ -25,22 +21,6 @@ pub record ServesOver {S : Type 0} (sight : Sight S) (settings : Settings) (shel
   pub shelf_is : shelf_of old ≡ shelf
   pub new : Desk S
   pub replied : Replied sight settings.directory old asked lines new
-
--- what a fault of a batch is told as
-abbrev pub trouble_of : EngineFault → Trouble
-trouble_of Read = Input
-trouble_of TooManyReads = Input
-trouble_of Write = Output
-trouble_of WantOfMemory = OfDesk no_memory_fail
-
--- as it is told: what failed, or the refusal or fault of the desk
-abbrev pub trouble_shown : Trouble → List ℕ
-trouble_shown File = codes "file"
-trouble_shown Input = codes "input"
-trouble_shown Output = codes "output"
-trouble_shown Network = codes "network"
-trouble_shown Clock = codes "clock"
-trouble_shown (OfDesk fail) = fail_shown fail
 
 -- how a run ends: as a batch does, with a fault of it told
 abbrev pub RunEnds : (List (Option LineRequest) → List (List ℕ) → Type 0) → Type 0 → Streams →

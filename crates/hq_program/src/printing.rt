@@ -4,8 +4,9 @@ ghost use Rattle.std.specs.Prelude.{◌≡◌, ◌≤◌, OnOk};
 ghost use Rattle.std.specs.Io.KnownBytes.{Appends};
 ghost use Rattle.hq_program.specs.Printing.{ArePrinted, AreShown, IsPrinted, IsPut, IsShown};
 
-use crate::trouble::{DONE, FAILED, Trouble, tell};
+use crate::telling::{DONE, FAILED, tell};
 use hq_desk::Rendered;
+use hq_trouble::Trouble;
 use std::io::{self, Write};
 
 /// Writes a text to the output, and flushes.

@@ -3,11 +3,11 @@
 ghost use Rattle.std.specs.Prelude.{◌≡◌};
 ghost use Rattle.hq_program.specs.Runs.{ServesOver, RunEnds};
 
-use crate::trouble::Trouble;
 use hq_batch::batch;
 use hq_desk::Desk;
 use hq_settings::Settings;
 use hq_store::Shelf;
+use hq_trouble::Trouble;
 use std::alloc::Global;
 use std::io::{Read, Write};
 

@@ -7,8 +7,8 @@ use Rattle.hq_sql_file.specs.Opened.{OverOpened, OverFile}
 use Rattle.hq_desk.specs.declared.desk.Rendered.{Rendered}
 use Rattle.hq_admin.specs.Performs.{Performs}
 use Rattle.hq_admin.specs.declared.performing.Request.{Request}
-use Rattle.hq_program.specs.declared.trouble.Trouble.{Trouble}
-use Rattle.hq_program.specs.declared.trouble.Trouble.TheVariants.{Desk}
+use Rattle.hq_trouble.specs.declared.trouble.Trouble.{Trouble}
+use Rattle.hq_trouble.specs.declared.trouble.Trouble.TheVariants.{Desk}
 
 -- what a call ended with, as it is told
 abbrev pub trouble_told : Result Rendered Fault → Result Rendered Trouble

@@ -1,5 +1,5 @@
 pub mod Calls
 pub mod Migrations
 pub mod Requests
-pub mod Sweeps
+pub mod Rounds
 pub mod Words

@@ -5,8 +5,8 @@ use Rattle.hq_base.specs.Refusals.{no_memory}
 use Rattle.hq_base.specs.declared.failure.Fail.TheVariants.{Fault as AsFault}
 use Rattle.hq_base.specs.declared.failure.Fault.{Fault}
 use Rattle.hq_desk.specs.declared.desk.Rendered.{Rendered}
-use Rattle.hq_program.specs.declared.trouble.Trouble.{Trouble}
-use Rattle.hq_program.specs.declared.trouble.Trouble.TheVariants.{Desk}
+use Rattle.hq_trouble.specs.declared.trouble.Trouble.{Trouble}
+use Rattle.hq_trouble.specs.declared.trouble.Trouble.TheVariants.{Desk}
 use Rattle.hq_sql_admin.specs.Calls.{trouble_told}
 
 -- how many messages were on hold, on a line

@@ -3,12 +3,13 @@
 use Rattle.std.specs.Prelude.{ℕ, List, Result}
 use Rattle.hq_store.specs.Shelves.{Sight}
 use Rattle.hq_desk.specs.declared.desk.Rendered.{Rendered}
-use Rattle.hq_program.specs.declared.trouble.Trouble.{Trouble}
+use Rattle.hq_trouble.specs.declared.trouble.Trouble.{Trouble}
 use Rattle.hq_words.specs.declared.options.Queue.{Queue}
 use Rattle.hq_words.specs.declared.options.Import.{Import}
 use Rattle.hq_words.specs.declared.options.Sweep.{Sweep}
 use Rattle.hq_sql_admin.specs.Calls.{PerformsInFile}
-use Rattle.hq_sql_admin.specs.Requests.{Then, QueueAsks, ImportAsks, SweepAsks}
+use Rattle.hq_set_up.specs.Steps.{Then}
+use Rattle.hq_sql_admin.specs.Requests.{QueueAsks, ImportAsks, SweepAsks}
 
 module _ {S : Type 0} (sight : Sight S) where
   abbrev pub QueueEnds : Queue → Result Rendered Trouble → Type 0

@@ -1,14 +1,14 @@
 //! The words of an administrator over a store in a file: `queue`, `import` and `sweep`, each one
-//! call of one customer; `sweep` of all customers, a call for each; and `migrate`, for a store of
-//! the release before.
+//! call of one customer; `usage`, and `sweep` of all customers, a call for each; and `migrate`, for
+//! a store of the release before.
 #![tactic(auto)]
 
 mod migrating;
 mod over_file;
 mod requests;
-mod sweeping;
+mod rounds;
 mod words;
 
 pub use migrating::migrate;
-pub use sweeping::sweep_all;
+pub use rounds::{sweep_all, usage};
 pub use words::{import, queue, sweep};

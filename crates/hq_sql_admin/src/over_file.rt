@@ -7,10 +7,10 @@ ghost use Rattle.hq_sql_admin.specs.Calls.{PerformsOpened, PerformsInFile};
 use hq_admin::{Request, perform};
 use hq_desk::Rendered;
 use hq_envelope::Fault;
-use hq_program::Trouble;
 use hq_sql_file::{FileShelf, open_file};
 use hq_sql_shelf::SqlShelf;
 use hq_store::Shelf;
+use hq_trouble::Trouble;
 use sqlite::Alter;
 
 /// Does what is asked for over a store as it was opened; or tells why it could not be opened.

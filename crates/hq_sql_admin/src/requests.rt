@@ -6,15 +6,16 @@ ghost use Rattle.hq_sql_admin.specs.Requests.{HasCustomer, QueueAsks, ImportAsks
 use hq_admin::{Request, customer_in};
 use hq_desk::Call;
 use hq_envelope::{Host, Items, Label, Moment};
-use hq_program::{Trouble, file_of};
 use hq_queue::Entry;
+use hq_set_up::file_of;
+use hq_trouble::Trouble;
 use hq_words::{Import, Queue, Sweep};
 
 /// The relay's name where nothing shows it.
-const LOCALHOST: &str = "localhost";
+pub(crate) const LOCALHOST: &str = "localhost";
 
 /// The moment where nothing shows it.
-const NO_MOMENT: u64 = 0;
+pub(crate) const NO_MOMENT: u64 = 0;
 
 /// The customer of this name, in the directory of a path.
 fn customer_of(rt: &HostRuntime, directory: &str, name: &str) -> Result<Entry, Trouble>

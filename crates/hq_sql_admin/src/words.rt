@@ -6,9 +6,9 @@ ghost use Rattle.hq_sql_admin.specs.Words.{QueueEnds, ImportEnds, SweepEnds};
 use crate::over_file::perform_in_file;
 use crate::requests::{import_request, queue_request, sweep_request};
 use hq_desk::Rendered;
-use hq_program::Trouble;
 use hq_sql_file::FileShelf;
 use hq_store::Shelf;
+use hq_trouble::Trouble;
 use hq_words::{Import, Queue, Sweep};
 
 /// The queue report of a customer. Checked in the order directory, customer, store.

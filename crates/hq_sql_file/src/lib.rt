@@ -19,14 +19,30 @@ use hq_envelope::Fault;
 use hq_sql_shelf::{SqlShelf, fault_of, migrate};
 use hq_store::Shelf;
 use sqlite::{Connection, File, FileStore};
-use std::fs;
+use std::fs::{self, OpenOptions};
 use std::io::ErrorKind;
+use std::os::unix::fs::OpenOptionsExt;
 
 /// The shelf over a store in a file.
 pub type FileShelf = SqlShelf<FileStore<File>>;
 
-/// The desk in a file, which is made if it is missing. The file beside it with the ending `-wal`
-/// belongs to it; one process at a time has them.
+/// Who may read and write a store that is made: its owner.
+const OWNER_ALONE: u32 = 0o600;
+
+/// Makes an empty file, which is opened as an empty store, where there is none at a path. Where it
+/// cannot be made, opening it tells why. What SQLite takes for something else than a file is left.
+fn make(rt: &HostRuntime, path: &str) {
+    if path != ":memory:" && !path.starts_with("file:") {
+        let _made = OpenOptions::new()
+            .write(true)
+            .create_new(true)
+            .mode(OWNER_ALONE)
+            .open(rt, path);
+    }
+}
+
+/// The desk in a file, which is made for its owner alone if it is missing. The file beside it with
+/// the ending `-wal` belongs to it, and is made for the same users; one process at a time has them.
 ///
 /// 90 is want of memory, 91 a file that cannot be opened or read, 92 a store that is no desk, and
 /// 93 one whose connection is gone.
@@ -35,6 +51,7 @@ pub fn open_file(rt: &HostRuntime, path: &str) -> Result<FileShelf, Fault>
         → IsSettled (file_state s.conn)) }
     ensures fresh { IfOk result (IsOpened ⟦<FileShelf as Shelf>⟧.sight) }
 {
+    make(rt, path);
     let conn = match Connection::open(rt, path) {
         Ok(conn) => conn,
         Err(error) => return Err(fault_of(error)),

@@ -26,7 +26,7 @@ use Rattle.hq_lines.specs.Fields.{LineRequest}
 use Rattle.hq_lines.specs.Lines.{Streams}
 use Rattle.hq_batch.specs.Batches.{ask_in}
 use Rattle.hq_program.specs.Runs.{ServesOver}
-use Rattle.hq_program.specs.declared.trouble.Trouble.{Trouble}
+use Rattle.hq_trouble.specs.declared.trouble.Trouble.{Trouble}
 use Rattle.hq_program.proofs.Ends.{run_ends_as}
 use Rattle.hq_sql_program.specs.Runs.{memory, FromEmpty, ServesFromEmpty, OpenedEnds, MemoryEnds}
 

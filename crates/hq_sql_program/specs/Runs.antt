@@ -20,8 +20,8 @@ use Rattle.hq_lines.specs.Fields.{LineRequest}
 use Rattle.hq_lines.specs.Lines.{Streams}
 use Rattle.hq_batch.specs.Batches.{ask_in}
 use Rattle.hq_program.specs.Runs.{ServesOver, RunEnds}
-use Rattle.hq_program.specs.declared.trouble.Trouble.{Trouble}
-use Rattle.hq_program.specs.declared.trouble.Trouble.TheVariants.{Desk as OfDesk}
+use Rattle.hq_trouble.specs.declared.trouble.Trouble.{Trouble}
+use Rattle.hq_trouble.specs.declared.trouble.Trouble.TheVariants.{Desk as OfDesk}
 
 -- the store could not be opened: nothing is read or written, and its fault is told
 abbrev pub IsUnopened : Type 0 → Fault → Result ⊤ Trouble → Type 0

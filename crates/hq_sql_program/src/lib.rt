@@ -7,11 +7,12 @@ ghost use Rattle.hq_sql_shelf.specs.Shelf.{sight_over};
 ghost use Rattle.hq_sql_program.specs.Runs.{OpenedEnds, MemoryEnds, StoreEnds};
 
 use hq_envelope::Fault;
-use hq_program::{Trouble, serve};
+use hq_program::serve;
 use hq_settings::Settings;
 use hq_sql_file::{FileShelf, open_file};
 use hq_sql_shelf::SqlShelf;
 use hq_store::Shelf;
+use hq_trouble::Trouble;
 use sqlite::Alter;
 use std::io::{Read, Write};
 

@@ -10,7 +10,7 @@ use Rattle.hq_sql.specs.Tables.{tables_in}
 use Rattle.hq_sql_shelf.specs.Shelf.{IsOurs}
 use Rattle.hq_sql_shelf.specs.declared.shelf.SqlShelf.{SqlShelf}
 use Rattle.hq_settings.specs.declared.settings.Settings.{Settings}
-use Rattle.hq_program.specs.declared.trouble.Trouble.{Trouble}
+use Rattle.hq_trouble.specs.declared.trouble.Trouble.{Trouble}
 use Rattle.hq_sql_program.specs.Runs.{memory}
 use Rattle.hq_sql_program.proofs.Memory.{from_empty}
 use Rattle.hq_sql_server.specs.Runs.{ServesConnections, ServesEmpty, ServedEnds, OpenedServerEnds}

@@ -5,8 +5,8 @@ use Rattle.std.specs.Net.Text.{socket_text}
 use Rattle.std.specs.declared.net.socket_addr.SocketAddr.{SocketAddr}
 use Rattle.hq_base.specs.Refusals.{no_memory}
 use Rattle.hq_base.specs.declared.failure.Fail.TheVariants.{Fault as AsFault}
-use Rattle.hq_program.specs.declared.trouble.Trouble.{Trouble}
-use Rattle.hq_program.specs.declared.trouble.Trouble.TheVariants.{Output, Network, Desk}
+use Rattle.hq_trouble.specs.declared.trouble.Trouble.{Trouble}
+use Rattle.hq_trouble.specs.declared.trouble.Trouble.TheVariants.{Output, Network, Desk}
 
 -- the line that tells an address, with the LF (10) at its end
 abbrev pub address_line : SocketAddr → List ℕ

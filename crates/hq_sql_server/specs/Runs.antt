@@ -9,10 +9,11 @@ use Rattle.hq_desk.specs.Desks.{host_of, shelf_of}
 use Rattle.hq_desk.specs.declared.desk.Desk.{Desk}
 use Rattle.hq_settings.specs.declared.settings.Settings.{Settings}
 use Rattle.hq_serve.specs.Listening.{DoesSome}
+use Rattle.hq_words.specs.Asked.{key_given}
 use Rattle.hq_words.specs.declared.options.Serve.{Serve}
-use Rattle.hq_program.specs.SettingUp.{SetsUp}
-use Rattle.hq_program.specs.declared.trouble.Trouble.{Trouble}
-use Rattle.hq_program.specs.declared.trouble.Trouble.TheVariants.{Network, Clock}
+use Rattle.hq_set_up.specs.SettingUp.{SetsUp}
+use Rattle.hq_trouble.specs.declared.trouble.Trouble.{Trouble}
+use Rattle.hq_trouble.specs.declared.trouble.Trouble.TheVariants.{Network, Clock}
 use Rattle.hq_sql_program.specs.Runs.{memory, FromEmpty, IsUnopened}
 use Rattle.hq_sql_server.specs.Listening.{HasTold, IsUnbound}
 
@@ -93,5 +94,5 @@ SetServerEnds sight given unwritten old new (Ok set) result =
 abbrev pub ServeEnds : {S : Type 0} → Sight S → Serve → Type 0 → Option (List ℕ) → Option (List ℕ) →
     Result ⊤ Trouble → Type 0
 ServeEnds sight given unwritten old new result =
-    (set : Result Settings Trouble) × SetsUp given.host.now given.relay_key.now set
+    (set : Result Settings Trouble) × SetsUp given.host.now (key_given given.relay_key) set
     × SetServerEnds sight given unwritten old new set result

@@ -4,8 +4,9 @@ ghost use Rattle.std.specs.Prelude.{◌≡◌};
 ghost use Rattle.hq_sql_server.specs.Listening.{ListenEnds, TellsAddress};
 
 use hq_envelope::Fault;
-use hq_program::{Trouble, put};
+use hq_program::put;
 use hq_serve::Limits;
+use hq_trouble::Trouble;
 use hq_words::Serve;
 use std::alloc::Global;
 use std::io::Write;

@@ -9,12 +9,13 @@ ghost use Rattle.hq_sql_server.specs.Runs.{StoreServerEnds, ServeEnds};
 use crate::listening::{limits, listen};
 use hq_desk::Desk;
 use hq_envelope::Fault;
-use hq_program::{Trouble, set_up};
 use hq_serve::{Connections, End, serve_on};
+use hq_set_up::set_up;
 use hq_settings::Settings;
 use hq_sql_file::{FileShelf, open_file};
 use hq_sql_shelf::SqlShelf;
 use hq_store::Shelf;
+use hq_trouble::Trouble;
 use hq_words::Serve;
 use sqlite::Alter;
 use std::io::Write;
@@ -116,9 +117,10 @@ fn serve_stored<W: Write, E: Write>(
 ///
 /// Checked in the order relay's name, form of its key, directory, relay's key against it, store,
 /// address. Up to then nothing is printed. An error is the first refusal of these; `File` for a
-/// directory that cannot be read; 90, 91, 92 or 93 for a store that cannot be opened; `Network`
-/// where the address is none or cannot be bound, or a connection cannot be accepted; `Output`
-/// where the address cannot be printed; and `Clock` where the clock tells no moment of the desk.
+/// key's file or a directory that cannot be read; 90, 91, 92 or 93 for a store that cannot be
+/// opened; `Network` where the address is none or cannot be bound, or a connection cannot be
+/// accepted; `Output` where the address cannot be printed; and `Clock` where the clock tells no
+/// moment of the desk.
 ///
 /// Without a store the desk stands in memory and is empty at first: to every customer its replies,
 /// and what is kept of it, are those that it would have alone on the desk.

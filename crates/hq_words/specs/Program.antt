@@ -1,6 +1,6 @@
--- The words that the program takes, as `clap` has commands: six words, with options that take one
+-- The words that the program takes, as `clap` has commands: eight words, with options that take one
 -- value each. What `clap` makes of words is said by its own definitions.
-use Rattle.std.specs.Prelude.{Bool, true, false, ℕ, List, [], ◌∷◌, codes, Some}
+use Rattle.std.specs.Prelude.{Bool, true, false, ℕ, List, [], ◌∷◌, codes, fold, Some}
 use Rattle.clap.specs.Simple.{App, Shape, new_app, new_rule, new_shape, with_subcommand}
 use Rattle.clap.specs.Walk.{Rule, Text}
 use Rattle.clap.specs.declared.builder.value_parser.ValueParser.TheVariants.{Unsigned}
@@ -30,27 +30,42 @@ number_rule name value most = record (default_rule name value) { parser = Some (
 abbrev pub moment_rule : Rule
 moment_rule = record (needed (codes "at")) { parser = Some (Unsigned 0 last_moment) }
 
+-- an option that may be left out
+abbrev pub optional : Text → Rule
+optional name = option_rule name false
+
 -- a word with options
 abbrev pub word_shape : Text → List Rule → Shape
 word_shape name rules = record (new_shape name) { rules = rules }
 
 abbrev pub serve_shape : Shape
 serve_shape = word_shape (codes "serve")
-    (needed (codes "directory") ∷ needed (codes "host") ∷ needed (codes "relay-key")
-    ∷ option_rule (codes "store") false
+    (needed (codes "directory") ∷ needed (codes "host") ∷ optional (codes "relay-key")
+    ∷ optional (codes "relay-key-file")
+    ∷ optional (codes "store")
     ∷ default_rule (codes "listen") (codes "127.0.0.1:8025")
     ∷ number_rule (codes "count") (codes "1000000") 1000000
     ∷ number_rule (codes "idle-timeout") (codes "30") 3600
-    ∷ number_rule (codes "request-timeout") (codes "30") 3600 ∷ [])
+    ∷ number_rule (codes "request-timeout") (codes "30") 3600
+    ∷ optional (codes "log") ∷ [])
 
 abbrev pub batch_shape : Shape
 batch_shape = word_shape (codes "batch")
-    (needed (codes "directory") ∷ needed (codes "host") ∷ needed (codes "relay-key")
-    ∷ option_rule (codes "store") false ∷ [])
+    (needed (codes "directory") ∷ needed (codes "host") ∷ optional (codes "relay-key")
+    ∷ optional (codes "relay-key-file")
+    ∷ optional (codes "store") ∷ optional (codes "log") ∷ [])
+
+abbrev pub check_shape : Shape
+check_shape = word_shape (codes "check")
+    (needed (codes "directory") ∷ needed (codes "host") ∷ optional (codes "relay-key")
+    ∷ optional (codes "relay-key-file") ∷ [])
 
 abbrev pub queue_shape : Shape
 queue_shape = word_shape (codes "queue")
     (needed (codes "directory") ∷ needed (codes "store") ∷ needed (codes "customer") ∷ [])
+
+abbrev pub usage_shape : Shape
+usage_shape = word_shape (codes "usage") (needed (codes "directory") ∷ needed (codes "store") ∷ [])
 
 abbrev pub import_shape : Shape
 import_shape = word_shape (codes "import")
@@ -61,20 +76,21 @@ import_shape = word_shape (codes "import")
 abbrev pub sweep_shape : Shape
 sweep_shape = word_shape (codes "sweep")
     (needed (codes "directory") ∷ needed (codes "host") ∷ needed (codes "store")
-    ∷ option_rule (codes "customer") false
+    ∷ optional (codes "customer")
     ∷ moment_rule ∷ [])
 
 abbrev pub migrate_shape : Shape
 migrate_shape = word_shape (codes "migrate") (needed (codes "store") ∷ [])
 
--- the program and its words
+-- the program, whose version is told, and its words
 abbrev pub with_words : App
-with_words = with_subcommand
-    (with_subcommand (with_subcommand (with_subcommand (with_subcommand (with_subcommand
-    (new_app (codes "hq_main")) serve_shape) batch_shape) queue_shape) import_shape) sweep_shape)
-    migrate_shape
+with_words = fold with_subcommand (new_app (codes "hq_main"))
+    (serve_shape ∷ batch_shape ∷ check_shape ∷ queue_shape ∷ usage_shape ∷ import_shape
+    ∷ sweep_shape
+    ∷ migrate_shape ∷ [])
 
--- they stand behind the program's name, and one of them is there or help is asked for
+-- they stand behind the program's name, and one of them is there, or help or the version is asked
+-- for
 abbrev pub program : App
 program = record with_words {
   top = record (new_shape (codes "hq_main")) {
@@ -82,5 +98,6 @@ program = record with_words {
     no_binary_name = true;
     disable_help_subcommand = true;
     subcommand_required = true;
+    has_version = true;
   };
 }

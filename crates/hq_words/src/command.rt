@@ -5,8 +5,9 @@ ghost use Rattle.clap.specs.Simple.{app_of, shape_of};
 ghost use Rattle.clap.specs.Walk.{rule_of};
 ghost use Rattle.clap.specs.declared.builder.command.Command.TheViews.{out-Command};
 ghost use Rattle.hq_words.specs.Program.{option_rule, default_rule, number_rule, moment_rule};
-ghost use Rattle.hq_words.specs.Program.{serve_shape, batch_shape, queue_shape, import_shape};
-ghost use Rattle.hq_words.specs.Program.{sweep_shape, migrate_shape, program};
+ghost use Rattle.hq_words.specs.Program.{serve_shape, batch_shape, check_shape, queue_shape};
+ghost use Rattle.hq_words.specs.Program.{usage_shape, import_shape, sweep_shape, migrate_shape};
+ghost use Rattle.hq_words.specs.Program.{program};
 
 use crate::texts::*;
 use clap::{Arg, Command, value_parser};
@@ -91,12 +92,14 @@ fn serve<'w>(alloc: Global) -> Result<Command<'w>, AllocError>
         .after_help(AFTER_SERVE)
         .arg(option(alloc, "directory", "FILE", DIRECTORY, true))?
         .arg(option(alloc, "host", "HOST", HOST, true))?
-        .arg(option(alloc, "relay-key", "KEY", RELAY_KEY, true))?
+        .arg(option(alloc, "relay-key", "KEY", RELAY_KEY, false))?
+        .arg(option(alloc, "relay-key-file", "FILE", RELAY_KEY_FILE, false))?
         .arg(option(alloc, "store", "FILE", STORE_OR_MEMORY, false))?
         .arg(defaulted(alloc, "listen", "ADDRESS", LISTEN, "127.0.0.1:8025"))?
         .arg(count(alloc))?
         .arg(seconds(alloc, "idle-timeout", IDLE_TIMEOUT))?
-        .arg(seconds(alloc, "request-timeout", REQUEST_TIMEOUT))
+        .arg(seconds(alloc, "request-timeout", REQUEST_TIMEOUT))?
+        .arg(option(alloc, "log", "FILE", LOG, false))
 }
 
 /// The word `batch`, with its options.
@@ -109,8 +112,24 @@ fn batch<'w>(alloc: Global) -> Result<Command<'w>, AllocError>
         .after_help(AFTER_BATCH)
         .arg(option(alloc, "directory", "FILE", DIRECTORY, true))?
         .arg(option(alloc, "host", "HOST", HOST, true))?
-        .arg(option(alloc, "relay-key", "KEY", RELAY_KEY, true))?
-        .arg(option(alloc, "store", "FILE", STORE_OR_MEMORY, false))
+        .arg(option(alloc, "relay-key", "KEY", RELAY_KEY, false))?
+        .arg(option(alloc, "relay-key-file", "FILE", RELAY_KEY_FILE, false))?
+        .arg(option(alloc, "store", "FILE", STORE_OR_MEMORY, false))?
+        .arg(option(alloc, "log", "FILE", LOG, false))
+}
+
+/// The word `check`, with its options.
+fn check<'w>(alloc: Global) -> Result<Command<'w>, AllocError>
+    ensures shape { IfOk result (λ c. shape_of c ≡ check_shape) }
+    ensures local { IfOk result (λ c. (out-Command c).has_globals ≡ false) }
+{
+    Command::new(alloc, "check")
+        .about(CHECK)
+        .after_help(AFTER_CHECK)
+        .arg(option(alloc, "directory", "FILE", DIRECTORY, true))?
+        .arg(option(alloc, "host", "HOST", HOST, true))?
+        .arg(option(alloc, "relay-key", "KEY", KEY_OR_NONE, false))?
+        .arg(option(alloc, "relay-key-file", "FILE", RELAY_KEY_FILE, false))
 }
 
 /// The word `queue`, with its options.
@@ -124,6 +143,18 @@ fn queue<'w>(alloc: Global) -> Result<Command<'w>, AllocError>
         .arg(option(alloc, "directory", "FILE", DIRECTORY, true))?
         .arg(option(alloc, "store", "FILE", STORE, true))?
         .arg(option(alloc, "customer", "NAME", CUSTOMER, true))
+}
+
+/// The word `usage`, with its options.
+fn usage<'w>(alloc: Global) -> Result<Command<'w>, AllocError>
+    ensures shape { IfOk result (λ c. shape_of c ≡ usage_shape) }
+    ensures local { IfOk result (λ c. (out-Command c).has_globals ≡ false) }
+{
+    Command::new(alloc, "usage")
+        .about(USAGE)
+        .after_help(AFTER_USAGE)
+        .arg(option(alloc, "directory", "FILE", DIRECTORY, true))?
+        .arg(option(alloc, "store", "FILE", STORE, true))
 }
 
 /// The word `import`, with its options.
@@ -173,13 +204,16 @@ pub(crate) fn program<'w>(alloc: Global) -> Result<Command<'w>, AllocError>
 {
     let serve = serve(alloc)?;
     let batch = batch(alloc)?;
+    let check = check(alloc)?;
     let queue = queue(alloc)?;
+    let usage = usage(alloc)?;
     let import = import(alloc)?;
     let sweep = sweep(alloc)?;
     let migrate = migrate(alloc)?;
     Command::new(alloc, NAME)
         .bin_name(NAME)?
-        .override_usage(USAGE)
+        .version(VERSION)
+        .override_usage(SYNOPSIS)
         .no_binary_name(true)
         .disable_help_subcommand(true)
         .subcommand_required(true)
@@ -187,7 +221,9 @@ pub(crate) fn program<'w>(alloc: Global) -> Result<Command<'w>, AllocError>
         .after_help(AFTER_ABOUT)
         .subcommand(serve)?
         .subcommand(batch)?
+        .subcommand(check)?
         .subcommand(queue)?
+        .subcommand(usage)?
         .subcommand(import)?
         .subcommand(sweep)?
         .subcommand(migrate)

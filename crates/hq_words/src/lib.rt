@@ -7,5 +7,5 @@ mod options;
 mod texts;
 mod words;
 
-pub use options::{Batch, Import, Migrate, Queue, Serve, Sweep};
+pub use options::{Batch, Check, Import, Migrate, Queue, RelayKey, Serve, Sweep, Usage};
 pub use words::{Word, Words, read_words};

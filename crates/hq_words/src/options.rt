@@ -3,14 +3,23 @@
 ghost use Rattle.std.specs.Prelude.{◌≡◌, option_map};
 ghost use Rattle.clap.specs.Matches.{found_of};
 ghost use Rattle.clap.specs.Walk.{first_of, rows_of};
-ghost use Rattle.hq_words.specs.Asked.{IsMoment, IsNumber, given_of, import_of, migrate_of};
-ghost use Rattle.hq_words.specs.Asked.{queue_of};
-ghost use Rattle.hq_words.specs.Asked.{serve_in, batch_in, queue_in, import_in, sweep_in};
-ghost use Rattle.hq_words.specs.Asked.{migrate_in};
-ghost use Rattle.hq_words.specs.Asked.{ServeIs, SweepIs};
+ghost use Rattle.hq_words.specs.Asked.{IsMoment, IsNumber, ServeIs, SweepIs, key_given, given_of};
+ghost use Rattle.hq_words.specs.Asked.{check_of, queue_of, usage_of, import_of, migrate_of};
+ghost use Rattle.hq_words.specs.Given.{key_of_two, any_key_in, one_key_in, serve_in, batch_in};
+ghost use Rattle.hq_words.specs.Given.{check_in, queue_in, usage_in, import_in, sweep_in};
+ghost use Rattle.hq_words.specs.Given.{migrate_in};
 
 use clap::ArgMatches;
 use hq_base::Moment;
+
+/// Where the key of the relay's workers is.
+#[derive(Clone, Copy, Debug, PartialEq, Eq, Drop)]
+pub enum RelayKey<'w> {
+    /// In the words: the key itself, as it was written.
+    Given(&'w str),
+    /// In a file, of this path.
+    InFile(&'w str),
+}
 
 /// What the word `serve` is given: its numbers, and the others as they were written: none of them
 /// was looked at yet.
@@ -21,7 +30,7 @@ pub struct Serve<'w> {
     /// The name of the relay.
     pub host: &'w str,
     /// The key of the relay's workers.
-    pub relay_key: &'w str,
+    pub relay_key: RelayKey<'w>,
     /// The path of the store, where there is one; else the desk stands in memory.
     pub store: Option<&'w str>,
     /// The address to listen on.
@@ -32,6 +41,8 @@ pub struct Serve<'w> {
     pub idle_timeout: u32,
     /// How long a client may take to send its whole request, in seconds.
     pub request_timeout: u32,
+    /// The path of the file that exchanges are told to, `-` for standard error, where there is one.
+    pub log: Option<&'w str>,
 }
 
 /// What the word `batch` is given, as it was written: none of it was looked at yet.
@@ -42,9 +53,22 @@ pub struct Batch<'w> {
     /// The name of the relay.
     pub host: &'w str,
     /// The key of the relay's workers.
-    pub relay_key: &'w str,
+    pub relay_key: RelayKey<'w>,
     /// The path of the store, where there is one; else the desk stands in memory.
     pub store: Option<&'w str>,
+    /// The path of the file that exchanges are told to, `-` for standard error, where there is one.
+    pub log: Option<&'w str>,
+}
+
+/// What the word `check` is given, as it was written.
+#[derive(Clone, Copy, Debug, PartialEq, Eq, Drop)]
+pub struct Check<'w> {
+    /// The path of the file of the customers.
+    pub directory: &'w str,
+    /// The name of the relay.
+    pub host: &'w str,
+    /// The key of the relay's workers, where one is given.
+    pub relay_key: Option<RelayKey<'w>>,
 }
 
 /// What the word `queue` is given, as it was written.
@@ -56,6 +80,15 @@ pub struct Queue<'w> {
     pub store: &'w str,
     /// The name of the customer.
     pub customer: &'w str,
+}
+
+/// What the word `usage` is given, as it was written.
+#[derive(Clone, Copy, Debug, PartialEq, Eq, Drop)]
+pub struct Usage<'w> {
+    /// The path of the file of the customers.
+    pub directory: &'w str,
+    /// The path of the store.
+    pub store: &'w str,
 }
 
 /// What the word `import` is given, as it was written.
@@ -120,18 +153,49 @@ fn number_in(text: &str) -> Option<u32>
     text.parse::<u32>().ok()
 }
 
+/// The key that the values of two options name, where it is not more than one of them.
+fn key_of_two<'w>(text: Option<&'w str>, path: Option<&'w str>) -> Option<Option<RelayKey<'w>>>
+    ensures { option_map (option_map key_given) result
+        ≡ key_of_two (option_map (λ t. t.now) text.entry)
+        (option_map (λ p. p.now) path.entry) }
+{
+    match (text, path) {
+        (None, None) => Some(None),
+        (Some(text), None) => Some(Some(RelayKey::Given(text))),
+        (None, Some(path)) => Some(Some(RelayKey::InFile(path))),
+        (Some(_), Some(_)) => None,
+    }
+}
+
+/// The key of the relay's workers, where one is given; and not twice.
+fn any_key_in<'w>(given: &ArgMatches<'w>) -> Option<Option<RelayKey<'w>>>
+    ensures { option_map (option_map key_given) result ≡ any_key_in (rows_of (found_of given.now)) }
+{
+    let text = value(given, "relay-key");
+    let path = value(given, "relay-key-file");
+    key_of_two(text, path)
+}
+
+/// The key of the relay's workers, which has to be given once.
+fn one_key_in<'w>(given: &ArgMatches<'w>) -> Option<RelayKey<'w>>
+    ensures { option_map key_given result ≡ one_key_in (rows_of (found_of given.now)) }
+{
+    any_key_in(given)?
+}
+
 /// What matches give the word `serve`.
 pub(crate) fn serve_in<'w>(given: &ArgMatches<'w>) -> Option<Serve<'w>>
     ensures { ServeIs (serve_in (rows_of (found_of given.now))) result }
 {
     let directory = value(given, "directory")?;
     let host = value(given, "host")?;
-    let relay_key = value(given, "relay-key")?;
+    let relay_key = one_key_in(given)?;
     let store = value(given, "store");
     let listen = value(given, "listen")?;
     let count = value(given, "count")?;
     let idle_timeout = value(given, "idle-timeout")?;
     let request_timeout = value(given, "request-timeout")?;
+    let log = value(given, "log");
     Some(Serve {
         directory,
         host,
@@ -141,6 +205,7 @@ pub(crate) fn serve_in<'w>(given: &ArgMatches<'w>) -> Option<Serve<'w>>
         count: number_in(count)?,
         idle_timeout: number_in(idle_timeout)?,
         request_timeout: number_in(request_timeout)?,
+        log,
     })
 }
 
@@ -150,13 +215,29 @@ pub(crate) fn batch_in<'w>(given: &ArgMatches<'w>) -> Option<Batch<'w>>
 {
     let directory = value(given, "directory")?;
     let host = value(given, "host")?;
-    let relay_key = value(given, "relay-key")?;
+    let relay_key = one_key_in(given)?;
     let store = value(given, "store");
+    let log = value(given, "log");
     Some(Batch {
         directory,
         host,
         relay_key,
         store,
+        log,
+    })
+}
+
+/// What matches give the word `check`.
+pub(crate) fn check_in<'w>(given: &ArgMatches<'w>) -> Option<Check<'w>>
+    ensures { option_map check_of result ≡ check_in (rows_of (found_of given.now)) }
+{
+    let directory = value(given, "directory")?;
+    let host = value(given, "host")?;
+    let relay_key = any_key_in(given)?;
+    Some(Check {
+        directory,
+        host,
+        relay_key,
     })
 }
 
@@ -172,6 +253,15 @@ pub(crate) fn queue_in<'w>(given: &ArgMatches<'w>) -> Option<Queue<'w>>
         store,
         customer,
     })
+}
+
+/// What matches give the word `usage`.
+pub(crate) fn usage_in<'w>(given: &ArgMatches<'w>) -> Option<Usage<'w>>
+    ensures { option_map usage_of result ≡ usage_in (rows_of (found_of given.now)) }
+{
+    let directory = value(given, "directory")?;
+    let store = value(given, "store")?;
+    Some(Usage { directory, store })
 }
 
 /// What matches give the word `import`.

@@ -3,8 +3,18 @@
 /// The program's name.
 pub(crate) const NAME: &str = "hq_main";
 
+/// Its version: that of the calls which docs/openapi.json describes.
+pub(crate) const VERSION: &str = "1";
+
 /// How it is called.
-pub(crate) const USAGE: &str = "hq_main [COMMAND]";
+pub(crate) const SYNOPSIS: &str = "hq_main [COMMAND]";
+
+/// What is told where the relay's key is asked for and not given, or given twice.
+pub(crate) const ONE_KEY: &str = "\
+error: one of --relay-key and --relay-key-file is wanted, and not both
+
+For more information, try '--help'.
+";
 
 /// What the program is.
 pub(crate) const ABOUT: &str = "\
@@ -21,7 +31,9 @@ Examples:
   hq_main serve --help
   hq_main serve --directory customers.csv --host relay.example --relay-key relaykey00000001
   hq_main batch --directory customers.csv --host relay.example --relay-key relaykey00000001 < lines
+  hq_main check --directory customers.csv --host relay.example
   hq_main queue --directory customers.csv --store desk.db --customer acme
+  hq_main usage --directory customers.csv --store desk.db
 
 The exit status is 0 when done; 1 for a refusal or a fault, which is told in one line on standard
 error, as `hq: 53 BadDirectory row 3`; 2 for words that are not taken.";
@@ -45,8 +57,8 @@ Example of a request:
 
 Examples:
   hq_main serve --directory customers.csv --host relay.example --relay-key relaykey00000001
-  hq_main serve --directory customers.csv --host relay.example --relay-key relaykey00000001 \\
-    --store desk.db --listen 127.0.0.1:0 --count 100";
+  hq_main serve --directory customers.csv --host relay.example --relay-key-file relay.key \\
+    --store desk.db --listen 127.0.0.1:0 --count 100 --log desk.log";
 
 /// What `batch` does.
 pub(crate) const BATCH: &str =
@@ -66,8 +78,23 @@ Example of a line:
 
 Examples:
   hq_main batch --directory customers.csv --host relay.example --relay-key relaykey00000001 < lines
-  hq_main batch --directory customers.csv --host relay.example --relay-key relaykey00000001 \\
+  hq_main batch --directory customers.csv --host relay.example --relay-key-file relay.key \\
     --store desk.db < lines";
+
+/// What `check` does.
+pub(crate) const CHECK: &str = "Check a relay's name, its key and its directory, as a start would";
+
+/// What it prints, and examples of its calls.
+pub(crate) const AFTER_CHECK: &str = "\
+It reads what `serve` would read before it opens its store, and touches nothing else. Where all is
+good it prints how many customers there are: `3 customers`. Else it tells what a start would tell,
+as `hq: 53 BadDirectory row 3`, and, where a row of the directory is not good, the column and why:
+`hq: row 3, column bytes: no number from 1 to 2147483647000`. No key is printed. Without a key all
+but the key is checked.
+
+Examples:
+  hq_main check --directory customers.csv --host relay.example
+  hq_main check --directory customers.csv --host relay.example --relay-key-file relay.key";
 
 pub(crate) const DIRECTORY: &str = "\
 The customers: a CSV file of 1 to 1,000 rows under the header
@@ -80,7 +107,17 @@ Example: --host relay.example";
 
 pub(crate) const RELAY_KEY: &str = "\
 The key of the relay's workers: 16 to 64 letters and digits,
-and no customer's key. No default.
+and no customer's key. No default: this one is wanted, or
+--relay-key-file. Example: --relay-key relaykey00000001";
+
+pub(crate) const RELAY_KEY_FILE: &str = "\
+The file of that key, which is its one line. Other users of
+the machine do not see it there.
+Example: --relay-key-file relay.key";
+
+pub(crate) const KEY_OR_NONE: &str = "\
+The key of the relay's workers: 16 to 64 letters and digits,
+and no customer's key. By default none is checked.
 Example: --relay-key relaykey00000001";
 
 pub(crate) const STORE_OR_MEMORY: &str = "\
@@ -105,6 +142,11 @@ How long a client may take to send its whole request,
 in seconds, 1 to 3600; for the response it is as long again.
 Example: --request-timeout 60";
 
+pub(crate) const LOG: &str = "\
+The file to which a line of JSON is appended for each exchange
+that was answered; - is standard error. By default none is.
+Example: --log desk.log";
+
 /// What `queue` does.
 pub(crate) const QUEUE: &str = "Print the queue report of a customer";
 
@@ -115,6 +157,23 @@ queue is empty.
 
 Example:
   hq_main queue --directory customers.csv --store desk.db --customer acme";
+
+/// What `usage` does.
+pub(crate) const USAGE: &str = "Print what each customer uses";
+
+/// What it prints, and an example of its calls.
+pub(crate) const AFTER_USAGE: &str = "\
+Each customer has a line, in the order of the directory: how many messages are queued, their bytes
+together, how many lines its access tables have, and how many recipients were accepted, are pending,
+and were delivered, failed, deleted with their message and given up for age:
+
+  acme: messages 1, bytes 900, lines 0, accepted 3, pending 1, delivered 1, failed 1, deleted 0, \
+expired 0
+
+It reads only. A fault ends it, and the exit status is 1.
+
+Example:
+  hq_main usage --directory customers.csv --store desk.db";
 
 /// What `import` does.
 pub(crate) const IMPORT: &str = "Set lines of a customer's access tables by the rows of a file";

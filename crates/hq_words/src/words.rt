@@ -7,20 +7,19 @@ ghost use Rattle.clap.specs.Faults.{fault_of};
 ghost use Rattle.clap.specs.Matches.{found_of};
 ghost use Rattle.clap.specs.Simple.{subcommand_rows_of};
 ghost use Rattle.clap.specs.Walk.{rows_of};
-ghost use Rattle.hq_words.specs.Asked.{Asks, Says, given_in};
+ghost use Rattle.hq_words.specs.Asked.{Asks, Says};
+ghost use Rattle.hq_words.specs.Given.{given_in};
 ghost use Rattle.hq_words.specs.Program.{program};
 
 use crate::command::program;
 use crate::options::{
-    Batch, Import, Migrate, Queue, Serve, Sweep, batch_in, import_in, migrate_in, queue_in,
-    serve_in, sweep_in,
+    Batch, Check, Import, Migrate, Queue, Serve, Sweep, Usage, batch_in, check_in, import_in,
+    migrate_in, queue_in, serve_in, sweep_in, usage_in,
 };
+use crate::texts::ONE_KEY;
 use clap::error::ErrorKind;
 use clap::{ArgMatches, Error};
 use std::alloc::{AllocError, Global};
-
-/// What is told where an option that is asked for has no value, or not one that is read.
-const NOT_GIVEN: &str = "error: an option has no value\n";
 
 /// A word of the program, with its options.
 #[derive(Clone, Copy, Debug, PartialEq, Eq, Drop)]
@@ -29,8 +28,12 @@ pub enum Word<'w> {
     Serve(Serve<'w>),
     /// `batch`: lines of the customers of a directory.
     Batch(Batch<'w>),
+    /// `check`: whether a desk can be set up with these.
+    Check(Check<'w>),
     /// `queue`: the queue report of a customer.
     Queue(Queue<'w>),
+    /// `usage`: what each customer of a directory uses of its quota.
+    Usage(Usage<'w>),
     /// `import`: lines of a customer's access tables, from a file.
     Import(Import<'w>),
     /// `sweep`: messages of a customer, or of all, that are too old given up, and late ones warned
@@ -47,8 +50,9 @@ pub enum Words<'w> {
     Builtin,
     /// A word of the program, with its options.
     Word(Word<'w>),
-    /// `--help` or `-h`, of the program or of one of its words: the text for standard output.
-    Help(String),
+    /// `--help` or `-h`, of the program or of one of its words, or `--version` or `-V`: the text
+    /// for standard output.
+    Shown(String),
     /// Words that are not taken: the text for standard error that tells why.
     Refused(String),
 }
@@ -63,7 +67,9 @@ fn asked_in<'w>(word: &str, given: &ArgMatches<'w>) -> Option<Word<'w>>
             None => None,
         },
         "batch" => Some(Word::Batch(batch_in(given)?)),
+        "check" => Some(Word::Check(check_in(given)?)),
         "queue" => Some(Word::Queue(queue_in(given)?)),
+        "usage" => Some(Word::Usage(usage_in(given)?)),
         "import" => Some(Word::Import(import_in(given)?)),
         "sweep" => match sweep_in(given) {
             Some(sweep) => Some(Word::Sweep(sweep)),
@@ -83,14 +89,17 @@ fn asked_of<'w>(matches: &ArgMatches<'w>) -> Option<Word<'w>>
     asked_in(word, given)
 }
 
-/// What `clap` tells in place of matches: help, or why the words are refused; or want of memory.
+/// What `clap` tells in place of matches: help or the version, or why the words are refused; or
+/// want of memory.
 fn told<'w>(alloc: Global, error: &Error) -> Result<Words<'w>, AllocError>
     ensures { (words : List (List ℕ)) → (words ≢ []) → HasKind (fault_of program words) error.now
         → IfOk result (Says words) }
 {
     match error.kind() {
         ErrorKind::OutOfMemory => Err(AllocError),
-        ErrorKind::DisplayHelp => Ok(Words::Help(format!(in alloc; "{error}")?)),
+        ErrorKind::DisplayHelp | ErrorKind::DisplayVersion => {
+            Ok(Words::Shown(format!(in alloc; "{error}")?))
+        }
         _ => Ok(Words::Refused(format!(in alloc; "{error}")?)),
     }
 }
@@ -107,8 +116,8 @@ pub fn read_words<'w>(alloc: Global, words: &'w [String]) -> Result<Words<'w>, A
         Err(error) => told(alloc, &error),
         Ok(matches) => match asked_of(&matches) {
             Some(asked) => Ok(Words::Word(asked)),
-            // (`clap` asks for the options and looks at the numbers, so that they are there)
-            None => Ok(Words::Refused(String::from_str(alloc, NOT_GIVEN)?)),
+            // (`clap` asks for the other options and looks at the numbers, so that they are there)
+            None => Ok(Words::Refused(String::from_str(alloc, ONE_KEY)?)),
         },
     }
 }

@@ -2,8 +2,9 @@
 
 use hq_lists::ListShelf;
 use hq_pieces::{Narrow, Pieces};
-use hq_program::{Trouble, builtin_settings, serve};
+use hq_program::{builtin_settings, serve};
 use hq_settings::{Relay, Settings};
+use hq_trouble::Trouble;
 use std::alloc::{AllocError, Global};
 use std::io::{self, Read, Write};
 use std::process::Abort;

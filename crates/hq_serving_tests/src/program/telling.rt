@@ -3,7 +3,8 @@
 use hq_batch::EngineFault;
 use hq_envelope::{Fail as Failure, Fault, Refusal};
 use hq_pieces::Narrow;
-use hq_program::{Trouble, not_begun, refuse, show, tell};
+use hq_program::{not_begun, refuse, show, tell};
+use hq_trouble::Trouble;
 use std::alloc::{AllocError, Global};
 use std::io::{self, ErrorKind, Write};
 use std::process::Abort;

@@ -3,7 +3,7 @@ use Rattle.std.proofs.lemmas.Result.{IfOk-weaker}
 use Rattle.clap.specs.Simple.{App, app_of, app_of_fields, new_app, with_rule}
 use Rattle.clap.specs.Walk.{rule_of}
 use Rattle.clap.specs.declared.builder.command.Command.TheViews.{out-Command}
-use Rattle.hq_words.specs.Program.{needed, option_rule}
+use Rattle.hq_words.specs.Program.{needed, optional}
 use Rattle.hq_words.proofs.command.batch.Goals as goal
 
 pub returns-clause-shape : goal.returns-clause-shape
@@ -13,25 +13,38 @@ returns-clause-shape c =
     ∙ c.new.ensures.app in
     let directory : rule_of c.option.result ≡ needed (codes "directory") = search rules in
     let host : rule_of c.option-2.result ≡ needed (codes "host") = search rules in
-    let relay_key : rule_of c.option-3.result ≡ needed (codes "relay-key") = search rules in
-    let store : rule_of c.option-4.result ≡ option_rule (codes "store") false = search rules in
-    let one = c.in_ok-arg.ensures.shape c.option.ensures.local ∙ ap₂ with_rule bare directory in
-    let two = c.in_ok-arg-2.ensures.shape c.option-2.ensures.local ∙ ap₂ with_rule one host in
+    let relay_key : rule_of c.option-3.result ≡ optional (codes "relay-key") = search rules in
+    let relay_key_file : rule_of c.option-4.result ≡ optional (codes "relay-key-file") =
+    search rules in
+    let store : rule_of c.option-5.result ≡ optional (codes "store") = search rules in
+    let log : rule_of c.option-6.result ≡ optional (codes "log") = search rules in
+    let one = c.in_ok-arg.ensures.shape c.option.ensures.local
+    ∙ ap₂ with_rule bare directory in
+    let two = c.in_ok-arg-2.ensures.shape c.option-2.ensures.local
+    ∙ ap₂ with_rule one host in
     let three = c.in_ok-arg-3.ensures.shape c.option-3.ensures.local
     ∙ ap₂ with_rule two relay_key in
-    IfOk-weaker c.arg-4.result _ _ (λ made added. ap (λ (a : App). a.top)
-    (added.shape c.option-4.ensures.local ∙ ap₂ with_rule three store)) c.arg-4.ensures
+    let four = c.in_ok-arg-4.ensures.shape c.option-4.ensures.local
+    ∙ ap₂ with_rule three relay_key_file in
+    let five = c.in_ok-arg-5.ensures.shape c.option-5.ensures.local
+    ∙ ap₂ with_rule four store in
+    IfOk-weaker c.arg-6.result _ _ (λ made added. ap (λ (a : App). a.top)
+    (added.shape c.option-6.ensures.local ∙ ap₂ with_rule five log)) c.arg-6.ensures
 
 pub returns-clause-local : goal.returns-clause-local
 returns-clause-local c =
     let bare : (out-Command c.after_help.result).has_globals ≡ false =
     ap (λ f. f.has_globals) c.after_help.ensures ∙ ap (λ f. f.has_globals) c.about.ensures
     ∙ c.new.ensures.local in
-    let one = c.in_ok-arg.ensures.globals ∙ ap₂ (λ (x y : Bool). x || y) bare c.option.ensures.local
-    in
-    let two = c.in_ok-arg-2.ensures.globals ∙ ap₂ (λ (x y : Bool). x || y) one
-    c.option-2.ensures.local in
-    let three = c.in_ok-arg-3.ensures.globals ∙ ap₂ (λ (x y : Bool). x || y) two
-    c.option-3.ensures.local in
-    IfOk-weaker c.arg-4.result _ _ (λ made added. added.globals ∙ ap₂ (λ (x y : Bool). x || y) three
-    c.option-4.ensures.local) c.arg-4.ensures
+    let one = c.in_ok-arg.ensures.globals
+    ∙ ap₂ (λ (x y : Bool). x || y) bare c.option.ensures.local in
+    let two = c.in_ok-arg-2.ensures.globals
+    ∙ ap₂ (λ (x y : Bool). x || y) one c.option-2.ensures.local in
+    let three = c.in_ok-arg-3.ensures.globals
+    ∙ ap₂ (λ (x y : Bool). x || y) two c.option-3.ensures.local in
+    let four = c.in_ok-arg-4.ensures.globals
+    ∙ ap₂ (λ (x y : Bool). x || y) three c.option-4.ensures.local in
+    let five = c.in_ok-arg-5.ensures.globals
+    ∙ ap₂ (λ (x y : Bool). x || y) four c.option-5.ensures.local in
+    IfOk-weaker c.arg-6.result _ _ (λ made added. added.globals
+    ∙ ap₂ (λ (x y : Bool). x || y) five c.option-6.ensures.local) c.arg-6.ensures

@@ -3,7 +3,7 @@ use Rattle.std.proofs.lemmas.Result.{IfOk-weaker}
 use Rattle.clap.specs.Simple.{App, app_of, app_of_fields, new_app, with_rule}
 use Rattle.clap.specs.Walk.{rule_of}
 use Rattle.clap.specs.declared.builder.command.Command.TheViews.{out-Command}
-use Rattle.hq_words.specs.Program.{needed, option_rule}
+use Rattle.hq_words.specs.Program.{needed, optional}
 use Rattle.hq_words.proofs.command.serve.Goals as goal
 
 pub returns-clause-shape : goal.returns-clause-shape
@@ -13,41 +13,54 @@ returns-clause-shape c =
     ∙ c.new.ensures.app in
     let directory : rule_of c.option.result ≡ needed (codes "directory") = search rules in
     let host : rule_of c.option-2.result ≡ needed (codes "host") = search rules in
-    let relay_key : rule_of c.option-3.result ≡ needed (codes "relay-key") = search rules in
-    let store : rule_of c.option-4.result ≡ option_rule (codes "store") false = search rules in
-    let one = c.in_ok-arg.ensures.shape c.option.ensures.local ∙ ap₂ with_rule bare directory in
-    let two = c.in_ok-arg-2.ensures.shape c.option-2.ensures.local ∙ ap₂ with_rule one host in
+    let relay_key : rule_of c.option-3.result ≡ optional (codes "relay-key") = search rules in
+    let relay_key_file : rule_of c.option-4.result ≡ optional (codes "relay-key-file") =
+    search rules in
+    let store : rule_of c.option-5.result ≡ optional (codes "store") = search rules in
+    let log : rule_of c.option-6.result ≡ optional (codes "log") = search rules in
+    let one = c.in_ok-arg.ensures.shape c.option.ensures.local
+    ∙ ap₂ with_rule bare directory in
+    let two = c.in_ok-arg-2.ensures.shape c.option-2.ensures.local
+    ∙ ap₂ with_rule one host in
     let three = c.in_ok-arg-3.ensures.shape c.option-3.ensures.local
     ∙ ap₂ with_rule two relay_key in
-    let four = c.in_ok-arg-4.ensures.shape c.option-4.ensures.local ∙ ap₂ with_rule three store in
-    let five = c.in_ok-arg-5.ensures.shape c.defaulted.ensures.local
-    ∙ ap₂ with_rule four c.defaulted.ensures.rule in
-    let six = c.in_ok-arg-6.ensures.shape c.count.ensures.local
-    ∙ ap₂ with_rule five c.count.ensures.rule in
-    let seven = c.in_ok-arg-7.ensures.shape c.seconds.ensures.local
-    ∙ ap₂ with_rule six c.seconds.ensures.rule in
-    IfOk-weaker c.arg-8.result _ _ (λ made added. ap (λ (a : App). a.top)
-    (added.shape c.seconds-2.ensures.local ∙ ap₂ with_rule seven c.seconds-2.ensures.rule))
-    c.arg-8.ensures
+    let four = c.in_ok-arg-4.ensures.shape c.option-4.ensures.local
+    ∙ ap₂ with_rule three relay_key_file in
+    let five = c.in_ok-arg-5.ensures.shape c.option-5.ensures.local
+    ∙ ap₂ with_rule four store in
+    let six = c.in_ok-arg-6.ensures.shape c.defaulted.ensures.local
+    ∙ ap₂ with_rule five c.defaulted.ensures.rule in
+    let seven = c.in_ok-arg-7.ensures.shape c.count.ensures.local
+    ∙ ap₂ with_rule six c.count.ensures.rule in
+    let eight = c.in_ok-arg-8.ensures.shape c.seconds.ensures.local
+    ∙ ap₂ with_rule seven c.seconds.ensures.rule in
+    let nine = c.in_ok-arg-9.ensures.shape c.seconds-2.ensures.local
+    ∙ ap₂ with_rule eight c.seconds-2.ensures.rule in
+    IfOk-weaker c.arg-10.result _ _ (λ made added. ap (λ (a : App). a.top)
+    (added.shape c.option-6.ensures.local ∙ ap₂ with_rule nine log)) c.arg-10.ensures
 
 pub returns-clause-local : goal.returns-clause-local
 returns-clause-local c =
     let bare : (out-Command c.after_help.result).has_globals ≡ false =
     ap (λ f. f.has_globals) c.after_help.ensures ∙ ap (λ f. f.has_globals) c.about.ensures
     ∙ c.new.ensures.local in
-    let one = c.in_ok-arg.ensures.globals ∙ ap₂ (λ (x y : Bool). x || y) bare c.option.ensures.local
-    in
-    let two = c.in_ok-arg-2.ensures.globals ∙ ap₂ (λ (x y : Bool). x || y) one
-    c.option-2.ensures.local in
-    let three = c.in_ok-arg-3.ensures.globals ∙ ap₂ (λ (x y : Bool). x || y) two
-    c.option-3.ensures.local in
-    let four = c.in_ok-arg-4.ensures.globals ∙ ap₂ (λ (x y : Bool). x || y) three
-    c.option-4.ensures.local in
-    let five = c.in_ok-arg-5.ensures.globals ∙ ap₂ (λ (x y : Bool). x || y) four
-    c.defaulted.ensures.local in
-    let six = c.in_ok-arg-6.ensures.globals ∙ ap₂ (λ (x y : Bool). x || y) five
-    c.count.ensures.local in
-    let seven = c.in_ok-arg-7.ensures.globals ∙ ap₂ (λ (x y : Bool). x || y) six
-    c.seconds.ensures.local in
-    IfOk-weaker c.arg-8.result _ _ (λ made added. added.globals ∙ ap₂ (λ (x y : Bool). x || y) seven
-    c.seconds-2.ensures.local) c.arg-8.ensures
+    let one = c.in_ok-arg.ensures.globals
+    ∙ ap₂ (λ (x y : Bool). x || y) bare c.option.ensures.local in
+    let two = c.in_ok-arg-2.ensures.globals
+    ∙ ap₂ (λ (x y : Bool). x || y) one c.option-2.ensures.local in
+    let three = c.in_ok-arg-3.ensures.globals
+    ∙ ap₂ (λ (x y : Bool). x || y) two c.option-3.ensures.local in
+    let four = c.in_ok-arg-4.ensures.globals
+    ∙ ap₂ (λ (x y : Bool). x || y) three c.option-4.ensures.local in
+    let five = c.in_ok-arg-5.ensures.globals
+    ∙ ap₂ (λ (x y : Bool). x || y) four c.option-5.ensures.local in
+    let six = c.in_ok-arg-6.ensures.globals
+    ∙ ap₂ (λ (x y : Bool). x || y) five c.defaulted.ensures.local in
+    let seven = c.in_ok-arg-7.ensures.globals
+    ∙ ap₂ (λ (x y : Bool). x || y) six c.count.ensures.local in
+    let eight = c.in_ok-arg-8.ensures.globals
+    ∙ ap₂ (λ (x y : Bool). x || y) seven c.seconds.ensures.local in
+    let nine = c.in_ok-arg-9.ensures.globals
+    ∙ ap₂ (λ (x y : Bool). x || y) eight c.seconds-2.ensures.local in
+    IfOk-weaker c.arg-10.result _ _ (λ made added. added.globals
+    ∙ ap₂ (λ (x y : Bool). x || y) nine c.option-6.ensures.local) c.arg-10.ensures

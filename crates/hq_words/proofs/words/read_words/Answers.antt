@@ -4,7 +4,8 @@ use Rattle.std.specs.Prelude.{map, string_bytes, option_and_then}
 use Rattle.clap.specs.Faults.{fault_of, is_simple_and_free}
 use Rattle.clap.specs.Kinds.{HasKind}
 use Rattle.clap.specs.Simple.{App, is_simple, subcommand_of}
-use Rattle.hq_words.specs.Asked.{Asks, Given, given_in}
+use Rattle.hq_words.specs.Asked.{Asks}
+use Rattle.hq_words.specs.Given.{Given, given_in}
 use Rattle.hq_words.specs.Program.{program}
 use Rattle.hq_words.proofs.words.read_words.Goals as goal
 

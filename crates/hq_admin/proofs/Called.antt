@@ -1,0 +1,130 @@
+-- The calls of customers, one after the other.
+use Rattle.std.proofs.Common.{◌≡◌, ℕ, zero, suc, ◌<◌, false, true, List, [], ◌∷◌, ◌++◌, map, take}
+use Rattle.std.proofs.Common.{drop, length, get_or, Ok, Err, refl, sym, ap, ◌∙◌}
+use Rattle.std.proofs.Common.{subst, arith, length-append}
+use Rattle.hq_base.specs.Turns.{InTurn}
+use Rattle.hq_base.proofs.Turns.{turns_on, one_turn}
+use Rattle.hq_base.specs.declared.failure.Fault.{Fault}
+use Rattle.hq_base.specs.declared.failure.Fault.TheVariants.{WantOfMemory, Disk, BadSchema, Closed}
+use Rattle.hq_queue.specs.declared.account.Entry.{Entry}
+use Rattle.hq_store.specs.Shelves.{Sight, IsTallied, KeepsOnErr, OnSound, OnOpenSound}
+use Rattle.hq_store.specs.Sound.{Sound}
+use Rattle.hq_store.specs.Tables.{Tables}
+use Rattle.hq_calls.specs.declared.call.Call.{Call}
+use Rattle.hq_desk.specs.Desks.{Stays, IsRendered, host_of, on, stepped}
+use Rattle.hq_desk.specs.declared.desk.Desk.{Desk}
+use Rattle.hq_desk.specs.declared.desk.Rendered.{Rendered}
+use Rattle.hq_admin.specs.Rounds.{IsCalled, printed_of}
+
+differ : {A : Type 0} → false ≡ true → A
+differ e = absurd (not_so e) where
+  not_so : false ≡ true → ⊥
+  not_so e = cc
+
+was_open : (fault : Fault) (was is : _) (m n : ℕ) → IsTallied {X = Rendered} was is m n (Err fault)
+    → is ≡ false → was ≡ false
+was_open WantOfMemory was is m n h open_ = h.0
+was_open Disk was is m n h open_ = h.0
+was_open BadSchema was is m n h open_ = absurd h
+was_open Closed was is m n h open_ = differ (sym open_ ∙ h.0)
+
+module _ {S : Type 0} (sight : Sight S) (at : ℕ) (asked : Call) where
+  abbrev tables : Desk S → Tables
+  tables = (on sight).tables
+
+  -- the calls of these are done, and so it was told
+  pub record SoFar (old : Desk S) (called : List Entry) (told : List Rendered) (new : Desk S) : Type
+      0 where
+    pub counted : length told ≡ length called
+    pub each : OnOpenSound (on sight) old new
+        (InTurn (IsCalled (host_of old) at asked) (tables old) called told (tables new))
+    pub sound : OnOpenSound (on sight) old new (Sound (tables new))
+    pub stays : Stays (on sight) old new
+
+  pub none_yet : (old : Desk S) → SoFar old [] [] old
+  none_yet old = record {
+    counted = refl;
+    each = λ clean ours open_ sound. refl;
+    sound = λ clean ours open_ sound. sound;
+    stays = record {
+      ours = λ clean ours open_. ours;
+      quiet = λ clean. clean;
+      stays_open = λ open_. open_;
+      host = refl;
+    };
+  }
+
+  keeps_on : (old mid new : Desk S) → Stays (on sight) old mid → Stays (on sight) mid new →
+      Stays (on sight) old new
+  keeps_on old mid new first next = record {
+    ours = λ clean ours open_. next.ours clean
+        (first.ours (next.quiet clean) ours (next.stays_open open_)) open_;
+    quiet = λ clean. first.quiet (next.quiet clean);
+    stays_open = λ open_. first.stays_open (next.stays_open open_);
+    host = next.host ∙ first.host;
+  }
+
+  pub one_more : (old mid new : Desk S) (called : List Entry) (told : List Rendered) (entry : Entry)
+      (rendered : Rendered)
+      → SoFar old called told mid
+      → OnSound (on sight) mid new (IsRendered (printed_of entry.name)
+      (stepped (on sight) mid entry at asked).0 rendered)
+      → OnSound (on sight) mid new (tables new ≡ (stepped (on sight) mid entry at asked).1)
+      → OnOpenSound (on sight) mid new (Sound (tables new))
+      → KeepsOnErr (on sight) mid new (Ok rendered)
+      → host_of new ≡ host_of mid
+      → SoFar old (called ++ entry ∷ []) (told ++ rendered ∷ []) new
+  one_more old mid new called told entry rendered before answer made sound kept host =
+      let was = kept.tally.0 in
+      let step : List ℕ → Type 0 =
+      λ h. IsCalled h at asked (tables mid) entry rendered (tables new) in
+      record {
+        counted = omega (
+          arith,
+          length-append told (rendered ∷ []),
+          length-append called (entry ∷ []),
+          before.counted,
+        );
+        each = λ clean ours open_ fit.
+            let then = kept.quiet clean in
+            let rows = before.stays.ours then ours was in
+            let good = before.sound then ours was fit in
+            turns_on (IsCalled (host_of old) at asked) (tables old) (tables mid) (tables new) called
+            (entry ∷ []) told (rendered ∷ []) (before.each then ours was fit)
+            (one_turn (IsCalled (host_of old) at asked) (tables mid) (tables new) entry rendered
+            (subst step before.stays.host (answer clean rows good, made clean rows good)));
+        sound = λ clean ours open_ fit.
+            let then = kept.quiet clean in
+            sound clean (before.stays.ours then ours was) open_ (before.sound then ours was fit);
+        stays = keeps_on old mid new before.stays
+            (record {
+              ours = kept.ours;
+              quiet = kept.quiet;
+              stays_open = λ open_. was;
+              host = host;
+            });
+      }
+
+  -- a fault leaves what was done
+  pub stopped : (old mid new : Desk S) (called : List Entry) (told : List Rendered)
+      (fault : Fault) →
+      SoFar old called told mid → KeepsOnErr {X = Rendered} (on sight) mid new (Err fault) →
+      OnOpenSound (on sight) old new (InTurn (IsCalled (host_of old) at asked) (tables old) called
+      told (tables new))
+  stopped old mid new called told fault before kept = λ clean ours open_ fit.
+      let then = kept.quiet clean in
+      let was = was_open fault _ _ _ _ kept.tally open_ in
+      subst (λ t. InTurn (IsCalled (host_of old) at asked) (tables old) called told t)
+      (sym (kept.none clean (before.stays.ours then ours was) open_)) (before.each then
+      ours was fit)
+
+-- a list at a place of it
+pub split_at : {A B : Type 0} (f : A → B) (xs : List A) (i : ℕ) (x : A) → i < length xs →
+    x ≡ get_or xs i x → map f xs ≡ map f (take i xs) ++ f x ∷ map f (drop (suc i) xs)
+split_at f [] i x below is = absurd (omega arith)
+split_at f (y ∷ ys) zero x below is = ap (λ z. f z ∷ map f ys) (sym is)
+split_at f (y ∷ ys) (suc i) x below is = ap (λ zs. f y ∷ zs) (split_at f ys i x (omega arith) is)
+
+pub on_end : {A : Type 0} (xs : List A) → xs ++ [] ≡ xs
+on_end [] = refl
+on_end (x ∷ xs) = ap (λ ys. x ∷ ys) (on_end xs)

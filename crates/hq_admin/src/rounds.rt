@@ -1,0 +1,111 @@
+//! A round over a shelf: one call of each customer of a directory.
+
+ghost use Rattle.std.specs.Prelude.{◌≡◌, string_bytes, IfOk};
+ghost use Rattle.hq_admin.specs.Rounds.{CallsEach, call_made, printed_of};
+
+use crate::printed::put_answer;
+use hq_desk::{Answer, Call, Desk, Render, Rendered};
+use hq_envelope::{Fault, Host, Moment, Name};
+use hq_queue::Customer;
+use hq_store::Shelf;
+use std::alloc::{AllocError, Global};
+use std::fmt::Write;
+
+/// The call that a round makes of each customer.
+#[derive(Clone, Copy, Debug, PartialEq, Eq, Drop)]
+pub enum Each {
+    /// The sweep of its queue.
+    Sweep,
+    /// What it uses of its quota.
+    Usage,
+}
+
+/// The call of one customer.
+fn call_made(each: Each) -> Call
+    ensures { result ≡ call_made each }
+{
+    match each {
+        Each::Sweep => Call::Sweep,
+        Each::Usage => Call::Usage,
+    }
+}
+
+/// What a round came to.
+#[derive(Drop)]
+pub struct ToldAll {
+    /// What is printed of each customer whose call was done, in the order of the directory: 0 and
+    /// its answer, or a refusal's number and its text.
+    pub told: Vec<Rendered>,
+    /// The fault that stopped it at the next customer.
+    pub stopped: Option<Fault>,
+}
+
+/// What is printed of one customer among others.
+fn text_of(alloc: Global, name: &Name, answer: &Answer) -> Result<String, AllocError>
+    ensures { IfOk result (λ text. string_bytes text ≡ printed_of name.now answer.now) }
+{
+    let mut text = String::new(alloc);
+    match answer {
+        Answer::Refused(refusal) => write!(text, "{refusal} customer {}", name.as_str())?,
+        _ => {
+            write!(text, "{}: ", name.as_str())?;
+            put_answer(&mut text, answer)?;
+        }
+    }
+    Ok(text)
+}
+
+/// An answer as it is printed of one customer among others.
+#[derive(Drop)]
+struct PrintedOf<'n> {
+    name: &'n Name,
+}
+
+impl Render for PrintedOf<'_> {
+    ghost use Rattle.std.specs.Prelude.{⊤};
+    ghost use Rattle.hq_admin.specs.Rounds.{printed_of};
+
+    ghost text = { λ by answer. printed_of by.name.now answer };
+
+    ghost fits = { λ _ _. ⊤ };
+
+    fn render(&self, alloc: Global, answer: &Answer) -> Result<Vec<u8>, AllocError> {
+        let text = text_of(alloc, self.name, answer)?;
+        Ok(text.into_bytes())
+    }
+}
+
+/// Makes this call of the customers of a directory at a moment, in their order, over a shelf that
+/// is dropped when it is done; and stops at the first fault. A refusal does not stop it. Room for
+/// what is told of all is taken first; where it is refused, nothing is done.
+pub fn call_each<S: Shelf + Drop>(
+    alloc: Global,
+    shelf: S,
+    host: Host,
+    at: Moment,
+    each: Each,
+    customers: &[Customer],
+) -> Result<ToldAll, AllocError>
+    ensures { IfOk result (CallsEach S.sight shelf host at each customers.now) }
+{
+    let mut told = Vec::with_capacity(alloc, customers.len())?;
+    let mut desk = Desk::new(shelf, host);
+    for customer in customers {
+        let by = PrintedOf {
+            name: &customer.entry.name,
+        };
+        match desk.act(alloc, at, &customer.entry, call_made(each), &by) {
+            Ok(rendered) => told.push_reserved(rendered),
+            Err(fault) => {
+                return Ok(ToldAll {
+                    told,
+                    stopped: Some(fault),
+                });
+            }
+        }
+    }
+    Ok(ToldAll {
+        told,
+        stopped: None,
+    })
+}

@@ -1,0 +1,35 @@
+-- How a round is printed, and what the word `sweep` does.
+use Rattle.std.specs.Prelude.{ℕ, ◌≡◌, List, Option, Some, None, Result, Ok, Err}
+use Rattle.hq_base.specs.declared.failure.Fault.{Fault}
+use Rattle.hq_store.specs.Shelves.{Sight}
+use Rattle.hq_desk.specs.declared.desk.Rendered.{Rendered}
+use Rattle.hq_admin.specs.declared.rounds.ToldAll.{ToldAll}
+use Rattle.hq_program.specs.Printing.{IsPrinted, ArePrinted}
+use Rattle.hq_trouble.specs.declared.trouble.Trouble.{Trouble}
+use Rattle.hq_sql_admin.specs.Rounds.{SweepAllEnds}
+use Rattle.hq_sql_admin.specs.Words.{SweepEnds}
+use Rattle.hq_words.specs.declared.options.Sweep.{Sweep}
+
+-- the exit status of a round: that of what was printed of it, and 1 where a fault stopped it
+abbrev pub round_status : Option Fault → ℕ → ℕ
+round_status None printed = printed
+round_status (Some fault) printed = 1
+
+-- What a round came to is printed, of those whose calls were done; or the trouble before it is
+-- told.
+abbrev pub IsRoundPrinted : Result ToldAll Trouble → Type 0 → Option (List ℕ) → Option (List ℕ) → ℕ
+    → Type 0
+IsRoundPrinted (Ok done) unwritten old new status =
+    (printed : ℕ) × ArePrinted done.told.items old new printed
+    × (status ≡ round_status done.stopped printed)
+IsRoundPrinted (Err trouble) unwritten old new status = unwritten × (status ≡ 1)
+
+-- The customer that is named is swept, or all are where none is, and it is printed.
+abbrev pub DoesSweep : {S : Type 0} → Sight S → Sweep → Option (List ℕ) → Type 0 → Option (List ℕ) →
+    Option (List ℕ) → ℕ → Type 0
+DoesSweep sight given (Some name) unwritten old new status =
+    (done : Result Rendered Trouble) × SweepEnds sight given name done
+    × IsPrinted done unwritten old new status
+DoesSweep sight given None unwritten old new status =
+    (done : Result ToldAll Trouble) × SweepAllEnds sight given done
+    × IsRoundPrinted done unwritten old new status

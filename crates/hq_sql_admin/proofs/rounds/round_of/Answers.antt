@@ -1,0 +1,20 @@
+use Rattle.std.proofs.Common.{rules, Ok, Err}
+use Rattle.hq_trouble.specs.declared.trouble.Trouble.TheVariants.{Desk}
+use Rattle.hq_sql_admin.proofs.rounds.round_of.Goals as goal
+
+pub returns-in_err-host : goal.returns-in_err-host
+returns-in_err-host c = (Err (Desk c.in_err-host.field-0.0), c.in_err-host.ensures, search rules)
+
+pub returns-in_err-customers : goal.returns-in_err-customers
+returns-in_err-customers c = (
+  Ok c.in_ok-host.host,
+  c.in_ok-host.ensures,
+  (Err c.in_err-customers.field-0.0, c.in_err-customers.ensures, search rules),
+)
+
+pub returns : goal.returns
+returns c = (
+  Ok c.in_ok-host.host,
+  c.in_ok-host.ensures,
+  (Ok c.in_ok-customers.customers.items, c.in_ok-customers.ensures, search rules),
+)
