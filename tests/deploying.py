@@ -83,7 +83,7 @@ class Desk:
     def of_the_place(self, words, settings):
         """The words of a unit, with this place and these settings."""
         places = {"/opt/hq/hq_main": self.program, "/opt/hq/deploy": DEPLOY, "/etc/hq": self.folder,
-                  "/var/lib/hqdesk": self.folder, "%i": self.name,
+                  "/var/lib/hqdesk": self.folder, "/var/log/hqdesk": self.folder, "%i": self.name,
                   **{f"${{{it}}}": value for it, value in settings.items()}}
         for it, value in places.items():
             words = words.replace(it, str(value))

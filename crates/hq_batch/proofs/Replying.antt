@@ -1,6 +1,6 @@
 -- The steps of the lines together are the replies to all of them.
-use Rattle.std.proofs.Common.{◌≡◌, ℕ, List, [], ◌∷◌, map, Option, Result, Ok, Err, refl, ap, ◌∙◌}
-use Rattle.std.proofs.Common.{subst}
+use Rattle.std.proofs.Common.{◌≡◌, ℕ, Bool, List, [], ◌∷◌, map, Option, Result, Ok, Err, refl, ap}
+use Rattle.std.proofs.Common.{◌∙◌, subst}
 use Rattle.std.specs.Bool.{⊤}
 use Rattle.hq_base.specs.Turns.{InTurn}
 use Rattle.hq_store.specs.Shelves.{Sight}
@@ -25,9 +25,11 @@ module _ {S : Type 0} (sight : Sight S) where
   Turns d old asked lines new = (rs : List SeenReply) × (lines ≡ map reply_line rs)
       × InTurn (Exchanged sight d) old (map (ask_in d) asked) rs new
 
-  turns : (old new : Front S) (asked : List (Option LineRequest)) (lines : List (List ℕ)) →
-      InTurn (LineStep sight) old asked lines new →
-      Turns old.directory.now old.desk.now asked lines new.desk.now
+module _ {S L : Type 0} (sight : Sight S) (is_losing : L → Bool)
+    (contents : L → Option (List ℕ)) where
+  turns : (old new : Front S L) (asked : List (Option LineRequest)) (lines : List (List ℕ)) →
+      InTurn (LineStep sight is_losing contents) old asked lines new →
+      Turns sight old.directory.now old.desk.now asked lines new.desk.now
   turns old new [] [] p = ([], refl, ap (λ f. f.desk.now) p)
   turns old new [] (line ∷ lines) p = absurd p
   turns old new (q ∷ asked) [] p = absurd p
@@ -38,8 +40,8 @@ module _ {S : Type 0} (sight : Sight S) where
       (p.1.reply ∷ rest.0, (λ i. p.1.line_is i ∷ rest.1 i), (p.0.desk.now, p.1.done, later))
 
   -- they are served together
-  pub replied : (old new : Front S) (asked : List (Option LineRequest)) (lines : List (List ℕ)) →
-      InTurn (LineStep sight) old asked lines new →
+  pub replied : (old new : Front S L) (asked : List (Option LineRequest)) (lines : List (List ℕ)) →
+      InTurn (LineStep sight is_losing contents) old asked lines new →
       Replied sight old.directory.now old.desk.now asked lines new.desk.now
   replied old new asked lines p =
       let all = turns old new asked lines p in (
@@ -49,17 +51,19 @@ module _ {S : Type 0} (sight : Sight S) where
             (map (ask_in old.directory.now) asked) all.0 all.2,
       )
 
-  same_desk : (old new : Front S) (asked : List (Option LineRequest)) (lines : List (List ℕ)) →
-      InTurn (LineStep sight) old asked lines new → new.desk.ghost_name ≡ old.desk.ghost_name
+  same_desk : (old new : Front S L) (asked : List (Option LineRequest)) (lines : List (List ℕ)) →
+      InTurn (LineStep sight is_losing contents) old asked lines new →
+      new.desk.ghost_name ≡ old.desk.ghost_name
   same_desk old new [] [] p = ap (λ f. f.desk.ghost_name) p
   same_desk old new [] (line ∷ lines) p = absurd p
   same_desk old new (q ∷ asked) [] p = absurd p
   same_desk old new (q ∷ asked) (line ∷ lines) p = same_desk p.0 new asked lines p.2 ∙ p.1.same_desk
 
   -- however the loop ends, the desk is the one that was lent
-  pub lent_desk : {X : Type 0} (old new : Front S) → (X → new ≡ old) →
+  pub lent_desk : {X : Type 0} (old new : Front S L) → (X → new ≡ old) →
       (start end : Streams) (result : Result ⊤ EngineFault) →
-      InputEnds (λ asked lines. InTurn (LineStep sight) old asked lines new) X start end result →
+      InputEnds (λ asked lines. InTurn (LineStep sight is_losing contents) old asked lines new) X
+      start end result →
       new.desk.ghost_name ≡ old.desk.ghost_name
   lent_desk old new same start end (Ok x) p = same_desk old new _ p.0.replies p.0.done_all
   lent_desk old new same start end (Err Read) p = same_desk old new _ p.replies p.done_all

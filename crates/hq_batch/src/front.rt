@@ -4,12 +4,13 @@ ghost use Rattle.std.specs.Prelude.{◌≡◌, Some, IfOk, string_bytes, option_
 ghost use Rattle.hq_wire.specs.Runs.{RepliesSo};
 ghost use Rattle.hq_lines.specs.Fields.{request_in, line_request};
 ghost use Rattle.hq_batch.specs.Batches.{ask_in};
-ghost use Rattle.hq_batch.specs.Steps.{IsOfLine, LineStep};
+ghost use Rattle.hq_batch.specs.Steps.{IsOfLine, IsOfReplied, IsLineToLog, LineStep};
 
 use crate::writing::write_reply;
 use hq_desk::Desk;
-use hq_envelope::{Fault, Refusal};
+use hq_envelope::{Fault, Moment, Refusal};
 use hq_lines::{Answers, RequestLine, read_line};
+use hq_log::{Answered, Log};
 use hq_store::Shelf;
 use hq_wire::{Directory, Exchange, Reply, exchange, fault_reply, refusal_reply};
 use std::alloc::{AllocError, Global};
@@ -38,19 +39,53 @@ fn exchange_of(alloc: Global, line: &RequestLine<'_>) -> Result<Exchange, AllocE
     })
 }
 
+/// What is replied to a line, with its moment and its exchange where these could be read.
+#[derive(Drop)]
+struct Replied {
+    at: Option<Moment>,
+    asked: Option<Exchange>,
+    reply: Reply,
+}
+
+impl Replied {
+    /// What the log is told of.
+    fn answered(&self) -> Answered<'_>
+        ensures { IsLineToLog result self.now }
+    {
+        Answered {
+            at: self.at,
+            asked: self.asked.as_ref(),
+            status: self.reply.status,
+            body: self.reply.body.as_bytes(),
+        }
+    }
+}
+
 /// Replies to a line that can be read.
 fn request_reply<S: Shelf + Drop>(
     alloc: Global,
     desk: &mut Desk<S>,
     directory: &Directory,
     line: &RequestLine<'_>,
-) -> Reply
-    ensures { RepliesSo S.sight directory.now desk.old
-        (ask_in directory.now (Some (line_request line.now))) result desk.new }
+) -> Replied
+    ensures replies { RepliesSo S.sight directory.now desk.old
+        (ask_in directory.now (Some (line_request line.now))) result.reply desk.new }
+    ensures line { IsOfReplied (Some (line_request line.now)) result }
 {
     match exchange_of(alloc, line) {
-        Ok(asked) => exchange(alloc, desk, directory, &asked),
-        Err(_) => fault_reply(Fault::WantOfMemory),
+        Ok(asked) => {
+            let reply = exchange(alloc, desk, directory, &asked);
+            Replied {
+                at: Some(line.at),
+                asked: Some(asked),
+                reply,
+            }
+        }
+        Err(_) => Replied {
+            at: Some(line.at),
+            asked: None,
+            reply: fault_reply(Fault::WantOfMemory),
+        },
     }
 }
 
@@ -60,29 +95,37 @@ fn line_reply<S: Shelf + Drop>(
     desk: &mut Desk<S>,
     directory: &Directory,
     line: &[u8],
-) -> Reply
-    ensures { RepliesSo S.sight directory.now desk.old (ask_in directory.now (request_in line.now))
-        result desk.new }
+) -> Replied
+    ensures replies { RepliesSo S.sight directory.now desk.old
+        (ask_in directory.now (request_in line.now)) result.reply desk.new }
+    ensures line { IsOfReplied (request_in line.now) result }
 {
     match read_line(line) {
         Some(line) => request_reply(alloc, desk, directory, &line),
-        None => refusal_reply(alloc, Refusal::BadRequest),
+        None => Replied {
+            at: None,
+            asked: None,
+            reply: refusal_reply(alloc, Refusal::BadRequest),
+        },
     }
 }
 
-/// The desk with the directory of its customers.
+/// The desk with the directory of its customers, and a log.
 #[derive(Drop)]
-pub struct Front<'d, S> {
+pub struct Front<'d, 'l, S, L> {
     pub alloc: Global,
     pub desk: &'d mut Desk<S>,
     pub directory: &'d Directory,
+    pub log: &'l mut L,
 }
 
-impl<'d, S: Shelf + Drop> Answers for Front<'d, S> {
-    ghost steps = { LineStep S.sight };
+impl<S: Shelf + Drop, L: Log> Answers for Front<'_, '_, S, L> {
+    ghost steps = { LineStep S.sight L.is_losing L.contents };
 
     fn answer<W: Write>(&mut self, line: &[u8], writer: &mut W) -> io::Result<()> {
-        let reply = line_reply(self.alloc, self.desk, self.directory, line);
-        write_reply(&reply, writer)
+        self.log.begin();
+        let replied = line_reply(self.alloc, self.desk, self.directory, line);
+        self.log.replied(self.directory, &replied.answered());
+        write_reply(&replied.reply, writer)
     }
 }

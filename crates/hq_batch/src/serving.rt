@@ -8,17 +8,18 @@ use crate::front::Front;
 use hq_base::EngineFault;
 use hq_desk::Desk;
 use hq_lines::serve_lines;
+use hq_log::Log;
 use hq_store::Shelf;
 use hq_wire::Directory;
 use std::alloc::Global;
 use std::io::{Read, Write};
 
 /// Replies to the lines of an input with the desk that is lent to the front.
-fn serve_front<R: Read, W: Write, S: Shelf + Drop>(
+fn serve_front<R: Read, W: Write, S: Shelf + Drop, L: Log>(
     alloc: Global,
     reader: &mut R,
     writer: &mut W,
-    front: &mut Front<'_, S>,
+    front: &mut Front<'_, '_, S, L>,
 ) -> Result<(), EngineFault>
     ensures same_reference { front.new.desk.ghost_name ≡ front.old.desk.ghost_name }
     ensures ended { InputEnds (λ asked lines. Replied S.sight front.old.directory.now
@@ -44,15 +45,18 @@ fn serve_front<R: Read, W: Write, S: Shelf + Drop>(
 /// calls alone, whatever other lines come between. A call that is replied to with 503 does not
 /// count.
 ///
+/// Each reply is told in the log, which changes nothing of this.
+///
 /// Room for a line is taken before the first read; where it is refused, nothing is read. At most
 /// 67,108,864 reads are made, an interrupted one counted. After a fault of reading the whole lines
 /// before it are replied to; after a fault of writing the exchanges of the first lines are done.
-pub fn batch<R: Read, W: Write, S: Shelf + Drop>(
+pub fn batch<R: Read, W: Write, S: Shelf + Drop, L: Log>(
     alloc: Global,
     reader: &mut R,
     writer: &mut W,
     desk: &mut Desk<S>,
     directory: &Directory,
+    log: &mut L,
 ) -> Result<(), EngineFault>
     ensures { InputEnds (λ asked lines. Replied S.sight directory.now desk.old asked lines desk.new)
         ((reader.new ≡ reader.old) × (writer.new ≡ writer.old) × (desk.new ≡ desk.old))
@@ -63,6 +67,7 @@ pub fn batch<R: Read, W: Write, S: Shelf + Drop>(
         alloc,
         desk,
         directory,
+        log,
     };
     serve_front(alloc, reader, writer, &mut front)
 }

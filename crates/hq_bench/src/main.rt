@@ -9,6 +9,7 @@ use hq_batch::{EngineFault, batch};
 use hq_desk::Desk;
 use hq_envelope::{Fail, Host, Key, Name};
 use hq_lists::ListShelf;
+use hq_log::NoLog;
 use hq_queue::{Customer, Entry, Quota};
 use hq_wire::{Directory, are_customers};
 use std::alloc::Global;
@@ -91,5 +92,13 @@ fn main(rt: HostRuntime) -> Result<(), BenchError> {
     let mut desk = Desk::new(ListShelf::new(alloc), host);
     let mut input = rt.stdin();
     let mut output = rt.stdout();
-    batch(alloc, &mut input, &mut output, &mut desk, &directory).map_err(BenchError::Lines)
+    batch(
+        alloc,
+        &mut input,
+        &mut output,
+        &mut desk,
+        &directory,
+        &mut NoLog,
+    )
+    .map_err(BenchError::Lines)
 }

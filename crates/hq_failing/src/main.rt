@@ -9,6 +9,7 @@ use hq_batch::{EngineFault, batch};
 use hq_desk::Desk;
 use hq_envelope::Fault;
 use hq_lists::ListShelf;
+use hq_log::NoLog;
 use hq_program::words;
 use hq_set_up::set_up;
 use hq_settings::Settings;
@@ -69,6 +70,7 @@ fn reply_over<S: Shelf + Drop>(
         &mut output,
         &mut desk,
         &directory,
+        &mut NoLog,
     )
     .map_err(TrialError::Lines)?;
     let calls = desk.into_shelf().calls();

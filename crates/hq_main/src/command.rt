@@ -9,6 +9,7 @@ use crate::rounds::{do_sweep, print_round};
 use hq_check::check;
 use hq_envelope::Fault;
 use hq_lists::ListShelf;
+use hq_log::{NoLog, log_of};
 use hq_program::{builtin_settings, print, refuse, serve, show, tell};
 use hq_set_up::set_up;
 use hq_sql_admin::{import, migrate, queue, usage};
@@ -32,7 +33,7 @@ fn serve_lists<R: Read, W: Write>(
 {
     let settings = builtin_settings(rt.alloc())?;
     let shelf = ListShelf::new(rt.alloc());
-    serve(rt.alloc(), shelf, settings, input, output)
+    serve(rt.alloc(), shelf, settings, input, output, &mut NoLog)
 }
 
 /// Serves the customers of a directory, over a store in memory or in a file.
@@ -48,7 +49,8 @@ fn serve_batch<R: Read, W: Write>(
         (record { input = R.remaining input.new; output = W.contents output.new }) result }
 {
     let settings = set_up(rt, batch.host, batch.relay_key, batch.directory)?;
-    serve_stored(rt, batch.store, settings, input, output)
+    let mut log = log_of(rt, batch.log);
+    serve_stored(rt, batch.store, settings, input, output, &mut log)
 }
 
 /// Does what a word of the program asks for, and answers the exit status.

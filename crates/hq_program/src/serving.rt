@@ -5,6 +5,7 @@ ghost use Rattle.hq_program.specs.Runs.{ServesOver, RunEnds};
 
 use hq_batch::batch;
 use hq_desk::Desk;
+use hq_log::Log;
 use hq_settings::Settings;
 use hq_store::Shelf;
 use hq_trouble::Trouble;
@@ -12,14 +13,15 @@ use std::alloc::Global;
 use std::io::{Read, Write};
 
 /// Replies to the lines of an input for the customers of these settings, over a shelf that is
-/// dropped when the input has ended. Where there is no memory to begin with, nothing is read or
-/// written.
-pub fn serve<S: Shelf + Drop, R: Read, W: Write>(
+/// dropped when the input has ended, and tells each in the log. Where there is no memory to begin
+/// with, nothing is read or written.
+pub fn serve<S: Shelf + Drop, R: Read, W: Write, L: Log>(
     alloc: Global,
     shelf: S,
     settings: Settings,
     input: &mut R,
     output: &mut W,
+    log: &mut L,
 ) -> Result<(), Trouble>
     ensures { RunEnds (ServesOver S.sight settings shelf)
         ((input.new ≡ input.old) × (output.new ≡ output.old))
@@ -28,6 +30,6 @@ pub fn serve<S: Shelf + Drop, R: Read, W: Write>(
 {
     let Settings { host, directory } = settings;
     let mut desk = Desk::new(shelf, host);
-    batch(alloc, input, output, &mut desk, &directory)?;
+    batch(alloc, input, output, &mut desk, &directory, log)?;
     Ok(())
 }

@@ -1,2 +1,3 @@
 pub mod Connected
+pub mod Logging
 pub mod Runs

@@ -1,4 +1,5 @@
 pub mod Connections
 pub mod Deadlines
 pub mod Listening
+pub mod Logged
 pub mod Steps

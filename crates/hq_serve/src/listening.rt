@@ -8,6 +8,7 @@ use crate::serving::serve_one;
 use hq_base::EngineFault;
 use hq_desk::Desk;
 use hq_envelope::Moment;
+use hq_log::Log;
 use hq_store::Shelf;
 use hq_wire::Directory;
 use std::alloc::Global;
@@ -47,45 +48,48 @@ fn moment_now<C: Clock>(clock: &C) -> Option<Moment> {
 }
 
 /// Serves one connection, by whatever reads and writes it.
-fn serve_between<R: Read, W: Write, S: Shelf + Drop>(
+fn serve_between<R: Read, W: Write, S: Shelf + Drop, L: Log>(
     alloc: Global,
     reader: &mut R,
     writer: &mut W,
     desk: &mut Desk<S>,
     directory: &Directory,
     at: Moment,
+    log: &mut L,
 ) -> Result<(), EngineFault>
     ensures { DoesSome S.sight directory.now 1 desk.old desk.new }
 {
-    serve_one(alloc, reader, writer, desk, directory, at)
+    serve_one(alloc, reader, writer, desk, directory, at, log)
 }
 
 /// Serves one connection, and gathers its response, so that it leaves in few segments; where there
 /// is no memory to gather it, it leaves as it is written.
-fn serve_gathered<R: Read, W: Write + Drop, S: Shelf + Drop>(
+fn serve_gathered<R: Read, W: Write + Drop, S: Shelf + Drop, L: Log>(
     alloc: Global,
     reader: &mut R,
     writer: &mut W,
     desk: &mut Desk<S>,
     directory: &Directory,
     at: Moment,
+    log: &mut L,
 ) -> Result<(), EngineFault>
     ensures { DoesSome S.sight directory.now 1 desk.old desk.new }
 {
     if let Ok(mut gathered) = BufWriter::new(alloc, &mut *writer) {
-        return serve_between(alloc, reader, &mut gathered, desk, directory, at);
+        return serve_between(alloc, reader, &mut gathered, desk, directory, at, log);
     }
-    serve_between(alloc, reader, writer, desk, directory, at)
+    serve_between(alloc, reader, writer, desk, directory, at, log)
 }
 
 /// Serves one connection within its limits, and where that ends well, lets the client end its side.
-fn serve_stream<C: Clock + AllocGlobal, S: Shelf + Drop>(
+fn serve_stream<C: Clock + AllocGlobal, S: Shelf + Drop, L: Log>(
     rt: &C,
     stream: &TcpStream,
     limits: Limits,
     desk: &mut Desk<S>,
     directory: &Directory,
     at: Moment,
+    log: &mut L,
 ) -> Result<(), EngineFault>
     ensures { DoesSome S.sight directory.now 1 desk.old desk.new }
 {
@@ -102,7 +106,15 @@ fn serve_stream<C: Clock + AllocGlobal, S: Shelf + Drop>(
         idle: limits.idle,
         until,
     };
-    serve_gathered(rt.alloc(), &mut reader, &mut writer, desk, directory, at)?;
+    serve_gathered(
+        rt.alloc(),
+        &mut reader,
+        &mut writer,
+        desk,
+        directory,
+        at,
+        log,
+    )?;
     let _lingered = linger(rt, stream);
     Ok(())
 }
@@ -125,19 +137,21 @@ fn tell<E: Write>(errors: &mut E, served: Result<(), EngineFault>) {
 /// exchanges, of one at most for each that came: to every customer its replies, and what is kept of
 /// it, are those that it would have alone. A connection that ends in a fault, or takes longer than
 /// the limits allow, is told in a line, `hq: input` while its request is read and `hq: output`
-/// while its response is written, and the next is served.
+/// while its response is written, and the next is served. What is replied to is told in the log,
+/// which changes nothing of this.
 ///
 /// When a response is written, what its client still sends is read and thrown away, until the
 /// client ends its side, for a second at most: a connection closed before that would be reset, and
 /// its response lost. So one connection takes at most twice `limits.request`, and a second, beside
 /// what its exchange takes.
-pub fn serve_on<C: Clock + AllocGlobal, S: Shelf + Drop, E: Write>(
+pub fn serve_on<C: Clock + AllocGlobal, S: Shelf + Drop, E: Write, L: Log>(
     rt: &C,
     connections: &mut Connections,
     limits: Limits,
     desk: &mut Desk<S>,
     directory: &Directory,
     errors: &mut E,
+    log: &mut L,
 ) -> End
     ensures { ServesComing S.sight directory.now (connections_left connections.old)
         (connections_left connections.new) result desk.old desk.new }
@@ -151,7 +165,7 @@ pub fn serve_on<C: Clock + AllocGlobal, S: Shelf + Drop, E: Write>(
         let Some(at) = moment_now(rt) else {
             return End::Clock;
         };
-        let served = serve_stream(rt, &stream, limits, desk, directory, at);
+        let served = serve_stream(rt, &stream, limits, desk, directory, at, log);
         tell(errors, served);
     }
 }

@@ -1,16 +1,18 @@
 //! One connection with the desk.
 
-ghost use Rattle.std.specs.Prelude.{◌≡◌, List, ℕ, Option, OnOk};
+ghost use Rattle.std.specs.Prelude.{◌≡◌, false, List, ℕ, Option, IfSome, OnOk, option_map};
 ghost use Rattle.std.specs.Io.KnownBytes.{Appends};
 ghost use Rattle.hq_http.specs.Stages.{request_seen, InputIs};
 ghost use Rattle.hq_wire.specs.Replies.{seen};
 ghost use Rattle.hq_serve.specs.Connections.{response_of, ConnectionEnds};
-ghost use Rattle.hq_serve.specs.Steps.{IsOfRequest, Sends};
+ghost use Rattle.hq_serve.specs.Logged.{LogEnds};
+ghost use Rattle.hq_serve.specs.Steps.{HoldsRequest, IsOfRequest, IsToLog, Sends};
 
 use hq_base::EngineFault;
 use hq_desk::Desk;
 use hq_envelope::{Fault, Moment};
 use hq_http::{Input, Request, read_request, write_response};
+use hq_log::{Answered, Log};
 use hq_store::Shelf;
 use hq_wire::{Directory, Exchange, Reply, exchange, fault_reply, refusal_reply};
 use std::alloc::Global;
@@ -29,6 +31,27 @@ fn exchange_of(request: Request, at: Moment) -> Exchange
     }
 }
 
+/// What is replied, and the exchange where there is one.
+#[derive(Drop)]
+struct Replied {
+    asked: Option<Exchange>,
+    reply: Reply,
+}
+
+impl Replied {
+    /// What the log is told of, at the moment of the connection.
+    fn answered(&self, at: Moment) -> Answered<'_>
+        ensures { IsToLog result at self.now }
+    {
+        Answered {
+            at: Some(at),
+            asked: self.asked.as_ref(),
+            status: self.reply.status,
+            body: self.reply.body.as_bytes(),
+        }
+    }
+}
+
 /// Replies to what a connection asks for; to nothing there is no reply.
 fn reply_to<S: Shelf + Drop>(
     alloc: Global,
@@ -36,17 +59,30 @@ fn reply_to<S: Shelf + Drop>(
     directory: &Directory,
     at: Moment,
     input: Input,
-) -> Option<Reply>
-    ensures { (read_old read_new : Option (List ℕ)) → InputIs read_old read_new input
-        → Sends S.sight directory.now at read_old read_new desk.old result desk.new }
+) -> Option<Replied>
+    ensures sends { (read_old read_new : Option (List ℕ)) → InputIs read_old read_new input
+        → Sends S.sight directory.now at read_old read_new desk.old
+        (option_map (λ r. r.reply) result) desk.new }
+    ensures asked { (read_old read_new : Option (List ℕ)) → InputIs read_old read_new input
+        → IfSome result (λ r. HoldsRequest read_old read_new at r.asked) }
 {
     match input {
         Input::Nothing => None,
-        Input::Refused(refusal) => Some(refusal_reply(alloc, refusal)),
-        Input::NoRoom => Some(fault_reply(Fault::WantOfMemory)),
+        Input::Refused(refusal) => Some(Replied {
+            asked: None,
+            reply: refusal_reply(alloc, refusal),
+        }),
+        Input::NoRoom => Some(Replied {
+            asked: None,
+            reply: fault_reply(Fault::WantOfMemory),
+        }),
         Input::Request(request) => {
             let asked = exchange_of(request, at);
-            Some(exchange(alloc, desk, directory, &asked))
+            let reply = exchange(alloc, desk, directory, &asked);
+            Some(Replied {
+                asked: Some(asked),
+                reply,
+            })
         }
     }
 }
@@ -71,31 +107,43 @@ fn write_reply<W: Write>(writer: &mut W, reply: &Reply) -> io::Result<()>
 /// machine of one customer, started from its own state and given its share of the calls alone; a
 /// call that is replied to with 503 does not count.
 ///
+/// What is replied is told in one line of the log, unless that loses lines, and the log changes
+/// nothing of all this.
+///
 /// An error is `Read` or `TooManyReads`: no head had ended, or the body of one was not whole, and
 /// nothing was done and nothing written; or `Write`: what was asked was done, and how much of its
 /// response went out is not told. At most 300,000 reads are made, an interrupted one counted.
-pub fn serve_one<R: Read, W: Write, S: Shelf + Drop>(
+pub fn serve_one<R: Read, W: Write, S: Shelf + Drop, L: Log>(
     alloc: Global,
     reader: &mut R,
     writer: &mut W,
     desk: &mut Desk<S>,
     directory: &Directory,
     at: Moment,
+    log: &mut L,
 ) -> Result<(), EngineFault>
-    ensures { ConnectionEnds S.sight directory.now at
+    ensures ends { ConnectionEnds S.sight directory.now at
         (record { input = R.remaining reader.old; output = W.contents writer.old })
         (record { input = R.remaining reader.new; output = W.contents writer.new })
         (writer.new ≡ writer.old) desk.old desk.new result }
+    ensures logged { L.is_losing log.new ≡ false → LogEnds directory.now at
+        (record { input = R.remaining reader.old; output = W.contents writer.old })
+        (record { input = R.remaining reader.new; output = W.contents writer.new })
+        (L.is_losing log.old) (L.contents log.old) (L.contents log.new) result }
 {
     let input = match read_request(alloc, reader) {
         Ok(input) => input,
         Err(fault) => return Err(fault),
     };
+    log.begin();
     match reply_to(alloc, desk, directory, at, input) {
         None => Ok(()),
-        Some(reply) => match write_reply(writer, &reply) {
-            Ok(()) => Ok(()),
-            Err(_) => Err(EngineFault::Write),
-        },
+        Some(replied) => {
+            log.replied(directory, &replied.answered(at));
+            match write_reply(writer, &replied.reply) {
+                Ok(()) => Ok(()),
+                Err(_) => Err(EngineFault::Write),
+            }
+        }
     }
 }

@@ -4,6 +4,7 @@
 use crate::desk::open;
 use crate::exchanges::{EMPTY, TOO_LONG, USAGE};
 use hq_envelope::Fail as Failure;
+use hq_log::NoLog;
 use hq_serve::{Connections, End, Limits, serve_on};
 use std::io::{self, Read, Write};
 use std::net::{Net, Shutdown, TcpListener, TcpStream};
@@ -61,6 +62,7 @@ fn served(rt: &HostRuntime, listener: TcpListener, count: u32) -> Result<Outcome
         &mut office.desk,
         &office.directory,
         &mut errors,
+        &mut NoLog,
     );
     Ok(Outcome {
         end,

@@ -7,6 +7,7 @@ ghost use Rattle.hq_sql_shelf.specs.Shelf.{sight_over};
 ghost use Rattle.hq_sql_program.specs.Runs.{OpenedEnds, MemoryEnds, StoreEnds};
 
 use hq_envelope::Fault;
+use hq_log::Log;
 use hq_program::serve;
 use hq_settings::Settings;
 use hq_sql_file::{FileShelf, open_file};
@@ -18,46 +19,49 @@ use std::io::{Read, Write};
 
 /// Replies to the lines of an input for the customers of these settings, over a store as it was
 /// opened; or tells why it could not be opened, and then nothing is read or written.
-fn serve_opened<S: Alter + Drop, R: Read, W: Write>(
+fn serve_opened<S: Alter + Drop, R: Read, W: Write, L: Log>(
     rt: &HostRuntime,
     opened: Result<SqlShelf<S>, Fault>,
     settings: Settings,
     input: &mut R,
     output: &mut W,
+    log: &mut L,
 ) -> Result<(), Trouble>
     ensures { OpenedEnds (sight_over (state S.Store)) settings opened
         ((input.new ≡ input.old) × (output.new ≡ output.old))
         (record { input = R.remaining input.old; output = W.contents output.old })
         (record { input = R.remaining input.new; output = W.contents output.new }) result }
 {
-    serve(rt.alloc(), opened?, settings, input, output)
+    serve(rt.alloc(), opened?, settings, input, output, log)
 }
 
 /// Serves the customers from an empty desk, whose store stands in memory.
-fn serve_memory<R: Read, W: Write>(
+fn serve_memory<R: Read, W: Write, L: Log>(
     rt: &HostRuntime,
     settings: Settings,
     input: &mut R,
     output: &mut W,
+    log: &mut L,
 ) -> Result<(), Trouble>
     ensures { MemoryEnds settings ((input.new ≡ input.old) × (output.new ≡ output.old))
         (record { input = R.remaining input.old; output = W.contents output.old })
         (record { input = R.remaining input.new; output = W.contents output.new }) result }
 {
     let opened = SqlShelf::open_memory(rt.alloc());
-    serve_opened(rt, opened, settings, input, output)
+    serve_opened(rt, opened, settings, input, output, log)
 }
 
 /// Replies to the lines of an input for the customers of these settings, over the store of a path,
 /// which is made where it is missing, or without a path over an empty one in memory. A store that
 /// cannot be opened is told as 90, 91, 92 or 93; then, and where there is no memory to begin with,
-/// nothing is read or written.
-pub fn serve_stored<R: Read, W: Write>(
+/// nothing is read or written. Each reply is told in the log.
+pub fn serve_stored<R: Read, W: Write, L: Log>(
     rt: &HostRuntime,
     store: Option<&str>,
     settings: Settings,
     input: &mut R,
     output: &mut W,
+    log: &mut L,
 ) -> Result<(), Trouble>
     ensures { StoreEnds ⟦<FileShelf as Shelf>⟧.sight
         (option_map (λ s. s.now) store.entry) settings
@@ -66,7 +70,7 @@ pub fn serve_stored<R: Read, W: Write>(
         (record { input = R.remaining input.new; output = W.contents output.new }) result }
 {
     match store {
-        None => serve_memory(rt, settings, input, output),
-        Some(path) => serve_opened(rt, open_file(rt, path), settings, input, output),
+        None => serve_memory(rt, settings, input, output, log),
+        Some(path) => serve_opened(rt, open_file(rt, path), settings, input, output, log),
     }
 }

@@ -9,6 +9,7 @@ ghost use Rattle.hq_sql_server.specs.Runs.{StoreServerEnds, ServeEnds};
 use crate::listening::{limits, listen};
 use hq_desk::Desk;
 use hq_envelope::Fault;
+use hq_log::log_of;
 use hq_serve::{Connections, End, serve_on};
 use hq_set_up::set_up;
 use hq_settings::Settings;
@@ -47,6 +48,7 @@ fn serve_over<S: Shelf + Drop, W: Write, E: Write>(
     let Settings { host, directory } = settings;
     let mut desk = Desk::new(shelf, host);
     let mut connections = Connections::new(listener, given.count);
+    let mut log = log_of(rt, given.log);
     ended(serve_on(
         rt,
         &mut connections,
@@ -54,6 +56,7 @@ fn serve_over<S: Shelf + Drop, W: Write, E: Write>(
         &mut desk,
         &directory,
         errors,
+        &mut log,
     ))
 }
 

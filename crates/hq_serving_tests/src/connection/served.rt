@@ -2,6 +2,7 @@
 
 use crate::desk::Office;
 use hq_envelope::Moment;
+use hq_log::NoLog;
 use hq_pieces::Pieces;
 use hq_serve::{EngineFault, serve_one};
 use std::io::Write;
@@ -26,6 +27,7 @@ pub fn serve<W: Write>(
         &mut office.desk,
         &office.directory,
         at,
+        &mut NoLog,
     )
 }
 

@@ -1,6 +1,7 @@
 //! A batch over plain lists, and readers and writers in memory: how it ends, and what it writes.
 
 use hq_lists::ListShelf;
+use hq_log::NoLog;
 use hq_pieces::{Narrow, Pieces};
 use hq_program::{builtin_settings, serve};
 use hq_settings::{Relay, Settings};
@@ -47,7 +48,14 @@ struct Ended {
 /// not need.
 fn end_of<R: Read, W: Write>(alloc: Global, input: &mut R, output: &mut W) -> Result<(), Trouble> {
     let settings = builtin_settings(alloc)?;
-    serve(alloc, ListShelf::new(alloc), settings, input, output)
+    serve(
+        alloc,
+        ListShelf::new(alloc),
+        settings,
+        input,
+        output,
+        &mut NoLog,
+    )
 }
 
 /// A batch over this input.
@@ -158,7 +166,14 @@ fn customers_of_other_settings(rt: HostRuntime) -> Result<(), Fail> {
         .as_bytes();
     let mut output = Vec::new(rt.alloc());
     let shelf = ListShelf::new(rt.alloc());
-    serve(rt.alloc(), shelf, settings, &mut input, &mut output)?;
+    serve(
+        rt.alloc(),
+        shelf,
+        settings,
+        &mut input,
+        &mut output,
+        &mut NoLog,
+    )?;
     let unknown = "401 {\"error\":2,\"name\":\"NoKey\"}\n";
     let relay = "403 {\"error\":3,\"name\":\"WrongRole\"}\n";
     let want = format!(in rt.alloc(); "{LISTED}{unknown}{unknown}{relay}")?;

@@ -7,8 +7,8 @@ use Rattle.hq_wire.proofs.Serving.{told_once}
 use Rattle.hq_batch.specs.Batches.{ask_in}
 use Rattle.hq_batch.proofs.front.line_reply.Goals as goal
 
-pub returns-in-None : goal.returns-in-None
-returns-in-None g c =
+pub returns-in-None-clause-replies : goal.returns-in-None-clause-replies
+returns-in-None-clause-replies g c =
     let sight = g.S.Shelf.sight in
     let d = c.args.directory.now in
     let desk = c.args.desk.now in

@@ -14,4 +14,4 @@ returns g c =
       output = g.W.Write.contents c.serve_one.new.writer;
     })
     (c.serve_one.new.writer ≡ c.args.writer.now)
-    c.args.desk.now c.serve_one.new.desk c.serve_one.result c.serve_one.ensures
+    c.args.desk.now c.serve_one.new.desk c.serve_one.result c.serve_one.ensures.ends

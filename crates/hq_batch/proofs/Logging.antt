@@ -1,0 +1,64 @@
+-- The line of the log for a line of a batch.
+use Rattle.std.specs.Io.KnownBytes.{Appends}
+use Rattle.std.proofs.Common.{◌≡◌, ◌∙◌, ℕ, Bool, List, Option, None, Some, refl, sym, subst}
+use Rattle.hq_lines.specs.Fields.{LineRequest}
+use Rattle.hq_log.specs.Entries as entries
+use Rattle.hq_log.specs.Entries.{IsTold, customer_named}
+use Rattle.hq_log.specs.Lines.{LogEntry, log_line_behind}
+use Rattle.hq_log.specs.declared.keeping.Answered.{Answered}
+use Rattle.hq_requests.specs.declared.directory.Directory.{Directory}
+use Rattle.hq_requests.specs.declared.exchanges.Exchange.{Exchange}
+use Rattle.hq_wire.specs.Replies.{SeenReply, IsSent}
+use Rattle.hq_batch.specs.Steps.{HoldsLine, IsLineLogged, IsOfReplied, IsLineToLog, moment_of}
+use Rattle.hq_batch.specs.declared.front.Replied.{Replied}
+
+none_is_some : (q : LineRequest) (known : Option LineRequest) → known ≡ None → known ≡ Some q → ⊥
+none_is_some q known none some =
+    let clash : None ≡ Some q = sym none ∙ some in
+    cc
+
+module _ (d : Directory) (request : Option LineRequest) (r : SeenReply) (lost : Bool)
+    (old new : Option (List ℕ)) (milliseconds : Option ℕ) where
+  of_line : (asked : Option Exchange) → HoldsLine request asked →
+      Appends old new (log_line_behind lost
+      (entries.exchange_entry d (moment_of request) asked r.status r.body milliseconds)) →
+      IsLineLogged d request r lost old new
+  of_line (Some x) (q, is_request, is) told = record {
+    known = Some q;
+    is_known = λ other same. is_request ∙ same;
+    milliseconds = milliseconds;
+    told = subst (λ (t : LogEntry). Appends old new (log_line_behind lost t)) (λ i. record {
+      at = moment_of request;
+      customer = customer_named d (is.3 i) (is.2 i);
+      method = Some (is.1 i);
+      path = Some (is.2 i);
+      status = r.status;
+      body = r.body;
+      milliseconds = milliseconds;
+    }) told;
+  }
+  of_line None holds told = record {
+    known = None;
+    is_known = λ q is. absurd (none_is_some q None refl is);
+    milliseconds = milliseconds;
+    told = told;
+  }
+
+-- what the log was told of, once it was begun, is what the line asks for, and its reply
+pub logged_as : (d : Directory) (request : Option LineRequest) (r : SeenReply)
+    (lost begun_lost : Bool) (old begun new : Option (List ℕ)) (told : Answered)
+    (replied : Replied) → begun_lost ≡ lost → begun ≡ old → IsLineToLog told replied →
+    IsOfReplied request replied → IsSent replied.reply r → IsTold d told begun_lost begun new →
+    IsLineLogged d request r lost old new
+logged_as d request r lost begun_lost old begun new told replied same_lost same is holds sent line =
+    let at = is.0 ∙ holds.0 in
+    let status = is.2 ∙ sym sent.0 in
+    let body = is.3 ∙ sym sent.1 in
+    of_line d request r lost old new line.0 replied.asked holds.1
+    (subst (λ (t : Bool × Option (List ℕ) × LogEntry). Appends t.1 new (log_line_behind t.0 t.2))
+    (λ i. (
+      same_lost i,
+      same i,
+      entries.exchange_entry d (at i) (is.1 i) (status i) (body i) line.0,
+    ))
+    line.1)

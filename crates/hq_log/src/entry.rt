@@ -1,0 +1,132 @@
+//! One line of a log.
+
+ghost use Rattle.std.specs.Prelude.{◌≡◌, ◌&&◌, IfOk, option_map};
+ghost use Rattle.serde_json.specs.View.{view};
+ghost use Rattle.serde_json.specs.Written.{compact_text};
+ghost use Rattle.hq_bodies.specs.Reading.{json_of};
+ghost use Rattle.hq_log.specs.Lines as lines;
+
+use hq_envelope::Moment;
+use serde_json::{Value, json};
+use std::alloc::{AllocError, Global};
+
+/// What a line tells of an exchange.
+#[derive(Clone, Copy, Drop)]
+pub struct Entry<'e> {
+    /// When it was asked; `None` where that could not be read.
+    pub at: Option<Moment>,
+    /// The customer whose key it shows, or whom the relay names in the path; `None` for another.
+    pub customer: Option<&'e str>,
+    /// The method; `None` where it could not be read.
+    pub method: Option<&'e str>,
+    /// The path, as it stands; `None` where it could not be read.
+    pub path: Option<&'e str>,
+    /// The status of the reply.
+    pub status: u16,
+    /// The body of the reply. Of a refusal or a fault its number is told, of a sweep of all all of
+    /// it, and else nothing.
+    pub body: &'e [u8],
+    /// How long the desk took; `None` where the clock did not tell.
+    pub milliseconds: Option<u64>,
+}
+
+/// A text, or null.
+fn text_value(alloc: Global, text: Option<&str>) -> Result<Value, AllocError>
+    ensures { IfOk result (λ v. view v ≡ lines.text_or_null (option_map (λ t. t.now) text.entry)) }
+{
+    match text {
+        None => Ok(Value::Null),
+        Some(text) => Value::try_from_str(alloc, text),
+    }
+}
+
+/// A number, or null.
+fn number_value(number: Option<u64>) -> Value
+    ensures { view result ≡ lines.number_or_null number }
+{
+    match number {
+        None => Value::Null,
+        Some(number) => Value::from(number),
+    }
+}
+
+/// The JSON value of a body, where it is one; or want of memory.
+fn json_of(alloc: Global, body: &[u8]) -> Result<Option<Value>, AllocError>
+    ensures { IfOk result (λ value. option_map view value ≡ json_of body.now) }
+{
+    match Value::from_slice(alloc, body) {
+        Ok(value) => Ok(Some(value)),
+        Err(error) if error.is_memory() => Err(AllocError),
+        Err(_) => Ok(None),
+    }
+}
+
+/// The number of the refusal or the fault that a body tells; or want of memory.
+fn error_in(alloc: Global, body: &[u8]) -> Result<Option<u64>, AllocError>
+    ensures { IfOk result (λ number. number ≡ lines.error_in body.now) }
+{
+    match json_of(alloc, body)? {
+        None => Ok(None),
+        Some(value) => Ok(value.get("error").and_then(Value::as_u64)),
+    }
+}
+
+/// The number of the refusal or the fault that a reply tells; or want of memory.
+fn error_told(alloc: Global, status: u16, body: &[u8]) -> Result<Option<u64>, AllocError>
+    ensures { IfOk result (λ number. number ≡ lines.error_told status body.now) }
+{
+    if status == 200 {
+        return Ok(None);
+    }
+    error_in(alloc, body)
+}
+
+impl Entry<'_> {
+    /// Whether all customers were swept.
+    fn is_sweep_of_all(&self) -> bool
+        ensures { result ≡ lines.is_sweep_of_all (lines.entry_seen self.now) }
+    {
+        self.status == 200 && matches!(self.path, Some("/relay/sweep"))
+    }
+
+    /// All but what was told of a sweep of all.
+    #[tactic(auto, unfolding(crate::specs::Lines::log_members))]
+    fn members(&self, alloc: Global) -> Result<Value, AllocError>
+        ensures { IfOk result (λ v. view v ≡ lines.log_members (lines.entry_seen self.now)) }
+    {
+        let at = number_value(self.at.map(|at| at.get()));
+        let customer = text_value(alloc, self.customer)?;
+        let error = number_value(error_told(alloc, self.status, self.body)?);
+        let method = text_value(alloc, self.method)?;
+        let milliseconds = number_value(self.milliseconds);
+        let path = text_value(alloc, self.path)?;
+        json!(in alloc; {
+            "at": at, "customer": customer, "error": error, "method": method,
+            "milliseconds": milliseconds, "path": path, "status": self.status
+        })
+    }
+
+    /// The text of the members.
+    #[tactic(auto, using(crate::proofs::NoFloats::members_have_no_float))]
+    fn members_text(&self, alloc: Global) -> Result<Vec<u8>, AllocError>
+        ensures { IfOk result (λ bytes. bytes.items
+            ≡ compact_text (lines.log_members (lines.entry_seen self.now))) }
+    {
+        self.members(alloc)?.to_vec(alloc)
+    }
+
+    /// The line, with its line feed; or want of memory.
+    pub fn line(&self, alloc: Global) -> Result<Vec<u8>, AllocError>
+        ensures { IfOk result (λ bytes. bytes.items ≡ lines.log_line (lines.entry_seen self.now)) }
+    {
+        let mut line = self.members_text(alloc)?;
+        if self.is_sweep_of_all() {
+            line.pop();
+            line.extend_from_slice(b",\"told\":")?;
+            line.extend_from_slice(self.body)?;
+            line.push(b'}')?;
+        }
+        line.push(b'\n')?;
+        Ok(line)
+    }
+}

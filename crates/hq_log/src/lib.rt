@@ -1,0 +1,20 @@
+//! A log of exchanges: a line of JSON for each that was replied to. It tells when, whose, what was
+//! asked, what came of it, and how long the desk took; it tells no key and no body of a request.
+//!
+//! ```
+//! let mut log = log_of(rt, Some("desk.log")); // or "-", for standard error
+//! log.begin();
+//! let reply = exchange(alloc, &mut desk, &directory, &asked);
+//! log.replied(&directory, &answered); // one line more, or `hq: log` on the errors
+//! ```
+#![tactic(auto)]
+
+mod entry;
+mod keeping;
+mod line_log;
+mod target;
+
+pub use entry::Entry;
+pub use keeping::{Answered, Log, NoLog};
+pub use line_log::LineLog;
+pub use target::{HostLog, LogTarget, log_of};
