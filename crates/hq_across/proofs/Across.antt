@@ -1,0 +1,140 @@
+-- Sessions one after another are one run to each customer.
+use Rattle.std.proofs.Common.{◌≡◌, ◌≢◌, ℕ, zero, suc, true, false, cond, List, [], ◌∷◌, ◌++◌}
+use Rattle.std.proofs.Common.{map, filter, sym, refl, ap, ◌∙◌, subst}
+use Rattle.std.specs.Ordering.{eq_by_cmp}
+use Rattle.std.specs.Cmp.Lexicographic.{nat_list_cmp_total}
+use Rattle.std.proofs.lemmas.Map.Lookups.{exact_bytes}
+use Rattle.std.proofs.lemmas.Map.Views.{tells_apart}
+use Rattle.std.proofs.lemmas.Bool.{both_ways}
+use Rattle.hq_queue.specs.declared.account.Entry.{Entry}
+use Rattle.hq_store.specs.Sound.{Sound}
+use Rattle.hq_store.specs.Tables.{Tables, State, text_cmp, own}
+use Rattle.hq_owned.proofs.Parts.{tied_true}
+use Rattle.hq_calls.specs.Machine.{step, shared, state_after}
+use Rattle.hq_calls.specs.declared.call.Call.{Call}
+use Rattle.hq_calls.proofs.Isolation.{caller, others}
+use Rattle.hq_soundness.proofs.Soundness.{shared_sound}
+use Rattle.hq_requests.specs.Directories.{entry_of}
+use Rattle.hq_requests.specs.declared.directory.Directory.{Directory}
+use Rattle.hq_requests.proofs.Entries.{named}
+use Rattle.hq_wire.specs.Runs.{share, calls_in}
+use Rattle.hq_across.specs.Histories.{Session, Unheard, SessionShare, calls_done, after_calls}
+use Rattle.hq_across.specs.Histories.{of_customer, share_across, calls_across, heard_across}
+use Rattle.hq_across.specs.Histories.{state_across, told_across, AloneAcross, Passed}
+use Rattle.hq_across.specs.Histories.{InSessions}
+
+-- ---- calls under way
+
+module _ (host : List ℕ) (d : Directory) (c : List ℕ) where
+  abbrev e : Entry
+  e = entry_of d c
+
+  abbrev next : Tables → Unheard → Tables
+  next t u = (shared host (entry_of d u.customer) t u.at u.call).1
+
+  own_call : (t : Tables) (u : Unheard) → c ≡ u.customer →
+      own c (next t u) ≡ (step host e (own c t) u.at u.call).1
+  own_call t u same =
+      let met : ((shared host e t u.at u.call).0, own c (shared host e t u.at u.call).1)
+      ≡ step host e (own c t) u.at u.call = subst (λ n. (
+        (shared host e t u.at u.call).0,
+        own n (shared host e t u.at u.call).1,
+      ) ≡ step host e (own n t) u.at u.call) (named d.customers c)
+      (caller host e t u.at u.call) in
+      ap (λ n. own c (shared host (entry_of d n) t u.at u.call).1) (sym same) ∙ ap (λ p. p.1) met
+
+  other_call : (t : Tables) (u : Unheard) → c ≢ u.customer → own c (next t u) ≡ own c t
+  other_call t u apart = others host (entry_of d u.customer) t u.at u.call c
+      (λ same. apart (same ∙ named d.customers u.customer))
+
+  abbrev mine : List Unheard → List Unheard
+  mine us = filter (λ (v : Unheard). eq_by_cmp text_cmp c v.customer) us
+
+  -- to each customer they are the calls of its machine that are its own
+  settled : (t : Tables) (us : List Unheard) →
+      own c (after_calls host d t us) ≡ state_after host e (own c t) (of_customer c us)
+  settled t [] = refl
+  settled t (u ∷ us) =
+      let rest = settled (next t u) us in
+      elim (eq_by_cmp text_cmp c u.customer) as (λ b. eq_by_cmp text_cmp c u.customer ≡ b →
+      own c (after_calls host d (next t u) us) ≡ state_after host e (own c t)
+      (map (λ (v : Unheard). (v.at, v.call)) (cond b (u ∷ mine us) (mine us)))) [
+        | true ↦ λ is. rest ∙ ap (λ s. state_after host e s (of_customer c us))
+            (own_call t u (tells_apart exact_bytes c u.customer is))
+        | false ↦ λ is. rest ∙ ap (λ s. state_after host e s (of_customer c us))
+            (other_call t u (λ s. both_ways _ is (ap (eq_by_cmp text_cmp c) (sym s)
+            ∙ tied_true nat_list_cmp_total c)))
+      ] refl
+
+-- ---- histories
+
+state_after-append : (host : List ℕ) (e : Entry) (s : State) (xs ys : List (ℕ × Call)) →
+    state_after host e s (xs ++ ys) ≡ state_after host e (state_after host e s xs) ys
+state_after-append host e s [] ys = refl
+state_after-append host e s (x ∷ xs) ys =
+    state_after-append host e (step host e s x.0 x.1).1 xs ys
+
+-- the count of the first session, and those of the rest
+abbrev choose : ℕ → (ℕ → ℕ) → ℕ → ℕ
+choose count rest zero = count
+choose count rest (suc i) = rest i
+
+module _ (host : List ℕ) (d : Directory) (s : Session) (ss : List Session) (t next t' : Tables)
+    (one : Passed host d s t next) (rest : AloneAcross host d ss next t') (c : List ℕ) where
+  abbrev entry : Entry
+  entry = entry_of d c
+
+  abbrev first : SessionShare
+  first = record {
+    told = share c s.asked s.replies;
+    untold = of_customer c (calls_done d one.found.0 s.under_way);
+  }
+
+  abbrev later : List SessionShare
+  later = share_across d c rest.done ss
+
+  through : own c next ≡ state_across host entry (own c t) first
+  through = ap (own c) one.found.1
+      ∙ settled host d c one.last (calls_done d one.found.0 s.under_way)
+      ∙ ap (λ u. state_after host entry u first.untold) (one.alone.state c)
+
+  told : heard_across c (s ∷ ss) ≡ told_across host c entry (own c t) (first ∷ later)
+  told =
+      let more : heard_across c ss
+      ≡ told_across host c entry (state_across host entry (own c t) first) later =
+      rest.replies c ∙ ap (λ u. told_across host c entry u later) through in
+      λ i. one.alone.replies c i ++ more i
+
+  left : own c t' ≡ state_after host entry (own c t) (calls_across (first ∷ later))
+  left = rest.state c ∙ ap (λ u. state_after host entry u (calls_across later)) through
+      ∙ sym (state_after-append host entry
+      (state_after host entry (own c t) (calls_in first.told)) first.untold (calls_across later))
+      ∙ sym (state_after-append host entry (own c t) (calls_in first.told)
+      (first.untold ++ calls_across later))
+
+pub across : (host : List ℕ) (d : Directory) (h : List Session) (t t' : Tables) →
+    InSessions (Passed host d) h t t' → AloneAcross host d h t t'
+across host d [] t t' h = record { done = λ _. 0; replies = λ c. refl; state = λ c. ap (own c) h }
+across host d (s ∷ ss) t t' h =
+    let rest = across host d ss h.0 t' h.2 in
+    record {
+      done = choose h.1.found.0 rest.done;
+      replies = told host d s ss t h.0 t' h.1 rest;
+      state = left host d s ss t h.0 t' h.1 rest;
+    }
+
+-- ---- soundness
+
+calls_sound : (host : List ℕ) (d : Directory) (t : Tables) (us : List Unheard) → Sound t →
+    Sound (after_calls host d t us)
+calls_sound host d t [] sound = sound
+calls_sound host d t (u ∷ us) sound =
+    calls_sound host d (shared host (entry_of d u.customer) t u.at u.call).1 us
+    (shared_sound host (entry_of d u.customer) t u.at u.call sound)
+
+pub across_sound : (host : List ℕ) (d : Directory) (h : List Session) (t t' : Tables) →
+    InSessions (Passed host d) h t t' → Sound t → Sound t'
+across_sound host d [] t t' h sound = subst Sound (sym h) sound
+across_sound host d (s ∷ ss) t t' h sound =
+    across_sound host d ss h.0 t' h.2 (subst Sound (sym h.1.found.1)
+    (calls_sound host d h.1.last (calls_done d h.1.found.0 s.under_way) (h.1.sound sound)))
