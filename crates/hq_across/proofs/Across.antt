@@ -1,6 +1,6 @@
 -- Sessions one after another are one run to each customer.
 use Rattle.std.proofs.Common.{◌≡◌, ◌≢◌, ℕ, zero, suc, true, false, cond, List, [], ◌∷◌, ◌++◌}
-use Rattle.std.proofs.Common.{map, filter, sym, refl, ap, ◌∙◌, subst}
+use Rattle.std.proofs.Common.{map, filter, take, sym, refl, ap, ◌∙◌, subst}
 use Rattle.std.specs.Ordering.{eq_by_cmp}
 use Rattle.std.specs.Cmp.Lexicographic.{nat_list_cmp_total}
 use Rattle.std.proofs.lemmas.Map.Lookups.{exact_bytes}
@@ -17,8 +17,9 @@ use Rattle.hq_soundness.proofs.Soundness.{shared_sound}
 use Rattle.hq_requests.specs.Directories.{entry_of}
 use Rattle.hq_requests.specs.declared.directory.Directory.{Directory}
 use Rattle.hq_requests.proofs.Entries.{named}
+use Rattle.hq_wire.specs.Exchanges.{Unheard, after_calls}
 use Rattle.hq_wire.specs.Runs.{share, calls_in}
-use Rattle.hq_across.specs.Histories.{Session, Unheard, SessionShare, calls_done, after_calls}
+use Rattle.hq_across.specs.Histories.{Session, SessionShare}
 use Rattle.hq_across.specs.Histories.{of_customer, share_across, calls_across, heard_across}
 use Rattle.hq_across.specs.Histories.{state_across, told_across, AloneAcross, Passed}
 use Rattle.hq_across.specs.Histories.{InSessions}
@@ -87,15 +88,15 @@ module _ (host : List ℕ) (d : Directory) (s : Session) (ss : List Session) (t 
   abbrev first : SessionShare
   first = record {
     told = share c s.asked s.replies;
-    untold = of_customer c (calls_done d one.found.0 s.under_way);
+    untold = of_customer c (take one.found.0 s.under_way);
   }
 
   abbrev later : List SessionShare
-  later = share_across d c rest.done ss
+  later = share_across c rest.done ss
 
   through : own c next ≡ state_across host entry (own c t) first
   through = ap (own c) one.found.1
-      ∙ settled host d c one.last (calls_done d one.found.0 s.under_way)
+      ∙ settled host d c one.last (take one.found.0 s.under_way)
       ∙ ap (λ u. state_after host entry u first.untold) (one.alone.state c)
 
   told : heard_across c (s ∷ ss) ≡ told_across host c entry (own c t) (first ∷ later)
@@ -137,4 +138,4 @@ pub across_sound : (host : List ℕ) (d : Directory) (h : List Session) (t t' : 
 across_sound host d [] t t' h sound = subst Sound (sym h) sound
 across_sound host d (s ∷ ss) t t' h sound =
     across_sound host d ss h.0 t' h.2 (subst Sound (sym h.1.found.1)
-    (calls_sound host d h.1.last (calls_done d h.1.found.0 s.under_way) (h.1.sound sound)))
+    (calls_sound host d h.1.last (take h.1.found.0 s.under_way) (h.1.sound sound)))

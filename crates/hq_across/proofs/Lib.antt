@@ -1,2 +1,3 @@
-mod Across
-mod Lost
+pub mod Across
+pub mod Lost
+pub mod Running

@@ -14,11 +14,11 @@ use Rattle.hq_requests.specs.Calls.{Asked, CallOf, CallOfAll}
 use Rattle.hq_requests.specs.Directories.{entry_of, names_of}
 use Rattle.hq_requests.specs.declared.directory.Directory.{Directory}
 use Rattle.hq_wire.specs.Exchanges.{AllDone, Ask, CallsAll, IsStruck, MayReply, MayReplyTo, of_part}
+use Rattle.hq_wire.specs.Exchanges.{Unheard, unheard_call, calls_asked, after_calls}
 use Rattle.hq_wire.specs.Replies.{Part, SeenReply, reply_of}
 use Rattle.hq_wire.specs.Runs.{AllReplied}
 use Rattle.hq_wire.proofs.Alone.{alone}
-use Rattle.hq_across.specs.Histories.{Unheard, unheard_call, calls_asked, after_calls, cut_with}
-use Rattle.hq_across.specs.Histories.{Passed}
+use Rattle.hq_across.specs.Histories.{Passed, cut_with}
 
 module _ (host : List ℕ) (d : Directory) (at : ℕ) where
   abbrev calls_of : Call → List Part → List Unheard
@@ -73,7 +73,7 @@ module _ (host : List ℕ) (d : Directory) (at : ℕ) where
 pub lost : (may : Fault → Type 0) (host : List ℕ) (d : Directory) (asks : List Ask)
     (rs : List SeenReply) (a : Ask) (r : SeenReply) (t last t' : Tables) →
     AllReplied may host d t asks rs last → (Sound t → Sound last) →
-    MayReply may host d last a r t' → Passed host d (cut_with asks rs a) t t'
+    MayReply may host d last a r t' → Passed host d (cut_with d asks rs a) t t'
 lost may host d asks rs a r t last t' all sound one = record {
   last = last;
   alone = alone may host d t last asks rs all;

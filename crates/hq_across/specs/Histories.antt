@@ -1,61 +1,38 @@
 -- Histories: sessions over one store, one after another, each until the store was closed or the
 -- machine stopped.
 use Rattle.std.specs.Prelude.{◌≡◌, ℕ, suc, List, [], ◌∷◌, ◌++◌, map, filter, take}
-use Rattle.std.specs.Prelude.{Option, None, Some, Result, Ok, Err}
 use Rattle.std.specs.Ordering.{eq_by_cmp}
-use Rattle.hq_base.specs.declared.failure.Refusal.{Refusal}
 use Rattle.hq_queue.specs.declared.account.Entry.{Entry}
 use Rattle.hq_store.specs.Sound.{Sound}
 use Rattle.hq_store.specs.Tables.{State, Tables, text_cmp, own}
-use Rattle.hq_calls.specs.Machine.{shared, answers, state_after}
+use Rattle.hq_calls.specs.Machine.{answers, state_after}
 use Rattle.hq_calls.specs.declared.call.Call.{Call}
-use Rattle.hq_requests.specs.Calls.{Asked, CallOf, CallOfAll}
-use Rattle.hq_requests.specs.Directories.{entry_of, names_of}
+use Rattle.hq_requests.specs.Directories.{entry_of}
 use Rattle.hq_requests.specs.declared.directory.Directory.{Directory}
-use Rattle.hq_wire.specs.Exchanges.{Ask, Told}
+use Rattle.hq_wire.specs.Exchanges.{Ask, Told, Unheard, calls_asked, after_calls}
 use Rattle.hq_wire.specs.Replies.{SeenReply}
 use Rattle.hq_wire.specs.Runs.{Alone, Shared, share, heard, calls_in, told_in}
 
--- A session: what was asked and replied to, and at most one exchange under way, whose reply never
--- came.
+-- A session: what was asked and replied to, and the calls under way as it stopped, of which no
+-- reply tells.
 pub record Session : Type 0 where
   pub asked : List Ask
   pub replies : List SeenReply
-  pub under_way : Option Ask
+  pub under_way : List Unheard
 
--- a session that was cut with this exchange under way
-abbrev pub cut_with : List Ask → List SeenReply → Ask → Session
-cut_with asked replies a = record { asked = asked; replies = replies; under_way = Some a }
+-- nothing was under way
+abbrev pub uncut : List Ask → List SeenReply → Session
+uncut asked replies = record { asked = asked; replies = replies; under_way = [] }
 
--- ---- the exchange under way
+-- this exchange was under way, whose reply never came
+abbrev pub cut_with : Directory → List Ask → List SeenReply → Ask → Session
+cut_with d asked replies a = record {
+  asked = asked;
+  replies = replies;
+  under_way = calls_asked d a.at a.called;
+}
 
--- a call of a customer whose answer reached nobody
-pub record Unheard : Type 0 where
-  pub customer : List ℕ
-  pub at : ℕ
-  pub call : Call
-
-abbrev pub unheard_call : ℕ → Call → List ℕ → Unheard
-unheard_call at call name = record { customer = name; at = at; call = call }
-
--- the calls that an exchange asks for, in the order in which they are done
-abbrev pub calls_asked : Directory → ℕ → Result Asked Refusal → List Unheard
-calls_asked d at (Err refusal) = []
-calls_asked d at (Ok (CallOf name call)) = unheard_call at call name ∷ []
-calls_asked d at (Ok (CallOfAll call)) = map (unheard_call at call) (names_of d)
-
--- so many of them, from the first, were done
-abbrev pub calls_done : Directory → ℕ → Option Ask → List Unheard
-calls_done d count None = []
-calls_done d count (Some a) = take count (calls_asked d a.at a.called)
-
--- the tables that calls leave
-abbrev pub after_calls : List ℕ → Directory → Tables → List Unheard → Tables
-after_calls host d t [] = t
-after_calls host d t (u ∷ us) =
-    after_calls host d (shared host (entry_of d u.customer) t u.at u.call).1 us
-
--- those of one customer
+-- of these calls, those of one customer
 abbrev pub of_customer : List ℕ → List Unheard → List (ℕ × Call)
 of_customer c us = map (λ (u : Unheard). (u.at, u.call))
     (filter (λ (u : Unheard). eq_by_cmp text_cmp c u.customer) us)
@@ -67,14 +44,14 @@ pub record SessionShare : Type 0 where
   pub told : List Shared
   pub untold : List (ℕ × Call)
 
--- its calls of each session; `done` says of each, from 0, how many calls of the exchange under way
--- were done
-abbrev pub share_across : Directory → List ℕ → (ℕ → ℕ) → List Session → List SessionShare
-share_across d c done [] = []
-share_across d c done (s ∷ ss) = record {
+-- its calls of each session; `done` says of each, from 0, how many of the calls under way were
+-- done, from the first
+abbrev pub share_across : List ℕ → (ℕ → ℕ) → List Session → List SessionShare
+share_across c done [] = []
+share_across c done (s ∷ ss) = record {
   told = share c s.asked s.replies;
-  untold = of_customer c (calls_done d (done 0) s.under_way);
-} ∷ share_across d c (λ i. done (suc i)) ss
+  untold = of_customer c (take (done 0) s.under_way);
+} ∷ share_across c (λ i. done (suc i)) ss
 
 -- all of them in order, told or not
 abbrev pub calls_across : List SessionShare → List (ℕ × Call)
@@ -98,7 +75,7 @@ told_across host c e s (p ∷ ps) = told_in c p.told (answers host e s (calls_in
 
 -- ---- the headline across stops
 
--- Of each exchange under way it is settled how many of its calls were done, the same for all
+-- Of each session it is settled how many of the calls under way were done, the same for all
 -- customers. Then for every customer there is its machine, started from its own state and given its
 -- share of the calls alone: over all sessions the customer hears what that machine answers, and
 -- what is kept of it at the end is the state that the machine is left in.
@@ -106,16 +83,16 @@ pub record AloneAcross (host : List ℕ) (d : Directory) (h : List Session) (t t
   where
     pub done : ℕ → ℕ
     pub replies : (c : List ℕ) → heard_across c h
-        ≡ told_across host c (entry_of d c) (own c t) (share_across d c done h)
+        ≡ told_across host c (entry_of d c) (own c t) (share_across c done h)
     pub state : (c : List ℕ) → own c t' ≡ state_after host (entry_of d c) (own c t)
-        (calls_across (share_across d c done h))
+        (calls_across (share_across c done h))
 
 -- ---- what one session gives
 
--- the next opening finds the tables that the first calls of the exchange under way leave, or none
-abbrev pub MayFind : List ℕ → Directory → Tables → Option Ask → Tables → Type 0
+-- the next opening finds the tables that the first calls under way leave, or none
+abbrev pub MayFind : List ℕ → Directory → Tables → List Unheard → Tables → Type 0
 MayFind host d t under_way t' = (count : ℕ)
-    × (t' ≡ after_calls host d t (calls_done d count under_way))
+    × (t' ≡ after_calls host d t (take count under_way))
 
 -- A session from the tables t, behind which the next opening finds the tables t'.
 pub record Passed (host : List ℕ) (d : Directory) (s : Session) (t t' : Tables) : Type 0 where

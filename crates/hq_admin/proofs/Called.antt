@@ -51,8 +51,19 @@ module _ {S : Type 0} (sight : Sight S) (at : ℕ) (asked : Call) where
       quiet = λ clean. clean;
       stays_open = λ open_. open_;
       host = refl;
+      rests = λ clean ours open_ rest. rest;
+      shut = λ clean closed. (λ desk. desk, λ t leaves. leaves);
     };
   }
+
+  -- what is closed stays so
+  still_closed : (old mid : Desk S) → Stays (on sight) old mid → (on sight).is_closed old ≡ true →
+      (on sight).is_closed mid ≡ true
+  still_closed old mid first closed = elim ((on sight).is_closed mid) as (λ b.
+      (on sight).is_closed mid ≡ b → (on sight).is_closed mid ≡ true) [
+        | true ↦ λ is. is
+        | false ↦ λ is. differ (sym (first.stays_open is) ∙ closed)
+      ] refl
 
   keeps_on : (old mid new : Desk S) → Stays (on sight) old mid → Stays (on sight) mid new →
       Stays (on sight) old new
@@ -62,6 +73,14 @@ module _ {S : Type 0} (sight : Sight S) (at : ℕ) (asked : Call) where
     quiet = λ clean. first.quiet (next.quiet clean);
     stays_open = λ open_. first.stays_open (next.stays_open open_);
     host = next.host ∙ first.host;
+    rests = λ clean ours open_ rest.
+        let then = next.quiet clean in
+        let was = next.stays_open open_ in
+        next.rests clean (first.ours then ours was) open_ (first.rests then ours was rest);
+    shut = λ clean closed.
+        let after = next.shut clean (still_closed old mid first closed) in
+        let before = first.shut (next.quiet clean) closed in
+        (λ desk. after.0 (before.0 desk), λ t leaves. before.1 t (after.1 t leaves));
   }
 
   pub one_more : (old mid new : Desk S) (called : List Entry) (told : List Rendered) (entry : Entry)
@@ -102,6 +121,8 @@ module _ {S : Type 0} (sight : Sight S) (at : ℕ) (asked : Call) where
               quiet = kept.quiet;
               stays_open = λ open_. was;
               host = host;
+              rests = kept.rests;
+              shut = kept.shut;
             });
       }
 

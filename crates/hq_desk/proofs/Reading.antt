@@ -1,5 +1,6 @@
 -- Calls that read, one after another; and keys that are looked up on a shelf.
-use Rattle.std.proofs.Common.{◌≡◌, inl, inr, ℕ, Bool, false, List, [], ◌∷◌, Option, Some, None}
+use Rattle.std.proofs.Common.{◌≡◌, inl, inr, ⊎_elim, ℕ, Bool, true, false, List, [], ◌∷◌}
+use Rattle.std.proofs.Common.{Option, Some, None}
 use Rattle.std.proofs.Common.{Result, Ok, Err, IfOk, refl, sym, ap, ◌∙◌, subst}
 use Rattle.std.specs.Prelude.{IfErr}
 use Rattle.hq_base.specs.Refusals.{no_memory}
@@ -10,6 +11,8 @@ use Rattle.hq_access.specs.declared.action.Action.{Action}
 use Rattle.hq_access.specs.declared.pattern.Class.{Class}
 use Rattle.hq_store.specs.Readings.{read_tables}
 use Rattle.hq_store.specs.Shelves.{Sight, Finds, Keeps, KeepsOnErr, IsTallied, one_more}
+use Rattle.hq_store.specs.Shelves.{StopLeavesTables, StopLeavesNoMore, StopLeavesWhole}
+use Rattle.hq_store.specs.Tables.{Tables}
 use Rattle.hq_store.proofs.Then.{finds_on}
 use Rattle.hq_desk.specs.Desks.{with_memory}
 
@@ -23,6 +26,40 @@ tallied_on was mid is l m n x (Err fault.Disk) first next =
     (first.0, next.1, next.2 ∙ ap one_more first.2)
 tallied_on was mid is l m n x (Err fault.BadSchema) first next = next
 tallied_on was mid is l m n x (Err fault.Closed) first next = (next.0, next.1 ∙ ap one_more first.2)
+
+-- ---- what stops leave
+
+apart : {A : Type 0} (b : Bool) → b ≡ false → b ≡ true → A
+apart b is closed = absurd (let no : false ≡ true = sym is ∙ closed in cc)
+
+no_more : {S : Type 0} (sight : Sight S) (old : S) → StopLeavesNoMore sight old old
+no_more sight old = (λ desk. desk, λ t may. may)
+
+-- over two calls
+no_more_on : {S : Type 0} (sight : Sight S) (old mid new : S) → StopLeavesNoMore sight old mid →
+    StopLeavesNoMore sight mid new → StopLeavesNoMore sight old new
+no_more_on sight old mid new first next = (
+  λ desk. next.0 (first.0 desk),
+  λ t may. first.1 t (next.1 t may),
+)
+
+-- the same tables stand, and no more is left
+pub rests_on : {S : Type 0} (sight : Sight S) (old new : S) → StopLeavesNoMore sight old new →
+    sight.tables new ≡ sight.tables old → StopLeavesTables sight old → StopLeavesTables sight new
+rests_on sight old new left same rests = (
+  left.0 rests.0,
+  λ t may. rests.1 t (left.1 t may) ∙ sym same,
+)
+
+-- no more is left, so these tables or others
+pub whole_none : {S : Type 0} (sight : Sight S) (old new : S) (after : Tables) →
+    StopLeavesNoMore sight old new → StopLeavesWhole sight old new after
+whole_none sight old new after left rests = (
+  left.0 rests.0,
+  λ t may. inl (rests.1 t (left.1 t may)),
+)
+
+-- ---- what calls keep
 
 -- two calls keep what each of them keeps
 pub keeps_on : {S X Y : Type 0} (sight : Sight S) (old mid new : S) (x : X)
@@ -39,6 +76,12 @@ keeps_on sight old mid new x result first next = record {
       (sight.fault_count old) (sight.fault_count mid) (sight.fault_count new) x result first.tally
       next.tally;
   cause = next.cause;
+  stops = λ clean either. let before = next.quiet clean in
+      ⊎_elim (λ (ours : sight.is_ours old). no_more_on sight old mid new
+      (first.stops before (inl ours))
+      (next.stops clean (inl (first.ours before ours first.tally.1))))
+      (λ (closed : sight.is_closed old ≡ true). apart (sight.is_closed old) first.tally.0 closed)
+      either;
 }
 
 -- a call keeps no less where memory may be wanted too
@@ -50,6 +93,7 @@ keeps_more sight old new result kept = record {
   quiet = kept.quiet;
   tally = kept.tally;
   cause = cause result kept.cause;
+  stops = kept.stops;
 } where
   cause : {X : Type 0} (result : Result X Fault) → IfErr result sight.may_answer →
       IfErr result (with_memory sight).may_answer
@@ -65,6 +109,7 @@ keeps_all sight old x opened = record {
   quiet = λ clean. clean;
   tally = (opened, opened, refl);
   cause = tt;
+  stops = λ clean either. no_more sight old;
 }
 
 -- where memory was wanted before anything was asked
@@ -76,6 +121,7 @@ keeps_want sight old opened = record {
   quiet = λ clean. clean;
   tally = (opened, opened, refl);
   cause = inl refl;
+  stops = λ clean either. no_more sight old;
 }
 
 -- a fault is seen the same, whatever was to be answered
@@ -97,9 +143,10 @@ keeps_err {X} {Y} sight old new f kept =
           fault_tallied X Y (sight.is_closed old) (sight.is_closed new) (sight.fault_count old)
           (sight.fault_count new) f kept.tally;
       cause = kept.cause;
+      stops = kept.stops;
     }
 
-keeps_ok : {S X Y : Type 0} (sight : Sight S) (old new : S) (x : X) (y : Y) →
+pub keeps_ok : {S X Y : Type 0} (sight : Sight S) (old new : S) (x : X) (y : Y) →
     Keeps sight old new (Ok x) → Keeps sight old new (Ok y)
 keeps_ok sight old new x y kept = record {
   same = kept.same;
@@ -107,6 +154,7 @@ keeps_ok sight old new x y kept = record {
   quiet = kept.quiet;
   tally = kept.tally;
   cause = tt;
+  stops = kept.stops;
 }
 
 -- ---- lookups
@@ -213,6 +261,11 @@ changes_on {S} {X} {Y} {Z} sight old mid new x f result is first next =
           (fault_tallied Y Z (sight.is_closed mid) (sight.is_closed new) (sight.fault_count mid)
           (sight.fault_count new) f next.tally);
       cause = inr next.cause;
+      rests = λ clean ours opened rests. let before = next.quiet clean in
+          next.rests clean (first.ours before ours first.tally.1) opened
+          (rests_on sight old mid (first.stops before (inl ours))
+          (first.same before ours first.tally.1) rests);
+      shut = λ clean closed. apart (sight.is_closed old) first.tally.0 closed;
     })
 
 -- ---- then want of memory
@@ -228,4 +281,7 @@ no_memory_on {S} {X} {Z} sight old new x result is first =
       quiet = first.quiet;
       tally = first.tally;
       cause = inl refl;
+      rests = λ clean ours opened. rests_on sight old new (first.stops clean (inl ours))
+          (first.same clean ours opened);
+      shut = λ clean closed. first.stops clean (inr closed);
     })

@@ -1,8 +1,8 @@
 -- What is said of a desk.
-use Rattle.std.specs.Prelude.{ℕ, ◌≡◌, ◌⊎◌, false, List}
+use Rattle.std.specs.Prelude.{ℕ, ◌≡◌, ◌⊎◌, true, false, List}
 use Rattle.hq_base.specs.Refusals.{no_memory}
 use Rattle.hq_queue.specs.declared.account.Entry.{Entry}
-use Rattle.hq_store.specs.Shelves.{Sight}
+use Rattle.hq_store.specs.Shelves.{Sight, StopLeavesTables, StopLeavesNoMore}
 use Rattle.hq_store.specs.Tables.{Tables}
 use Rattle.hq_calls.specs.Machine.{shared}
 use Rattle.hq_calls.specs.declared.call.Call.{Call}
@@ -36,6 +36,8 @@ on sight = record {
   is_clean = λ desk. sight.is_clean (shelf_of desk);
   is_ours = λ desk. sight.is_ours (shelf_of desk);
   may_answer = λ fault. (fault ≡ no_memory) ⊎ sight.may_answer fault;
+  may_leave = λ desk. sight.may_leave (shelf_of desk);
+  leaves_desk = λ desk. sight.leaves_desk (shelf_of desk);
 }
 
 -- What calls keep of a desk, whatever they answered. `sight` is what is seen of it.
@@ -48,6 +50,11 @@ pub record Stays {S : Type 0} (sight : Sight (Desk S)) (old new : Desk S) : Type
   -- what is open now was open
   pub stays_open : sight.is_closed new ≡ false → sight.is_closed old ≡ false
   pub host : host_of new ≡ host_of old
+  -- while the desk is open, a stop leaves its tables
+  pub rests : sight.is_clean new → sight.is_ours old → sight.is_closed new ≡ false →
+      StopLeavesTables sight old → StopLeavesTables sight new
+  -- one that was closed changes nothing
+  pub shut : sight.is_clean new → sight.is_closed old ≡ true → StopLeavesNoMore sight old new
 
 -- what the shared step makes of its tables: the answer, and the tables afterwards
 abbrev pub stepped : {S : Type 0} → Sight (Desk S) → Desk S → Entry → ℕ → Call → Answer × Tables

@@ -4,7 +4,7 @@
 ghost use Rattle.std.specs.Prelude.{◌≡◌, IfOk, OnOk, option_map};
 ghost use Rattle.hq_store.specs.Readings.{after_number, after_pattern, after_serial};
 ghost use Rattle.hq_store.specs.Shelves.{Finds, FindsSound, Keeps, KeepsOnErr, OnSound};
-ghost use Rattle.hq_store.specs.Shelves.{OnOpenSound};
+ghost use Rattle.hq_store.specs.Shelves.{OnOpenSound, StopLeavesWhole};
 ghost use Rattle.hq_store.specs.Sound.{Sound};
 ghost use Rattle.hq_calls.specs.AccessLines as lines;
 ghost use Rattle.hq_calls.specs.Decision as rules;
@@ -261,7 +261,9 @@ impl<S: Shelf + Drop> Desk<S> {
 
     /// Does a call of a customer at a moment. The answer is rendered before anything is changed,
     /// and nothing takes memory after the changes, so after 90 and 91 the tables are as before;
-    /// after 93 every call answers 93, or 90, until the store is opened again.
+    /// after 93 every call answers 93, or 90, until the store is opened again. Wherever in it the
+    /// process or its machine stops, an opening finds the tables before it or those of the shared
+    /// step.
     pub fn act<R: Render>(
         &mut self,
         alloc: Global,
@@ -279,6 +281,9 @@ impl<S: Shelf + Drop> Desk<S> {
             ≡ (stepped (on S.sight) self.old entry.now at call).1)) }
         ensures sound { OnOpenSound (on S.sight) self.old self.new
             (Sound ((on S.sight).tables self.new)) }
+        ensures stops { OnSound (on S.sight) self.old self.new
+            (StopLeavesWhole (on S.sight) self.old self.new
+            (stepped (on S.sight) self.old entry.now at call).1) }
         // Whatever the store is, what is written is a text that there is room for.
         ensures fits { IfOk result (λ rendered. R.fits render.now rendered.bytes.items) }
         ensures kept { KeepsOnErr (on S.sight) self.old self.new result }

@@ -60,7 +60,8 @@ impl Shelf for ListShelf {
     ghost use Rattle.hq_base.specs.declared.failure.Fault.TheVariants.{WantOfMemory};
     ghost use Rattle.hq_lists.specs.Lists.{tables_of};
 
-    /// It is always clean and open.
+    /// It is always clean and open. It is in memory, and nothing opens it again: no opening finds
+    /// anything.
     ghost sight = { record {
       tables = tables_of;
       is_closed = λ _. false;
@@ -68,6 +69,8 @@ impl Shelf for ListShelf {
       is_clean = λ _. ⊤;
       is_ours = λ _. ⊤;
       may_answer = λ fault. fault ≡ WantOfMemory;
+      may_leave = λ _ _. ⊥;
+      leaves_desk = λ _. ⊤;
     } };
 
     fn head(&mut self, customer: &Name) -> Result<Head, Fault> {

@@ -30,6 +30,8 @@ plain = record {
   is_clean = λ _. ⊤;
   is_ours = λ _. ⊤;
   may_answer = λ fault. fault ≡ WantOfMemory;
+  may_leave = λ _ _. ⊥;
+  leaves_desk = λ _. ⊤;
 }
 
 pub serves : (set : Settings) → settings_seen set ≡ settings → (shelf : ListRows) →

@@ -12,7 +12,9 @@
 ghost use Rattle.std.specs.Prelude.{IfOk};
 ghost use Rattle.sqlite.specs.Files.{file_state};
 ghost use Rattle.sqlite.specs.State.{HasCleanDisk};
+ghost use Rattle.hq_store.specs.Shelves.{StopLeavesTables};
 ghost use Rattle.hq_sql_open.specs.Transactions.{IsSettled};
+ghost use Rattle.hq_sql_shelf.specs.Shelf.{IsOurs};
 ghost use Rattle.hq_sql_file.specs.Opened.{IsOpened};
 
 use hq_envelope::Fault;
@@ -45,11 +47,14 @@ fn make(rt: &HostRuntime, path: &str) {
 /// the ending `-wal` belongs to it, and is made for the same users; one process at a time has them.
 ///
 /// 90 is want of memory, 91 a file that cannot be opened or read, 92 a store that is no desk, and
-/// 93 one whose connection is gone.
+/// 93 one whose connection is gone. Where the process or its machine stops behind it, a desk that
+/// is ours is left with the tables that it has (`rests`).
 pub fn open_file(rt: &HostRuntime, path: &str) -> Result<FileShelf, Fault>
     ensures settled { IfOk result (λ s. HasCleanDisk (file_state s.conn)
         → IsSettled (file_state s.conn)) }
     ensures fresh { IfOk result (IsOpened ⟦<FileShelf as Shelf>⟧.sight) }
+    ensures rests { IfOk result (λ s. HasCleanDisk (file_state s.conn)
+        → IsOurs (file_state s.conn) → StopLeavesTables ⟦<FileShelf as Shelf>⟧.sight s) }
 {
     make(rt, path);
     let conn = match Connection::open(rt, path) {

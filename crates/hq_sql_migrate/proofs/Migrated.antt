@@ -1,8 +1,7 @@
 -- A migration as a whole.
 use Rattle.std.proofs.Common.{◌≡◌, inl, inr, ℕ, cond, List, map, IsTrue, refl, sym, ap, ◌∙◌, subst}
-use Rattle.sqlite.specs.Effect.{Database}
-use Rattle.sqlite.specs.State.{State, HasCleanDisk}
-use Rattle.sqlite.specs.Tree.{Trees}
+use Rattle.sqlite.specs.Effect.{Database, IsDatabase}
+use Rattle.sqlite.specs.State.{State, HasCleanDisk, IsLive}
 use Rattle.hq_keyed.specs.Left.{IsQuiet, LeavesNoMore}
 use Rattle.hq_keyed.specs.Made.{CreatesTable}
 use Rattle.hq_keyed.proofs.Left.{clean_before}
@@ -15,13 +14,14 @@ use Rattle.hq_sql.specs.Rows.{hold_read, head_read, message_read, recipient_read
 use Rattle.hq_sql.specs.Rows.{mark_read, notice_read}
 use Rattle.hq_sql.specs.Tables.{AreHolds, AreHeads, AreMessages, AreRecipients, AreLines, AreMarks}
 use Rattle.hq_sql.specs.Tables.{AreNotices}
+use Rattle.hq_sql_open.specs.Found.{desk_with}
 use Rattle.hq_sql_open.specs.Making.{GoesOn}
 use Rattle.hq_sql_open.specs.Transactions.{IsBegun, IsDone, LeavesAlso, KeepsAll}
 use Rattle.hq_sql_open.proofs.Making.{goes_then, keeps_next}
 use Rattle.hq_sql_migrate.specs.Stores.{first_tables_in, count_on_hold, HasVersion, IsFirst}
 use Rattle.hq_sql_migrate.specs.Stores.{IsLifted}
 use Rattle.hq_sql_migrate.specs.Migration.{HasEmptyHolds, Fills, Stamps, Lifts, Migrates}
-use Rattle.hq_sql_migrate.specs.Migration.{LeavesLifted}
+use Rattle.hq_sql_migrate.specs.Migration.{HoldLifted, LeavesLifted}
 use Rattle.hq_sql.proofs.Tables.{no_index, apart}
 
 pub made_goes : (a b : State) → CreatesTable a b first_schema holds → GoesOn a b
@@ -89,6 +89,7 @@ all_lifted reason count a b c d first m f s =
       };
       count_is = f.count_is ∙ ap (λ rows. count_on_hold (messages_of (map message_read rows)))
           m.others.1.1.0;
+      is_open = s.is_open;
       goes = goes_then a b d (made_goes a b m) (goes_then b c d f.goes s.goes);
     }
 
@@ -119,24 +120,27 @@ migrated reason count a b c d begun first lifts done =
           begun.now_is;
     }
 
--- the database that the commit was to leave
-whole : (reason : List ℕ) (a c : State) → IsLifted reason a.now c.now →
-    IsLifted reason a.now (record { schema = desk_schema; trees = c.now.trees })
-whole reason a c l = subst (IsLifted reason a.now)
-    (λ i. record { schema = l.second.schema_is i; trees = c.now.trees }) l
+-- the trees that the commit was to leave
+whole : (reason : List ℕ) (a c : State) → IsDatabase c.now → IsLifted reason a.now c.now →
+    HoldLifted reason a.now c.now.trees
+whole reason a c sound l =
+    let is : c.now ≡ desk_with c.now.trees =
+    λ i. record { schema = l.second.schema_is i; trees = c.now.trees } in
+    record { sound = subst IsDatabase is sound; lifted = subst (IsLifted reason a.now) is l }
 
 pub commit_stops : (reason : List ℕ) (count : ℕ) (a b c d : State) → IsQuiet b c → IsQuiet c d →
     (HasCleanDisk b → IsBegun a b) → LeavesNoMore a b → (HasCleanDisk b → LeavesNoMore b c) →
-    (HasCleanDisk c → IsFirst b.now → Lifts reason count b c) → LeavesAlso c d c.now.trees
-    → IsFirst a.now → LeavesLifted reason a d
-commit_stops reason count a b c d bc cd begun ab between lifts last first clean db may =
+    (HasCleanDisk c → IsFirst b.now → Lifts reason count b c) → IsLive c →
+    LeavesAlso c d c.now.trees → IsFirst a.now → LeavesLifted reason a d
+commit_stops reason count a b c d bc cd begun ab between lifts live last first clean db may =
     let clean_c = clean_before c d cd clean in
     let clean_b = clean_before b c bc clean_c in
+    let began = begun clean_b in
     elim (last clean db may) [
       | inl before ↦ inl (ab clean_b db (between clean_b clean_c db before))
-      | inr after ↦ inr (subst (λ (t : Trees). IsLifted reason a.now
-          (record { schema = desk_schema; trees = t })) (sym after)
-          (whole reason a c (lifted_from reason count a b c (begun clean_b) first (lifts clean_c))))
+      | inr after ↦ inr (subst (HoldLifted reason a.now) (sym after)
+          (whole reason a c (live (lifts clean_c (first_on a b began first)).is_open).0
+          (lifted_from reason count a b c began first (lifts clean_c))))
     ]
 
 -- ---- what the statements keep, one after another

@@ -120,6 +120,7 @@ module _ (old new : State) where
         schema_is = done.0.schema_is;
         version = record { rowid = it.rowid; row_is = done.0.rows_are };
         others = done.0.others;
+        is_open = w.shown.is_open;
         goes = goes_on old new _ _ _ count w;
       }
 

@@ -1,9 +1,9 @@
 -- What a migration does and keeps. `old` and `new` are what is seen of a connection before and
 -- after.
 use Rattle.std.specs.Prelude.{◌≡◌, ◌≢◌, ◌⊎◌, ℕ, List, [], ◌∷◌, map, Option, None, Some, Result}
-use Rattle.std.specs.Prelude.{OnErr}
+use Rattle.std.specs.Prelude.{OnErr, IsTrue}
 use Rattle.sqlite.specs.declared.error.Error.{Error}
-use Rattle.sqlite.specs.Effect.{Database}
+use Rattle.sqlite.specs.Effect.{Database, IsDatabase}
 use Rattle.sqlite.specs.State.{State, HasCleanDisk, KeepsCommit}
 use Rattle.sqlite.specs.Order.{Row, column}
 use Rattle.sqlite.specs.Tree.{Trees}
@@ -15,6 +15,7 @@ use Rattle.hq_store.specs.Lifted.{holds_for}
 use Rattle.hq_rows.specs.Listed.{messages_of, holds_of}
 use Rattle.hq_sql.specs.Rows.{message_read, hold_read}
 use Rattle.hq_sql.specs.Tables.{AreMessages, AreHolds}
+use Rattle.hq_sql_open.specs.Found.{desk_with}
 use Rattle.hq_sql_open.specs.Making.{GoesOn}
 use Rattle.hq_sql_open.specs.Opening.{versions_in, Rests}
 use Rattle.hq_sql_open.specs.Transactions.{IsSettled}
@@ -48,12 +49,14 @@ pub record Stamps (old new : State) : Type 0 where
   pub schema_is : new.now.schema ≡ desk_schema
   pub version : HasVersion new.now 2
   pub others : (t : ℕ) → t ≢ 0 → IsNoIndex desk_schema t → new.now.trees t ≡ old.now.trees t
+  pub is_open : IsTrue new.is_open
   pub goes : GoesOn old new
 
 -- inside a transaction all of it was done
 pub record Lifts (reason : List ℕ) (count : ℕ) (old new : State) : Type 0 where
   pub lifted : IsLifted reason old.now new.now
   pub count_is : count ≡ count_on_hold (first_tables_in old.now).messages
+  pub is_open : IsTrue new.is_open
   pub goes : GoesOn old new
 
 -- all of it is committed
@@ -62,11 +65,16 @@ pub record Migrates (reason : List ℕ) (count : ℕ) (old new : State) : Type 0
   pub lifted : IsLifted reason old.now new.now
   pub count_is : count ≡ count_on_hold (first_tables_in old.now).messages
 
+-- the trees are those of a whole version 2 store with what that store had
+pub record HoldLifted (reason : List ℕ) (before : Database) (trees : Trees) : Type 0 where
+  pub sound : IsDatabase (desk_with trees)
+  pub lifted : IsLifted reason before (desk_with trees)
+
 -- an open after a crash may find what it might have found before, or a whole version 2 store with
 -- what it had
 abbrev pub LeavesLifted : List ℕ → State → State → Type 0
 LeavesLifted reason old new = HasCleanDisk new → (db : Trees) → new.may_leave db → old.may_leave db
-    ⊎ IsLifted reason old.now (record { schema = desk_schema; trees = db })
+    ⊎ HoldLifted reason old.now db
 
 -- What a migration keeps of a version 1 store.
 pub record KeepsMigration {X : Type 0} (reason : List ℕ) (old new : State)

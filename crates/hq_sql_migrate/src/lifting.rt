@@ -15,7 +15,7 @@ ghost use Rattle.hq_sql_migrate.specs.Stores.{HasVersion, IsFirst};
 ghost use Rattle.hq_sql_migrate.specs.Migration.{HasEmptyHolds, Fills, Stamps, Lifts, Migrates};
 ghost use Rattle.hq_sql_migrate.specs.Migration.{KeepsMigration};
 
-use hq_sql_open::transaction::{begin, commit};
+use hq_sql_open::transaction::{begin, commit, sees_database};
 use sqlite::types::ValueRef;
 use sqlite::{Alter, Connection, Error};
 
@@ -116,6 +116,7 @@ pub(crate) fn migrate<S: Alter>(conn: &mut Connection<S>, reason: &str) -> Resul
 {
     begin(conn)?;
     let count = lift(conn, reason)?;
+    sees_database(conn);
     commit(conn)?;
     Ok(count)
 }

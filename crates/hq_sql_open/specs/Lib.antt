@@ -1,4 +1,5 @@
 pub mod Transactions
 pub mod Standings
 pub mod Making
+pub mod Found
 pub mod Opening

@@ -12,7 +12,7 @@ use Rattle.sqlite.specs.Tree.{Trees}
 use Rattle.hq_keyed.specs.Left.{IsQuiet, LeavesNoMore}
 use Rattle.hq_schema.specs.Schema.{no_schema, version_alone, desk_schema}
 use Rattle.hq_store.specs.Tables.{no_tables}
-use Rattle.hq_sql.specs.Tables.{tables_in}
+use Rattle.hq_sql_open.specs.Found.{HoldDesk}
 use Rattle.hq_sql_open.specs.Transactions.{IsSettled, Commits}
 
 -- what the rows of the version table show
@@ -46,10 +46,11 @@ Opens true old new = (IsUnmade old.now × Commits new no_tables)
     ⊎ (IsDeskStore old.now × Rests old new)
 Opens false old new = IsForeign old.now × Rests old new
 
--- an open after a crash may find what it might have found before, or a desk without a row
+-- an open after a crash may find what it might have found before; or, of a store in which nothing
+-- was made, a desk without a row
 abbrev pub LeavesEmptyDesk : State → State → Type 0
 LeavesEmptyDesk old new = HasCleanDisk new → (db : Trees) → new.may_leave db → old.may_leave db
-    ⊎ (tables_in (record { schema = desk_schema; trees = db }) ≡ no_tables)
+    ⊎ (IsUnmade old.now × HoldDesk db no_tables)
 
 -- What opening keeps.
 pub record KeepsOpening {X : Type 0} (old new : State) (result : Result X Error) : Type 0 where

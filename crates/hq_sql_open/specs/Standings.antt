@@ -1,12 +1,12 @@
 -- What is known of a connection after a statement failed. `old` and `new` are what is seen of it
 -- before and after.
 -- Inner: it serves proofs alone, and no promise rests on it.
-use Rattle.std.specs.Prelude.{◌≡◌, false}
+use Rattle.std.specs.Prelude.{◌≡◌, ◌≢◌, false}
 use Rattle.sqlite.specs.State.{State, HasCleanDisk}
 use Rattle.hq_keyed.specs.Left.{IsQuiet, LeavesNoMore}
 use Rattle.hq_sql_open.specs.Transactions.{IsSettled, IsUndone}
 use Rattle.hq_sql_open.specs.declared.transaction.Standing.{Standing}
-use Rattle.hq_sql_open.specs.declared.transaction.Standing.TheVariants.{Open, Gone}
+use Rattle.hq_sql_open.specs.declared.transaction.Standing.TheVariants.{Open, Gone, Lost}
 
 -- What settling does: what was begun is undone, a connection that is told as open is so, and one
 -- that is told as gone is gone.
@@ -14,5 +14,6 @@ pub record Settles (old new : State) (standing : Standing) : Type 0 where
   pub undone : HasCleanDisk new → IsUndone old new
   pub settled : HasCleanDisk new → standing ≡ Open → IsSettled new
   pub gone : HasCleanDisk new → standing ≡ Gone → new.is_open ≡ false
+  pub asked : standing ≢ Lost
   pub quiet : IsQuiet old new
   pub stops : LeavesNoMore old new

@@ -12,12 +12,13 @@ ghost use Rattle.hq_schema.specs.Schema.{no_schema, version_alone, desk_schema};
 ghost use Rattle.hq_store.specs.Tables.{no_tables};
 ghost use Rattle.hq_sql.specs.Tables.{Leaves};
 ghost use Rattle.hq_sql_open.specs.Making.{MakeTables, AreEmpty};
-ghost use Rattle.hq_sql_open.specs.Opening.{IsVersioned, Opens, KeepsOpening, ShowVersions};
-ghost use Rattle.hq_sql_open.specs.Opening.{ShowsOne, HasVersions, TellsWhether, KeepsReading};
+ghost use Rattle.hq_sql_open.specs.Opening.{IsUnmade, IsVersioned, Opens, KeepsOpening};
+ghost use Rattle.hq_sql_open.specs.Opening.{ShowVersions, ShowsOne, HasVersions, TellsWhether};
+ghost use Rattle.hq_sql_open.specs.Opening.{KeepsReading};
 ghost use Rattle.hq_sql_open.specs.Transactions.{IsSettled, Commits, KeepsAll};
 
 use crate::create::create_all;
-use crate::transaction::{begin, commit};
+use crate::transaction::{begin, commit, sees_database};
 use hq_schema::{is_blank, is_desk, is_version_alone};
 use sqlite::types::ValueRef;
 use sqlite::{Alter, Connection, Error, Row};
@@ -97,11 +98,13 @@ fn make_desk<S: Alter>(conn: &mut Connection<S>, texts: &[&str]) -> Result<(), E
         → MakeTables s (map (λ t. t.now) texts.now) tables → fold created s tables ≡ desk_schema
         → (state S.Store conn.old).now.schema ≡ s
         → AreEmpty s.tables (state S.Store conn.old).now.trees
+        → IsUnmade (state S.Store conn.old).now
         → KeepsOpening (state S.Store conn.old) (state S.Store conn.new) result }
     ensures quiet { IsQuiet (state S.Store conn.old) (state S.Store conn.new) }
 {
     begin(conn)?;
     fill(conn, texts)?;
+    sees_database(conn);
     commit(conn)
 }
 

@@ -2,7 +2,7 @@
 
 ghost use Rattle.std.specs.Prelude.{OnOk};
 ghost use Rattle.sqlite.specs.Held.{state};
-ghost use Rattle.sqlite.specs.State.{HasCleanDisk};
+ghost use Rattle.sqlite.specs.State.{HasCleanDisk, IsLive};
 ghost use Rattle.hq_sql_open.specs.Transactions.{IsBegun, IsDone, KeepsUnlessDone, KeepsOrCommits};
 ghost use Rattle.hq_sql_open.specs.Transactions.{Undoes, Probes};
 ghost use Rattle.hq_sql_open.specs.Standings.{Settles};
@@ -16,8 +16,18 @@ pub enum Standing {
     Open,
     /// It is gone, and every further statement fails.
     Gone,
+    /// It is gone, and was in doubt before; `settle` does not tell it.
+    Lost,
     /// It could not be asked, for want of memory.
     InDoubt,
+}
+
+/// What an open connection sees, and what it committed, are databases: their trees list their
+/// schema, and obey it. A connection keeps them so, and is not asked.
+pub fn sees_database<S: Alter>(conn: &Connection<S>)
+    ensures { IsLive (state S.Store conn.now) }
+{
+    let _schema = conn.schema();
 }
 
 /// Begins a transaction; an error where there is one.

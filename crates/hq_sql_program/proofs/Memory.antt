@@ -12,7 +12,7 @@ use Rattle.hq_store.specs.Tables.{no_tables}
 use Rattle.hq_store.proofs.Empty.{empty_sound}
 use Rattle.hq_sql.specs.Tables.{tables_in}
 use Rattle.hq_sql_open.specs.declared.transaction.Standing.{Standing}
-use Rattle.hq_sql_open.specs.declared.transaction.Standing.TheVariants.{Open, Gone, InDoubt}
+use Rattle.hq_sql_open.specs.declared.transaction.Standing.TheVariants.{Open, Gone, InDoubt, Lost}
 use Rattle.hq_sql_shelf.specs.Shelf.{IsOurs, Stands}
 use Rattle.hq_sql_shelf.specs.declared.shelf.SqlShelf.{SqlShelf}
 use Rattle.hq_desk.specs.Desks.{on, host_of, shelf_of}
@@ -33,8 +33,9 @@ use Rattle.hq_sql_program.specs.Runs.{memory, FromEmpty, ServesFromEmpty, Opened
 -- a store in memory is always open
 stands_in_memory : (standing : Standing) (c : Held MemStore) → Stands standing (state over_memory c)
 stands_in_memory Open c = tt
-stands_in_memory Gone c = refl
+stands_in_memory Gone c = tt
 stands_in_memory InDoubt c = refl
+stands_in_memory Lost c = refl
 
 -- what a desk over a shelf in memory that is empty replied to
 pub from_empty : (settings : Settings) (shelf : SqlShelf MemStore) →

@@ -39,7 +39,7 @@ no_table e = absurd (let k = ap (λ (s : Schema). length s.tables) e in omega (a
 one_table : (version_alone ≡ desk_schema) → ⊥
 one_table e = absurd (let k = ap (λ (s : Schema). length s.tables) e in omega (arith, k))
 
-never_both : (db : Database) → IsUnmade db → db.schema ≡ desk_schema → ⊥
+pub never_both : (db : Database) → IsUnmade db → db.schema ≡ desk_schema → ⊥
 never_both db (inl blank) has = no_table (sym blank ∙ has)
 never_both db (inr alone) has = one_table (sym alone.0 ∙ has)
 

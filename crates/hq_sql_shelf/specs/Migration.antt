@@ -6,15 +6,14 @@ use Rattle.sqlite.specs.Tree.{Trees}
 use Rattle.hq_base.specs.declared.failure.Fault.{Fault}
 use Rattle.hq_base.specs.declared.failure.Fault.TheVariants.{BadSchema, Closed}
 use Rattle.hq_envelope.specs.Words.{earlier_hold}
-use Rattle.hq_schema.specs.Schema.{desk_schema}
 use Rattle.hq_store.specs.Lifted.{lift, FirstSound}
 use Rattle.hq_store.specs.Sound.{Sound}
 use Rattle.hq_store.specs.Tables.{own}
 use Rattle.hq_sql.specs.Tables.{IsDesk, tables_in}
 use Rattle.hq_sql_open.specs.Opening.{Rests}
 use Rattle.hq_sql_open.specs.Transactions.{IsSettled, IsUndone}
-use Rattle.hq_sql_migrate.specs.Migration.{IsFirstStore, IsSecondStore}
-use Rattle.hq_sql_migrate.specs.Stores.{first_tables_in, count_on_hold, IsLifted}
+use Rattle.hq_sql_migrate.specs.Migration.{IsFirstStore, IsSecondStore, HoldLifted}
+use Rattle.hq_sql_migrate.specs.Stores.{first_tables_in, count_on_hold}
 use Rattle.hq_sql_shelf.specs.Shelf.{IsOurs}
 
 -- The store is a desk's of version 2, with each customer's state lifted, and so many messages were
@@ -42,4 +41,4 @@ TellsVersion (Err _) old new = IsUndone old new
 -- Wherever in it a crash comes, it leaves the trees as they were, or the whole store of version 2.
 abbrev pub LeavesEither : State → State → Type 0
 LeavesEither old new = HasCleanDisk new → (db : Trees) → new.may_leave db → (db ≡ old.now.trees)
-    ⊎ IsLifted earlier_hold old.now (record { schema = desk_schema; trees = db })
+    ⊎ HoldLifted earlier_hold old.now db

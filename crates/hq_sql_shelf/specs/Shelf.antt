@@ -5,17 +5,19 @@ use Rattle.sqlite.specs.declared.error.Error.TheVariants.{SqliteFailure}
 use Rattle.sqlite.specs.declared.error.ErrorCode.TheVariants.{OutOfMemory}
 use Rattle.sqlite.specs.Held.{Held}
 use Rattle.sqlite.specs.State.{State, HasCleanDisk}
-use Rattle.sqlite.specs.Effect.{Database}
+use Rattle.sqlite.specs.Effect.{Database, IsDatabase}
+use Rattle.sqlite.specs.Tree.{Trees}
 use Rattle.hq_base.specs.declared.failure.Fault.{Fault}
 use Rattle.hq_base.specs.declared.failure.Fault.TheVariants.{WantOfMemory, Disk, BadSchema, Closed}
 use Rattle.hq_store.specs.Shelves.{Sight, IsTallied, one_more}
 use Rattle.hq_store.specs.Sound.{AreCounted}
 use Rattle.hq_store.specs.Tables.{no_tables}
 use Rattle.hq_sql.specs.Tables.{IsDesk, tables_in}
+use Rattle.hq_sql_open.specs.Found.{desk_with, tables_with}
 use Rattle.hq_sql_open.specs.Opening.{IsUnmade, IsForeign}
 use Rattle.hq_sql_open.specs.Transactions.{IsSettled}
 use Rattle.hq_sql_open.specs.declared.transaction.Standing.{Standing}
-use Rattle.hq_sql_open.specs.declared.transaction.Standing.TheVariants.{Open, Gone}
+use Rattle.hq_sql_open.specs.declared.transaction.Standing.TheVariants.{InDoubt, Gone, Lost}
 use Rattle.hq_sql_shelf.specs.declared.shelf.SqlShelf.{SqlShelf}
 
 -- the fault that an error is told as: the store's want of memory, or any other failure of a
@@ -27,6 +29,7 @@ fault_in _ = Disk
 -- the fault that is told once a statement failed with this error and left the connection so
 abbrev pub fault_left : Standing → Error → Fault
 fault_left Gone error = Closed
+fault_left Lost error = Closed
 fault_left _ error = fault_in error
 
 -- how many 91 and 93 were answered, once this fault is
@@ -37,25 +40,38 @@ fault_counted _ n = n
 
 abbrev pub is_gone : Standing → Bool
 is_gone Gone = true
+is_gone Lost = true
 is_gone _ = false
 
--- the connection is open, as far as the shelf knows without asking
+abbrev pub is_doubtful : Standing → Bool
+is_doubtful InDoubt = true
+is_doubtful Lost = true
+is_doubtful _ = false
+
+-- a shelf that is in doubt, or was so when its connection was lost, has it open
 abbrev pub Stands : Standing → State → Type 0
-Stands Open s = ⊤
-Stands _ s = IsTrue s.is_open
+Stands InDoubt s = IsTrue s.is_open
+Stands Lost s = IsTrue s.is_open
+Stands _ s = ⊤
 
 -- the rows are those of a desk's tables, and the counts in the head rows are those of the rows
 pub record HoldsTables (db : Database) : Type 0 where
   pub desk : IsDesk db
   pub counted : AreCounted (tables_in db)
 
+-- the trees are those of a desk, and its counts those of its rows
+pub record IsWholeDesk (trees : Trees) : Type 0 where
+  pub sound : IsDatabase (desk_with trees)
+  pub holds : HoldsTables (desk_with trees)
+
 -- the connection is in no transaction, and so it is of what is committed
 pub record IsOurs (s : State) : Type 0 where
   pub settled : IsSettled s
   pub holds : HoldsTables s.committed
 
--- What is seen of a shelf, by what is seen of its connection: the tables are what was committed. In
--- doubt, nothing is said of them where the connection is gone.
+-- What is seen of a shelf, by what is seen of its connection: the tables are what was committed.
+-- Where the connection was lost in doubt, nothing is said of them, nor of what a stop leaves. A
+-- stop leaves trees, and the tables are those that they hold as a desk's.
 abbrev pub sight_over : {S : Type 0} → (Held S → State) → Sight (SqlShelf S)
 sight_over seen = record {
   tables = λ s. tables_in (seen s.conn).committed;
@@ -64,6 +80,8 @@ sight_over seen = record {
   is_clean = λ s. HasCleanDisk (seen s.conn) × Stands s.standing (seen s.conn);
   is_ours = λ s. IsOurs (seen s.conn);
   may_answer = λ fault. fault ≢ BadSchema;
+  may_leave = λ s t. (trees : Trees) × (seen s.conn).may_leave trees × (tables_with trees ≡ t);
+  leaves_desk = λ s. (trees : Trees) → (seen s.conn).may_leave trees → IsWholeDesk trees;
 }
 
 -- a statement failed while the shelf was open: what is counted and closed for that fault

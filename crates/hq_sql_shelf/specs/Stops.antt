@@ -5,20 +5,17 @@ use Rattle.sqlite.specs.declared.error.Error.{Error}
 use Rattle.sqlite.specs.State.{State, HasCleanDisk, KeepsCommit}
 use Rattle.sqlite.specs.Tree.{Trees}
 use Rattle.hq_keyed.specs.Left.{IsQuiet}
-use Rattle.hq_schema.specs.Schema.{desk_schema}
 use Rattle.hq_store.specs.Sound.{AreCounted}
 use Rattle.hq_store.specs.Tables.{Tables}
 use Rattle.hq_sql.specs.Tables.{tables_in}
+use Rattle.hq_sql_open.specs.Found.{HoldDesk, tables_with}
 use Rattle.hq_sql_open.specs.Transactions.{IsAtRest}
+use Rattle.hq_sql_shelf.specs.Shelf.{IsWholeDesk}
 
--- the tables of a desk's store with these trees
-abbrev pub tables_with : Trees → Tables
-tables_with trees = tables_in (record { schema = desk_schema; trees = trees })
-
--- an open after a crash may find what it might have found before, or these tables
+-- an open after a crash may find what it might have found before, or a desk with these tables
 abbrev pub LeavesTables : State → State → Tables → Type 0
 LeavesTables old new t = HasCleanDisk new → (db : Trees) → new.may_leave db → old.may_leave db
-    ⊎ (tables_with db ≡ t)
+    ⊎ HoldDesk db t
 
 -- What a transaction keeps that is to leave the tables t.
 pub record KeepsTransaction {X : Type 0} (old new : State) (result : Result X Error) (t : Tables) :
@@ -29,11 +26,11 @@ pub record KeepsTransaction {X : Type 0} (old new : State) (result : Result X Er
   -- wherever in it a crash comes
   pub stops : IsAtRest old → AreCounted (tables_in old.committed) → LeavesTables old new t
 
--- Wherever in a call a crash comes, it leaves the tables before or those after.
+-- Wherever in a call a crash comes, it leaves a desk with the tables before or with those after.
 abbrev pub LeavesWhole : State → State → Tables → Tables → Type 0
 LeavesWhole old new before after = HasCleanDisk new → (db : Trees) → new.may_leave db →
-    (tables_with db ≡ before) ⊎ (tables_with db ≡ after)
+    IsWholeDesk db × ((tables_with db ≡ before) ⊎ (tables_with db ≡ after))
 
--- Once a call has answered, a crash leaves these tables alone.
+-- Once a call has answered, a crash leaves a desk with these tables alone.
 abbrev pub LeavesOnly : State → Tables → Type 0
-LeavesOnly new t = (db : Trees) → new.may_leave db → tables_with db ≡ t
+LeavesOnly new t = (db : Trees) → new.may_leave db → IsWholeDesk db × (tables_with db ≡ t)

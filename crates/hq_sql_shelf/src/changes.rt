@@ -25,7 +25,7 @@ use hq_sql_holds::holds;
 use hq_sql_lines::{lines, marks};
 use hq_sql_messages::messages;
 use hq_sql_notices::notices;
-use hq_sql_open::transaction::{begin, commit};
+use hq_sql_open::transaction::{begin, commit, sees_database};
 use hq_sql_recipients::recipients;
 use hq_store::{Account, Change};
 use sqlite::{Alter, Connection, Error};
@@ -346,6 +346,7 @@ fn transact<S: Alter>(
     }
     begin(conn)?;
     make_all(alloc, conn, customer, changes)?;
+    sees_database(conn);
     commit(conn)
 }
 

@@ -4,7 +4,6 @@
 mod accounts;
 mod calls;
 mod changes;
-pub mod laws;
 mod migrating;
 mod shelf;
 mod writing;

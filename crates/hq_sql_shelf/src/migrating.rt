@@ -22,8 +22,7 @@ use std::alloc::Global;
 /// too, is refused as 92 `BadSchema`, and stays as it is.
 ///
 /// It asks for a connection in no transaction. After 90, 91 and 92 the store holds what it held; 93
-/// tells that the connection is gone. Wherever in it the process or its machine stops, the store is
-/// left as it was or migrated whole.
+/// tells that the connection is gone. Wherever in it a stop comes, the store is as before or whole.
 pub fn migrate<S: Alter>(alloc: Global, conn: &mut Connection<S>) -> Result<u64, Fault>
     ensures lifts { HasCleanDisk (state S.Store conn.new)
         → IsSettled (state S.Store conn.old) → IsFirst (state S.Store conn.old).now

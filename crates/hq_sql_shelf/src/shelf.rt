@@ -6,19 +6,19 @@ ghost use Rattle.sqlite.specs.State.{HasCleanDisk};
 ghost use Rattle.sqlite.specs.Steps.{over_memory};
 ghost use Rattle.hq_base.specs.declared.failure.Fault.TheVariants.{BadSchema, Closed};
 ghost use Rattle.hq_keyed.specs.Left.{IsQuiet, LeavesNoMore};
-ghost use Rattle.hq_store.specs.Shelves.{Keeps};
+ghost use Rattle.hq_store.specs.Shelves.{Keeps, StopLeavesTables};
 ghost use Rattle.hq_store.specs.Tables.{no_tables};
 ghost use Rattle.hq_sql.specs.Tables.{tables_in};
-ghost use Rattle.hq_sql_open.specs.Opening.{IsForeign, Rests};
+ghost use Rattle.hq_sql_open.specs.Opening.{IsForeign, Rests, LeavesEmptyDesk};
 ghost use Rattle.hq_sql_open.specs.Standings.{Settles};
 ghost use Rattle.hq_sql_open.specs.Transactions.{IsSettled, IsUndone};
 ghost use Rattle.hq_sql_open.specs.declared.transaction.Standing.TheVariants.{Open};
 ghost use Rattle.hq_sql_shelf.specs.Shelf.{sight_over, fault_in, fault_left, fault_counted};
-ghost use Rattle.hq_sql_shelf.specs.Shelf.{is_gone, GivesUp, Adopts, IsOurs};
+ghost use Rattle.hq_sql_shelf.specs.Shelf.{is_gone, is_doubtful, GivesUp, Adopts, IsOurs};
 
 use hq_envelope::Fault;
 use hq_sql_open::open;
-use hq_sql_open::transaction::{Standing, settle};
+use hq_sql_open::transaction::{Standing, sees_database, settle};
 use sqlite::{Alter, Connection, Error, ErrorCode, MemStore};
 use std::alloc::Global;
 
@@ -51,7 +51,7 @@ pub(crate) fn fault_after(standing: Standing, error: Error) -> Fault
     ensures { result ≡ fault_left standing error }
 {
     match standing {
-        Standing::Gone => Fault::Closed,
+        Standing::Gone | Standing::Lost => Fault::Closed,
         Standing::Open | Standing::InDoubt => fault_of(error),
     }
 }
@@ -74,7 +74,9 @@ impl<S: Alter> SqlShelf<S> {
     /// and stays as it is.
     ///
     /// It asks for a connection in no transaction, and keeps the allocator. A refused connection
-    /// comes back, and it holds what it held. 93 tells that it is gone.
+    /// comes back, and it holds what it held. 93 tells that it is gone. Wherever a stop comes, the
+    /// store is left as it might have been before, or, where nothing was made in it, as a desk with
+    /// empty tables. A desk that was taken and is ours is left with the tables that it has.
     pub fn adopt(
         alloc: Global,
         mut conn: Connection<S>,
@@ -92,9 +94,19 @@ impl<S: Alter> SqlShelf<S> {
         ensures gone { IfErr result (λ e. HasCleanDisk (state S.Store e.1)
             → e.0 ≡ Closed → (state S.Store e.1).is_open ≡ false) }
         ensures quiet { IfOk result (λ s. IsQuiet (state S.Store conn) (state S.Store s.conn)) }
+        ensures harmless { IfErr result (λ e. IsQuiet (state S.Store conn) (state S.Store e.1)) }
+        ensures stops { IfOk result (λ s. IsSettled (state S.Store conn)
+            → LeavesEmptyDesk (state S.Store conn) (state S.Store s.conn)) }
+        ensures leaves { IfErr result (λ e. IsSettled (state S.Store conn)
+            → LeavesEmptyDesk (state S.Store conn) (state S.Store e.1)) }
+        ensures rests { IfOk result (λ s. HasCleanDisk (state S.Store s.conn)
+            → IsOurs (state S.Store s.conn) → StopLeavesTables (sight_over (state S.Store)) s) }
     {
         match open(&mut conn) {
-            Ok(true) => Ok(SqlShelf::over(alloc, conn)),
+            Ok(true) => {
+                sees_database(&conn);
+                Ok(SqlShelf::over(alloc, conn))
+            }
             Ok(false) => Err((Fault::BadSchema, conn)),
             Err(error) => {
                 let standing = settle(&mut conn);
@@ -103,16 +115,19 @@ impl<S: Alter> SqlShelf<S> {
         }
     }
 
+    /// Whether the shelf is in doubt of its connection, or lost it so, as memory was wanted in the
+    /// very call in which the disk failed: then nothing is said of what a stop leaves.
+    pub fn is_in_doubt(&self) -> bool
+        ensures { result ≡ is_doubtful self.now.standing }
+    {
+        matches!(self.standing, Standing::InDoubt | Standing::Lost)
+    }
+
     /// The connection, to be used otherwise.
     pub fn into_connection(self) -> Connection<S>
         ensures { result ≡ self.conn }
     {
-        let SqlShelf {
-            alloc: _,
-            conn,
-            standing: _,
-            faults: _,
-        } = self;
+        let SqlShelf { conn, .. } = self;
         conn
     }
 
@@ -127,11 +142,14 @@ impl<S: Alter> SqlShelf<S> {
         ensures stops { LeavesNoMore (state S.Store self.old.conn) (state S.Store self.new.conn) }
     {
         if self.standing == Standing::InDoubt {
-            self.standing = settle(&mut self.conn);
+            self.standing = match settle(&mut self.conn) {
+                Standing::Gone => Standing::Lost,
+                standing => standing,
+            };
         }
         match self.standing {
             Standing::Open => Ok(()),
-            Standing::Gone => Err(self.count(Fault::Closed)),
+            Standing::Gone | Standing::Lost => Err(self.count(Fault::Closed)),
             Standing::InDoubt => Err(Fault::WantOfMemory),
         }
     }
@@ -168,6 +186,7 @@ impl SqlShelf<MemStore> {
         ensures empty { IfOk result
             (λ s. tables_in (state over_memory s.conn).committed ≡ no_tables) }
         ensures fresh { IfOk result (λ s. (s.standing ≡ Open) × (s.faults ≡ 0)) }
+        ensures rests { IfOk result (StopLeavesTables (sight_over (state over_memory))) }
         ensures cause { IfErr result (λ fault. (fault ≢ BadSchema) × (fault ≢ Closed)) }
     {
         let Ok(conn) = Connection::open_in_memory(alloc) else {

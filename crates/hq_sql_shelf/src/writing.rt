@@ -12,16 +12,16 @@ ghost use Rattle.hq_sql_shelf.specs.Stops.{LeavesWhole, LeavesOnly};
 use crate::changes;
 use crate::shelf::SqlShelf;
 use hq_envelope::{Fault, Name};
+use hq_sql_open::transaction::sees_database;
 use hq_store::Change;
 use sqlite::Alter;
 
 impl<S: Alter> SqlShelf<S> {
     /// Makes all changes of the customer's rows, in order, or none: what `Shelf::apply` does.
     ///
-    /// Wherever in it the process or its machine stops, the disk holds the trees of the tables
-    /// before it or of those after it, and after `Ok` of those after it alone (`stops`, `durable`).
-    /// This rests on what the store says of its disk. It closes the shelf only where the connection
-    /// is gone (`gone`).
+    /// Wherever in it the process or its machine stops, the disk holds the trees of a desk with the
+    /// tables before it or with those after it, and after `Ok` with those after it alone (`stops`,
+    /// `durable`). It closes the shelf only where the connection is gone (`gone`).
     pub fn write(&mut self, customer: &Name, changes: &[Change]) -> Result<(), Fault>
         ensures made { OnClean (sight_over (state S.Store)) self.old self.new
             (OnOk result (tables_in (state S.Store self.new.conn).committed
@@ -41,6 +41,7 @@ impl<S: Alter> SqlShelf<S> {
             → OnOk result (LeavesOnly (state S.Store self.new.conn) (write_all customer.now
             changes.now (tables_in (state S.Store self.old.conn).committed))) }
     {
+        sees_database(&self.conn);
         self.ready()?;
         match changes::apply(self.alloc, &mut self.conn, customer, changes) {
             Ok(()) => Ok(()),

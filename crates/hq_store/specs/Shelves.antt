@@ -1,6 +1,7 @@
 -- What each call of a shelf says. `sight` is what is seen of the shelf, and `old` and `new` are the
 -- shelf before the call and after it.
-use Rattle.std.specs.Prelude.{◌≡◌, ℕ, ◌+◌, ◌-◌, ◌^◌, min, Bool, true, false, List, Result, Ok, Err}
+use Rattle.std.specs.Prelude.{◌≡◌, ◌⊎◌, ℕ, ◌+◌, ◌-◌, ◌^◌, min, Bool, true, false, List}
+use Rattle.std.specs.Prelude.{Result, Ok, Err}
 use Rattle.std.specs.Prelude.{IfOk, IfErr, OnErr}
 use Rattle.hq_base.specs.declared.failure.Fault.{Fault}
 use Rattle.hq_base.specs.declared.failure.Fault.TheVariants.{WantOfMemory, Disk, BadSchema, Closed}
@@ -22,6 +23,10 @@ pub record Sight (S : Type 0) : Type 1 where
   pub is_ours : S → Type 0
   -- the faults that a call may answer
   pub may_answer : Fault → Type 0
+  -- where the process or its machine stops now, an opening may find these tables
+  pub may_leave : S → Tables → Type 0
+  -- and whatever it may find is a desk's
+  pub leaves_desk : S → Type 0
 
 -- ---- when something is said of the tables
 
@@ -41,6 +46,21 @@ OnSound sight old new P = sight.is_clean new → sight.is_ours old → Sound (si
 abbrev pub OnOpenSound : {S : Type 0} → Sight S → S → S → Type 0 → Type 0
 OnOpenSound sight old new P = sight.is_clean new → sight.is_ours old → sight.is_closed new ≡ false →
     Sound (sight.tables old) → P
+
+-- ---- what a stop leaves, of the process or of its machine
+
+-- a desk, and of its tables this holds
+abbrev pub StopLeaves : {S : Type 0} → Sight S → S → (Tables → Type 0) → Type 0
+StopLeaves sight s P = sight.leaves_desk s × ((t : Tables) → sight.may_leave s t → P t)
+
+-- the tables that there are
+abbrev pub StopLeavesTables : {S : Type 0} → Sight S → S → Type 0
+StopLeavesTables sight s = StopLeaves sight s (λ t. t ≡ sight.tables s)
+
+-- no more than it might have left before
+abbrev pub StopLeavesNoMore : {S : Type 0} → Sight S → S → S → Type 0
+StopLeavesNoMore sight old new = (sight.leaves_desk old → sight.leaves_desk new)
+    × ((t : Tables) → sight.may_leave new t → sight.may_leave old t)
 
 -- ---- what is found, and what is kept
 
@@ -85,6 +105,14 @@ pub record Keeps {S X : Type 0} (sight : Sight S) (old new : S) (result : Result
     pub tally : IsTallied (sight.is_closed old) (sight.is_closed new) (sight.fault_count old)
         (sight.fault_count new) result
     pub cause : IfErr result sight.may_answer
+    -- wherever in it a stop comes
+    pub stops : sight.is_clean new → sight.is_ours old ⊎ (sight.is_closed old ≡ true) →
+        StopLeavesNoMore sight old new
+
+-- A stop in a call that makes changes leaves the tables before or these, all or none of them.
+abbrev pub StopLeavesWhole : {S : Type 0} → Sight S → S → S → Tables → Type 0
+StopLeavesWhole sight old new after = StopLeavesTables sight old →
+    StopLeaves sight new (λ t. (t ≡ sight.tables old) ⊎ (t ≡ after))
 
 -- What a call that changes keeps: the tables where it ends in a fault; and the rest as above.
 pub record KeepsOnErr {S X : Type 0} (sight : Sight S) (old new : S) (result : Result X Fault)
@@ -97,3 +125,8 @@ pub record KeepsOnErr {S X : Type 0} (sight : Sight S) (old new : S) (result : R
   pub tally : IsTallied (sight.is_closed old) (sight.is_closed new) (sight.fault_count old)
       (sight.fault_count new) result
   pub cause : IfErr result sight.may_answer
+  -- while the shelf is open, a stop leaves its tables
+  pub rests : sight.is_clean new → sight.is_ours old → sight.is_closed new ≡ false →
+      StopLeavesTables sight old → StopLeavesTables sight new
+  -- a shelf that was closed changes nothing
+  pub shut : sight.is_clean new → sight.is_closed old ≡ true → StopLeavesNoMore sight old new

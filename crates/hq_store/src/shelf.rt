@@ -4,6 +4,7 @@ ghost use Rattle.std.specs.Prelude.{◌≡◌, OnOk, take, option_map};
 ghost use Rattle.hq_store.specs.Tables.{write_all};
 ghost use Rattle.hq_store.specs.Readings.{page_of, after_pattern, after_number};
 ghost use Rattle.hq_store.specs.Shelves.{Sight, OnClean, Finds, Keeps, KeepsOnErr};
+ghost use Rattle.hq_store.specs.Shelves.{StopLeavesWhole};
 
 use crate::change::Change;
 use crate::mark::Mark;
@@ -21,7 +22,9 @@ use hq_queue::{Counts, Head, Message};
 ///   rows.
 ///
 /// What is said of the tables is said where the store is clean as the call ends, and where its rows
-/// were the rows of the tables before.
+/// were the rows of the tables before. So is what an opening finds where the process or its machine
+/// stops: the tables that there are while the shelf is open, and in a call those before it or
+/// behind it.
 pub trait Shelf {
     /// What is seen of it.
     ghost sight: { Sight Self };
@@ -107,11 +110,14 @@ pub trait Shelf {
             (λ rows. take limit (after_number after rows.notices)) }
         ensures kept { Keeps sight self.old self.new result };
 
-    /// Makes all changes of the customer's rows, in order, or none.
+    /// Makes all changes of the customer's rows, in order, or none: so also where the process or
+    /// its machine stops in it.
     fn apply(&mut self, customer: &Name, changes: &[Change]) -> Result<(), Fault>
         ensures made { OnClean sight self.old self.new
             (OnOk result (sight.tables self.new ≡ write_all customer.now changes.now
             (sight.tables self.old))) }
+        ensures stops { OnClean sight self.old self.new (StopLeavesWhole sight self.old self.new
+            (write_all customer.now changes.now (sight.tables self.old))) }
         ensures kept { KeepsOnErr sight self.old self.new result };
 
     /// How many 91 and 93 the calls have answered; at the greatest `u64` it stays. It takes no

@@ -70,6 +70,8 @@ impl<S: Shelf> Shelf for FailingShelf<S> {
       is_clean = λ s. S.sight.is_clean s.inner;
       is_ours = λ s. S.sight.is_ours s.inner;
       may_answer = λ fault. (fault ≡ Disk) ⊎ ((fault ≡ Closed) ⊎ S.sight.may_answer fault);
+      may_leave = λ s t. S.sight.may_leave s.inner t;
+      leaves_desk = λ s. S.sight.leaves_desk s.inner;
     } };
 
     fn head(&mut self, customer: &Name) -> Result<Head, Fault> {

@@ -50,12 +50,12 @@ pub tells_answer : (status n : ℕ) (body : List ℕ) → status ≡ status_of n
 tells_answer status n body h = ap (λ b. (b && not (bytes_eq body (fault_text WantOfMemory)))
     || false) (ap (λ s. eqb s 503) h ∙ answer_not_struck n)
 
-fault_status : (fault : Fault) → (reply_of_fault fault).status ≡ 503
+pub fault_status : (fault : Fault) → (reply_of_fault fault).status ≡ 503
 unfolding reply_of_fault
 fault_status fault = refl
 
 -- a fault has no parts
-no_parts : (fault : Fault) → (reply_of_fault fault).parts ≡ []
+pub no_parts : (fault : Fault) → (reply_of_fault fault).parts ≡ []
 unfolding reply_of_fault
 no_parts fault = refl
 
@@ -140,7 +140,7 @@ all_done_on host d t mid t' (deed ∷ first) more p q = (
 
 module _ (may : Fault → Type 0) (host : List ℕ) (d : Directory) where
   -- what one exchange did
-  done_once : (t t' : Tables) (at : ℕ) (called : Result Asked Refusal) (r : SeenReply) →
+  pub done_once : (t t' : Tables) (at : ℕ) (called : Result Asked Refusal) (r : SeenReply) →
       MayReplyTo may host d t at called r t' → AllDone host d t (deeds_of at called r) t'
   done_once t t' at (Err e) r h = h.1
   done_once t t' at (Ok (CallOf name call)) r h =

@@ -1,7 +1,7 @@
 -- A call of all customers, one after the other.
-use Rattle.std.proofs.Common.{◌≡◌, ◌⊎◌, inl, inr, ℕ, zero, suc, length, get_or, take, drop, ◌+◌}
-use Rattle.std.proofs.Common.{◌-◌, ◌^◌, ◌<◌, ◌≤◌, Bool, true, false, cond, not, List, [], ◌∷◌, ◌++◌}
-use Rattle.std.proofs.Common.{map, Some, None, Ok, Err, refl, sym, ap, ◌∙◌, subst, arith}
+use Rattle.std.proofs.Common.{◌≡◌, ◌⊎◌, inl, inr, ⊎_elim, ℕ, zero, suc, length, get_or, take, drop}
+use Rattle.std.proofs.Common.{◌+◌, ◌-◌, ◌^◌, ◌<◌, ◌≤◌, Bool, true, false, cond, not, List, [], ◌∷◌}
+use Rattle.std.proofs.Common.{◌++◌, map, Some, None, Ok, Err, refl, sym, ap, ◌∙◌, subst, arith}
 use Rattle.std.proofs.Common.{append-nil, append_assoc}
 use Rattle.std.specs.List.{flat_map}
 use Rattle.std.proofs.lemmas.List.{map-append}
@@ -10,6 +10,7 @@ use Rattle.hq_base.specs.declared.failure.Fault.{Fault}
 use Rattle.hq_base.specs.declared.failure.Fault.TheVariants.{WantOfMemory, Disk, BadSchema, Closed}
 use Rattle.hq_queue.specs.declared.account.Entry.{Entry}
 use Rattle.hq_store.specs.Shelves.{Sight, IsTallied, KeepsOnErr, OnSound, OnOpenSound, one_more}
+use Rattle.hq_store.specs.Shelves.{StopLeavesTables, StopLeavesWhole}
 use Rattle.hq_store.specs.Sound.{Sound}
 use Rattle.hq_store.specs.Tables.{Tables}
 use Rattle.hq_calls.specs.Machine.{shared}
@@ -19,7 +20,8 @@ use Rattle.hq_desk.specs.declared.desk.Desk.{Desk}
 use Rattle.hq_desk.specs.declared.desk.Rendered.{Rendered}
 use Rattle.hq_requests.specs.Calls.{CallOfAll}
 use Rattle.hq_requests.specs.Directories.{entry_of, names_of}
-use Rattle.hq_wire.specs.Exchanges.{AllDone, Exchanged, InPart, StopsClosed, of_part}
+use Rattle.hq_wire.specs.Exchanges.{AllDone, Exchanged, InPart, StopsClosed, Unheard, after_calls}
+use Rattle.hq_wire.specs.Exchanges.{of_part, unheard_call}
 use Rattle.hq_wire.specs.Replies.{AreObjects, IsObject, Part, is_memory, comma_joined}
 use Rattle.hq_wire.specs.Replies.{parts_opening, part_text}
 use Rattle.hq_wire.specs.Replies.{separated, parted_reply}
@@ -88,6 +90,11 @@ counts Closed was is m n h small = one_more_is m n h.1 small
 abbrev pub customer_of_part : Part → List ℕ
 customer_of_part p = p.customer
 
+no_customers : (ps : List Part) → map customer_of_part ps ≡ [] → ps ≡ []
+no_customers [] none = refl
+no_customers (x ∷ xs) none = absurd (let some = ap (λ (ns : List (List ℕ)). length ns) none in
+    omega (arith, some))
+
 module _ {S : Type 0} (sight : Sight S) (d : Directory) (at : ℕ) (call : Call) where
   abbrev tables : Desk S → Tables
   tables = (on sight).tables
@@ -105,7 +112,7 @@ module _ {S : Type 0} (sight : Sight S) (d : Directory) (at : ℕ) (call : Call)
     pub stays : Stays (on sight) old new
     pub tally : (on sight).fault_count new ≡ (on sight).fault_count old
     pub objects : AreObjects parts
-    pub open_ : (names ≡ []) ⊎ ((on sight).is_closed new ≡ false)
+    pub open_ : ((names ≡ []) × (new ≡ old)) ⊎ ((on sight).is_closed new ≡ false)
 
   pub none_yet : (old : Desk S) (body : List ℕ) → body ≡ parts_opening → SoFar old [] old body true
   none_yet old body is = record {
@@ -118,8 +125,56 @@ module _ {S : Type 0} (sight : Sight S) (d : Directory) (at : ℕ) (call : Call)
     stays = stay_put (on sight) old;
     tally = refl;
     objects = tt;
-    open_ = inl refl;
+    open_ = inl (refl, refl);
   }
+
+  -- What holds of a desk of which so much was told, whether it is closed or not.
+  record Reached (old new : Desk S) (parts : List Part) : Type 0 where
+    pub ours : (on sight).is_ours new
+    pub sound : Sound (tables new)
+    pub rests : StopLeavesTables (on sight) new
+    pub done : AllDone (host_of old) d (tables old) (map (of_part at call) parts) (tables new)
+
+  reached : (old new : Desk S) (names : List (List ℕ)) (body : List ℕ) (is_first : Bool)
+      (so_far : SoFar old names new body is_first) → (on sight).is_clean new →
+      (on sight).is_ours old → Sound (tables old) → StopLeavesTables (on sight) old →
+      Reached old new so_far.parts
+  reached old new names body is_first so_far clean ours fit rests = ⊎_elim
+      (λ (none : (names ≡ []) × (new ≡ old)). record {
+        ours = subst (on sight).is_ours (sym none.1) ours;
+        sound = subst (λ n. Sound (tables n)) (sym none.1) fit;
+        rests = subst (StopLeavesTables (on sight)) (sym none.1) rests;
+        done = subst (λ ps. AllDone (host_of old) d (tables old) (map (of_part at call) ps)
+            (tables new)) (sym (no_customers so_far.parts (so_far.whose ∙ none.0)))
+            (ap tables none.1);
+      })
+      (λ (open_ : (on sight).is_closed new ≡ false). record {
+        ours = so_far.stays.ours clean ours open_;
+        sound = so_far.sound clean ours open_ fit;
+        rests = so_far.stays.rests clean ours open_ rests;
+        done = so_far.done clean ours open_ fit;
+      }) so_far.open_
+
+  -- a desk that was closed did nothing
+  closed_told_none : (old new : Desk S) (names : List (List ℕ)) (body : List ℕ) (is_first : Bool)
+      (so_far : SoFar old names new body is_first) → (on sight).is_closed old ≡ true →
+      map (of_part at call) so_far.parts ≡ []
+  closed_told_none old new names body is_first so_far closed = ⊎_elim
+      (λ (none : (names ≡ []) × (new ≡ old)). ap (map (of_part at call))
+      (no_customers so_far.parts (so_far.whose ∙ none.0)))
+      (λ (open_ : (on sight).is_closed new ≡ false). apart
+      (sym (so_far.stays.stays_open open_) ∙ closed)) so_far.open_
+
+  -- the call behind these parts
+  abbrev called_next : List Part → List (List ℕ) → List Unheard
+  called_next parts names =
+      take 1 (drop (length (map (of_part at call) parts)) (map (unheard_call at call) names))
+
+  next_is : (parts : List Part) (name : List ℕ) (more : List (List ℕ)) →
+      called_next parts (map customer_of_part parts ++ name ∷ more)
+      ≡ unheard_call at call name ∷ []
+  next_is [] name more = refl
+  next_is (x ∷ xs) name more = next_is xs name more
 
   -- the call of one customer was done
   pub one_more_done : (old mid new : Desk S) (names : List (List ℕ)) (body longer : List ℕ)
@@ -146,6 +201,8 @@ module _ {S : Type 0} (sight : Sight S) (d : Directory) (at : ℕ) (call : Call)
         quiet = kept.quiet;
         stays_open = λ open_. was_open;
         host = host;
+        rests = kept.rests;
+        shut = kept.shut;
       } in
       let step : List ℕ → Entry → Call → Type 0 =
       λ h e k. (InPart p.text ≡ InPart (part_text entry.name (shared h e (tables mid) at k).0))
@@ -201,27 +258,52 @@ module _ {S : Type 0} (sight : Sight S) (d : Directory) (at : ℕ) (call : Call)
     closed = tells_none (parted_reply so_far.parts None) refl;
     sound = so_far.sound;
     stays = so_far.stays;
+    stops = λ clean ours fit rests.
+        let at_end = reached old new names body is_first so_far clean ours fit rests in (
+          at_end.rests.0,
+          λ t may. (tables new, at_end.done, inl (at_end.rests.1 t may)),
+        );
+    shut = closed_told_none old new names body is_first so_far;
     counted = λ small. let same = so_far.tally in omega (arith, same);
   } where
-    either : (names ≡ []) ⊎ ((on sight).is_closed new ≡ false) → (on sight).is_closed new ≡ true →
-        names_of d ≡ []
-    either (inl none) closed = sym all ∙ none
+    either : ((names ≡ []) × (new ≡ old)) ⊎ ((on sight).is_closed new ≡ false) →
+        (on sight).is_closed new ≡ true → names_of d ≡ []
+    either (inl none) closed = sym all ∙ none.0
     either (inr open_) closed = apart (sym open_ ∙ closed)
 
   -- a fault stopped it at a customer
   pub stopped_at : (old mid new : Desk S) (names : List (List ℕ)) (body : List ℕ) (is_first : Bool)
-      (name : List ℕ) (more : List (List ℕ)) (fault : Fault)
+      (entry : Entry) (made_call : Call) (more : List (List ℕ)) (fault : Fault)
       (so_far : SoFar old names mid body is_first)
-      → names_of d ≡ names ++ name ∷ more
+      → names_of d ≡ names ++ entry.name ∷ more
+      → entry ≡ entry_of d entry.name
+      → made_call ≡ call
       → OnOpenSound (on sight) mid new (Sound (tables new))
+      → OnSound (on sight) mid new (StopLeavesWhole (on sight) mid new
+      (stepped (on sight) mid entry at made_call).1)
       → KeepsOnErr {X = Rendered} (on sight) mid new (Err fault)
       → host_of new ≡ host_of mid
       → Exchanged sight d old (record { at = at; called = Ok (CallOfAll call) })
-      (parted_reply so_far.parts (Some (record { customer = name; fault = fault }))) new
-  stopped_at old mid new names body is_first name more fault so_far all sound kept host =
+      (parted_reply so_far.parts (Some (record { customer = entry.name; fault = fault }))) new
+  stopped_at old mid new names body is_first entry made_call more fault so_far all known same sound
+      stops kept host =
+      let name = entry.name in
       let opens = was_open fault _ _ _ _ kept.tally in
       let keeps : Stays (on sight) mid new =
-      record { ours = kept.ours; quiet = kept.quiet; stays_open = opens; host = host } in
+      record {
+        ours = kept.ours;
+        quiet = kept.quiet;
+        stays_open = opens;
+        host = host;
+        rests = kept.rests;
+        shut = kept.shut;
+      } in
+      let next : (stepped (on sight) mid entry at made_call).1 ≡ after_calls (host_of old) d
+      (tables mid) (called_next so_far.parts (names_of d)) =
+      (λ i. (shared (so_far.stays.host i) (known i) (tables mid) at (same i)).1)
+      ∙ ap (after_calls (host_of old) d (tables mid)) (sym (next_is so_far.parts name more)
+      ∙ ap (called_next so_far.parts) (sym (all ∙ ap (λ ns. ns ++ name ∷ more)
+      (sym so_far.whose)))) in
       record {
         replied = λ clean ours open_ fit.
             let then = kept.quiet clean in
@@ -243,6 +325,19 @@ module _ {S : Type 0} (sight : Sight S) (d : Directory) (at : ℕ) (call : Call)
             sound clean (so_far.stays.ours then ours (opens open_)) open_ (so_far.sound then
             ours (opens open_) fit);
         stays = stay_on (on sight) old mid new so_far.stays keeps;
+        stops = λ clean ours fit rests.
+            let so = reached old mid names body is_first so_far (kept.quiet clean) ours fit rests in
+            let left = stops clean so.ours so.sound so.rests in (
+              left.0,
+              λ t may. (
+                tables mid,
+                so.done,
+                ⊎_elim (λ (is : t ≡ tables mid). inl is)
+                    (λ (is : t ≡ (stepped (on sight) mid entry at made_call).1). inr (is ∙ next))
+                    (left.1 t may),
+              ),
+            );
+        shut = closed_told_none old mid names body is_first so_far;
         counted = λ small. let told = counts fault _ _ _ _ kept.tally small in let same =
             so_far.tally in subst (λ n. cond (not (is_memory fault)) 1 0 + n ≤
             (on sight).fault_count new) same told;

@@ -1,24 +1,34 @@
 -- What one exchange does, by how it goes.
-use Rattle.std.proofs.Common.{◌≡◌, inl, inr, ⊎_elim, ℕ, ◌+◌, ◌≤◌, Bool, true, false, cond, not}
-use Rattle.std.proofs.Common.{◌&&◌, ◌||◌, eqb, List, Option, None, Some, Result, Ok, Err, refl, sym}
+use Rattle.std.proofs.Common.{◌≡◌, ◌⊎◌, inl, inr, ⊎_elim, ℕ, ◌+◌, ◌≤◌, Bool, true, false, cond, not}
+use Rattle.std.proofs.Common.{◌&&◌, ◌||◌, eqb, List, [], ◌∷◌, map, Option, None, Some, Result, Ok}
+use Rattle.std.proofs.Common.{Err, refl, sym, take, drop, length}
 use Rattle.std.proofs.Common.{ap, ◌∙◌, subst, arith}
 use Rattle.std.specs.Prelude.{bytes_eq}
-use Rattle.std.proofs.lemmas.Bool.{false≢true}
+use Rattle.std.proofs.lemmas.Bool.{eq-eqb, false≢true}
 use Rattle.hq_base.specs.Refusals.{no_memory}
 use Rattle.hq_base.specs.declared.failure.Fault.{Fault}
 use Rattle.hq_base.specs.declared.failure.Fault.TheVariants.{WantOfMemory, Disk, BadSchema, Closed}
 use Rattle.hq_base.specs.declared.failure.Refusal.{Refusal}
-use Rattle.hq_store.specs.Shelves.{Sight, IsTallied}
+use Rattle.hq_store.specs.Shelves.{Sight, IsTallied, StopLeaves, StopLeavesTables}
 use Rattle.hq_store.specs.Tables.{Tables}
-use Rattle.hq_desk.specs.Desks.{Stays, on}
+use Rattle.hq_queue.specs.declared.account.Entry.{Entry}
+use Rattle.hq_calls.specs.Machine.{shared}
+use Rattle.hq_calls.specs.declared.call.Call.{Call}
+use Rattle.hq_requests.specs.Directories.{entry_of}
+use Rattle.hq_desk.specs.Desks.{Stays, host_of, on}
 use Rattle.hq_desk.specs.declared.desk.Desk.{Desk}
 use Rattle.hq_desk.specs.declared.desk.Rendered.{Rendered}
 use Rattle.hq_requests.specs.Calls.{Asked, CallOf, CallOfAll}
 use Rattle.hq_wire.specs.Exchanges.{Ask, MayReplyTo, IsRefused, RepliesAnyway, StopsClosed}
-use Rattle.hq_wire.specs.Exchanges.{TellsClosed, Exchanged}
+use Rattle.hq_wire.specs.Exchanges.{TellsClosed, Exchanged, AllDone, Deed, StopMayLeave, Whole}
+use Rattle.hq_wire.specs.Exchanges.{after_calls, deeds_of, of_part, unheard_call}
 use Rattle.hq_wire.specs.Replies.{Part, SeenReply, Stop, fault_text, reply_of_fault, stops_by_store}
 use Rattle.hq_wire.specs.Replies.{parted_reply, tells_store}
 use Rattle.hq_requests.specs.declared.directory.Directory.{Directory}
+use Rattle.hq_wire.proofs.Alone.{fault_status, no_parts}
+
+pub apart : {A : Type 0} → false ≡ true → A
+apart e = absurd (false≢true e)
 
 -- no calls keep all
 pub stay_put : {S : Type 0} (sight : Sight (Desk S)) (desk : Desk S) → Stays sight desk desk
@@ -27,7 +37,18 @@ stay_put sight desk = record {
   quiet = λ clean. clean;
   stays_open = λ open_. open_;
   host = refl;
+  rests = λ clean ours open_ rests. rests;
+  shut = λ clean closed. (λ desk. desk, λ t may. may);
 }
+
+-- what was closed is closed
+pub stays_closed : {S : Type 0} (sight : Sight (Desk S)) (old new : Desk S) → Stays sight old new →
+    sight.is_closed old ≡ true → sight.is_closed new ≡ true
+stays_closed sight old new kept closed = elim (sight.is_closed new) as
+    (λ b. sight.is_closed new ≡ b → sight.is_closed new ≡ true) [
+      | true ↦ λ is. is
+      | false ↦ λ is. apart (sym (kept.stays_open is) ∙ closed)
+    ] refl
 
 -- what two stretches of calls keep, they keep together
 pub stay_on : {S : Type 0} (sight : Sight (Desk S)) (old mid new : Desk S) → Stays sight old mid →
@@ -38,7 +59,77 @@ stay_on sight old mid new first next = record {
   quiet = λ clean. first.quiet (next.quiet clean);
   stays_open = λ open_. first.stays_open (next.stays_open open_);
   host = next.host ∙ first.host;
+  rests = λ clean ours open_ rests.
+      let before = next.quiet clean in
+      let opened = next.stays_open open_ in
+      next.rests clean (first.ours before ours opened) open_
+      (first.rests before ours opened rests);
+  shut = λ clean closed.
+      let one = first.shut (next.quiet clean) closed in
+      let two = next.shut clean (stays_closed sight old mid first closed) in
+      (λ desk. two.0 (one.0 desk), λ t may. one.1 t (two.1 t may));
 }
+
+-- ---- what is told of nothing
+
+-- a fault that is told whole tells of nothing that was done
+pub no_deeds : (fault : Fault) (at : ℕ) (called : Result Asked Refusal) (r : SeenReply) →
+    r ≡ reply_of_fault fault → deeds_of at called r ≡ []
+no_deeds fault at (Err e) r h = refl
+no_deeds fault at (Ok (CallOf name call)) r h =
+    let deed : Deed = record {
+      customer = name;
+      at = at;
+      call = call;
+      in_part = false;
+      told = Whole r;
+    } in
+    ap (λ (b : Bool). cond b [] (deed ∷ []))
+    (eq-eqb r.status 503 (ap (λ (x : SeenReply). x.status) h ∙ fault_status fault))
+no_deeds fault at (Ok (CallOfAll call)) r h =
+    ap (map (of_part at call)) (ap (λ (x : SeenReply). x.parts) h ∙ no_parts fault)
+
+-- so a stop leaves the tables that there were
+pub leaves_as_before : {S : Type 0} (sight : Sight (Desk S)) (host : List ℕ) (d : Directory)
+    (desk : Desk S) (a : Ask) (r : SeenReply) → deeds_of a.at a.called r ≡ [] →
+    StopLeavesTables sight desk →
+    StopLeaves sight desk (StopMayLeave host d (sight.tables desk) a.at a.called r)
+leaves_as_before sight host d desk a r none rests = (
+  rests.0,
+  λ t may. (
+    sight.tables desk,
+    subst (λ (done : List Deed). AllDone host d (sight.tables desk) done (sight.tables desk))
+        (sym none) refl,
+    inl (rests.1 t may),
+  ),
+)
+
+-- where a call of one customer tells of nothing, a stop leaves the tables before or behind it
+pub leaves_one : {S : Type 0} (sight : Sight (Desk S)) (host : List ℕ) (d : Directory)
+    (old new : Desk S) (entry : Entry) (at : ℕ) (call : Call) (r : SeenReply)
+    → deeds_of at (Ok (CallOf entry.name call)) r ≡ []
+    → entry ≡ entry_of d entry.name
+    → StopLeaves sight new (λ t. (t ≡ sight.tables old)
+    ⊎ (t ≡ (shared host entry (sight.tables old) at call).1))
+    → StopLeaves sight new (StopMayLeave host d (sight.tables old) at
+    (Ok (CallOf entry.name call)) r)
+leaves_one sight host d old new entry at call r none known left =
+    let before = sight.tables old in
+    let asked = unheard_call at call entry.name ∷ [] in
+    let next : after_calls host d before (take 1 (drop (length
+    (deeds_of at (Ok (CallOf entry.name call)) r)) asked))
+    ≡ (shared host (entry_of d entry.name) before at call).1 =
+    ap (λ (done : List Deed). after_calls host d before (take 1 (drop (length done) asked))) none
+    in (
+      left.0,
+      λ t may. (
+        before,
+        subst (λ (done : List Deed). AllDone host d before done before) (sym none) refl,
+        ⊎_elim (λ (is : t ≡ before). inl is)
+            (λ (is : t ≡ (shared host entry before at call).1). inr (is
+            ∙ ap (λ e. (shared host e before at call).1) known ∙ sym next)) (left.1 t may),
+      ),
+    )
 
 -- want of memory may be told of anything that was asked
 pub without_room : (may : Fault → Type 0) (host : List ℕ) (d : Directory) (t : Tables) (at : ℕ)
@@ -63,9 +154,6 @@ unfolding reply_of_fault
 memory_is_none = refl
 
 -- ---- 93 is told
-
-pub apart : {A : Type 0} → false ≡ true → A
-apart e = absurd (false≢true e)
 
 either_way : (b : Bool) → (b || true) ≡ true
 either_way true = refl
@@ -151,6 +239,9 @@ module _ {S : Type 0} (sight : Sight S) (d : Directory) (desk : Desk S) where
     closed = tells_none r (ap tells_store h ∙ memory_is_none);
     sound = λ clean ours open_ sound. sound;
     stays = stay_put (on sight) desk;
+    stops = λ clean ours sound. leaves_as_before (on sight) (host_of desk) d desk a r
+        (no_deeds no_memory a.at a.called r h);
+    shut = λ closed. no_deeds no_memory a.at a.called r h;
     counted = λ small. none_more (tells_store r) _ (ap tells_store h ∙ memory_is_none);
   }
 
@@ -163,5 +254,8 @@ module _ {S : Type 0} (sight : Sight S) (d : Directory) (desk : Desk S) where
     closed = tells_none r none;
     sound = λ clean ours open_ sound. sound;
     stays = stay_put (on sight) desk;
+    stops = λ clean ours sound. leaves_as_before (on sight) (host_of desk) d desk
+        (record { at = at; called = Err e }) r refl;
+    shut = λ closed. refl;
     counted = λ small. none_more (tells_store r) _ none;
   }

@@ -1,12 +1,13 @@
 -- One exchange: what may be replied, and what is left.
 use Rattle.std.specs.Prelude.{◌≡◌, ◌⊎◌, ℕ, ◌+◌, ◌-◌, ◌^◌, ◌<◌, ◌≤◌, ◌==◌, Bool, true, false, List}
-use Rattle.std.specs.Prelude.{[], ◌∷◌, ◌++◌, map, Option, None, Some, Result, Ok, Err}
+use Rattle.std.specs.Prelude.{[], ◌∷◌, ◌++◌, map, length, take, drop, Option, None, Some, Result}
+use Rattle.std.specs.Prelude.{Ok, Err}
 use Rattle.std.specs.Prelude.{if◌then◌else◌}
 use Rattle.hq_base.specs.Refusals.{no_memory}
 use Rattle.hq_base.specs.declared.failure.Fault.{Fault}
 use Rattle.hq_base.specs.declared.failure.Fault.TheVariants.{Closed}
 use Rattle.hq_base.specs.declared.failure.Refusal.{Refusal}
-use Rattle.hq_store.specs.Shelves.{Sight, OnOpenSound}
+use Rattle.hq_store.specs.Shelves.{Sight, OnSound, OnOpenSound, StopLeaves, StopLeavesTables}
 use Rattle.hq_store.specs.Sound.{Sound}
 use Rattle.hq_store.specs.Tables.{Tables}
 use Rattle.hq_desk.specs.Desks.{Stays, host_of, on}
@@ -83,6 +84,41 @@ AllDone host d t (deed ∷ deeds) t' =
     let done = shared host (entry_of d deed.customer) t deed.at deed.call in
     (deed.told ≡ told_as deed.in_part deed.customer done.0) × AllDone host d done.1 deeds t'
 
+-- ---- what a stop leaves, of the process or of its machine
+
+-- a call of a customer whose answer may have reached nobody
+pub record Unheard : Type 0 where
+  pub customer : List ℕ
+  pub at : ℕ
+  pub call : Call
+
+abbrev pub unheard_call : ℕ → Call → List ℕ → Unheard
+unheard_call at call name = record { customer = name; at = at; call = call }
+
+-- the calls that an exchange asks for, in the order in which they are done
+abbrev pub calls_asked : Directory → ℕ → Result Asked Refusal → List Unheard
+calls_asked d at (Err refusal) = []
+calls_asked d at (Ok (CallOf name call)) = unheard_call at call name ∷ []
+calls_asked d at (Ok (CallOfAll call)) = map (unheard_call at call) (names_of d)
+
+-- of those that the reply does not tell of, the first
+abbrev pub next_call : Directory → ℕ → Result Asked Refusal → SeenReply → List Unheard
+next_call d at called r = take 1 (drop (length (deeds_of at called r)) (calls_asked d at called))
+
+-- the tables that calls leave
+abbrev pub after_calls : List ℕ → Directory → Tables → List Unheard → Tables
+after_calls host d t [] = t
+after_calls host d t (u ∷ us) =
+    after_calls host d (shared host (entry_of d u.customer) t u.at u.call).1 us
+
+-- From the tables t, a stop in an exchange that gets the reply r may leave the tables t': what the
+-- reply tells of is done, and the call behind it is done or not.
+abbrev pub StopMayLeave : List ℕ → Directory → Tables → ℕ → Result Asked Refusal → SeenReply →
+    Tables → Type 0
+StopMayLeave host d t at called r t' = (told : Tables)
+    × AllDone host d t (deeds_of at called r) told
+    × ((t' ≡ told) ⊎ (t' ≡ after_calls host d told (next_call d at called r)))
+
 -- ---- what may be replied
 
 -- A call of all ends with the last customer; or at the first of those that are left, by a fault.
@@ -151,6 +187,12 @@ pub record Exchanged {S : Type 0} (sight : Sight S) (d : Directory) (old : Desk 
   pub closed : TellsClosed r → (on sight).is_closed new ≡ true
   pub sound : OnOpenSound (on sight) old new (Sound ((on sight).tables new))
   pub stays : Stays (on sight) old new
+  -- wherever in it a stop comes
+  pub stops : OnSound (on sight) old new (StopLeavesTables (on sight) old →
+      StopLeaves (on sight) new
+      (StopMayLeave (host_of old) d ((on sight).tables old) a.at a.called r))
+  -- a desk that was closed does nothing
+  pub shut : (on sight).is_closed old ≡ true → deeds_of a.at a.called r ≡ []
   -- 91 and 93 are told only where the shelf counted a fault, as long as its count does not stand
   -- still
   pub counted : (on sight).fault_count new < 2 ^ 64 - 1 →

@@ -1,3 +1,4 @@
+use Rattle.std.proofs.Common.{inl}
 use Rattle.hq_schema.specs.Made.{desk_tables}
 use Rattle.hq_schema.specs.Schema.{no_schema}
 use Rattle.hq_sql_open.proofs.Texts.{all_made, all_whole}
@@ -9,4 +10,4 @@ returns-clause-made g c has settled clean =
 
 pub returns-clause-kept : goal.returns-clause-kept
 returns-clause-kept g c has =
-    c.make_desk.ensures.kept no_schema desk_tables all_made all_whole has tt
+    c.make_desk.ensures.kept no_schema desk_tables all_made all_whole has tt (inl has)

@@ -1,4 +1,4 @@
-use Rattle.std.proofs.Common.{drop}
+use Rattle.std.proofs.Common.{inr, drop}
 use Rattle.hq_schema.specs.Made.{desk_tables}
 use Rattle.hq_schema.specs.Schema.{version_alone}
 use Rattle.hq_sql_open.proofs.Texts.{others_here, others_whole}
@@ -16,4 +16,4 @@ returns-clause-kept g c has none =
     c.make_desk.ensures.kept version_alone (drop 1 desk_tables) others_here others_whole has (
       none,
       tt,
-    )
+    ) (inr (has, none))

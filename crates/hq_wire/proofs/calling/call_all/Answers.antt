@@ -80,13 +80,18 @@ returns-in-Err g c =
     let stop : Stop = record { customer = item.entry.name; fault = c.in-Err.fault } in
     let all : names_of d ≡ map name_of (take i xs) ++ item.entry.name
     ∷ map name_of (drop (suc i) xs) = ap (map name_of) (sym c.customers-customers.ensures)
-    ∙ split_at name_of xs i item c.loop-customer-test.true c.customer-item.is in (
+    ∙ split_at name_of xs i item c.loop-customer-test.true c.customer-item.is in
+    let known : item.entry ≡ entry_of d item.entry.name =
+    sym (entry_at xs i item item (ap are_customers c.customers-customers.ensures ∙ d.apart)
+    c.loop-customer-test.true c.customer-item.is)
+    ∙ ap (λ cs. entry_in cs item.entry.name) c.customers-customers.ensures in (
       parted_reply so_far.parts (Some stop),
       (refl, sym (c.put_stop.ensures ∙ ap (λ body. body ++ closing (Some stop)) so_far.text)),
       stopped_at g.S.Shelf.sight d c.args.at (each_call c.args.each) c.args.desk.now
           c.loop-customer.desk c.act.new.self (map name_of (take i xs)) c.loop-customer.body.items
-          c.loop-customer.is_first item.entry.name (map name_of (drop (suc i) xs)) c.in-Err.fault
-          so_far all c.in-Err.ensures.sound c.in-Err.ensures.kept c.in-Err.ensures.host,
+          c.loop-customer.is_first item.entry c.call.result (map name_of (drop (suc i) xs))
+          c.in-Err.fault so_far all known c.call.ensures c.in-Err.ensures.sound
+          c.in-Err.ensures.stops c.in-Err.ensures.kept c.in-Err.ensures.host,
     )
 
 pub returns : goal.returns

@@ -1,8 +1,8 @@
-use Rattle.std.proofs.Common.{Err, sym, subst, ap, ◌∙◌}
+use Rattle.std.proofs.Common.{◌≡◌, inl, inr, ⊎_elim, Err, sym, subst, ap, ◌∙◌}
 use Rattle.std.proofs.lemmas.Result.{err_from_is_err_and}
 use Rattle.hq_store.specs.Sound.{Sound}
 use Rattle.hq_store.specs.Tables.{write_all}
-use Rattle.hq_desk.proofs.Reading.{changes_on, no_memory_on}
+use Rattle.hq_desk.proofs.Reading.{changes_on, no_memory_on, rests_on}
 use Rattle.hq_soundness.proofs.Soundness.{shared_sound}
 use Rattle.hq_desk.proofs.desk.Desk.act.Goals as goal
 
@@ -35,6 +35,8 @@ returns-in_err-apply-clause-kept g c =
       quiet = both.quiet;
       tally = both.tally;
       cause = both.cause;
+      rests = both.rests;
+      shut = both.shut;
     }
 
 pub returns-in_err-bytes-clause-kept : goal.returns-in_err-bytes-clause-kept
@@ -50,4 +52,25 @@ returns-in_err-bytes-clause-kept g c =
       quiet = kept.quiet;
       tally = kept.tally;
       cause = kept.cause;
+      rests = kept.rests;
+      shut = kept.shut;
     }
+
+pub returns-in_err-apply-clause-stops : goal.returns-in_err-apply-clause-stops
+returns-in_err-apply-clause-stops g c = λ clean ours sound rests.
+    let before = c.in_err-apply.ensures.kept.quiet clean in
+    let name = c.args.entry.now.name in
+    let sight = g.S.Shelf.sight in
+    let kept = c.in_ok-decision.ensures.kept in
+    let same = kept.same before ours kept.tally.1 in
+    let decided = c.in_ok-decision.ensures.found before ours sound in
+    let left = c.in_err-apply.ensures.stops clean (kept.ours before ours kept.tally.1)
+    (rests_on sight c.args.self.now.shelf c.decide.new.shelf (kept.stops before (inl ours)) same
+    rests) in (
+      left.0,
+      λ t may. ⊎_elim (λ (is : t ≡ sight.tables c.decide.new.shelf). inl (is ∙ same))
+          (λ (is : t ≡ write_all name c.as_slice.result.now (sight.tables c.decide.new.shelf)).
+          inr (is ∙ ap (λ changes. write_all name changes (sight.tables c.decide.new.shelf))
+          c.as_slice.ensures ∙ (λ i. write_all name ((decided i).changes) (same i))))
+          (left.1 t may),
+    )

@@ -15,7 +15,13 @@ returns-in-Ok-adopt c =
     let it = c.in-Ok-adopt.ensures.opened (memory_is_clean c.in-Ok-adopt.shelf.conn)
     (settled (state over_memory c.in-Ok.conn) fresh.0) in
     let empty = it.empty (inl fresh.2) in
-    record { ours = empty.0; empty = empty.1; fresh = c.in-Ok-adopt.ensures.fresh; cause = tt }
+    record {
+      ours = empty.0;
+      empty = empty.1;
+      fresh = c.in-Ok-adopt.ensures.fresh;
+      rests = c.in-Ok-adopt.ensures.rests (memory_is_clean c.in-Ok-adopt.shelf.conn) empty.0;
+      cause = tt;
+    }
 
 pub returns-clause-cause : goal.returns-clause-cause
 returns-clause-cause c =

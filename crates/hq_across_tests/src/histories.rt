@@ -1,0 +1,163 @@
+//! Histories of two customers, and what they are replied.
+
+use hq_envelope::{Fail as Failure, Host, Key, Moment, Name};
+use hq_queue::{Customer, Entry, Quota};
+use hq_sql_across::history;
+use hq_wire::{Directory, Exchange, Reply, are_customers};
+use sqlite::{Connection, FileStore, Files, Options};
+use sqlite_disk::Memory;
+use std::alloc::{AllocError, Global};
+use std::process::Abort;
+use std::str;
+use std::test::Fail;
+
+/// The moment of every exchange: 2026-01-01T00:00:00Z.
+const START: u64 = 1_767_225_600;
+
+const SUBMIT_ACME: &str =
+    "POST /relay/submit/acme relaykey00000001 {\"spool\":\"s1\",\"sender\":\"ann@a.example\",\
+     \"recipients\":[\"bob@far.example\"],\"size\":900}";
+
+const SUBMIT_BIRCH: &str =
+    "POST /relay/submit/birch relaykey00000001 {\"spool\":\"s1\",\"sender\":\"ann@a.example\",\
+     \"recipients\":[\"bob@far.example\"],\"size\":900}";
+
+const QUEUED_FIRST: &str =
+    "200 {\"id\":\"0000000001\",\"recipients\":[\"bob@far.example\"],\"refused\":[],\
+     \"state\":\"incoming\",\"verdict\":\"queued\"}";
+
+const HOLD_ACME: &str = "POST /v1/hold/0000000001 acmekey000000001";
+
+const DELETE_ACME: &str = "DELETE /v1/message/0000000001 acmekey000000001";
+
+const LIST_ACME: &str = "GET /v1/messages acmekey000000001";
+
+const LISTED_NONE: &str = "200 {\"messages\":[],\"more\":false}";
+
+const LIST_BIRCH: &str = "GET /v1/messages birchkey00000001";
+
+const LISTED_BIRCH: &str =
+    "200 {\"messages\":[{\"arrival\":1767225600,\"id\":\"0000000001\",\"reason\":\"\",\
+     \"recipients\":1,\"sender\":\"ann@a.example\",\"size\":900,\"state\":\"incoming\"}],\
+     \"more\":false}";
+
+/// What is asked in three sessions, each line with its reply. The first opens a store in which
+/// nothing was made.
+const SESSIONS: [&[(&str, &str)]; 3] = [
+    &[(SUBMIT_ACME, QUEUED_FIRST), (SUBMIT_BIRCH, QUEUED_FIRST)],
+    &[
+        (HOLD_ACME, "200 {\"changed\":1}"),
+        (LIST_BIRCH, LISTED_BIRCH),
+        (DELETE_ACME, "200 {\"changed\":1}"),
+    ],
+    &[
+        (HOLD_ACME, "404 {\"error\":10,\"name\":\"NoMessage\"}"),
+        (LIST_ACME, LISTED_NONE),
+        (LIST_BIRCH, LISTED_BIRCH),
+    ],
+];
+
+fn customer(alloc: Global, name: &str, key: &str) -> Result<Customer, Failure> {
+    let quota = Quota {
+        messages: 100,
+        bytes: 1_000_000,
+        lines: 100,
+        notices: 10,
+    };
+    let entry = Entry {
+        name: Name::parse(alloc, name)?,
+        quota,
+        delay: 3600,
+    };
+    let key = Key::parse(alloc, key)?;
+    Ok(Customer { entry, key })
+}
+
+/// The directory of both customers.
+fn directory(rt: &(impl Abort + AllocGlobal)) -> Result<Directory, Failure> {
+    let alloc = rt.alloc();
+    let mut customers = Vec::new(alloc);
+    for (name, key) in [("acme", "acmekey000000001"), ("birch", "birchkey00000001")] {
+        customers.push(customer(alloc, name, key)?)?;
+    }
+    assert!(rt; are_customers(customers.as_slice()));
+    let relay_key = Key::parse(alloc, "relaykey00000001")?;
+    Directory::new(alloc, relay_key, customers)
+}
+
+/// A word of a line; the last one has the rest of the line, and one that is missing is empty.
+fn word<'a>(line: &'a str, index: usize) -> &'a str {
+    line.splitn(4, ' ').nth(index).unwrap_or("")
+}
+
+/// The exchange of a line `METHOD PATH KEY BODY`.
+fn asked(alloc: Global, line: &str) -> Result<Exchange, Fail> {
+    Ok(Exchange {
+        at: Moment::new(START).ok_or("no moment")?,
+        method: String::from_str(alloc, word(line, 0))?,
+        path: String::from_str(alloc, word(line, 1))?,
+        key: Some(String::from_str(alloc, word(line, 2))?),
+        body: Vec::from_slice(alloc, word(line, 3).as_bytes())?,
+    })
+}
+
+/// A reply as a line `STATUS BODY`.
+fn line_of(alloc: Global, reply: &Reply) -> Result<String, Fail> {
+    let body = str::from_utf8(reply.body.as_bytes())?;
+    Ok(format!(in alloc; "{} {body}", reply.status)?)
+}
+
+/// The exchanges of each session.
+fn sessions(alloc: Global) -> Result<Vec<Vec<Exchange>>, Fail> {
+    let mut sessions = Vec::new(alloc);
+    for rows in SESSIONS {
+        let mut exchanges = Vec::new(alloc);
+        for (line, _) in rows {
+            exchanges.push(asked(alloc, line)?)?;
+        }
+        sessions.push(exchanges)?;
+    }
+    Ok(sessions)
+}
+
+/// A connection to two new files in memory.
+fn connected(alloc: Global) -> Result<Connection<FileStore<Memory>>, Fail> {
+    let files = Files {
+        log: Memory::new(alloc),
+        db: Memory::new(alloc),
+    };
+    match Connection::open_files(alloc, files, Options::new(1)) {
+        Ok(conn) => Ok(conn),
+        Err(_) => Err(Fail::from("not opened")),
+    }
+}
+
+/// The replies of each session, in a function of its own: its callers need nothing of the contract
+/// of a history.
+fn replied(
+    alloc: Global,
+    directory: &Directory,
+    sessions: &[Vec<Exchange>],
+) -> Result<(Vec<Vec<Reply>>, bool), Fail> {
+    let host = Host::parse(alloc, "relay.example")?;
+    let served = history(alloc, connected(alloc)?, &host, directory, sessions)?;
+    Ok((served.replies, served.in_doubt))
+}
+
+/// What was replied before a stop is there behind it, and each customer is told of its own alone.
+#[test]
+fn sessions_of_two_customers(rt: HostRuntime) -> Result<(), Fail> {
+    let alloc = rt.alloc();
+    let directory = directory(&rt)?;
+    let sessions = sessions(alloc)?;
+    let (replies, in_doubt) = replied(alloc, &directory, sessions.as_slice())?;
+    assert!(rt; !in_doubt);
+    assert_eq!(rt; replies.len(), SESSIONS.len());
+    for (told, rows) in replies.iter().zip(SESSIONS) {
+        assert_eq!(rt; told.len(), rows.len());
+        for (reply, (_, want)) in told.iter().zip(rows) {
+            assert_eq!(rt; line_of(alloc, reply)?.as_str(), *want);
+        }
+    }
+    Ok(())
+}

@@ -1,0 +1,89 @@
+//! Sessions of a desk over one store, one after another, with a stop behind each.
+
+ghost use Rattle.std.specs.Prelude.{◌≡◌, ◌++◌, false, List, map, IfOk};
+ghost use Rattle.sqlite.specs.Held.{state};
+ghost use Rattle.sqlite.specs.State.{HasCleanDisk};
+ghost use Rattle.hq_wire.specs.declared.reply.Reply.{Reply};
+ghost use Rattle.hq_sql_across.specs.Stopped.{PassesSessions, PassesHistory};
+
+use crate::sessions::session;
+use hq_envelope::{Fault, Host, TryCopy};
+use hq_wire::{Directory, Exchange, Reply};
+use sqlite::{Alter, Connection};
+use sqlite_trees::store::Reopen;
+use std::alloc::Global;
+
+/// What the sessions of a history replied, and their connection, which stops next.
+#[derive(Drop)]
+pub struct Served<S: Alter> {
+    /// Of each session one reply for each exchange; none where the store was not taken then, or
+    /// memory was wanted.
+    pub replies: Vec<Vec<Reply>>,
+    /// Whether a shelf was in doubt at the end of its session, or lost its connection so: then
+    /// nothing is said.
+    pub in_doubt: bool,
+    /// The connection, wherever it is by then.
+    pub conn: Connection<S>,
+}
+
+/// Serves sessions, one after another, and adds what each replied.
+fn serve_all<S: Alter + Reopen + Drop>(
+    alloc: Global,
+    conn: Connection<S>,
+    host: &Host,
+    directory: &Directory,
+    sessions: &[Vec<Exchange>],
+    told: &mut Vec<Vec<Reply>>,
+) -> Result<(bool, Connection<S>), Fault>
+    ensures passed { IfOk result (λ end. HasCleanDisk (state S.Store end.1) → end.0 ≡ false
+        → (replies : List (List Reply))
+        × (map (λ r. r.items) told.new.items ≡ map (λ r. r.items) told.old.items ++ replies)
+        × PassesSessions host.now directory.now (map (λ s. s.items) sessions.now) replies
+        (state S.Store conn).may_leave (state S.Store end.1).may_leave) }
+    ensures quiet { IfOk result (λ end. HasCleanDisk (state S.Store end.1) → end.0 ≡ false
+        → HasCleanDisk (state S.Store conn)) }
+{
+    match sessions {
+        [] => Ok((false, conn)),
+        [first, rest @ ..] => {
+            let name = host.copy(alloc)?;
+            let one = session(alloc, conn, name, directory, first.as_slice())?;
+            told.push(one.replies)?;
+            let (later, conn) = serve_all(alloc, one.conn, host, directory, rest, told)?;
+            Ok((one.in_doubt || later, conn))
+        }
+    }
+}
+
+/// Serves sessions of a desk over one store: each stops the store and opens it again as a desk,
+/// which replies to exchanges in order, up to the next stop, wherever that comes. Where it comes in
+/// the opening, the session is empty.
+///
+/// To every customer the whole history is its own machine on its own calls, whatever the other
+/// customers do and wherever the stops come: what it heard over all sessions is what that machine
+/// answers, and what the next opening finds of it is what that machine keeps. Of each stop at most
+/// one call is under way, done or not, the same for all customers.
+///
+/// It asks for a store of a desk whose tables are sound, or in which nothing was made yet; and that
+/// the store returned what was written, and kept what was synced. 90 tells that memory was wanted
+/// for the replies, and 91 that the store could not be read after a stop.
+pub fn history<S: Alter + Reopen + Drop>(
+    alloc: Global,
+    conn: Connection<S>,
+    host: &Host,
+    directory: &Directory,
+    sessions: &[Vec<Exchange>],
+) -> Result<Served<S>, Fault>
+    ensures across { IfOk result (λ h. HasCleanDisk (state S.Store h.conn) → h.in_doubt ≡ false
+        → PassesHistory host.now directory.now (map (λ s. s.items) sessions.now)
+        (map (λ r. r.items) h.replies.items)
+        (state S.Store conn).may_leave (state S.Store h.conn).may_leave) }
+{
+    let mut replies = Vec::with_capacity(alloc, sessions.len())?;
+    let (in_doubt, conn) = serve_all(alloc, conn, host, directory, sessions, &mut replies)?;
+    Ok(Served {
+        replies,
+        in_doubt,
+        conn,
+    })
+}

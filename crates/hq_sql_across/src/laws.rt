@@ -1,0 +1,39 @@
+//! Laws of a desk's store, as functions that do nothing else and whose contracts are the laws.
+
+ghost use Rattle.sqlite.specs.Held.{state};
+ghost use Rattle.sqlite.specs.State.{HasCleanDisk};
+ghost use Rattle.hq_sql.specs.Tables.{tables_in};
+ghost use Rattle.hq_sql_shelf.specs.Shelf.{IsOurs};
+ghost use Rattle.hq_sql_shelf.specs.Stops.{LeavesOnly};
+ghost use Rattle.hq_sql_open.specs.Transactions.{IsSettled};
+ghost use Rattle.hq_sql_migrate.specs.Stores.{IsFirst};
+ghost use Rattle.hq_sql_across.specs.Stopped.{BeginsHistory};
+
+use hq_envelope::Fault;
+use hq_sql_open::transaction::sees_database;
+use hq_sql_shelf::migrate;
+use sqlite::{Alter, Connection};
+use std::alloc::Global;
+
+/// Wherever the process or its machine stops, an open desk leaves a desk with the tables that it
+/// has.
+pub fn open_desk_leaves_its_tables<S: Alter>(conn: &Connection<S>)
+    ensures { HasCleanDisk (state S.Store conn.now) → IsOurs (state S.Store conn.now)
+        → LeavesOnly (state S.Store conn.now) (tables_in (state S.Store conn.now).committed) }
+{
+    sees_database(conn);
+}
+
+/// Wherever the process or its machine stops in a migration, an opening finds the store of version
+/// 1 as it was, or a desk from which a history goes on, in which each customer has its own state,
+/// lifted. It migrates as `migrate` does.
+pub fn migration_begins_a_history<S: Alter>(
+    alloc: Global,
+    conn: &mut Connection<S>,
+) -> Result<u64, Fault>
+    ensures { HasCleanDisk (state S.Store conn.new) → IsSettled (state S.Store conn.old)
+        → IsFirst (state S.Store conn.old).now
+        → BeginsHistory (state S.Store conn.old) (state S.Store conn.new) }
+{
+    migrate(alloc, conn)
+}

@@ -1,0 +1,10 @@
+//! The headline across stops, over a store of `sqlite`: sessions of a desk, one after another, with
+//! a stop behind each.
+#![tactic(auto)]
+
+mod histories;
+pub mod laws;
+mod sessions;
+
+pub use histories::{Served, history};
+pub use sessions::{Stopped, session};
