@@ -2,6 +2,8 @@
 //
 // STOP_AT=N ends the process, with status 77, at its N-th call that writes, syncs or cuts a file; with STOP_HALF=1 a
 // write at that call writes its first half before. FAIL_AT=N answers "no space on the disk" at that call, and does nothing.
+// POWER_GOES=M has the power go with that end: of each file, what was written or cut since its last sync is gone; with an M
+// that is not 0 a part of these calls is kept, each by a bit drawn from M. SYNCS_LIE=1 has syncs answer well and keep nothing.
 // REFUSE_AT=N answers "no memory" at its N-th request for memory, and REFUSE_EACH=N at each N-th.
 // ACCEPT_FAILS_AT=N answers "too many open files" at its N-th acceptance of a connection, and CLOCK_AT=S has the clock tell
 // S seconds since 1970, at all times; how long something takes is not told by that clock.
@@ -16,12 +18,14 @@
 #include <stdlib.h>
 #include <string.h>
 #include <sys/socket.h>
+#include <sys/stat.h>
 #include <sys/types.h>
 #include <time.h>
 #include <unistd.h>
 
 static long calls, syncs, requests, accepted, stop_at, fail_at, refuse_at, refuse_each, accept_fails_at;
-static int half;
+static int half, has_power_cut, syncs_lie;
+static unsigned long power;
 
 static long number(const char *name) {
   const char *text = getenv(name);
@@ -35,6 +39,9 @@ __attribute__((constructor)) static void begin(void) {
   refuse_each = number("REFUSE_EACH");
   accept_fails_at = number("ACCEPT_FAILS_AT");
   half = getenv("STOP_HALF") != NULL;
+  has_power_cut = getenv("POWER_GOES") != NULL;
+  power = (unsigned long)number("POWER_GOES");
+  syncs_lie = getenv("SYNCS_LIE") != NULL;
   calls = syncs = requests = accepted = 0;
 }
 
@@ -49,6 +56,86 @@ __attribute__((destructor)) static void end(void) {
   }
 }
 
+// ---- what a loss of power takes
+
+static ssize_t real_write(int file, const void *bytes, size_t size, off64_t at) {
+  static ssize_t (*real)(int, const void *, size_t, off64_t);
+  if (!real) real = (ssize_t(*)(int, const void *, size_t, off64_t))dlsym(RTLD_NEXT, "pwrite64");
+  return real(file, bytes, size, at);
+}
+
+static int real_cut(int file, off64_t size) {
+  static int (*real)(int, off64_t);
+  if (!real) real = (int (*)(int, off64_t))dlsym(RTLD_NEXT, "ftruncate64");
+  return real(file, size);
+}
+
+// A call that changed a file and is not synced: what it wrote at a place, or that it cut the file there; what stood there
+// before, and how long the file was.
+struct change {
+  int file, is_cut;
+  off64_t at, length;
+  size_t size, had;
+  char *bytes, *before;
+};
+
+static struct change changes[1 << 15];
+static long count;
+
+static char *copied(const void *bytes, size_t size) {
+  char *copy = calloc(size + 1, 1);  // (no call that is counted)
+  if (!copy) _exit(78);
+  return bytes ? memcpy(copy, bytes, size) : copy;
+}
+
+// Notes a change that is about to be made.
+static void note(int file, const void *bytes, size_t size, off64_t at) {
+  struct stat is;
+  if (!has_power_cut) return;
+  if (count == sizeof changes / sizeof *changes || fstat(file, &is)) _exit(78);
+  struct change *it = &changes[count++];
+  *it = (struct change){.file = file, .is_cut = !bytes, .at = at, .length = is.st_size, .size = size};
+  off64_t end = bytes ? at + (off64_t)size : it->length;
+  if (end > it->length) end = it->length;
+  if (end > at) it->had = (size_t)(end - at);
+  it->before = copied(NULL, it->had);
+  if (bytes) it->bytes = copied(bytes, size);
+  if (pread(file, it->before, it->had, at) != (ssize_t)it->had) _exit(78);
+}
+
+static void forget_changes(int file) {
+  long left = 0;
+  for (long it = 0; it < count; it++) {
+    if (changes[it].file != file) {
+      changes[left++] = changes[it];
+    } else {
+      free(changes[it].bytes);
+      free(changes[it].before);
+    }
+  }
+  count = left;
+}
+
+static void undo(const struct change *it) {
+  if (real_write(it->file, it->before, it->had, it->at) != (ssize_t)it->had || real_cut(it->file, it->length)) _exit(78);
+}
+
+static void redo(const struct change *it) {
+  if (it->is_cut ? real_cut(it->file, it->at) : real_write(it->file, it->bytes, it->size, it->at) < 0) _exit(78);
+}
+
+// Ends the process, and with it the power, if that is asked for.
+static void stop(void) {
+  for (long it = count; it-- > 0;) undo(&changes[it]);
+  for (long it = 0; power && it < count; it++) {
+    power = power * 6364136223846793005 + 1442695040888963407;
+    if (power >> 63) redo(&changes[it]);
+  }
+  _exit(77);
+}
+
+// ---- the calls of files
+
 static int is_stop(void) { return ++calls == stop_at; }
 
 // of the call that was counted last
@@ -59,14 +146,16 @@ static int fails(void) {
 }
 
 ssize_t pwrite64(int file, const void *bytes, size_t size, off64_t at) {
-  static ssize_t (*real)(int, const void *, size_t, off64_t);
-  if (!real) real = (ssize_t(*)(int, const void *, size_t, off64_t))dlsym(RTLD_NEXT, "pwrite64");
   if (is_stop()) {
-    if (half && size > 1 && real(file, bytes, size / 2, at) < 0) _exit(78);
-    _exit(77);
+    if (half && size > 1) {
+      note(file, bytes, size / 2, at);
+      if (real_write(file, bytes, size / 2, at) < 0) _exit(78);
+    }
+    stop();
   }
   if (fails()) return -1;
-  return real(file, bytes, size, at);
+  note(file, bytes, size, at);
+  return real_write(file, bytes, size, at);
 }
 
 ssize_t pwrite(int file, const void *bytes, size_t size, off_t at) { return pwrite64(file, bytes, size, at); }
@@ -78,32 +167,27 @@ static void wait_for_disk(void) {
   if (more) nanosleep(&time, NULL);
 }
 
-int fdatasync(int file) {
-  static int (*real)(int);
-  if (!real) real = (int (*)(int))dlsym(RTLD_NEXT, "fdatasync");
+static int synced(int file, const char *name) {
+  int (*real)(int) = (int (*)(int))dlsym(RTLD_NEXT, name);
   syncs++;
-  if (is_stop()) _exit(77);
+  if (is_stop()) stop();
   if (fails()) return -1;
   wait_for_disk();
-  return real(file);
+  if (syncs_lie) return 0;
+  int failed = real(file);
+  if (!failed) forget_changes(file);
+  return failed;
 }
 
-int fsync(int file) {
-  static int (*real)(int);
-  if (!real) real = (int (*)(int))dlsym(RTLD_NEXT, "fsync");
-  syncs++;
-  if (is_stop()) _exit(77);
-  if (fails()) return -1;
-  wait_for_disk();
-  return real(file);
-}
+int fdatasync(int file) { return synced(file, "fdatasync"); }
+
+int fsync(int file) { return synced(file, "fsync"); }
 
 int ftruncate64(int file, off64_t size) {
-  static int (*real)(int, off64_t);
-  if (!real) real = (int (*)(int, off64_t))dlsym(RTLD_NEXT, "ftruncate64");
-  if (is_stop()) _exit(77);
+  if (is_stop()) stop();
   if (fails()) return -1;
-  return real(file, size);
+  note(file, NULL, 0, size);
+  return real_cut(file, size);
 }
 
 int ftruncate(int file, off_t size) { return ftruncate64(file, size); }
