@@ -4,8 +4,9 @@ use hq_envelope::{Fail as Failure, Host, Key, Moment, Name};
 use hq_queue::{Customer, Entry, Quota};
 use hq_sql_across::history;
 use hq_wire::{Directory, Exchange, Reply, are_customers};
-use sqlite::{Connection, FileStore, Files, Options};
+use sqlite::{Alter, Connection, FileStore, Files, Options};
 use sqlite_disk::Memory;
+use sqlite_trees::store::Reopen;
 use std::alloc::{AllocError, Global};
 use std::process::Abort;
 use std::str;
@@ -132,15 +133,16 @@ fn connected(alloc: Global) -> Result<Connection<FileStore<Memory>>, Fail> {
     }
 }
 
-/// The replies of each session, in a function of its own: its callers need nothing of the contract
-/// of a history.
-fn replied(
+/// The replies of each session, over any store: its callers need nothing of the contract of a
+/// history, which is dear to read over a store of two files.
+fn replied<S: Alter + Reopen + Drop>(
     alloc: Global,
+    conn: Connection<S>,
     directory: &Directory,
     sessions: &[Vec<Exchange>],
 ) -> Result<(Vec<Vec<Reply>>, bool), Fail> {
     let host = Host::parse(alloc, "relay.example")?;
-    let served = history(alloc, connected(alloc)?, &host, directory, sessions)?;
+    let served = history(alloc, conn, &host, directory, sessions)?;
     Ok((served.replies, served.in_doubt))
 }
 
@@ -150,7 +152,8 @@ fn sessions_of_two_customers(rt: HostRuntime) -> Result<(), Fail> {
     let alloc = rt.alloc();
     let directory = directory(&rt)?;
     let sessions = sessions(alloc)?;
-    let (replies, in_doubt) = replied(alloc, &directory, sessions.as_slice())?;
+    let conn = connected(alloc)?;
+    let (replies, in_doubt) = replied(alloc, conn, &directory, sessions.as_slice())?;
     assert!(rt; !in_doubt);
     assert_eq!(rt; replies.len(), SESSIONS.len());
     for (told, rows) in replies.iter().zip(SESSIONS) {
