@@ -5,6 +5,7 @@ from page_desk import MESSAGE, ROOT, WHOLE, Stub, proxy
 from serving import ACME, expect
 
 TOO_LONG = "413: This is too long: at most 262,144 bytes can be sent at once. Nothing was done."
+TOO_OFTEN = "429: Too much was asked at once. Nothing was done: wait a second, and try again."
 ROW = re.compile(r"^\| (\d+) \| (\w+) \| (\d+) \|", re.M)
 HOSTILE = {
     "script": "<script>document.title='owned'</script>",
@@ -161,8 +162,7 @@ def a_proxy_that_answers_itself(visit):
     unknown = "Nobody knows whether it was done: reload and look."
     for status, words in ((502, f"502: The desk does not answer. {unknown}"),
                           (504, f"504: The desk takes too long to answer. {unknown}"),
-                          (413,
-                           TOO_LONG),
+                          (413, TOO_LONG), (429, TOO_OFTEN),
                           (503, "503: Not done, try again."),
                           (403, f"403: This is no reply of the desk. {unknown}"),
                           (200, f"No reply came. {unknown}")):

@@ -42,6 +42,7 @@ const WORDS = {
 
 const PROXY = {
   413: "This is too long: at most 262,144 bytes can be sent at once. Nothing was done.",
+  429: "Too much was asked at once. Nothing was done: wait a second, and try again.",
   502: "The desk does not answer.",
   504: "The desk takes too long to answer.",
 };
@@ -55,7 +56,7 @@ export function told(fault) {
   const { status, number, named } = fault;
   const later = status === 503 ? AGAIN : "The desk refused this.";
   if (number) return `${number} ${named}: ${WORDS[number] ?? later}`;
-  if (status === 413) return `413: ${PROXY[413]}`;
+  if (status === 413 || status === 429) return `${status}: ${PROXY[status]}`;
   if (status === 503) return `503: ${AGAIN}`;
   const words = PROXY[status] ?? "This is no reply of the desk.";
   if (status) return `${status}: ${words} ${unknown(fault)}`;
