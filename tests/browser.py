@@ -4,30 +4,28 @@ import base64
 import http.client
 import json
 import os
-import socket
 import subprocess
 import time
 
-from serving import LONGEST, Wrong, expect
+from serving import LONGEST, Wrong, expect, free_address, listens, until
 
 ELEMENT = "element-6066-11e4-a52e-4f735466cecf"
 OPTIONS = ["--headless", "--no-sandbox", "--disable-dev-shm-usage", "--disable-gpu",
            "--no-first-run", "--disable-extensions",
            "--disable-background-networking", "--disable-component-update", "--no-proxy-server",
            "--window-size=1280,900"]
-ENTER, ESCAPE, TAB, SPACE, RIGHT, END_KEY = "\ue007", "\ue00c", "\ue004", " ", "\ue014", "\ue010"
+ENTER, ESCAPE, TAB, RIGHT, END_KEY = "\ue007", "\ue00c", "\ue004", "\ue014", "\ue010"
 
 
 class Browser:
     """A browser with a profile of its own in a folder. `with` ends it, and the driver too."""
 
     def __init__(self, folder):
-        with socket.create_server(("127.0.0.1", 0)) as free:
-            self.port = free.getsockname()[1]
+        self.driven_at = free_address()
         # (both put what they make into the folder)
         home = {**os.environ, "HOME": str(folder), "TMPDIR": str(folder),
                 "XDG_CONFIG_HOME": str(folder)}
-        self.driver = subprocess.Popen(["chromedriver", f"--port={self.port}"],
+        self.driver = subprocess.Popen(["chromedriver", f"--port={self.driven_at[1]}"],
                                        stdin=subprocess.DEVNULL, env=home,
                                        stdout=subprocess.DEVNULL, stderr=subprocess.DEVNULL,
                                        start_new_session=True)
@@ -39,14 +37,7 @@ class Browser:
             raise
 
     def begin(self, folder):
-        until = time.monotonic() + LONGEST
-        while True:
-            try:
-                socket.create_connection(("127.0.0.1", self.port), timeout=LONGEST).close()
-                break
-            except ConnectionRefusedError:
-                expect(time.monotonic() < until, "chromedriver does not listen")
-                time.sleep(0.05)
+        until(lambda: listens(self.driven_at), "chromedriver does not listen")
         chosen = {"args": [*OPTIONS, f"--user-data-dir={folder}/profile"]}
         wanted = {"browserName": "chrome", "goog:chromeOptions": chosen,
                   "goog:loggingPrefs": {"browser": "ALL"}}
@@ -71,7 +62,7 @@ class Browser:
 
     def say(self, method, path, body=None):
         """One command of WebDriver, and its value."""
-        client = http.client.HTTPConnection("127.0.0.1", self.port, timeout=LONGEST)
+        client = http.client.HTTPConnection(*self.driven_at, timeout=LONGEST)
         try:
             client.request(method, path, json.dumps(body if body is not None else {})
                            if method == "POST" else None)

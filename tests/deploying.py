@@ -2,21 +2,18 @@
 
 The files are read as they stand. Only addresses, ports and the folders of a machine are replaced.
 """
-import http.client
-import json
 import os
 import re
 import shlex
 import shutil
 import signal
-import socket
 import ssl
 import subprocess
 import threading
 import time
 from pathlib import Path
 
-from serving import LONGEST, RELAY, Wrong, expect
+from serving import LONGEST, RELAY, Wrong, asked, expect, free_address, listens, named, until
 
 DEPLOY = Path(__file__).resolve().parent.parent / "deploy"
 HEADER = "name,key,messages,bytes,lines,notices,delay\n"
@@ -37,19 +34,6 @@ http {{
 """
 
 
-def free_address():
-    with socket.create_server(("127.0.0.1", 0)) as free:
-        return "{}:{}".format(*free.getsockname())
-
-
-def until(holds, told, longest=LONGEST):
-    """Waits until something holds, and no longer than so many seconds."""
-    end = time.monotonic() + longest
-    while not holds():
-        expect(time.monotonic() < end, told)
-        time.sleep(0.005)
-
-
 def settings_of(path):
     """The settings of a unit of systemd, each with its last value."""
     lines = path.read_text().replace("\\\n", " ").split("\n")
@@ -66,7 +50,7 @@ class Desk:
 
     def __init__(self, folder, program, name, rows):
         self.folder, self.program, self.name, self.more = Path(folder), program, name, {}
-        self.address, self.process, self.keeper, self.runs = free_address(), None, None, False
+        self.address, self.process, self.keeper, self.runs = named(free_address()), None, None, False
         self.directory, self.store = self.folder / f"{name}.csv", self.folder / f"{name}.db"
         self.has(rows)
         (self.folder / f"{name}.key").write_text(f"{RELAY}\n")
@@ -103,12 +87,16 @@ class Desk:
         self.stop()
 
     def start(self):
-        """Starts it, and waits until it listens."""
+        """Starts it, and waits until it listens; where it does not, nothing of it is left."""
         self.runs = True
         self.begin()
-        until(lambda: self.listens() or self.process.poll() is not None,
-              f"the desk {self.name} does not start")
-        expect(self.process.poll() is None, f"the desk {self.name} ended:", self.errors())
+        try:
+            until(lambda: self.listens() or self.process.poll() is not None,
+                  f"the desk {self.name} does not start")
+            expect(self.process.poll() is None, f"the desk {self.name} ended:", self.errors())
+        except BaseException:
+            self.stop()
+            raise
         self.keeper = threading.Thread(target=self.keep, daemon=True)
         self.keeper.start()
 
@@ -149,30 +137,6 @@ class Desk:
         return asked(self.address, method, path, key, body)
 
 
-def asked(address, method, path, key=None, body=None, context=None, **more):
-    """The status and the body of a reply, over a connection of its own."""
-    text, response = answered(address, method, path, key, body, context, **more)
-    try:
-        return response.status, json.loads(text)
-    except ValueError:
-        raise Wrong(method, path, "got", response.status, text[:200]) from None
-
-
-def answered(address, method, path, key=None, body=None, context=None, **more):
-    """The text of a response, and the response; `more` is fields of the request."""
-    host, _, port = address.rpartition(":")
-    kind = {"context": context} if context else {}
-    made = http.client.HTTPSConnection if context else http.client.HTTPConnection
-    client = made(host, int(port), timeout=LONGEST, **kind)
-    try:
-        sent = body if isinstance(body, (bytes, type(None))) else json.dumps(body).encode()
-        client.request(method, path, sent, {**({"X-Desk-Key": key} if key else {}), **more})
-        response = client.getresponse()
-        return response.read(), response
-    finally:
-        client.close()
-
-
 def done(found, *told):
     """The body of a reply that has to be 200."""
     status, body = found
@@ -185,7 +149,7 @@ class Proxy:
 
     def __init__(self, folder, desks, without_limits=False, sessions=""):
         self.folder, self.desks, self.sessions = Path(folder), desks, sessions
-        self.public, self.inner = free_address(), free_address()
+        self.public, self.inner = named(free_address()), named(free_address())
         self.folder.mkdir(exist_ok=True)
         # (its worker is nobody where it is begun by root)
         self.folder.chmod(0o755)
@@ -217,7 +181,7 @@ class Proxy:
 
     def configure(self, without_limits):
         text = (DEPLOY / "nginx.conf").read_text()
-        first = self.desks[0].address if self.desks else free_address()
+        first = self.desks[0].address if self.desks else named(free_address())
         for old, new in (("listen 443", f"listen {self.public}"), ("127.0.0.1:8024", self.inner),
                          ("127.0.0.1:8025", first), ("/etc/hq", str(self.folder)),
                          ("/srv/desk/web", str(self.folder / "web"))):
@@ -242,13 +206,9 @@ class Proxy:
         return path.read_text()[-500:] if path.exists() else ""
 
     def listens(self):
-        try:
-            host, _, port = self.public.rpartition(":")
-            socket.create_connection((host, int(port)), timeout=LONGEST).close()
-            return True
-        except ConnectionRefusedError:
-            expect(self.process.poll() is None, "nginx ended:", self.log())
-            return False
+        expect(self.process.poll() is None, "nginx ended:", self.log())
+        host, _, port = self.public.rpartition(":")
+        return listens((host, int(port)))
 
     def workers(self):
         path = Path(f"/proc/{self.process.pid}/task/{self.process.pid}/children")

@@ -4,8 +4,8 @@ import threading
 import time
 from typing import Dict, List, NamedTuple, Set
 
-from deploying import Wrong, asked, done, expect, until
-from serving import LONGEST, RELAY
+from deploying import done
+from serving import LONGEST, RELAY, Wrong, asked, expect, until
 
 # A customer asks so often, well within its limits; a worker without a pause.
 PAUSE = 0.1

@@ -1,7 +1,6 @@
 """A desk with its page behind nginx, by the very lines of docs/OPERATIONS.md, and a stand-in for
 the desk that answers what the tests of the page want."""
 import contextlib
-import http.client
 import http.server
 import json
 import re
@@ -10,7 +9,7 @@ import threading
 import time
 from pathlib import Path
 
-from serving import DIRECTORY, LONGEST, RELAY, Nginx, Server, expect, words
+from serving import DIRECTORY, RELAY, Nginx, Server, asked, expect, named, words
 
 ROOT = Path(__file__).resolve().parent.parent
 OPERATIONS = (ROOT / "docs/OPERATIONS.md").read_text()
@@ -43,7 +42,7 @@ def proxy(folder, address, by_cookie=False):
     """nginx before a desk at an address: it serves a copy of the page."""
     folder.mkdir()
     shutil.copytree(ROOT / "web", folder / "web")
-    serves = SERVES.replace("127.0.0.1:8025", "{}:{}".format(*address))
+    serves = SERVES.replace("127.0.0.1:8025", named(address))
     serves = serves.replace("/srv/desk/web", f"{folder}/web")
     if by_cookie:
         serves = serves.replace("proxy_pass", f"{TAKES_KEY.strip()} proxy_pass")
@@ -57,14 +56,7 @@ class Desk:
         self.address, self.spools = address, 0
 
     def response(self, method, path, key, body=None):
-        client = http.client.HTTPConnection(*self.address, timeout=LONGEST)
-        try:
-            client.request(method, path, None if body is None else json.dumps(body),
-                           {"X-Desk-Key": key})
-            got = client.getresponse()
-            return got.status, json.loads(got.read())
-        finally:
-            client.close()
+        return asked(named(self.address), method, path, key, body)
 
     def ask(self, method, path, key, body=None):
         status, told = self.response(method, path, key, body)

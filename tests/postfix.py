@@ -6,15 +6,13 @@ to one sink.
 """
 import contextlib
 import json
-import random
 import re
 import smtplib
-import socket
 import subprocess
 import time
 from pathlib import Path
 
-from serving import LONGEST, Wrong, expect
+from serving import LONGEST, Wrong, expect, free_address, listens, named
 
 PAGE = Path(__file__).resolve().parent.parent / "docs/RELAY.md"
 # The listener of customers, as the page shows it, and what of it is not tried: TLS, and logging in.
@@ -75,19 +73,6 @@ postlog unix-dgram n - n - 1 postlogd
 """
 
 
-def free_address():
-    """An address of loopback on which nobody listens. Its port is none that the system hands out
-    by itself, so that it is free again whenever its server is stopped."""
-    while True:
-        address = "127.0.0.1", random.SystemRandom().randrange(10_240, 32_768)
-        with contextlib.suppress(OSError), socket.create_server(address):
-            return address
-
-
-def named(address):
-    return "{}:{}".format(*address)
-
-
 def shown(file):
     """The lines that the page shows of a file of Postfix."""
     found = re.search(rf"(?ms)^`{re.escape(file)}`.*?^```\n(.*?)^```$", PAGE.read_text())
@@ -128,7 +113,7 @@ class Postfix:
     def __enter__(self):
         self.run("postfix", "start")
         try:
-            self.until(self.listens, "it listens")
+            self.until(lambda: listens(self.address), "it listens")
         except BaseException:
             self.stop()
             raise
@@ -147,12 +132,6 @@ class Postfix:
 
     def stop(self):
         self.run("postfix", "stop")
-
-    def listens(self):
-        with contextlib.suppress(ConnectionRefusedError):
-            socket.create_connection(self.address, timeout=LONGEST).close()
-            return True
-        return False
 
     def until(self, holds, told, longest=LONGEST):
         """Waits until something holds, and has the queue run meanwhile."""

@@ -5,8 +5,8 @@ import threading
 import time
 
 from postfix import text_of
-from relay_machine import DOMAINS, KEYS, Relay, until
-from serving import expect
+from relay_machine import DOMAINS, KEYS, Relay
+from serving import expect, until
 
 CALLS_OF_A_ROUND = 4
 CALLS = ["requeue", "requeue", "delete", "hold"]
@@ -173,7 +173,7 @@ def many_at_once(program, shared, count=1000, seed=1):
         settle_held(it, mail)
         drain(it, mail, chance)
         until(lambda: len(it.notices()) == sum(it.desk.usage(name)["failed"] for name in KEYS),
-              "the last notices")
+              "the last notices do not come")
         time.sleep(2)
         delivered, failed = expect_conserved(it, mail)
         both = len(mail.deleted & set(delivered))

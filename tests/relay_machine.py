@@ -1,8 +1,6 @@
 """What the parts of tests/relay work on: a Postfix and sinks that they share, and a desk and a
 worker for each of them."""
 import contextlib
-import http.client
-import json
 import re
 import shutil
 import signal
@@ -12,8 +10,8 @@ import tempfile
 import time
 from pathlib import Path
 
-from postfix import Postfix, free_address, named
-from serving import LONGEST, RELAY, Server, Wrong, expect, words
+from postfix import Postfix
+from serving import LONGEST, RELAY, Server, Wrong, asked, expect, free_address, named, until, words
 from sinks import ACCEPTS, DEFERS, REFUSES, Sink
 
 HERE = Path(__file__).resolve().parent
@@ -76,8 +74,8 @@ class Desk:
         self.server, self.address = None, free_address()
 
     def start(self):
-        asked = words(self.program, "serve", "desk.db")
-        self.server = Server(asked, self.folder, 1_000_000, named(self.address), **self.environment)
+        serve = words(self.program, "serve", "desk.db")
+        self.server = Server(serve, self.folder, 1_000_000, named(self.address), **self.environment)
 
     def kill(self):
         if self.server:
@@ -86,12 +84,7 @@ class Desk:
 
     def ask(self, method, path, key, body=None):
         """The status and the body that a call is answered with."""
-        client = http.client.HTTPConnection(*self.address, timeout=LONGEST)
-        with contextlib.closing(client):
-            client.request(method, path, json.dumps(body) if body is not None else None,
-                           {"X-Desk-Key": key})
-            got = client.getresponse()
-            return got.status, json.loads(got.read())
+        return asked(named(self.address), method, path, key, body)
 
     def own(self, customer, method, path, body=None):
         """The body that a call of a customer is answered with by 200."""
@@ -137,10 +130,10 @@ class Desk:
 class Running:
     """A process of the worker, which ends by itself, is killed, or kills itself."""
 
-    def __init__(self, asked, folder, log):
-        self.asked, self.log = asked[1:], log
+    def __init__(self, words_of, folder, log):
+        self.asked, self.log = words_of[1:], log
         with open(log, "ab") as errors:
-            self.process = subprocess.Popen(asked, stdin=subprocess.DEVNULL, stdout=errors,
+            self.process = subprocess.Popen(words_of, stdin=subprocess.DEVNULL, stdout=errors,
                                             stderr=errors, cwd=folder)
 
     def ends(self, status=0, longest=LONGEST):
@@ -167,7 +160,7 @@ class Relay:
 
     def __init__(self, program, shared, limits=None, settings=None):
         self.shared, self.postfix, self.senders = shared, shared.postfix, shared.senders
-        self.folder = Path(tempfile.mkdtemp(prefix="relay-"))
+        self.folder = Path(tempfile.mkdtemp(prefix="relay-", dir=self.postfix.folder))
         limits = limits or {name: WIDE for name in KEYS}
         self.write("customers.csv", HEADER,
                    *(f"{name},{KEYS[name]},{of}" for name, of in limits.items()))
@@ -292,11 +285,3 @@ class Relay:
         """Has all that is deferred due at once."""
         self.desk.own(customer, "POST", "/v1/hold-all")
         self.desk.own(customer, "POST", "/v1/release-all")
-
-
-def until(holds, told, longest=LONGEST):
-    """Waits until something holds."""
-    end = time.monotonic() + longest
-    while not holds():
-        expect(time.monotonic() < end, "it does not come to", told)
-        time.sleep(0.02)

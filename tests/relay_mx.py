@@ -4,9 +4,8 @@ import errno
 
 from lacking import tell
 from nameserver import A, MX, SERVFAIL, NameServer
-from postfix import named
 from relay_machine import Relay
-from serving import expect
+from serving import expect, named
 from sinks import Sink
 
 PORT = 25

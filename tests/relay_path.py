@@ -2,9 +2,8 @@
 import email
 import email.policy
 
-from postfix import named
 from relay_machine import WIDE, Relay
-from serving import expect
+from serving import expect, named
 
 FAR = "good.example"
 

@@ -1,11 +1,10 @@
 """Time: a destination that hangs, and mail that is late or too old."""
-import subprocess
 import time
 
+from interposed import library_in
 from lacking import lacks
-from postfix import free_address
-from relay_machine import HERE, WIDE, Relay, until
-from serving import expect
+from relay_machine import WIDE, Relay
+from serving import expect, free_address, named, until
 
 HOUR, DAY = 3600, 86_400
 # a customer whose senders are warned after an hour
@@ -24,14 +23,14 @@ def hanging_holds_up_nobody(program, shared):
         it.take("acme", *slow)
         it.postfix.empty()
         it.run("deliver")
-        until(lambda: shared.slow.asked, "an attempt that hangs")
+        until(lambda: shared.slow.asked, "nothing is attempted")
         it.take("birch", *good)
-        until(lambda: len(shared.good.mail) == len(good), "the mail of the other customer", 15)
+        until(lambda: len(shared.good.mail) == len(good), "the mail of the other customer does not come", 15)
         expect(not shared.slow.mail, "the mail that hangs was delivered")
         expect(shared.slow.most <= 2, "sessions at once were", shared.slow.most)
         shared.slow.gate.set()
-        until(lambda: len(shared.slow.mail) == len(slow), "the mail that hung")
-        until(lambda: not it.desk.usage("acme")["pending"], "its outcomes")
+        until(lambda: len(shared.slow.mail) == len(slow), "the mail that hung does not come")
+        until(lambda: not it.desk.usage("acme")["pending"], "its outcomes do not come")
         it.expect_delivered(*slow, *good)
         it.desk.expect_usage("acme", delivered=len(slow))
     return len(slow) + len(good)
@@ -39,13 +38,9 @@ def hanging_holds_up_nobody(program, shared):
 
 def clock(it, seconds):
     """The desk is started again, and its clock tells a later moment."""
-    library = it.folder / "interpose.so"
-    source = HERE / "interpose.c"
-    if not library.exists():
-        subprocess.run(["cc", "-shared", "-fPIC", "-O1", "-o", library, source, "-ldl"], check=True)
     at = str(int(time.time()) + seconds)
     it.desk.kill()
-    it.desk.environment = {"LD_PRELOAD": str(library), "CLOCK_AT": at}
+    it.desk.environment = {"LD_PRELOAD": library_in(it.folder), "CLOCK_AT": at}
     it.desk.start()
 
 
@@ -79,7 +74,7 @@ def late_and_given_up(program, shared):
 def next_hop_away(program, shared):
     """Nobody listens at a next hop: the mail is deferred with a status of the connection, and goes
     later."""
-    nobody = "{}:{}".format(*free_address())
+    nobody = named(free_address())
     with Relay(program, shared) as it:
         it.set(next_hops={"good.example": nobody})
         it.intake()

@@ -2,10 +2,10 @@
 servers answer."""
 import contextlib
 import smtplib
+import socket
 
-from postfix import named
-from relay_machine import Relay, until
-from serving import LONGEST, expect
+from relay_machine import Relay
+from serving import LONGEST, expect, named, until
 from sinks import Lossy
 
 LONG = "4jZpsK03Zxz1c38d"
@@ -83,6 +83,26 @@ def strange_clients(program, shared):
     return 3
 
 
+def long_lines(program, shared):
+    """A line of 4,096 bytes, its end among them, has one answer; a longer one is refused, and ends the session."""
+    with Relay(program, shared) as it:
+        it.intake()
+        for bytes_of, wanted in ((4096, b"250 2.0.0 ok\r\n221 2.0.0 bye\r\n"),
+                                 (4097, b"500 5.5.2 the line is too long\r\n")):
+            with socket.create_connection(it.shared.intake, timeout=LONGEST) as client:
+                client.sendall(b"NOOP ".ljust(bytes_of - 2, b"x") + b"\r\nQUIT\r\n")
+                told = b"".join(iter(lambda: received(client), b""))
+            expect(told.partition(b"\r\n")[2] == wanted, "a line of", bytes_of, "bytes is answered", told)
+    return 0
+
+
+def received(client):
+    """What a client receives; nothing where its connection was reset with what it sent unread."""
+    with contextlib.suppress(ConnectionResetError):
+        return client.recv(4096)
+    return b""
+
+
 def lost_replies(program, shared):
     """The reply to a submit is lost. What its customer deletes then does not come back when the
     message is tried again; what it leaves is queued once."""
@@ -92,7 +112,7 @@ def lost_replies(program, shared):
         for count, recipient in enumerate(("gone@good.example", "left@good.example"), 1):
             told = answer_to(it, LONG, recipient)
             expect(told == "451 4.3.0", "a lost reply is answered", told)
-            until(lambda: begun.log.read_text().count("event=settled") == count, "a settled submit")
+            until(lambda: begun.log.read_text().count("event=settled") == count, "no submit is settled")
             if count == 1:
                 it.desk.own("acme", "DELETE", f"/v1/message/{it.desk.only('acme')}")
             told = answer_to(it, LONG, recipient)
@@ -158,4 +178,4 @@ def remote_answers(program, shared):
     return len(ANSWERS)
 
 
-WORDS = [strange_clients, lost_replies, as_it_came, remote_answers]
+WORDS = [strange_clients, long_lines, lost_replies, as_it_came, remote_answers]

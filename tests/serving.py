@@ -1,6 +1,9 @@
 """A server of the compiled program, and what its clients send and receive: for the tools that try and measure it."""
+import contextlib
+import http.client
 import json
 import os
+import random
 import select
 import socket
 import subprocess
@@ -27,9 +30,38 @@ def expect(holds, *told):
         raise Wrong(*told)
 
 
-def words(program, word, store=None, *more):
-    """The words by which the customers of customers.csv are served."""
-    asked = [program, word, "--directory", "customers.csv", "--host", "relay.example", "--relay-key", RELAY]
+def until(holds, told, longest=LONGEST):
+    """Waits until something holds, and no longer than so many seconds; `told` says what is wrong else."""
+    end = time.monotonic() + longest
+    while not holds():
+        expect(time.monotonic() < end, told)
+        time.sleep(0.005)
+
+
+def free_address():
+    """An address of loopback on which nobody listens. Its port is none that the system hands out
+    by itself, so that it is free again whenever its server is stopped."""
+    while True:
+        address = "127.0.0.1", random.SystemRandom().randrange(10_240, 32_768)
+        with contextlib.suppress(OSError), socket.create_server(address):
+            return address
+
+
+def listens(address):
+    """Whether somebody listens at an address."""
+    with contextlib.suppress(ConnectionRefusedError):
+        socket.create_connection(address, timeout=LONGEST).close()
+        return True
+    return False
+
+
+def named(address):
+    return "{}:{}".format(*address)
+
+
+def words(program, word, store=None, *more, directory="customers.csv"):
+    """The words by which the customers of a directory are served."""
+    asked = [program, word, "--directory", directory, "--host", "relay.example", "--relay-key", RELAY]
     return [*asked, *(["--store", store] if store else []), *more]
 
 
@@ -50,6 +82,27 @@ def submission(spool):
 def response(status, body):
     fields = f"Content-Type: application/json\r\nContent-Length: {len(body)}\r\nConnection: close\r\n\r\n"
     return f"HTTP/1.1 {status} {PHRASES[status]}\r\n{fields}{body}".encode()
+
+
+def answered(address, method, path, key=None, body=None, context=None, **more):
+    """The text of a response, and the response, of HOST:PORT over a connection of its own; `more` is fields of the request."""
+    kind = {"context": context} if context else {}
+    made = http.client.HTTPSConnection if context else http.client.HTTPConnection
+    client = made(address, timeout=LONGEST, **kind)
+    with contextlib.closing(client):
+        sent = body if isinstance(body, (bytes, type(None))) else json.dumps(body).encode()
+        client.request(method, path, sent, {**({"X-Desk-Key": key} if key else {}), **more})
+        response = client.getresponse()
+        return response.read(), response
+
+
+def asked(address, method, path, key=None, body=None, context=None, **more):
+    """The status and the body of a reply of HOST:PORT, over a connection of its own."""
+    text, response = answered(address, method, path, key, body, context, **more)
+    try:
+        return response.status, json.loads(text)
+    except ValueError:
+        raise Wrong(method, path, "got", response.status, text[:200]) from None
 
 
 # ---- a server
@@ -156,11 +209,7 @@ class Server:
         wanted = "".join(f"{it}\n" for it in self.errors).encode()
         expect((self.process.returncode, rest, errors) == (self.status, b"", wanted), "the server ended with", self.process.returncode,
                "and told", rest, errors, "and not", wanted)
-        try:
-            socket.create_connection(self.address, timeout=LONGEST).close()
-        except ConnectionRefusedError:
-            return
-        raise Wrong("somebody listens on", self.address, "when the server has ended")
+        expect(not listens(self.address), "somebody listens on", self.address, "when the server has ended")
 
 
 # ---- nginx, where it is installed
@@ -190,8 +239,7 @@ class Nginx:
     `before` what it has before that."""
 
     def __init__(self, folder, serves, keeps_alive, before=""):
-        with socket.create_server(("127.0.0.1", 0)) as free:
-            self.address = free.getsockname()
+        self.address = free_address()
         seconds = 60 if keeps_alive else 0
         text = NGINX.format(folder=folder, port=self.address[1], seconds=seconds, serves=serves, before=before)
         (folder / "nginx.conf").write_text(text)
@@ -200,7 +248,8 @@ class Nginx:
         asked = ["nginx", "-p", folder, "-c", folder / "nginx.conf", "-g", "daemon off;"]
         self.process = subprocess.Popen(asked, stdin=subprocess.DEVNULL, stdout=subprocess.DEVNULL, stderr=subprocess.DEVNULL)
         try:
-            self.listening()
+            until(lambda: listens(self.address) or self.process.poll() is not None, f"nginx does not listen at {self.address}")
+            expect(self.process.poll() is None, "nginx ended with", self.process.returncode)
         except BaseException:
             self.stop()
             raise
@@ -210,16 +259,6 @@ class Nginx:
 
     def __exit__(self, *_):
         self.stop()
-
-    def listening(self):
-        until = time.monotonic() + LONGEST
-        while True:
-            try:
-                socket.create_connection(self.address, timeout=LONGEST).close()
-                return
-            except ConnectionRefusedError:
-                expect(time.monotonic() < until, "nginx does not listen at", self.address)
-                time.sleep(0.05)
 
     def stop(self):
         self.process.terminate()
