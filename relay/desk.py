@@ -3,7 +3,7 @@ import http.client
 import json
 from typing import Dict, Iterator, List, Optional
 
-from settings import Address
+from settings import Address, Settings
 
 # Numbers of refusals that the worker tells apart.
 NO_MESSAGE, BAD_ADDRESS, ATTEMPT_AHEAD, UNKNOWN_RECIPIENT = 10, 20, 30, 31
@@ -96,3 +96,7 @@ class Desk:
                 return
             yield from page
             after = page[-1][last]
+
+
+def desk_of(settings: Settings) -> Desk:
+    return Desk(settings.desk, settings.key, settings.desk_timeout)

@@ -37,9 +37,10 @@ class Session(socketserver.StreamRequestHandler):
         try:
             self.say(f"220 {self.server.settings.host} LMTP")
             while not self.server.ending:
-                line = self.rfile.readline(LONGEST_LINE)
-                if len(line) == LONGEST_LINE:
+                line = self.rfile.readline(LONGEST_LINE + 1)
+                if len(line) > LONGEST_LINE:
                     self.say("500 5.5.2 the line is too long")
+                    return
                 if not line.endswith(b"\n") or self.done(line.decode("latin-1").rstrip("\r\n")):
                     return
             self.say("421 4.3.2 going down")

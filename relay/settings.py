@@ -2,6 +2,7 @@
 import configparser
 import csv
 import re
+import sys
 from dataclasses import dataclass
 from pathlib import Path
 from typing import Dict, Optional, Tuple
@@ -13,8 +14,9 @@ Hop = Optional[Address]
 CUSTOMER = re.compile(r"[a-z0-9-]{1,32}")
 KEY = re.compile(r"[A-Za-z0-9]{16,64}")
 DOMAIN = re.compile(r"[A-Za-z0-9_-]+(\.[A-Za-z0-9_-]+)*")
+# What stands before the @ of an address, as the desk takes it (docs/API.md).
+LOCAL = re.compile(r'(?:(?!["\\<>(),;@])[!-~])+')
 COLUMNS = ["name", "key", "messages", "bytes", "lines", "notices", "delay"]
-TABLES = ("logins", "domains", "next-hops")
 REQUIRED = object()
 
 
@@ -24,6 +26,10 @@ class BadSettings(Exception):
     def __init__(self, faults):
         super().__init__(*faults)
         self.faults = faults
+
+    def tell(self) -> None:
+        for fault in self.faults:
+            print(f"relay: {fault}", file=sys.stderr)
 
 
 @dataclass(frozen=True)
@@ -83,7 +89,8 @@ def domain(text: str) -> str:
 
 
 def sender(text: str) -> str:
-    if not DOMAIN.fullmatch(text.rpartition("@")[2]) or not text.rpartition("@")[0].isprintable():
+    local, _, domain_of = text.rpartition("@")
+    if not LOCAL.fullmatch(local) or not DOMAIN.fullmatch(domain_of):
         raise ValueError("is not an address")
     return text
 

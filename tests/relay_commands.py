@@ -23,10 +23,10 @@ host = relay.example
 next-hop = mx
 colour = blue
 [notices]
-from = MAILER-DAEMON@relay.example
+from = relay.example
 """
 TOLD = ["[desk] address", "[desk] key-file", "[spool] keep-days", "[logins] ann",
-        "[delivery] colour", "[notices] next-hop"]
+        "[delivery] colour", "[notices] next-hop", "[notices] from"]
 
 
 def bad_settings(program, shared):
