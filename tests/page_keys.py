@@ -19,8 +19,7 @@ def a_key_is_asked_for_and_forgotten(visit):
     browser.go(visit.page)
     browser.one("#key-form")
     visit.picture("key")
-    expect(browser.run("document.activeElement.id") == "key",
-           "the field of the key has not the focus")
+    expect(browser.run("document.activeElement.id") == "key", "the key's field has not the focus")
     for typed, told in (("short", "This is no key. A key is 16 to 64 letters and digits."),
                         ("nobodyskey000001", "2 NoKey: "),
                         (RELAY, "3 WrongRole: This is not the key of a customer.")):

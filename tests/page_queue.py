@@ -129,9 +129,8 @@ def marked_ones(visit):
     expect(told == [f"{ids[0]}: is on hold already", f"{ids[1]}: {gone}", f"{ids[2]}: held"],
            "told is", told)
     visit.picture("marked")
-    expect(desk.states(ACME) == dict(zip([ids[0], *ids[2:]],
-                                         ["hold", "hold", "incoming", "incoming"])), "the desk has",
-           desk.states(ACME))
+    states = dict(zip([ids[0], *ids[2:]], ["hold", "hold", "incoming", "incoming"]))
+    expect(desk.states(ACME) == states, "the desk has", desk.states(ACME))
     visit.cell_is(ids[1], 5, "has left the queue")
     expect(browser.text("#shown") == "(4 messages)", "the head says", browser.text("#shown"))
     browser.click("[data-marked=release]")

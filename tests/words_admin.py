@@ -67,7 +67,6 @@ def administrators_words_are_done(runs):
     imports("march", "", errors=b"hq: 50 BadCsv row 0\n")
     more = "".join(f"sender,s{it}.example,OK\n" for it in range(8))
     imports("march", LINES + more, errors=b"hq: 42 QuotaLines\n")
-
     first, later, aged = 1767225600, 1767225600 + 428401, 1767225600 + 432000
     runs.expect(asked("queue", QUEUE, store=store), 0, EMPTY)
     lines = SUBMIT.format(first, "s1") + SUBMIT.format(later, "s2")
