@@ -50,6 +50,8 @@ class Desk:
 
     def __init__(self, folder, program, name, rows):
         self.folder, self.program, self.name, self.more = Path(folder), program, name, {}
+        # (so that it is not started again while it is stopped)
+        self.turn = threading.Lock()
         self.address, self.process, self.keeper, self.runs = named(free_address()), None, None, False
         self.directory, self.store = self.folder / f"{name}.csv", self.folder / f"{name}.db"
         self.has(rows)
@@ -118,14 +120,16 @@ class Desk:
             if not self.runs:
                 return
             time.sleep(seconds(self.unit["RestartSec"]))
-            if self.runs:
-                self.begin()
+            with self.turn:
+                if self.runs:
+                    self.begin()
 
     def errors(self):
         return (self.folder / f"{self.name}.err").read_text()
 
     def stop(self):
-        self.runs = False
+        with self.turn:
+            self.runs = False
         if self.process:
             self.process.terminate()
             self.process.wait(LONGEST)

@@ -2,7 +2,7 @@
 import signal
 
 from relay_machine import Relay
-from serving import RELAY, expect
+from serving import RELAY, expect, until
 
 BAD = """\
 [desk]
@@ -65,6 +65,7 @@ def ended_by_a_signal(program, shared):
         running.process.send_signal(signal.SIGTERM)
         intake.process.send_signal(signal.SIGTERM)
         intake.ends()
+        until(running.has_heard, "the delivery does not hear the signal")
         expect(running.process.poll() is None, "the delivery ended in the middle of an attempt")
         shared.good.gate.set()
         running.ends()

@@ -145,6 +145,11 @@ class Running:
             raise Wrong(self.asked, "does not end", self.log.read_text()[-600:]) from None
         expect(found == status, self.asked, "ended with", found, self.log.read_text()[-900:])
 
+    def has_heard(self):
+        """Whether no signal that was sent to it waits for it."""
+        status = Path(f"/proc/{self.process.pid}/status").read_text()
+        return re.search(r"(?m)^ShdPnd:\s+0+$", status)
+
     def dies(self):
         """Waits until it has killed itself."""
         self.ends(-signal.SIGKILL)
