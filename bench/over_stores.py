@@ -7,7 +7,7 @@ import time
 
 from interposed import library_in
 from model import Customer, Script, import_of
-from serving import Wrong, words
+from serving import HEADER, Wrong, words
 
 ROOT = os.path.dirname(os.path.dirname(os.path.abspath(__file__)))
 PROGRAM = os.path.join(ROOT, "crates", "hq_bench", "out", "hq_bench")
@@ -134,7 +134,7 @@ def measured_directory(folder):
     names = [("acme", "acmekey000000001"), ("birch", "birchkey00000001")]
     names += [(f"birch{it}", f"birchkey{it:08}") for it in range(2, 11)]
     with open(path, "w") as rows:
-        rows.write("name,key,messages,bytes,lines,notices,delay\n")
+        rows.write(HEADER)
         rows.writelines(f"{name},{key},1000,1000000000,5000,1000,0\n" for name, key in names)
     return path
 
@@ -180,7 +180,7 @@ def directory_of(folder, count):
     """The directory of so many customers, and the list of the last one with its reply."""
     path = os.path.join(folder, f"customers-{count}")
     with open(path, "w") as rows:
-        rows.write("name,key,messages,bytes,lines,notices,delay\n")
+        rows.write(HEADER)
         rows.writelines(f"c{it},customerkey{it:05},1000,2147483647000,5000,1000,431999\n" for it in range(count))
     return path, Script([Customer("", f"customerkey{count - 1:05}").list()])
 

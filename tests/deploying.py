@@ -13,10 +13,9 @@ import threading
 import time
 from pathlib import Path
 
-from serving import LONGEST, RELAY, Wrong, asked, expect, free_address, listens, named, until
+from serving import HEADER, LONGEST, RELAY, Wrong, asked, expect, free_address, listens, named, until
 
 DEPLOY = Path(__file__).resolve().parent.parent / "deploy"
-HEADER = "name,key,messages,bytes,lines,notices,delay\n"
 OUTER = """\
 worker_processes 1;
 pid {folder}/nginx.pid;

@@ -1,14 +1,12 @@
 """Random batch lines of two customers and of the relay, for tests of histories."""
-import json
 from collections import Counter
 from typing import Dict, NamedTuple
 
-from serving import RELAY
+from serving import ACME, BIRCH, RELAY, batch_line
 
 START = 1767225600
 # in the order of the directory
-KEYS = {"acme": "acmekey000000001", "birch": "birchkey00000001"}
-HEADER = "name,key,messages,bytes,lines,notices,delay\n"
+KEYS = {"acme": ACME, "birch": BIRCH}
 SENDERS = ["", "ann@a.example", "eve@c.example"]
 ADDRESSES = ["p@far.example", "q@far.example", "r+s@near.example", "t@near.example"]
 PATTERNS = ["ann@", ".c.example", "far.example", "q@far.example", "near.example", "t@"]
@@ -27,8 +25,7 @@ class Line(NamedTuple):
 
 
 def text_of(at, method, path, key, body=None):
-    rest = [] if body is None else [json.dumps(body, separators=(",", ":"))]
-    return " ".join([str(at), method, path, key, *rest]).encode() + b"\n"
+    return f"{batch_line(at, method, path, key, body)}\n".encode()
 
 
 class Lines:

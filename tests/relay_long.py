@@ -5,8 +5,8 @@ import threading
 import time
 
 from postfix import text_of
-from relay_machine import DOMAINS, KEYS, Relay
-from serving import expect, until
+from relay_machine import DOMAINS, Relay
+from serving import KEYS, expect, until
 
 CALLS_OF_A_ROUND = 4
 CALLS = ["requeue", "requeue", "delete", "hold"]

@@ -11,13 +11,12 @@ import time
 from pathlib import Path
 
 from postfix import Postfix
-from serving import LONGEST, RELAY, Server, Wrong, asked, expect, free_address, named, until, words
+from serving import (HEADER, KEYS, LONGEST, RELAY, Server, Wrong, asked, expect, free_address, named,
+                     until, words)
 from sinks import ACCEPTS, DEFERS, REFUSES, Sink
 
 HERE = Path(__file__).resolve().parent
 WORKER = HERE.parent / "relay/worker"
-KEYS = {"acme": "acmekey000000001", "birch": "birchkey00000001", "cedar": "cedarkey00000001"}
-HEADER = "name,key,messages,bytes,lines,notices,delay"
 # the limits of a customer: messages, bytes, lines, notices and delay
 WIDE = "1000,500000000,1000,1000,0"
 DOMAINS = {"acme": "a.example", "birch": "b.example", "cedar": "c.example"}
@@ -167,10 +166,10 @@ class Relay:
         self.shared, self.postfix, self.senders = shared, shared.postfix, shared.senders
         self.folder = Path(tempfile.mkdtemp(prefix="relay-", dir=self.postfix.folder))
         limits = limits or {name: WIDE for name in KEYS}
-        self.write("customers.csv", HEADER,
+        self.write("customers.csv", HEADER.rstrip(),
                    *(f"{name},{KEYS[name]},{of}" for name, of in limits.items()))
         # (it has the form of the directory of the desk, and no key of a customer)
-        self.write("names.csv", HEADER,
+        self.write("names.csv", HEADER.rstrip(),
                    *(f"{name},{KEYS[name][::-1]},{of}" for name, of in limits.items()))
         self.write("relay.key", RELAY)
         self.desk, self.customers = Desk(program, self.folder), [*limits]

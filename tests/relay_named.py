@@ -5,8 +5,8 @@ Each takes the program of the desk and what all share.
 """
 import shutil
 
-from relay_machine import KEYS, WIDE, Relay
-from serving import RELAY, expect
+from relay_machine import WIDE, Relay
+from serving import KEYS, RELAY, expect
 
 FAR = "good.example"
 

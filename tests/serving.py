@@ -10,8 +10,9 @@ import subprocess
 import time
 
 ACME, BIRCH, RELAY = "acmekey000000001", "birchkey00000001", "relaykey00000001"
-DIRECTORY = """\
-name,key,messages,bytes,lines,notices,delay
+KEYS = {"acme": ACME, "birch": BIRCH, "cedar": "cedarkey00000001"}
+HEADER = "name,key,messages,bytes,lines,notices,delay\n"
+DIRECTORY = HEADER + """\
 acme,acmekey000000001,1000,500000000,1000,100,14400
 birch,birchkey00000001,100,1000000,100,10,0
 """
@@ -63,6 +64,12 @@ def words(program, word, store=None, *more, directory="customers.csv"):
     """The words by which the customers of a directory are served."""
     asked = [program, word, "--directory", directory, "--host", "relay.example", "--relay-key", RELAY]
     return [*asked, *(["--store", store] if store else []), *more]
+
+
+def batch_line(at, method, path, key, body=None):
+    """A line of a batch, without its end."""
+    rest = [] if body is None else [json.dumps(body, separators=(",", ":"))]
+    return " ".join([str(at), method, path, key, *rest])
 
 
 # ---- requests and responses as bytes

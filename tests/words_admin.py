@@ -2,8 +2,8 @@
 import os
 import subprocess
 
-from serving import LONGEST, Wrong
-from words_runs import (ACME, BIRCH, HEADER, IMPORT, LISTED, ONE_REPORT, QUEUE, QUEUED, SUBMIT, SWEEP, SWEEP_ALL, USAGE, asked,
+from serving import HEADER, LONGEST, Wrong
+from words_runs import (ACME, BIRCH, IMPORT, LISTED, ONE_REPORT, QUEUE, QUEUED, SUBMIT, SWEEP, SWEEP_ALL, USAGE, asked,
                         batch, output_is_full, serve, sqlite3)
 
 LINES = "class,pattern,action\nsender,spam.example,REJECT\nrecipient,far.example,HOLD\nrecipient,near.example,OK\n"

@@ -2,7 +2,7 @@
 import subprocess
 
 from lacking import module
-from serving import LONGEST, Wrong
+from serving import HEADER, LONGEST, Wrong
 
 sqlite3 = module("sqlite3")
 
@@ -10,7 +10,6 @@ LINE = b"1767225600 GET /v1/messages acmekey000000001\n"
 LISTED = b'200 {"messages":[],"more":false}\n'
 NO_KEY = b'401 {"error":2,"name":"NoKey"}\n'
 
-HEADER = "name,key,messages,bytes,lines,notices,delay\n"
 ACME = "acme,acmekey000000001,2,10000,10,5,3600\n"
 BIRCH = "birch,birchkey00000001,100,1000000,100,10,0\n"
 HOST, KEY = "relay.example", "relaykey00000001"

@@ -1,7 +1,8 @@
 """Of tests/words: what a batch, a server and a check refuse, each reason before those behind it, and batches that are served."""
 import socket
 
-from words_runs import (ACME, BIRCH, HEADER, HOST, KEY, LISTED, NO_KEY, ONE_REPORT, QUEUE, QUEUED, SUBMIT, asked, batch, check,
+from serving import HEADER
+from words_runs import (ACME, BIRCH, HOST, KEY, LISTED, NO_KEY, ONE_REPORT, QUEUE, QUEUED, SUBMIT, asked, batch, check,
                         output_is_full, serve, sqlite3)
 
 NO_HEADER = ": the header is not name,key,messages,bytes,lines,notices,delay"
