@@ -6,7 +6,7 @@ import socket
 import time
 
 from deploying import Desk, Proxy
-from serving import LONGEST, RELAY, expect, request, submission
+from serving import LONGEST, RELAY, Wrong, expect, request, submission
 
 CUSTOMERS, CLIENTS, SECONDS = 1000, 16, 1.5
 
@@ -49,12 +49,16 @@ def whole(told):
 def client(address, place, desks, end, told):
     """Submits for one customer after another, of each desk in turn; tells how many were taken."""
     number, wrong, connection = 0, None, Connection(address)
-    while time.monotonic() < end and not wrong:
-        name = f"c{number % desks}-{(place * 60 + number // desks) % CUSTOMERS}"
-        status, reply = connection.ask(f"/relay/submit/{name}", submission(f"s{place}-{number}"))
-        is_done = status == b"HTTP/1.1 200 OK" and b'"verdict":"queued"' in reply
-        wrong = None if is_done else (status, reply)
-        number += 1
+    try:
+        while time.monotonic() < end and not wrong:
+            name = f"c{number % desks}-{(place * 60 + number // desks) % CUSTOMERS}"
+            asked = f"/relay/submit/{name}", submission(f"s{place}-{number}")
+            status, reply = connection.ask(*asked)
+            is_done = status == b"HTTP/1.1 200 OK" and b'"verdict":"queued"' in reply
+            wrong = None if is_done else (status, reply)
+            number += 1
+    except (Wrong, OSError) as fault:
+        wrong = repr(fault)
     told.put((number, wrong))
 
 
