@@ -73,7 +73,7 @@ def directories_are_refused(runs):
     keys = [], ["--relay-key", KEY], ["--relay-key-file", "relay.key"]
     (runs.folder / "relay.key").write_text(f"{KEY}\n")
     for file, told, why in DIRECTORIES:
-        (runs.folder / "refused.csv").write_text(file, newline="")
+        (runs.folder / "refused.csv").write_bytes(file.encode())
         runs.expect(batch("refused.csv", store="refused.db"), 1, b"", f"hq: {told}\n".encode())
         runs.expect(serve("refused.csv", store="refused.db"), 1, b"", f"hq: {told}\n".encode())
         for given in keys:
@@ -92,12 +92,12 @@ def keys_stand_in_files(runs):
             runs.expect(words("none.csv", key_file=unread), 1, b"", b"hq: file\n")
         for text in ("", "\n", "short\n", f"{KEY}\n\n", f"{KEY}\r", f"{KEY} \n", f" {KEY}", f"{KEY}\n{KEY}\n", f"\n{KEY}",
                      f"\ufeff{KEY}\n", "k" * 65, f"{KEY}\n" * 20000):
-            (runs.folder / "relay.key").write_text(text, newline="")
+            (runs.folder / "relay.key").write_bytes(text.encode())
             runs.expect(words("none.csv", key_file="relay.key"), 1, b"", b"hq: 57 BadRelayKey\n")
         (runs.folder / "relay.key").write_bytes(b"relaykey0000000\xff\n")
         runs.expect(words("none.csv", key_file="relay.key"), 1, b"", b"hq: 57 BadRelayKey\n")
         for text in (KEY, f"{KEY}\n", f"{KEY}\r\n"):
-            (runs.folder / "relay.key").write_text(text, newline="")
+            (runs.folder / "relay.key").write_bytes(text.encode())
             runs.expect(words("none.csv", key_file="relay.key"), 1, b"", b"hq: file\n")
         (runs.folder / "relay.key").write_text("birchkey00000001\n")
         runs.expect(words(key_file="relay.key", store="."), 1, b"", b"hq: 57 BadRelayKey\n")
@@ -165,7 +165,7 @@ def batches_are_served(runs):
         HEADER + "\n" + ACME.replace(",2,", ",0000000000002,"),
         HEADER + "".join(f"c{it},customerkey{it:05},1,1,1,1,0\n" for it in range(999)) + ACME,
     ):
-        (runs.folder / "good.csv").write_text(file, newline="")
+        (runs.folder / "good.csv").write_bytes(file.encode())
         runs.expect(batch("good.csv"), 0, LISTED)
     (runs.folder / "birch.csv").write_text(HEADER + BIRCH)
     runs.expect(batch("birch.csv"), 0, NO_KEY)

@@ -161,7 +161,7 @@ def key_of(module, name):
     """What a name of a module is: ('spec', module, name), ('type', crate, file, type), or None where it is a library's."""
     crate, declared, rest = module.partition(".specs.declared.")
     if declared:
-        *file, name = rest.removesuffix(".TheVariants").split(".")
+        *file, name = re.sub(r"\.TheVariants$", "", rest).split(".")
         return ("type", crate, "/".join(file) or "lib", name) if (CRATES / crate).is_dir() else None
     file = spec_files().get(module)
     if file is None:
