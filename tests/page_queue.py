@@ -30,7 +30,7 @@ MOST_IN_VIEW = 60
 
 def what_a_row_shows(visit):
     """The row of a message has all that the desk tells of it."""
-    browser, desk = visit.browser, visit.desk
+    desk = visit.desk
     one = desk.submit("acme", "ann@a.example", "bob@far.example", "cat@far.example",
                       "dan@far.example", size=123456)
     other = desk.submit("acme", "", "bob@far.example")

@@ -7,7 +7,6 @@ import signal
 import subprocess
 import sys
 import tempfile
-import time
 from pathlib import Path
 
 from postfix import Postfix
@@ -227,11 +226,13 @@ class Relay:
 
     def intake(self, killed=None):
         """Begins the intake, and waits until it listens."""
-        begun, until = self.run("intake", killed=killed), time.monotonic() + LONGEST
-        while b"listening on " not in begun.log.read_bytes():
+        begun = self.run("intake", killed=killed)
+
+        def listens():
             expect(begun.process.poll() is None, "the intake has ended", begun.log.read_text())
-            expect(time.monotonic() < until, "the intake does not listen", begun.log.read_text())
-            time.sleep(0.02)
+            return b"listening on " in begun.log.read_bytes()
+
+        until(listens, "the intake does not listen")
         return begun
 
     def deliver(self, killed=None, longest=LONGEST):

@@ -34,17 +34,6 @@ def cut(server, least, dribble):
     server.told("hq: input")
 
 
-def slow_clients(program, folder):
-    asked = words(program, "serve", None, "--idle-timeout", "1", "--request-timeout", "2")
-    with Server(asked, folder, 5) as server:
-        cut(server, 1, None)
-        server.ask(request("GET", "/v1/usage", ACME), 200, USED)
-        cut(server, 2, 0.3)
-        server.ask(request("GET", "/v1/usage", ACME), 200, USED)
-        server.ask(request("GET", "/v1/usage", BIRCH), 200, USED)
-    return server.answered
-
-
 def wait_of_another(server):
     """How long another client waits for its response, in seconds, that asks now."""
     begun, other = time.monotonic(), server.connect()
