@@ -5,6 +5,8 @@ PLACE = re.compile(r"(?:note: )?(?:\./)?((?:src|specs|proofs)/[^:\s]+):(\d+):\d+
 ENDED = re.compile(r"(fn|impl|struct|enum|trait|type) (\S+): (proved$|not proved|no proof)(.*)")
 SEARCHED = re.compile(r": expected answers in .*?; `search` did not prove ([^;]*)")
 PROOF = re.compile(r"proofs/(.*)/(Answers|Invariants|Proof)\.antt")
+# (the proofs of a function NAME that calls itself stand in a folder +NAME)
+CALLS_ITSELF = re.compile(r"(^|/)\+")
 # A proof file that misses a name says that the edit took the name away, and nothing of a goal.
 MISSES_A_NAME = re.compile(r"has no field|is not in scope|has no `|was not admitted")
 
@@ -51,7 +53,8 @@ class Evidence:
 
     def read_error(self, line, file, number, error):
         proof = PROOF.fullmatch(file)
-        owner = owner_of(proof[1].replace("/", "::"), self.paths) if proof else None
+        path = CALLS_ITSELF.sub(r"\1", proof[1]).replace("/", "::") if proof else ""
+        owner = owner_of(path, self.paths)
         if owner not in self.edits:
             self.elsewhere.append(line)
         elif not MISSES_A_NAME.search(error):
