@@ -7,23 +7,17 @@ use Rattle.hq_queue.specs.declared.account.Customer.{Customer}
 use Rattle.hq_queue.specs.declared.account.Entry.{Entry}
 use Rattle.hq_store.specs.Shelves.{Sight, OnOpenSound}
 use Rattle.hq_store.specs.Tables.{Tables}
+use Rattle.hq_calls.specs.Each.{each_call}
 use Rattle.hq_calls.specs.Machine.{shared}
 use Rattle.hq_calls.specs.declared.answer.Answer.{Answer}
 use Rattle.hq_calls.specs.declared.answer.Answer.TheVariants.{Refused}
 use Rattle.hq_calls.specs.declared.call.Call.{Call}
-use Rattle.hq_calls.specs.declared.call.Call.TheVariants as call
+use Rattle.hq_calls.specs.declared.each.EachCall.{EachCall}
 use Rattle.hq_desk.specs.Desks.{IsRendered, host_of, on, shelf_of}
 use Rattle.hq_desk.specs.declared.desk.Desk.{Desk}
 use Rattle.hq_desk.specs.declared.desk.Rendered.{Rendered}
 use Rattle.hq_admin.specs.Printed.{printed}
-use Rattle.hq_admin.specs.declared.rounds.Each.{Each}
-use Rattle.hq_admin.specs.declared.rounds.Each.TheVariants.{Sweep, Usage}
 use Rattle.hq_admin.specs.declared.rounds.ToldAll.{ToldAll}
-
--- the call that is made of each
-abbrev pub call_made : Each → Call
-call_made Sweep = call.Sweep
-call_made Usage = call.Usage
 
 -- an answer as it is printed of one customer among others
 abbrev pub printed_of : List ℕ → Answer → List ℕ
@@ -48,7 +42,7 @@ StopsAt may left (Some fault) = may fault × ((next : Entry) × (more : List Ent
 -- The calls of the customers are done in their order by a desk over this shelf, until a fault; each
 -- that is done is told of, whatever becomes of the store.
 pub record CallsEach {S : Type 0} (sight : Sight S) (shelf : S) (host : List ℕ) (at : ℕ)
-    (each_is : Each) (customers : List Customer) (done : ToldAll) : Type 0 where
+    (each_is : EachCall) (customers : List Customer) (done : ToldAll) : Type 0 where
   pub old : Desk S
   pub host_is : host_of old ≡ host
   pub shelf_is : shelf_of old ≡ shelf
@@ -58,6 +52,6 @@ pub record CallsEach {S : Type 0} (sight : Sight S) (shelf : S) (host : List ℕ
   pub order : map customer_entry customers ≡ called ++ left
   pub counted : length done.told.items ≡ length called
   pub each : OnOpenSound (on sight) old new
-      (InTurn (IsCalled host at (call_made each_is)) ((on sight).tables old) called done.told.items
+      (InTurn (IsCalled host at (each_call each_is)) ((on sight).tables old) called done.told.items
       ((on sight).tables new))
   pub ends : StopsAt (on sight).may_answer left done.stopped

@@ -11,4 +11,4 @@ mod rounds;
 pub use customer::customer_in;
 pub use performing::{Request, perform};
 pub use printed::Printed;
-pub use rounds::{Each, ToldAll, call_each};
+pub use rounds::{ToldAll, call_each};

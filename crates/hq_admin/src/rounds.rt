@@ -1,34 +1,16 @@
 //! A round over a shelf: one call of each customer of a directory.
 
 ghost use Rattle.std.specs.Prelude.{◌≡◌, string_bytes, IfOk};
-ghost use Rattle.hq_admin.specs.Rounds.{CallsEach, call_made, printed_of};
+ghost use Rattle.hq_admin.specs.Rounds.{CallsEach, printed_of};
 
 use crate::printed::put_answer;
-use hq_desk::{Answer, Call, Desk, Render, Rendered};
+use hq_calls::EachCall;
+use hq_desk::{Answer, Desk, Render, Rendered};
 use hq_envelope::{Fault, Host, Moment, Name};
 use hq_queue::Customer;
 use hq_store::Shelf;
 use std::alloc::{AllocError, Global};
 use std::fmt::Write;
-
-/// The call that a round makes of each customer.
-#[derive(Clone, Copy, Debug, PartialEq, Eq, Drop)]
-pub enum Each {
-    /// The sweep of its queue.
-    Sweep,
-    /// What it uses of its quota.
-    Usage,
-}
-
-/// The call of one customer.
-fn call_made(each: Each) -> Call
-    ensures { result ≡ call_made each }
-{
-    match each {
-        Each::Sweep => Call::Sweep,
-        Each::Usage => Call::Usage,
-    }
-}
 
 /// What a round came to.
 #[derive(Drop)]
@@ -83,7 +65,7 @@ pub fn call_each<S: Shelf + Drop>(
     shelf: S,
     host: Host,
     at: Moment,
-    each: Each,
+    each: EachCall,
     customers: &[Customer],
 ) -> Result<ToldAll, AllocError>
     ensures { IfOk result (CallsEach S.sight shelf host at each customers.now) }
@@ -94,7 +76,7 @@ pub fn call_each<S: Shelf + Drop>(
         let by = PrintedOf {
             name: &customer.entry.name,
         };
-        match desk.act(alloc, at, &customer.entry, call_made(each), &by) {
+        match desk.act(alloc, at, &customer.entry, each.call(), &by) {
             Ok(rendered) => told.push_reserved(rendered),
             Err(fault) => {
                 return Ok(ToldAll {

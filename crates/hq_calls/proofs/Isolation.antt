@@ -3,7 +3,7 @@ use Rattle.std.proofs.Common.{◌≡◌, ◌≢◌, ℕ, List, ap, ◌∙◌}
 use Rattle.hq_queue.specs.declared.account.Entry.{Entry}
 use Rattle.hq_store.specs.Readings.{Readings, read_tables}
 use Rattle.hq_store.specs.Tables.{Tables, own, change_all}
-use Rattle.hq_store.proofs.Own.{own_write_all, other_write_all}
+use Rattle.hq_calls.proofs.Own.{own_write_all, other_write_all}
 use Rattle.hq_store.proofs.Read.{same_readings}
 use Rattle.hq_calls.specs.declared.call.Call.{Call}
 use Rattle.hq_calls.specs.Decision.{decide}

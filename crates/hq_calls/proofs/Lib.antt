@@ -1,2 +1,4 @@
 pub mod Isolation
+pub mod Own
+pub mod Reasons
 pub mod Unchanged

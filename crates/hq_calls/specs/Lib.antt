@@ -2,6 +2,7 @@ pub mod AccessLines
 pub mod Answering
 pub mod Answers
 pub mod Decision
+pub mod Each
 pub mod Imports
 pub mod Limits
 pub mod Machine

@@ -5,8 +5,9 @@ ghost use Rattle.std.specs.Prelude.{◌≡◌, ◌≢◌, ℕ, true, List, Some}
 ghost use Rattle.hq_base.specs.declared.failure.Refusal.{Refusal};
 ghost use Rattle.hq_queue.specs.declared.account.Entry.{Entry};
 ghost use Rattle.hq_store.specs.Readings.{read_state, read_tables};
-ghost use Rattle.hq_store.specs.Tables.{State, Tables, own};
+ghost use Rattle.hq_store.specs.Tables.{State, Tables, own, change_all, write_all};
 ghost use Rattle.hq_store.specs.Sound.{Sound};
+ghost use Rattle.hq_store.specs.declared.change.Change.{Change};
 ghost use Rattle.hq_store.specs.declared.mark.Mark.{Mark};
 ghost use Rattle.hq_calls.specs.declared.answer.Answer.TheVariants.{Imported, Refused};
 ghost use Rattle.hq_calls.specs.declared.answer.ImportCounts.{ImportCounts};
@@ -27,6 +28,18 @@ pub fn isolated()
     ensures others { (host : List ℕ) (entry : Entry) (t : Tables) (at : ℕ) (call : Call)
         (other : List ℕ) → other ≢ entry.name
         → own other (shared host entry t at call).1 ≡ own other t }
+{}
+
+/// Changes of a customer's rows are these changes of its own state.
+pub fn own_state_is_changed()
+    ensures { (customer : List ℕ) (changes : List Change) (t : Tables)
+        → own customer (write_all customer changes t) ≡ change_all changes (own customer t) }
+{}
+
+/// Changes of a customer's rows leave the state of every other.
+pub fn other_states_stay()
+    ensures { (customer other : List ℕ) (changes : List Change) (t : Tables)
+        → other ≢ customer → own other (write_all customer changes t) ≡ own other t }
 {}
 
 /// What leaves the state of the machine of one customer as it was: a call that is refused; one that

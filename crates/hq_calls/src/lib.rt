@@ -6,6 +6,7 @@
 mod answer;
 mod call;
 pub mod decision;
+mod each;
 pub mod laws;
 mod plan;
 mod render;
@@ -13,5 +14,6 @@ mod render;
 pub use answer::{Answer, AttemptCounts, ImportCounts, LinePut, SweepCounts, Usage};
 pub use call::{AttemptReport, Call, Move, Submission};
 pub use decision::Decision;
+pub use each::EachCall;
 pub use plan::{Draft, Plan};
 pub use render::Render;

@@ -3,4 +3,5 @@ pub mod Paged
 pub mod Pages
 pub mod Reading
 pub mod ShelfLines
+pub mod Then
 pub mod Whole

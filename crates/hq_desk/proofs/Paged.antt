@@ -10,19 +10,13 @@ use Rattle.std.specs.FinMap.Entries.{below_all}
 use Rattle.std.proofs.lemmas.Bool.Decides.{nat_tests}
 use Rattle.std.proofs.lemmas.List.{append_assoc, length-drop, take-append-drop}
 use Rattle.hq_queue.specs.declared.message.Message.{Message}
-use Rattle.hq_owned.proofs.Cases.{first, second}
+use Rattle.hq_owned.proofs.Cases.{first, second, none_some, same_some}
 use Rattle.hq_store.specs.Readings.{Readings, read_tables, after_serial}
 use Rattle.hq_store.specs.Sound.{Sound}
 use Rattle.hq_store.specs.Tables.{Tables, own}
-use Rattle.hq_store.proofs.Many.{Queue, AllFind, below, finds}
+use Rattle.hq_states.proofs.Many.{Queue, AllFind, below, finds}
 use Rattle.hq_store.proofs.Read.{same_readings}
 use Rattle.hq_desk.specs.Reports.{last_serial}
-
-none_some : (k : ℕ) → ◌≡◌ {A = Option ℕ} None (Some k) → ⊥
-none_some k e = cc
-
-same_some : (j k : ℕ) → ◌≡◌ {A = Option ℕ} (Some j) (Some k) → j ≡ k
-same_some j k e = cc
 
 no_cons : (m : Message) (ms : List Message) → ◌≡◌ {A = List Message} (m ∷ ms) [] → ⊥
 no_cons m ms e = cc

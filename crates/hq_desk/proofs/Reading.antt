@@ -13,7 +13,7 @@ use Rattle.hq_store.specs.Readings.{read_tables}
 use Rattle.hq_store.specs.Shelves.{Sight, Finds, Keeps, KeepsOnErr, IsTallied, one_more}
 use Rattle.hq_store.specs.Shelves.{StopLeavesTables, StopLeavesNoMore, StopLeavesWhole}
 use Rattle.hq_store.specs.Tables.{Tables}
-use Rattle.hq_store.proofs.Then.{finds_on}
+use Rattle.hq_desk.proofs.Then.{finds_on}
 use Rattle.hq_desk.specs.Desks.{with_memory}
 
 -- what was seen over two calls, of which the first answered

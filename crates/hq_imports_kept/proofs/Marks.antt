@@ -30,7 +30,7 @@ use Rattle.hq_store.specs.declared.change.Change.TheVariants.{AddNotice}
 use Rattle.hq_store.specs.declared.notice.Notice.{Notice}
 use Rattle.hq_store.specs.Sound.{pending_count}
 use Rattle.hq_store.specs.Tables.{State, change, change_all}
-use Rattle.hq_store.proofs.Many.{change_all-append}
+use Rattle.hq_states.proofs.Many.{change_all-append}
 use Rattle.hq_calls.specs.AccessLines as lines
 use Rattle.hq_calls.specs.Answering.{tell, refuse}
 use Rattle.hq_calls.specs.Messages as messages

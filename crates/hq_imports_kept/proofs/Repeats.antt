@@ -21,7 +21,7 @@ use Rattle.hq_store.specs.declared.change.Change.TheVariants.{PutMark}
 use Rattle.hq_store.specs.declared.mark.Mark.{Mark}
 use Rattle.hq_store.specs.Tables.{State, change_all}
 use Rattle.hq_store.proofs.Customers.{cases_name}
-use Rattle.hq_store.proofs.Many.{change_all-append}
+use Rattle.hq_states.proofs.Many.{change_all-append}
 use Rattle.hq_calls.specs.Answering.{tell, refuse}
 use Rattle.hq_calls.specs.Decision.{decide}
 use Rattle.hq_calls.specs.Imports.{line_met, counts_of, mark_of, set_by, changes_of, repeated}

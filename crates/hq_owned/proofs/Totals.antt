@@ -15,10 +15,7 @@ use Rattle.std.specs.FinMap.Entries.{by_order, below_all, where_key, is_sorted-w
 use Rattle.std.specs.FinMap.Entries.{find-where_key}
 use Rattle.hq_owned.specs.Owned.{given}
 use Rattle.hq_owned.proofs.Lists.{remove_is}
-use Rattle.hq_owned.proofs.Cases.{first, second, less, equal, both}
-
-none_some : {A : Type 0} (a : A) → ◌≡◌ {A = Option A} None (Some a) → ⊥
-none_some a e = cc
+use Rattle.hq_owned.proofs.Cases.{first, second, less, equal, both, none_some}
 
 module _ {K X : Type 0} (f : X → ℕ) where
   abbrev weight : List (K × X) → ℕ

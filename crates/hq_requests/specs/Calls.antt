@@ -7,6 +7,7 @@ use Rattle.hq_base.specs.Serials.{serial_in}
 use Rattle.hq_base.specs.declared.failure.Refusal.{Refusal}
 use Rattle.hq_base.specs.declared.failure.Refusal.TheVariants.{BodyTooLong, NoRoute, WrongMethod}
 use Rattle.hq_base.specs.declared.failure.Refusal.TheVariants.{BadField}
+use Rattle.hq_calls.specs.Each.{each_call}
 use Rattle.hq_calls.specs.declared.call.Call.{Call}
 use Rattle.hq_calls.specs.declared.call.Call.TheVariants as call
 use Rattle.hq_bodies.specs.Outcomes.{read_report}
@@ -25,18 +26,11 @@ use Rattle.hq_requests.specs.declared.directory.Directory.{Directory}
 use Rattle.hq_requests.specs.declared.exchanges.Exchange.{Exchange}
 use Rattle.hq_requests.specs.declared.request.Asking.{Asking}
 use Rattle.hq_requests.specs.declared.request.Asking.TheVariants as asking
-use Rattle.hq_requests.specs.declared.request.EachCall.{EachCall}
-use Rattle.hq_requests.specs.declared.request.EachCall.TheVariants as each
 
 -- What an exchange asks: a call of one customer, or the same call of every customer.
 pub data Asked : Type 0 where
   CallOf : List ℕ → Call → Asked
   CallOfAll : Call → Asked
-
--- the call of each customer
-abbrev pub each_call : EachCall → Call
-each_call each.Sweep = call.Sweep
-each_call each.Usage = call.Usage
 
 -- the call that is asked, of one customer or of each
 abbrev pub call_in : Asked → Call

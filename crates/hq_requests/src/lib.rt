@@ -9,4 +9,4 @@ mod request;
 
 pub use directory::{Directory, are_customers};
 pub use exchanges::Exchange;
-pub use request::{Asking, EachCall, call_of};
+pub use request::{Asking, call_of};

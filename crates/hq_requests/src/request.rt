@@ -4,6 +4,7 @@ ghost use Rattle.std.specs.Prelude.{◌≡◌, IfOk, option_map, string_bytes};
 ghost use Rattle.hq_base.specs.Readers.{Reads, seen_by, or_refuse};
 ghost use Rattle.hq_base.specs.Serials.{serial_in};
 ghost use Rattle.hq_base.specs.declared.failure.Refusal.TheVariants.{BadField};
+ghost use Rattle.hq_calls.specs.Each.{each_call};
 ghost use Rattle.hq_routes.specs.Routes.{last_segment};
 ghost use Rattle.hq_requests.specs.Calls as calls;
 
@@ -14,7 +15,7 @@ use hq_bodies::{
     read_check, read_import, read_line, read_message_after, read_message_id, read_notice_after,
     read_notice_number, read_pattern, read_report, read_submission,
 };
-use hq_calls::Call;
+use hq_calls::{Call, EachCall};
 use hq_envelope::{Fail, Refusal, Serial};
 use hq_queue::Entry;
 use hq_routes::{Role, Route, last_segment};
@@ -30,27 +31,6 @@ pub enum Asking<'d> {
     CallOf(&'d Entry, Call),
     /// The same call of every customer.
     CallOfAll(EachCall),
-}
-
-/// A call that can be asked of every customer at once.
-#[derive(Clone, Copy, Debug, PartialEq, Eq)]
-pub enum EachCall {
-    /// `Call::Sweep`.
-    Sweep,
-    /// `Call::Usage`.
-    Usage,
-}
-
-impl EachCall {
-    /// The call, for one of them.
-    pub fn call(self) -> Call
-        ensures { result ≡ calls.each_call self }
-    {
-        match self {
-            EachCall::Sweep => Call::Sweep,
-            EachCall::Usage => Call::Usage,
-        }
-    }
 }
 
 /// The serial of the message whose queue ID is the parameter: else 8 `BadField`.
@@ -143,7 +123,7 @@ fn asked_of_one<'d>(
 
 /// What a route asks of every customer: else 4 `NoRoute`.
 fn asked_of_each(route: Route) -> Result<EachCall, Refusal>
-    ensures { seen_by calls.each_call result ≡ calls.asked_of_each route }
+    ensures { seen_by each_call result ≡ calls.asked_of_each route }
 {
     match route {
         Route::Sweep => Ok(EachCall::Sweep),

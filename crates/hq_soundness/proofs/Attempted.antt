@@ -20,11 +20,11 @@ use Rattle.hq_store.specs.declared.change.Change.TheVariants.{DropMessage}
 use Rattle.hq_store.specs.Readings.{saturated}
 use Rattle.hq_store.specs.Sound.{SoundState, ShapedState, IsReasoned, AreApart}
 use Rattle.hq_store.specs.Tables.{State, change, change_all}
-use Rattle.hq_store.proofs.Many.{Done, does_drop}
+use Rattle.hq_states.proofs.Many.{Done, does_drop}
 use Rattle.hq_calls.specs.Outcomes.{put_or_dropped, attempted, outcome_with, outcome}
 use Rattle.hq_calls.specs.declared.call.AttemptReport.{AttemptReport}
 use Rattle.hq_soundness.proofs.Kept.{Keeps, saturated_is}
-use Rattle.hq_soundness.proofs.Recipients.{none_lost, left_apart}
+use Rattle.hq_states.proofs.Recipients.{none_lost, left_apart}
 use Rattle.hq_soundness.proofs.Settled.{taken_fits, put_fewer, carried_out_kept}
 
 -- a message that is put with those who are left, or dropped where nobody is

@@ -24,8 +24,8 @@ use Rattle.hq_store.specs.Readings.{read_state}
 use Rattle.hq_store.specs.Sound.{SoundState}
 use Rattle.hq_store.specs.Tables.{State, line_cmp, change, change_all}
 use Rattle.hq_store.proofs.Orders.{line_total}
-use Rattle.hq_store.proofs.Many.{change_all-append}
-use Rattle.hq_store.proofs.States.{change_shaped}
+use Rattle.hq_states.proofs.Many.{change_all-append}
+use Rattle.hq_states.proofs.States.{change_shaped}
 use Rattle.hq_calls.specs.Answering.{tell, refuse}
 use Rattle.hq_calls.specs.AccessLines.{same_action}
 use Rattle.hq_calls.specs.Imports.{beside, line_met, is_put, rows_that, counts_of, mark_of, set_by}

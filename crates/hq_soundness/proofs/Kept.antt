@@ -10,7 +10,7 @@ use Rattle.hq_store.specs.Sound.{SoundState}
 use Rattle.hq_store.specs.Tables.{State, change, change_all}
 use Rattle.hq_access.specs.declared.pattern.Line.{Line}
 use Rattle.hq_store.specs.declared.change.Change.TheVariants.{PutLine}
-use Rattle.hq_store.proofs.States.{change_shaped}
+use Rattle.hq_states.proofs.States.{change_shaped}
 use Rattle.hq_calls.specs.declared.decision.Decision.{Decision}
 
 -- what a decision leaves of a state is sound

@@ -3,9 +3,9 @@ pub mod Imported
 pub mod Kept
 pub mod Noted
 pub mod Queued
-pub mod Recipients
 pub mod Requeued
 pub mod Settled
+pub mod Shapes
 pub mod Soundness
 pub mod SweptRows
 pub mod WholeQueues

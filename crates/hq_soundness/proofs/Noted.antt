@@ -14,8 +14,8 @@ use Rattle.hq_store.specs.declared.change.Change.TheVariants.{PutHead, AddNotice
 use Rattle.hq_store.specs.declared.notice.Notice.{Notice}
 use Rattle.hq_store.specs.Sound.{SoundState}
 use Rattle.hq_store.specs.Tables.{State, Noted, noted_of, change, change_all}
-use Rattle.hq_store.proofs.Many.{change_all-append}
-use Rattle.hq_store.proofs.States.{change_shaped}
+use Rattle.hq_states.proofs.Many.{change_all-append}
+use Rattle.hq_states.proofs.States.{change_shaped}
 use Rattle.hq_calls.specs.Notices.{noticed, added_from, kept_below, with_notices, planned}
 use Rattle.hq_calls.specs.declared.plan.Draft.{Draft}
 use Rattle.hq_calls.specs.declared.plan.Plan.{Plan}

@@ -30,11 +30,12 @@ use Rattle.hq_queue.specs.declared.account.Entry.{Entry}
 use Rattle.hq_queue.specs.declared.message.Message.{Message}
 use Rattle.hq_queue.specs.declared.message.Pending.{Pending}
 use Rattle.hq_store.specs.declared.change.Change.TheVariants.{PutHead, PutMessage}
-use Rattle.hq_store.specs.Fits.{HeadFits, MessageFits}
+use Rattle.hq_states.specs.Fits.{HeadFits, MessageFits}
 use Rattle.hq_store.specs.Readings.{Readings, read_state, saturated, with_spool}
 use Rattle.hq_store.specs.Sound.{SoundState, ShapedState, same_address}
 use Rattle.hq_store.specs.Tables.{State, text_cmp, change}
-use Rattle.hq_store.proofs.States.{change_shaped, none_some, same_some}
+use Rattle.hq_owned.proofs.Cases.{none_some, same_some}
+use Rattle.hq_states.proofs.States.{change_shaped}
 use Rattle.hq_owned.proofs.Parts.{tied_true}
 use Rattle.hq_owned.proofs.Totals.{total-insert}
 use Rattle.hq_owned.specs.Owned.{given}

@@ -16,12 +16,13 @@ use Rattle.hq_queue.specs.Moves.{requeued, cleared}
 use Rattle.hq_queue.specs.declared.message.Message.{Message}
 use Rattle.hq_queue.specs.declared.message.Pending.{Pending}
 use Rattle.hq_store.specs.declared.change.Change.TheVariants.{PutHead, PutMessage, DropMessage}
-use Rattle.hq_store.specs.Fits.{HeadFits, MessageFits}
+use Rattle.hq_states.specs.Fits.{HeadFits, MessageFits}
 use Rattle.hq_store.specs.Sound.{SoundState, ShapedState, AreApart}
 use Rattle.hq_store.specs.Tables.{State, change, change_all}
-use Rattle.hq_store.proofs.Conserved.{pending, pending_put, pending_drop}
-use Rattle.hq_store.proofs.Shapes.{changes_shaped}
-use Rattle.hq_store.proofs.States.{left, none_some}
+use Rattle.hq_states.proofs.Conserved.{pending, pending_put, pending_drop}
+use Rattle.hq_soundness.proofs.Shapes.{changes_shaped}
+use Rattle.hq_owned.proofs.Cases.{none_some}
+use Rattle.hq_states.proofs.States.{left}
 use Rattle.hq_owned.proofs.Parts.{tied_true}
 use Rattle.hq_owned.specs.Owned.{given}
 use Rattle.hq_calls.specs.Answering.{refuse}

@@ -13,9 +13,10 @@ use Rattle.hq_queue.specs.declared.message.Message.{Message}
 use Rattle.hq_store.specs.declared.change.Change.TheVariants.{PutHead, PutMessage}
 use Rattle.hq_store.specs.Sound.{ShapedState, SoundState, IsReasoned, AreApart, IsNext}
 use Rattle.hq_store.specs.Tables.{State, change, change_all}
-use Rattle.hq_store.proofs.Conserved.{pending, pending_put}
-use Rattle.hq_store.proofs.Many.{Done}
-use Rattle.hq_store.proofs.States.{change_shaped, none_some}
+use Rattle.hq_states.proofs.Conserved.{pending, pending_put}
+use Rattle.hq_states.proofs.Many.{Done}
+use Rattle.hq_owned.proofs.Cases.{none_some}
+use Rattle.hq_states.proofs.States.{change_shaped}
 use Rattle.hq_owned.specs.Owned.{given}
 use Rattle.hq_calls.specs.Answering.{refuse}
 use Rattle.hq_calls.specs.Notices.{with_notices, planned, carried_out}

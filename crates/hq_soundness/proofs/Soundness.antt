@@ -18,13 +18,14 @@ use Rattle.hq_queue.specs.declared.message.QueueState.TheVariants.{Hold, Deferre
 use Rattle.hq_store.specs.declared.change.Change.TheVariants.{PutHead, PutMessage, DropMessage}
 use Rattle.hq_store.specs.declared.change.Change.TheVariants.{DropLine}
 use Rattle.hq_store.specs.declared.notice.Notice.{Notice}
-use Rattle.hq_store.specs.Fits.{HeadFits, MessageFits}
+use Rattle.hq_states.specs.Fits.{HeadFits, MessageFits}
 use Rattle.hq_store.specs.Readings.{Readings, read_state, read_tables, saturated}
 use Rattle.hq_store.specs.Sound.{Sound, SoundState, IsReasoned, AreApart}
 use Rattle.hq_store.specs.Tables.{State, Tables, own, change, change_all}
 use Rattle.hq_store.proofs.Read.{same_readings}
-use Rattle.hq_store.proofs.Shapes.{stays_sound}
-use Rattle.hq_store.proofs.States.{change_shaped, left, none_some}
+use Rattle.hq_soundness.proofs.Shapes.{stays_sound}
+use Rattle.hq_owned.proofs.Cases.{none_some}
+use Rattle.hq_states.proofs.States.{change_shaped, left}
 use Rattle.hq_owned.proofs.Totals.{total-insert, total-remove}
 use Rattle.hq_owned.specs.Owned.{given}
 use Rattle.hq_calls.specs.AccessLines as lines

@@ -15,8 +15,8 @@ use Rattle.hq_queue.specs.declared.sweep.Swept.TheVariants.{Expired, Warned, Unt
 use Rattle.hq_store.specs.Readings.{saturated}
 use Rattle.hq_store.specs.Sound.{SoundState, ShapedState}
 use Rattle.hq_store.specs.Tables.{State, change_all}
-use Rattle.hq_store.proofs.Many.{Does, Done, each_done, stand_values, does_nothing, does_put}
-use Rattle.hq_store.proofs.Many.{does_drop}
+use Rattle.hq_states.proofs.Many.{Does, Done, each_done, stand_values, does_nothing, does_put}
+use Rattle.hq_states.proofs.Many.{does_drop}
 use Rattle.hq_calls.specs.Answering.{tell}
 use Rattle.hq_calls.specs.Notices.{carried_out}
 use Rattle.hq_calls.specs.Sweeps.{message_met, changed_by, given_up, messages_that, swept_all}

@@ -14,8 +14,8 @@ use Rattle.hq_store.specs.Sound.{SoundState, ShapedState, pending_count}
 use Rattle.hq_store.specs.Tables.{State, change, change_all}
 use Rattle.hq_store.specs.declared.change.Change.{Change}
 use Rattle.hq_store.specs.declared.change.Change.TheVariants.{PutHead}
-use Rattle.hq_store.proofs.Many.{Does, change_all-append, does_nothing, does_put, does_drop}
-use Rattle.hq_store.proofs.Many.{moved_sound, taken_sound}
+use Rattle.hq_states.proofs.Many.{Does, change_all-append, does_nothing, does_put, does_drop}
+use Rattle.hq_states.proofs.Many.{moved_sound, taken_sound}
 use Rattle.hq_calls.specs.Answering.{tell}
 use Rattle.hq_calls.specs.Messages.{with_deleted}
 use Rattle.hq_calls.specs.Queues.{moved_by, put, move_all, drop, delete_all}

@@ -6,7 +6,7 @@ use Rattle.sqlite.specs.Effect.{Database, IsDatabase}
 use Rattle.sqlite.specs.State.{State, Opens, IsLive}
 use Rattle.sqlite.specs.Tree.{Trees}
 use Rattle.hq_store.specs.Sound.{Sound}
-use Rattle.hq_store.specs.Lifted.{lift, FirstSound}
+use Rattle.hq_sql_migrate.specs.Lifted.{lift, FirstSound}
 use Rattle.hq_store.specs.Tables.{Tables, no_tables, own}
 use Rattle.hq_requests.specs.declared.directory.Directory.{Directory}
 use Rattle.hq_requests.specs.declared.exchanges.Exchange.{Exchange}

@@ -8,9 +8,9 @@ use Rattle.hq_envelope.specs.Words.{host_in}
 use Rattle.hq_queue.specs.declared.account.Customer.{Customer}
 use Rattle.hq_store.specs.Shelves.{Sight}
 use Rattle.hq_sql_file.specs.Opened.{OverFile}
+use Rattle.hq_calls.specs.declared.each.EachCall.{EachCall}
+use Rattle.hq_calls.specs.declared.each.EachCall.TheVariants.{Sweep as SweepOf, Usage as UsageOf}
 use Rattle.hq_admin.specs.Rounds.{CallsEach}
-use Rattle.hq_admin.specs.declared.rounds.Each.{Each}
-use Rattle.hq_admin.specs.declared.rounds.Each.TheVariants.{Sweep as SweepOf, Usage as UsageOf}
 use Rattle.hq_admin.specs.declared.rounds.ToldAll.{ToldAll}
 use Rattle.hq_trouble.specs.declared.trouble.Trouble.{Trouble}
 use Rattle.hq_trouble.specs.declared.trouble.Trouble.TheVariants.{Desk}
@@ -20,13 +20,13 @@ use Rattle.hq_words.specs.declared.options.Usage.{Usage}
 use Rattle.hq_sql_admin.specs.declared.rounds.Round.{Round}
 
 -- the round of such a relay, moment and call, of these customers
-abbrev pub IsRound : List ℕ → ℕ → Each → List Customer → Result Round Trouble → Type 0
+abbrev pub IsRound : List ℕ → ℕ → EachCall → List Customer → Result Round Trouble → Type 0
 IsRound host at each customers (Ok asked) = (asked.host ≡ host) × (asked.at ≡ at)
     × (asked.each ≡ each) × (asked.customers.items ≡ customers)
 IsRound host at each customers (Err trouble) = ⊥
 
 -- that of the customers of some file, where the relay's name is good
-abbrev pub AsksRound : List ℕ → ℕ → Each → Result Round Trouble → Type 0
+abbrev pub AsksRound : List ℕ → ℕ → EachCall → Result Round Trouble → Type 0
 AsksRound host at each = Then (IsRead (host_in host)) (λ name.
     Then HasCustomers (IsRound name at each))
 

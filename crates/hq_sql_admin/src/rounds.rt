@@ -7,7 +7,8 @@ ghost use Rattle.hq_sql_admin.specs.Rounds.{AsksRound, RoundOpened, RoundInFile}
 ghost use Rattle.hq_sql_admin.specs.Rounds.{SweepAllEnds, UsageEnds};
 
 use crate::requests::{LOCALHOST, NO_MOMENT};
-use hq_admin::{Each, ToldAll, call_each};
+use hq_admin::{ToldAll, call_each};
+use hq_calls::EachCall;
 use hq_envelope::{Fault, Host, Moment};
 use hq_queue::Customer;
 use hq_set_up::customers_of;
@@ -26,7 +27,7 @@ struct Round {
     /// When it is done.
     at: Moment,
     /// The call.
-    each: Each,
+    each: EachCall,
     /// The customers, in the order of the directory.
     customers: Vec<Customer>,
 }
@@ -36,7 +37,7 @@ fn round_of(
     rt: &HostRuntime,
     host: &str,
     at: Moment,
-    each: Each,
+    each: EachCall,
     directory: &str,
 ) -> Result<Round, Trouble>
     ensures { AsksRound host.now at each result }
@@ -84,7 +85,7 @@ fn round_in_file(rt: &HostRuntime, store: &str, asked: Round) -> Result<ToldAll,
 pub fn sweep_all(rt: &HostRuntime, given: &Sweep) -> Result<ToldAll, Trouble>
     ensures { SweepAllEnds ⟦<FileShelf as Shelf>⟧.sight given.now result }
 {
-    let asked = round_of(rt, given.host, given.at, Each::Sweep, given.directory)?;
+    let asked = round_of(rt, given.host, given.at, EachCall::Sweep, given.directory)?;
     round_in_file(rt, given.store, asked)
 }
 
@@ -94,6 +95,6 @@ pub fn usage(rt: &HostRuntime, given: &Usage) -> Result<ToldAll, Trouble>
     ensures { UsageEnds ⟦<FileShelf as Shelf>⟧.sight given.now result }
 {
     let at = Moment::no_later(NO_MOMENT);
-    let asked = round_of(rt, LOCALHOST, at, Each::Usage, given.directory)?;
+    let asked = round_of(rt, LOCALHOST, at, EachCall::Usage, given.directory)?;
     round_in_file(rt, given.store, asked)
 }

@@ -3,10 +3,10 @@ use Rattle.std.proofs.Common.{◌≡◌, ℕ, List, sym, ap, ◌∙◌, subst, m
 use Rattle.sqlite.specs.Effect.{Database}
 use Rattle.sqlite.specs.Order.{column}
 use Rattle.hq_envelope.specs.Words.{earlier_hold}
-use Rattle.hq_store.specs.Lifted.{lift, FirstSound}
+use Rattle.hq_sql_migrate.specs.Lifted.{lift, FirstSound}
 use Rattle.hq_store.specs.Sound.{Sound}
 use Rattle.hq_store.specs.Tables.{own}
-use Rattle.hq_store.proofs.Lifting.{own_lifted, tables_lifted}
+use Rattle.hq_sql_migrate.proofs.Lifted.{own_lifted, tables_lifted}
 use Rattle.hq_sql.specs.Tables.{IsDesk, tables_in}
 use Rattle.hq_sql_migrate.specs.Stores.{first_tables_in, IsSecond, IsLifted}
 

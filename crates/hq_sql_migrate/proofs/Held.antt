@@ -29,7 +29,7 @@ use Rattle.hq_owned.proofs.Unique.{unique_filter}
 use Rattle.hq_schema.specs.Schema as schema
 use Rattle.hq_rows.specs.declared.rows.HoldRow.{HoldRow}
 use Rattle.hq_rows.specs.declared.rows.MessageRow.{MessageRow}
-use Rattle.hq_store.specs.Lifted.{on_hold, holds_for}
+use Rattle.hq_sql_migrate.specs.Lifted.{on_hold, holds_for}
 use Rattle.hq_rows.specs.Listed.{message_key, message_value, messages_of, hold_key, hold_value}
 use Rattle.hq_rows.specs.Listed.{holds_of}
 use Rattle.hq_store.specs.Tables as store

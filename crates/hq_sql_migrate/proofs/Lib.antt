@@ -4,3 +4,4 @@ pub mod Statements
 pub mod Migrated
 pub mod Versions
 pub mod Customers
+pub mod Lifted

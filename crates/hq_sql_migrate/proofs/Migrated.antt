@@ -7,7 +7,7 @@ use Rattle.hq_keyed.specs.Made.{CreatesTable}
 use Rattle.hq_keyed.proofs.Left.{clean_before}
 use Rattle.hq_schema.specs.Schema.{holds, first_schema, desk_schema}
 use Rattle.hq_schema.proofs.Texts.{holds_made_last}
-use Rattle.hq_store.specs.Lifted.{holds_for}
+use Rattle.hq_sql_migrate.specs.Lifted.{holds_for}
 use Rattle.hq_rows.specs.Listed.{holds_of, heads_of, messages_of, recipients_of, lines_of, marks_of}
 use Rattle.hq_rows.specs.Listed.{notices_of}
 use Rattle.hq_sql.specs.Rows.{hold_read, head_read, message_read, recipient_read, line_read}

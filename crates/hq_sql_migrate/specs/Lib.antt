@@ -1,2 +1,3 @@
+pub mod Lifted
 pub mod Stores
 pub mod Migration

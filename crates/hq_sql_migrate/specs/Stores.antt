@@ -5,7 +5,7 @@ use Rattle.sqlite.specs.declared.types.Value.TheVariants.{Int}
 use Rattle.sqlite.specs.Effect.{Database}
 use Rattle.hq_keyed.specs.Values.{number}
 use Rattle.hq_schema.specs.Schema.{first_schema, desk_schema}
-use Rattle.hq_store.specs.Lifted.{on_hold, holds_for}
+use Rattle.hq_sql_migrate.specs.Lifted.{on_hold, holds_for}
 use Rattle.hq_rows.specs.Listed.{holds_of}
 use Rattle.hq_store.specs.Tables.{Tables, Row, message_cmp}
 use Rattle.hq_sql.specs.Rows.{hold_read}

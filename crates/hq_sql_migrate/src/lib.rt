@@ -9,6 +9,7 @@ ghost use Rattle.hq_schema.specs.Schema.{first_schema, desk_schema};
 ghost use Rattle.hq_sql_open.specs.Transactions.{IsSettled};
 ghost use Rattle.hq_sql_migrate.specs.Migration.{MigratesBy, KeepsAny};
 
+pub mod laws;
 mod lifting;
 mod version;
 

@@ -6,7 +6,7 @@ use Rattle.sqlite.specs.Tree.{Trees}
 use Rattle.hq_base.specs.declared.failure.Fault.{Fault}
 use Rattle.hq_base.specs.declared.failure.Fault.TheVariants.{BadSchema, Closed}
 use Rattle.hq_envelope.specs.Words.{earlier_hold}
-use Rattle.hq_store.specs.Lifted.{lift, FirstSound}
+use Rattle.hq_sql_migrate.specs.Lifted.{lift, FirstSound}
 use Rattle.hq_store.specs.Sound.{Sound}
 use Rattle.hq_store.specs.Tables.{own}
 use Rattle.hq_sql.specs.Tables.{IsDesk, tables_in}

@@ -20,7 +20,7 @@ use Rattle.hq_store.specs.Readings.{kept_of, kept_in}
 use Rattle.hq_store.proofs.Customers.{none_own}
 use Rattle.hq_store.proofs.Orders.{line_total, line_exact}
 use Rattle.hq_store.specs.Sound.{IsNext, SoundState, Sound, AreCounted, numbered, pending_count}
-use Rattle.hq_store.proofs.States.{none_some}
+use Rattle.hq_owned.proofs.Cases.{none_some}
 
 part_empty : (serial : ℕ) → part_of nat_cmp serial
     (empty {X = Pending} {R = by_both nat_cmp nat_cmp}) ≡ empty

@@ -1,15 +1,7 @@
 pub mod Accounts
-pub mod Conserved
 pub mod Counted
 pub mod Customers
 pub mod Dealt
 pub mod Empty
-pub mod Lifting
-pub mod Many
-pub mod Own
 pub mod Read
-pub mod Reasons
-pub mod Then
-pub mod Shapes
-pub mod States
 pub mod Orders

@@ -3,16 +3,18 @@
 ghost use Rattle.std.specs.Prelude.{◌≡◌, ◌+◌, ◌*◌, ◌≤◌, ◌++◌, true, Ok, Some, None, length, drop};
 ghost use Rattle.std.specs.Prelude.{vec_len, vec_capacity, IfOk, IfSome};
 ghost use Rattle.std.specs.List.{list_all};
-ghost use Rattle.hq_requests.specs.Calls.{CallOfAll, each_call};
+ghost use Rattle.hq_calls.specs.Each.{each_call};
+ghost use Rattle.hq_requests.specs.Calls.{CallOfAll};
 ghost use Rattle.hq_wire.specs.Exchanges.{Exchanged};
 ghost use Rattle.hq_wire.specs.Replies.{SeenReply, IsSent, Closes, is_inside, for_customer};
 ghost use Rattle.hq_wire.specs.Replies.{fault_text, separated, parts_opening, closing};
 
 use crate::reply::{Body, Reply, fault_reply, fault_text};
+use hq_calls::EachCall;
 use hq_desk::{Answer, Desk, Render};
 use hq_envelope::{Fault, Moment, Name};
 use hq_json::Json;
-use hq_requests::{Directory, EachCall};
+use hq_requests::Directory;
 use hq_store::Shelf;
 use std::alloc::{AllocError, Global};
 

@@ -2,7 +2,8 @@ use Rattle.std.proofs.Common.{◌≡◌, ◌+◌, ◌++◌, ◌∷◌, [], suc, 
 use Rattle.std.proofs.Common.{ap, ◌∙◌, subst, arith}
 use Rattle.std.proofs.lemmas.List.{take_all, take_more, map-append}
 use Rattle.hq_desk.specs.declared.desk.Desk.{Desk}
-use Rattle.hq_admin.specs.Rounds.{call_made, customer_entry}
+use Rattle.hq_calls.specs.Each.{each_call}
+use Rattle.hq_admin.specs.Rounds.{customer_entry}
 use Rattle.hq_admin.proofs.Called.{SoFar, on_end, one_more, split_at, stopped}
 use Rattle.hq_admin.proofs.rounds.call_each.Goals as goal
 
@@ -17,16 +18,16 @@ loop-customer-preserved g c =
     ap (map customer_entry) (take_more xs i item c.loop-customer-test.true ∙ ap (λ x. take i xs ++ x
     ∷ []) (sym c.customer-item.is)) ∙ map-append customer_entry (take i xs) (item ∷ []) in
     record {
-      so_far = subst (λ called. SoFar g.S.Shelf.sight c.args.at (call_made c.args.each) old called
+      so_far = subst (λ called. SoFar g.S.Shelf.sight c.args.at (each_call c.args.each) old called
           c.push_reserved.new.self.items c.act.new.self) (sym more)
-          (subst (λ told. SoFar g.S.Shelf.sight c.args.at (call_made c.args.each) old
+          (subst (λ told. SoFar g.S.Shelf.sight c.args.at (each_call c.args.each) old
           (map customer_entry (take i xs)
           ++ item.entry ∷ []) told c.act.new.self) (sym c.push_reserved.ensures.items)
-          (one_more g.S.Shelf.sight c.args.at (call_made c.args.each) old c.loop-customer.desk
+          (one_more g.S.Shelf.sight c.args.at (each_call c.args.each) old c.loop-customer.desk
           c.act.new.self
           (map customer_entry (take i xs)) c.loop-customer.told.items item.entry c.in-Ok.rendered
-          c.loop-customer.invariant.so_far (rw c.call_made.ensures at c.in-Ok.ensures.answer)
-          (rw c.call_made.ensures at c.in-Ok.ensures.tables)
+          c.loop-customer.invariant.so_far (rw c.call.ensures at c.in-Ok.ensures.answer)
+          (rw c.call.ensures at c.in-Ok.ensures.tables)
           c.in-Ok.ensures.sound c.in-Ok.ensures.kept c.in-Ok.ensures.host));
       count = omega (arith, c.push_reserved.ensures.len, c.loop-customer.invariant.count);
       room = omega (arith, c.push_reserved.ensures.capacity, c.loop-customer.invariant.room);
@@ -47,7 +48,7 @@ returns-in-Err g c =
       left = item.entry ∷ map customer_entry (drop (suc i) xs);
       order = split_at customer_entry xs i item c.loop-customer-test.true c.customer-item.is;
       counted = c.loop-customer.invariant.so_far.counted;
-      each = stopped g.S.Shelf.sight c.args.at (call_made c.args.each) old c.loop-customer.desk
+      each = stopped g.S.Shelf.sight c.args.at (each_call c.args.each) old c.loop-customer.desk
           c.act.new.self
           (map customer_entry (take i xs)) c.loop-customer.told.items c.in-Err.fault
           c.loop-customer.invariant.so_far c.in-Err.ensures.kept;

@@ -1,6 +1,6 @@
 use Rattle.std.proofs.Common.{◌≡◌, sym, subst, ap, ◌∙◌}
 use Rattle.hq_store.specs.Readings.{read_tables}
-use Rattle.hq_store.proofs.Then.{finds_on}
+use Rattle.hq_desk.proofs.Then.{finds_on}
 use Rattle.hq_calls.specs.AccessLines.{found_for}
 use Rattle.hq_calls.specs.Answering.{tell}
 use Rattle.hq_desk.specs.Desks.{with_memory}

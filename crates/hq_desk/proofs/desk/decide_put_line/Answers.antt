@@ -1,6 +1,6 @@
 use Rattle.std.proofs.Common.{sym, ap, ◌∙◌}
 use Rattle.hq_store.specs.Readings.{read_tables}
-use Rattle.hq_store.proofs.Then.{finds_on}
+use Rattle.hq_desk.proofs.Then.{finds_on}
 use Rattle.hq_calls.specs.AccessLines.{put_line}
 use Rattle.hq_desk.proofs.desk.decide_put_line.Goals as goal
 

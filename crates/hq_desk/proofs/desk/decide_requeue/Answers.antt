@@ -1,7 +1,7 @@
 use Rattle.std.proofs.Common.{◌≡◌, ◌<◌, ◌≤◌, ◌^◌, Some, sym, ap, subst, ◌∙◌}
 use Rattle.hq_queue.specs.declared.account.Head.{Head}
 use Rattle.hq_store.specs.Readings.{read_tables}
-use Rattle.hq_store.proofs.Then.{finds_on}
+use Rattle.hq_desk.proofs.Then.{finds_on}
 use Rattle.hq_calls.specs.Messages as rules
 use Rattle.hq_desk.proofs.desk.decide_requeue.Goals as goal
 

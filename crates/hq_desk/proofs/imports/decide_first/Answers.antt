@@ -1,7 +1,7 @@
 use Rattle.std.proofs.Common.{◌≡◌, map, sym, ap, ◌∙◌}
 use Rattle.sha2.specs.Sha256.{sha256}
 use Rattle.hq_store.specs.Readings.{read_tables}
-use Rattle.hq_store.proofs.Then.{finds_on}
+use Rattle.hq_desk.proofs.Then.{finds_on}
 use Rattle.hq_desk.specs.Desks.{with_memory}
 use Rattle.hq_calls.specs.Imports.{line_met, taken, first_import}
 use Rattle.hq_desk.proofs.Reading.{keeps_more}

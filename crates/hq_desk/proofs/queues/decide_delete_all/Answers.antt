@@ -1,6 +1,6 @@
 use Rattle.std.proofs.Common.{◌≡◌, None, ap, ◌∙◌}
 use Rattle.hq_store.specs.Readings.{read_tables}
-use Rattle.hq_store.proofs.Then.{finds_on}
+use Rattle.hq_desk.proofs.Then.{finds_on}
 use Rattle.hq_calls.specs.Queues.{delete_all}
 use Rattle.hq_desk.proofs.Whole.{whole}
 use Rattle.hq_desk.proofs.queues.decide_delete_all.Goals as goal

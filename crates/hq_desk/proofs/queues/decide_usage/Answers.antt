@@ -2,7 +2,7 @@ use Rattle.std.proofs.Common.{◌≡◌, sym, subst, ◌∙◌}
 use Rattle.hq_queue.specs.declared.account.Head.{Head}
 use Rattle.hq_store.specs.Readings.{Readings, read_tables}
 use Rattle.hq_store.proofs.Read.{same_readings}
-use Rattle.hq_store.proofs.Then.{finds_on}
+use Rattle.hq_desk.proofs.Then.{finds_on}
 use Rattle.hq_calls.specs.Queues.{AreTold, usage}
 use Rattle.hq_desk.proofs.queues.decide_usage.Goals as goal
 

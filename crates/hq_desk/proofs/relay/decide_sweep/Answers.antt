@@ -1,6 +1,6 @@
 use Rattle.std.proofs.Common.{◌≡◌, None, ◌∙◌}
 use Rattle.hq_store.specs.Readings.{read_tables}
-use Rattle.hq_store.proofs.Then.{finds_on}
+use Rattle.hq_desk.proofs.Then.{finds_on}
 use Rattle.hq_calls.specs.Sweeps.{sweep}
 use Rattle.hq_desk.proofs.Whole.{whole}
 use Rattle.hq_desk.proofs.relay.decide_sweep.Goals as goal

@@ -5,7 +5,7 @@ use Rattle.hq_access.specs.declared.pattern.Class.TheVariants.{SenderSide}
 use Rattle.hq_queue.specs.Admission.{admitted}
 use Rattle.hq_queue.specs.declared.account.Head.{Head}
 use Rattle.hq_store.specs.Readings.{read_tables}
-use Rattle.hq_store.proofs.Then.{finds_on}
+use Rattle.hq_desk.proofs.Then.{finds_on}
 use Rattle.hq_desk.specs.Desks.{with_memory}
 use Rattle.hq_calls.specs.Submissions as rules
 use Rattle.hq_desk.proofs.NoLines.{nobody_found, no_actions}

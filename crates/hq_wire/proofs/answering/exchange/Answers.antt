@@ -2,7 +2,7 @@ use Rattle.std.proofs.Common.{◌≡◌, Result, Ok, Err, refl, sym, ap, ◌∙�
 use Rattle.hq_base.specs.Readers.{Fails}
 use Rattle.hq_base.specs.declared.failure.Refusal.{Refusal}
 use Rattle.hq_requests.specs.Calls.{Asked, CallOf, CallOfAll, IsKnown, asked_seen, call_of}
-use Rattle.hq_requests.specs.Calls.{each_call}
+use Rattle.hq_calls.specs.Each.{each_call}
 use Rattle.hq_wire.specs.Exchanges.{ask_of, Exchanged}
 use Rattle.hq_wire.specs.Replies.{seen, reply_of_fault}
 use Rattle.hq_wire.proofs.Exchanging.{no_room, refused}

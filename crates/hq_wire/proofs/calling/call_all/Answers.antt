@@ -2,7 +2,8 @@ use Rattle.std.proofs.Common.{◌≡◌, ◌≤◌, ◌+◌, ◌++◌, ◌∷◌
 use Rattle.std.proofs.Common.{None, length, map, take, drop, refl, sym, ap, ◌∙◌, subst, arith}
 use Rattle.std.proofs.lemmas.List.{take_all, take_more, map-append}
 use Rattle.hq_queue.specs.Customers.{are_customers}
-use Rattle.hq_requests.specs.Calls.{CallOfAll, each_call}
+use Rattle.hq_calls.specs.Each.{each_call}
+use Rattle.hq_requests.specs.Calls.{CallOfAll}
 use Rattle.hq_requests.specs.Directories.{entry_in, entry_of, name_of, names_of}
 use Rattle.hq_wire.specs.Replies.{Stop, closing, seen, separated, parted_reply}
 use Rattle.hq_requests.proofs.Entries.{entry_at}

@@ -1,5 +1,5 @@
 use Rattle.std.proofs.Common.{◌+◌, ◌*◌, ◌≤◌, map, take, length, vec_len, vec_capacity}
-use Rattle.hq_requests.specs.Calls.{each_call}
+use Rattle.hq_calls.specs.Each.{each_call}
 use Rattle.hq_requests.specs.Directories.{name_of}
 use Rattle.hq_wire.proofs.Called.{SoFar}
 use Rattle.hq_wire.proofs.calling.call_all.Given as goal

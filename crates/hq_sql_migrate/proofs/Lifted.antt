@@ -24,11 +24,11 @@ use Rattle.hq_store.specs.Tables.{State, Tables, Row, text_cmp, message_cmp, own
 use Rattle.hq_store.specs.Tables.{message_of, pending_of, reason_of}
 use Rattle.hq_store.specs.Sound.{IsReasoned, IsQueuedBy, IsQueued, SoundStateBy, SoundState}
 use Rattle.hq_store.specs.Sound.{ShapedHolds, Sound, pending_count}
-use Rattle.hq_store.specs.Lifted.{lifted, lift, on_hold, holds_for, lifted_tables, FirstSound}
+use Rattle.hq_sql_migrate.specs.Lifted.{lifted, lift, on_hold, holds_for, lifted_tables, FirstSound}
 use Rattle.hq_store.proofs.Orders.{message_total, message_exact}
 use Rattle.hq_store.proofs.Read.{same_length, same_sum}
 use Rattle.hq_store.proofs.Orders.{ascending}
-use Rattle.hq_store.proofs.States.{none_some, same_some}
+use Rattle.hq_owned.proofs.Cases.{none_some, same_some}
 
 -- ---- a look-up among the reasons
 

@@ -13,7 +13,7 @@ use Rattle.hq_store.specs.Tables.{Tables, message_cmp, row_of, reason_of, give_r
 use Rattle.hq_store.specs.Tables.{write_all}
 use Rattle.hq_store.specs.Sound.{ShapedHolds}
 use Rattle.hq_store.proofs.Orders.{message_total, message_exact}
-use Rattle.hq_store.proofs.States.{none_some, same_some}
+use Rattle.hq_owned.proofs.Cases.{none_some, same_some}
 
 abbrev pub Holds : Type 0
 Holds = FinMap message_cmp (List ℕ)

@@ -13,7 +13,7 @@ use Rattle.hq_owned.specs.Owned.{given}
 use Rattle.hq_owned.proofs.Totals.{total-insert, total-remove}
 use Rattle.hq_store.specs.Tables.{State, change}
 use Rattle.hq_store.specs.Sound.{SoundState, IsNext, pending_count}
-use Rattle.hq_store.proofs.States.{change_shaped}
+use Rattle.hq_states.proofs.States.{change_shaped}
 
 abbrev Queue : Type 0
 Queue = FinMap nat_cmp Message

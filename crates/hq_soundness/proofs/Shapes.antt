@@ -18,15 +18,15 @@ use Rattle.hq_owned.proofs.Parts.{part_remove_other, tied_true, tied_false}
 use Rattle.hq_store.specs.Tables.{State, Tables, Row, text_cmp, own, change, change_all, write}
 use Rattle.hq_store.specs.Tables.{write_all, row_of, pending_of, deal}
 use Rattle.hq_store.specs.Sound.{ShapedState, SoundState, ShapedRecipients, Shaped, Sound}
-use Rattle.hq_store.specs.Fits.{AllFit}
+use Rattle.hq_states.specs.Fits.{AllFit}
 use Rattle.hq_store.proofs.Dealt.{Recipients, IsPlaced, placed_same, placed_other_message}
 use Rattle.hq_store.proofs.Dealt.{placed_other_owner, pending_same, pending_other_message}
 use Rattle.hq_store.proofs.Dealt.{pending_other_owner}
-use Rattle.hq_store.proofs.Own.{own_write_all, other_write_all}
+use Rattle.hq_calls.proofs.Own.{own_write_all, other_write_all}
 use Rattle.hq_store.proofs.Customers.{cases_name}
 use Rattle.hq_store.proofs.Counted.{counts_stay}
-use Rattle.hq_store.proofs.Reasons.{holds_write_all}
-use Rattle.hq_store.proofs.States.{change_shaped}
+use Rattle.hq_calls.proofs.Reasons.{holds_write_all}
+use Rattle.hq_states.proofs.States.{change_shaped}
 
 placed_deal : (c : List ℕ) (k : ℕ) (ps : List Pending) (rs : Recipients) →
     ((d : List ℕ) (serial : ℕ) → IsPlaced d serial rs) → (d : List ℕ) (serial : ℕ) →

@@ -25,7 +25,7 @@ use Rattle.hq_store.proofs.Customers.{sweep_other}
 use Rattle.hq_store.proofs.Accounts.{headed_own, message_head, uncounted_head, line_head}
 use Rattle.hq_store.proofs.Accounts.{no_line_head, account_other}
 use Rattle.hq_store.proofs.Orders.{line_total, line_exact}
-use Rattle.hq_store.proofs.Reasons.{Holds, reason_same, reason_other_message, reason_other_owner}
+use Rattle.hq_calls.proofs.Reasons.{Holds, reason_same, reason_other_message, reason_other_owner}
 use Rattle.hq_store.proofs.Dealt.{Recipients, pending_same, pending_other_message}
 use Rattle.hq_store.proofs.Dealt.{pending_other_owner}
 

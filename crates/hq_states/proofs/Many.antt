@@ -20,8 +20,9 @@ use Rattle.hq_owned.proofs.Parts.{tied_true, tied_false}
 use Rattle.hq_store.specs.Tables.{State, change, change_all}
 use Rattle.hq_store.specs.Sound.{ShapedState, SoundState, IsReasoned, AreApart, IsNext}
 use Rattle.hq_store.specs.Sound.{pending_count}
-use Rattle.hq_store.proofs.States.{change_shaped, none_some}
-use Rattle.hq_store.proofs.Conserved.{pending, pending_put, pending_drop}
+use Rattle.hq_owned.proofs.Cases.{none_some}
+use Rattle.hq_states.proofs.States.{change_shaped}
+use Rattle.hq_states.proofs.Conserved.{pending, pending_put, pending_drop}
 
 pub below : (a b : ℕ) → T (is_lt (nat_cmp a b)) → a < b
 below a b h = ranked a b Less (sym (less _ h))

@@ -19,14 +19,9 @@ use Rattle.hq_store.specs.declared.change.Change.TheVariants.{DropNoticesBelow}
 use Rattle.hq_store.specs.declared.mark.Mark.{Mark}
 use Rattle.hq_store.specs.Tables.{State, Noted, change, line_cmp, text_cmp, noted_of}
 use Rattle.hq_store.specs.Sound.{ShapedState, IsQueued}
+use Rattle.hq_owned.proofs.Cases.{none_some, same_some}
 use Rattle.hq_store.proofs.Orders.{line_total}
-use Rattle.hq_store.specs.Fits.{Fits, HeadFits, MessageFits}
-
-pub same_some : {A : Type 0} (a b : A) → ◌≡◌ {A = Option A} (Some a) (Some b) → a ≡ b
-same_some a b e = cc
-
-pub none_some : {A : Type 0} (a : A) → ◌≡◌ {A = Option A} None (Some a) → ⊥
-none_some a e = cc
+use Rattle.hq_states.specs.Fits.{Fits, HeadFits, MessageFits}
 
 -- what a look-up finds after a message was put
 pub found : (q : FinMap nat_cmp Message) (k : ℕ) (n : Message) (x : ℕ) (m : Message) →

@@ -1,0 +1,4 @@
+pub mod Conserved
+pub mod Many
+pub mod Recipients
+pub mod States
