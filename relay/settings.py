@@ -2,20 +2,20 @@
 import configparser
 import csv
 import re
+import shlex
 import sys
 from dataclasses import dataclass
 from pathlib import Path
-from typing import Dict, Optional, Tuple
+from typing import Dict, List, Optional, Tuple
 
 Address = Tuple[str, int]
-# A next hop: a host and a port, or None for the MX of the domain.
-Hop = Optional[Address]
 
 CUSTOMER = re.compile(r"[a-z0-9-]{1,32}")
 KEY = re.compile(r"[A-Za-z0-9]{16,64}")
 DOMAIN = re.compile(r"[A-Za-z0-9_-]+(\.[A-Za-z0-9_-]+)*")
 # What stands before the @ of an address, as the desk takes it (docs/API.md).
 LOCAL = re.compile(r'(?:(?!["\\<>(),;@])[!-~])+')
+USER = re.compile(r"[a-z_][a-z0-9_-]{0,30}")
 COLUMNS = ["name", "key", "messages", "bytes", "lines", "notices", "delay"]
 REQUIRED = object()
 
@@ -48,25 +48,29 @@ class Settings:
     customers: Dict[str, Customer]
     folder: Path
     keep_days: float
+    user: str
     listen: Address
     largest: int
     connections: int
+    front: Path
+    customers_at: Optional[Address]
     logins: Dict[str, str]
     domains: Dict[str, str]
     host: str
-    next_hop: Hop
-    next_hops: Dict[str, Hop]
-    resolver: Optional[Address]
+    instance: Address
+    delivering: Path
+    reports: Path
+    postsuper: List[str]
     sessions: int
     timeout: float
     pause: float
+    rest: float
+    settle_after: float
+    lost_after: float
     sweep_every: float
     clean_every: float
     notices_hop: Address
     notices_from: str
-
-    def hop(self, domain: str) -> Hop:
-        return self.next_hops.get(domain.lower(), self.next_hop)
 
 
 # ---- values, each of which is refused by ValueError with its reason
@@ -76,10 +80,6 @@ def address(text: str) -> Address:
     if not (colon and host and port.isdecimal() and int(port) < 65536):
         raise ValueError("is not HOST:PORT")
     return host.strip("[]"), int(port)
-
-
-def hop(text: str) -> Hop:
-    return None if text == "mx" else address(text)
 
 
 def domain(text: str) -> str:
@@ -93,6 +93,20 @@ def sender(text: str) -> str:
     if not LOCAL.fullmatch(local) or not DOMAIN.fullmatch(domain_of):
         raise ValueError("is not an address")
     return text
+
+
+def user(text: str) -> str:
+    if not USER.fullmatch(text):
+        raise ValueError("is not the name of a user")
+    return text
+
+
+def words(text: str) -> List[str]:
+    """The words of a command, as a shell parts them."""
+    found = shlex.split(text)
+    if not found:
+        raise ValueError("is not a command")
+    return found
 
 
 def seconds(text: str) -> float:
@@ -198,28 +212,36 @@ def load(name: str) -> Settings:
             raise ValueError(f"{text} is not in the directory")
         return text
 
+    folder = reader.read("spool", "folder", reader.path)
     found = Settings(
         desk=reader.read("desk", "address", address),
         desk_timeout=reader.read("desk", "timeout", wait, 60.0),
         key=reader.read("desk", "key-file", lambda it: key_of(reader.path(it))),
         customers=customers,
-        folder=reader.read("spool", "folder", reader.path),
+        folder=folder,
         keep_days=reader.read("spool", "keep-days", seconds, 7.0),
+        user=reader.read("spool", "user", user, "hqrelay"),
         listen=reader.read("intake", "listen", address),
         largest=reader.read("intake", "largest", count, 11_000_000),
         connections=reader.read("intake", "connections", count, 50),
+        front=reader.read("intake", "postfix", reader.path, Path("/etc/postfix")),
+        customers_at=reader.read("intake", "customers", address, None),
         logins=reader.table("logins", customer),
         domains=reader.table("domains", customer, str.lower),
         host=reader.read("delivery", "host", domain),
-        next_hop=reader.read("delivery", "next-hop", hop, None),
-        next_hops=reader.table("next-hops", hop, str.lower),
-        resolver=reader.read("delivery", "resolver", address, None),
+        instance=reader.read("delivery", "instance", address, ("127.0.0.1", 10026)),
+        delivering=reader.read("delivery", "postfix", reader.path, Path("/etc/postfix-desk")),
+        reports=reader.read("delivery", "reports", reader.path, folder and folder / "reports"),
+        postsuper=reader.read("delivery", "postsuper", words, ["sudo", "-n", "postsuper"]),
         sessions=reader.read("delivery", "sessions", count, 4),
         timeout=reader.read("delivery", "timeout", wait, 60.0),
         pause=reader.read("delivery", "pause", wait, 10.0),
+        rest=reader.read("delivery", "rest", wait, 60.0),
+        settle_after=reader.read("delivery", "settle-after", wait, 10.0),
+        lost_after=reader.read("delivery", "lost-after", wait, 900.0),
         sweep_every=reader.read("delivery", "sweep-every", wait, 300.0),
         clean_every=reader.read("delivery", "clean-every", wait, 300.0),
-        notices_hop=reader.read("notices", "next-hop", address),
+        notices_hop=reader.read("notices", "next-hop", address, ("127.0.0.1", 10027)),
         notices_from=reader.read("notices", "from", sender))
     reader.end()
     return found
