@@ -6,7 +6,10 @@ What a call has written is synced to the disk when it returns. The tables:
 `finished` are those of which all was told, `gone` is since when one is in no list of the desk.
 `messages`: which spool name a queue ID of the desk stands for.
 `journal`: outcomes that the desk was not told yet.
-`notices`: for each customer the number of the last notice that was mailed.
+`handed`: attempts that were handed over to the Postfix that delivers (`handed.py`).
+`notices`: for each customer the number of the last notice that was mailed, or set aside.
+`mailing`: for each customer the number of a notice whose mailing was begun.
+`waiting`: notices that were set aside, whole, since nobody takes them now.
 """
 import json
 import sqlite3
@@ -28,7 +31,18 @@ CREATE TABLE IF NOT EXISTS messages (
 CREATE TABLE IF NOT EXISTS journal (
   number INTEGER PRIMARY KEY, customer TEXT NOT NULL, spool TEXT NOT NULL, id TEXT NOT NULL,
   attempt INTEGER NOT NULL, outcomes TEXT NOT NULL);
+CREATE TABLE IF NOT EXISTS handed (
+  envelope TEXT PRIMARY KEY, customer TEXT NOT NULL, spool TEXT NOT NULL, id TEXT NOT NULL,
+  attempt INTEGER NOT NULL, recipients TEXT NOT NULL, sender TEXT NOT NULL, at REAL NOT NULL,
+  queue_id TEXT, outcomes TEXT NOT NULL DEFAULT '[]', done REAL, is_lost INTEGER NOT NULL DEFAULT 0);
+CREATE UNIQUE INDEX IF NOT EXISTS under_way ON handed (customer, spool) WHERE done IS NULL;
+CREATE INDEX IF NOT EXISTS handed_done ON handed (done) WHERE done IS NOT NULL;
+CREATE INDEX IF NOT EXISTS handed_spool ON handed (spool);
 CREATE TABLE IF NOT EXISTS notices (customer TEXT PRIMARY KEY, number INTEGER NOT NULL);
+CREATE TABLE IF NOT EXISTS mailing (customer TEXT PRIMARY KEY, number INTEGER NOT NULL);
+CREATE TABLE IF NOT EXISTS waiting (
+  name TEXT PRIMARY KEY, customer TEXT NOT NULL, recipient TEXT NOT NULL, content BLOB NOT NULL,
+  since REAL NOT NULL, tried REAL NOT NULL);
 """
 # How many seconds a thread waits for another one's writing.
 LONGEST_WAIT = 60
@@ -42,6 +56,16 @@ class Report:
     id: str
     attempt: int
     outcomes: List[Dict[str, str]]
+
+
+@dataclass(frozen=True)
+class Waiting:
+    """A notice that was set aside, as a mail: since when, and when it was tried last (0: never)."""
+    name: str
+    recipient: str
+    content: bytes
+    since: float
+    tried: float
 
 
 class Book:
@@ -168,6 +192,16 @@ class Book:
         with self.writing() as database:
             self.forget_report(database, report)
 
+    def all_reported(self, told: List[Tuple[Report, bool]]) -> None:
+        """The outcomes of these names need not be told any more; of some the message left the
+        queue by it, and there is no notice to be mailed."""
+        with self.writing() as database:
+            for report, is_last in told:
+                self.forget_report(database, report)
+                if is_last:
+                    database.execute("UPDATE names SET finished = 1 WHERE spool = ?",
+                                     (report.spool,))
+
     @staticmethod
     def journal(database, report: Report) -> None:
         database.execute(
@@ -201,8 +235,63 @@ class Book:
     def last_notice(self, customer: str) -> int:
         return self.one("SELECT number FROM notices WHERE customer = ?", customer) or 0
 
+    def mailing(self, customer: str, number: int) -> None:
+        """The mailing of this notice begins."""
+        with self.writing() as database:
+            database.execute("INSERT OR REPLACE INTO mailing (customer, number) VALUES (?, ?)",
+                             (customer, number))
+
     def told(self, customer: str, number: int) -> None:
         """The notices of a customer up to this number were mailed."""
         with self.writing() as database:
-            database.execute("INSERT OR REPLACE INTO notices (customer, number) VALUES (?, ?)",
-                             (customer, number))
+            self.pass_by(database, customer, number)
+
+    def set_aside(self, customer: str, number: int, recipient: str, content: bytes) -> None:
+        """This notice waits, and those behind it go on."""
+        now = time.time()
+        with self.writing() as database:
+            self.pass_by(database, customer, number)
+            self.wait(database, customer,
+                      Waiting(f"{customer}/{number}", recipient, content, now, now))
+
+    def wait_with(self, customer: str, name: str, recipient: str, content: bytes) -> None:
+        """A notice of the worker's own waits to be mailed: one of each name."""
+        with self.writing() as database:
+            self.wait(database, customer, Waiting(name, recipient, content, time.time(), 0))
+
+    @staticmethod
+    def wait(database, customer: str, it: Waiting) -> None:
+        database.execute(
+            "INSERT OR IGNORE INTO waiting (name, customer, recipient, content, since, tried) "
+            "VALUES (?, ?, ?, ?, ?, ?)",
+            (it.name, customer, it.recipient, it.content, it.since, it.tried))
+
+    @staticmethod
+    def pass_by(database, customer: str, number: int) -> None:
+        database.execute("INSERT OR REPLACE INTO notices (customer, number) VALUES (?, ?)",
+                         (customer, number))
+        database.execute("DELETE FROM mailing WHERE customer = ?", (customer,))
+
+    def set_back(self, customer: str, number: int) -> None:
+        """The desk numbers a customer's notices anew behind this number."""
+        with self.writing() as database:
+            self.pass_by(database, customer, number)
+
+    def begun(self, customer: str) -> Optional[int]:
+        """The number of a notice whose mailing was begun, and nobody knows whether it was done."""
+        return self.one("SELECT number FROM mailing WHERE customer = ?", customer)
+
+    def waiting(self, customer: str) -> List[Waiting]:
+        """The customer's notices that were set aside, the oldest first."""
+        asked = ("SELECT name, recipient, content, since, tried FROM waiting WHERE customer = ? "
+                 "ORDER BY since, name")
+        return [Waiting(*it) for it in self.database().execute(asked, (customer,)).fetchall()]
+
+    def tried(self, name: str) -> None:
+        with self.writing() as database:
+            database.execute("UPDATE waiting SET tried = ? WHERE name = ?", (time.time(), name))
+
+    def waited(self, name: str) -> None:
+        """A notice that was set aside is done with."""
+        with self.writing() as database:
+            database.execute("DELETE FROM waiting WHERE name = ?", (name,))

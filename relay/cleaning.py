@@ -1,6 +1,6 @@
 """Clean-up of the spool: content of messages that have left the queue, and old records."""
 import time
-from typing import List
+from typing import List, Set
 
 import log
 from book import Book
@@ -18,8 +18,9 @@ class Cleaning:
     def __init__(self, settings: Settings, spool: Spool, book: Book, names: Names):
         self.settings, self.spool, self.book, self.names = settings, spool, book, names
 
-    def clean(self, customer: str, is_busy) -> None:
-        """Removes the content of what has left the queue by its last outcome, or for long.
+    def clean(self, customer: str, busy: Set[str]) -> None:
+        """Removes the content of what has left the queue by its last outcome, or for long, but none
+        of what is busy.
 
         The book is read first: a name in it was submitted before the list is made, so what is not
         in the list has left.
@@ -28,7 +29,7 @@ class Cleaning:
         names, untold = self.book.uncleaned(customer), self.book.untold(customer)
         queued = self.names.queued(customer)
         kept = {*queued.values(), *untold}
-        left = [it for it in names if it not in kept and not is_busy(customer, it)]
+        left = [it for it in names if it not in kept and it not in busy]
         done = [it for it in left if names[it][0] or (names[it][1] or now) <= now - KEPT_GONE]
         for spool in done:
             self.spool.remove(spool)
@@ -37,6 +38,15 @@ class Cleaning:
         self.book.gone([it for it in left if not names[it][1]], now)
         self.book.gone([it for it in names if it in kept and names[it][1]], None)
         self.book.forget(customer, set(queued), now - self.settings.keep_days * 86400)
+
+    def clean_unknown(self) -> None:
+        """Removes content that belongs to no message for so long that the MTA gave it up."""
+        now, longest = time.time(), self.settings.keep_days * 86400
+        old = {it for it in self.spool.names()
+               if self.spool.age(it, now) > longest and not self.book.answer(it)}
+        for spool in sorted(old.intersection(self.unknown()) if old else ()):
+            self.spool.remove(spool)
+            log.info("cleaned", spool=spool, means="the MTA gave it up")
 
     def unknown(self) -> List[str]:
         """The names whose content belongs to no message: none is queued, and no record is there."""

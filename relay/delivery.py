@@ -1,47 +1,93 @@
-"""Delivery: round after round, what is due is attempted and reported, and customers are swept."""
+"""Delivery: what is due is handed over, what became of it is told, and customers are swept.
+
+There is a thread for each session with the instance that delivers, one that reads its reports, and
+one that mails notices, sweeps and cleans. A customer whose calls fail holds up no other.
+"""
 import sqlite3
 import threading
 import time
-from typing import Callable, Dict, List, Optional
+from typing import Callable, Dict, List
 
 import log
-import mx
-import smtp
-from book import Book, Report
+from book import Book
 from cleaning import Cleaning
-from desk import Away, Desk
-from lanes import Lanes
+from desk import Away, Desk, Refused
+from handed import Attempt, Handed
+from handover import Handover
+from missing import Missing
 from names import Names
 from notices import Notices
+from outcomes import Outcomes
 from reports import Reports
+from resting import Resting
 from settings import Customer, Settings
 from spool import Spool
+
+# How many seconds lie between two looks at the reports.
+BETWEEN_LOOKS = 0.1
+# At this age, in seconds, a sweep gives a message up.
+GIVEN_UP = 432_000
+FAULTS = (Refused, OSError, sqlite3.Error)
 
 
 class Delivery:
     def __init__(self, settings: Settings, desk: Desk, spool: Spool, book: Book):
         self.settings, self.desk, self.spool, self.book = settings, desk, spool, book
+        self.handed, self.resting = Handed(book), Resting(settings.rest)
         self.names = Names(desk, spool, book)
-        self.notices = Notices(settings, desk, spool, book)
+        self.notices = Notices(settings, desk, spool, self.handed, self.names)
         self.reports = Reports(desk, book, self.names, self.notices)
         self.cleaning = Cleaning(settings, spool, book, self.names)
-        self.lanes = Lanes(settings.sessions)
-        # By customer: the lock files that this process has, None where another has it; and what
-        # lets outcomes, notices, sweeps and clean-up of a customer wait for each other.
-        self.files: Dict[str, object] = {}
+        # Outcomes, notices, sweeps and clean-up of a customer wait for each other.
         self.locks = {it: threading.Lock() for it in settings.customers}
-        self.limits: Dict[str, threading.Semaphore] = {}
-        # What is in a lane, by customer and spool name: a requeued message has the same.
-        self.guard, self.busy = threading.Lock(), set()
         self.ending = threading.Event()
+        self.handover = Handover(settings, desk, spool, self.handed, self.names, self.resting,
+                                 self.tell)
+        self.outcomes = Outcomes(settings, self.handed, self.names, self.tell, self.ended)
+        self.missing = Missing(settings, desk, self.handed, self.names, self.outcomes.read,
+                               self.ended)
+        self.threads = [threading.Thread(target=it, daemon=True)
+                        for it in (self.keep_house, self.watch)]
+
+    def start(self) -> None:
+        self.handover.start()
+        for it in self.threads:
+            it.start()
+
+    def is_well(self) -> bool:
+        """Whether all threads are at work."""
+        return all(it.is_alive() for it in (*self.threads, *self.handover.threads))
+
+    def end(self) -> None:
+        """Begins nothing more, and returns when what is under way is done."""
+        self.ending.set()
+        self.handover.end()
+        for it in self.threads:
+            if it.is_alive():
+                it.join()
 
     # ---- rounds
 
     def once(self) -> bool:
-        """One round of everything; whether the desk was there."""
+        """One round of everything, up to the last report; whether the desk was there."""
+        self.handover.start()
         is_there = self.look()
-        self.lanes.wait()
-        return self.chores(True, True) and is_there
+        self.handover.wait()
+        looked = time.monotonic()
+        while self.handed.under_way():
+            looked = self.see_after(looked)
+        is_there = self.chores(True, True) and is_there
+        self.end()
+        return is_there
+
+    def look(self) -> bool:
+        """Tells what is in the journal, and has what is due handed over."""
+        def work(customer: Customer) -> None:
+            untold = self.book.untold(customer.name)
+            if untold:
+                self.tell(customer.name, untold)
+            self.handover.add(customer.name)
+        return self.for_each(work)
 
     def keep_house(self) -> None:
         """Sweeps and cleans by the timers, until `end`."""
@@ -54,88 +100,79 @@ class Delivery:
             swept, cleaned = now if is_sweep else swept, now if is_cleaning else cleaned
             self.ending.wait(self.settings.pause)
 
-    def end(self) -> None:
-        """Begins nothing more, and returns when what is under way is done."""
-        self.ending.set()
-        self.lanes.end()
+    def watch(self) -> None:
+        """Reads reports as they come, and looks after what is missing, until `end`."""
+        looked = time.monotonic()
+        while not self.ending.is_set():
+            looked = self.see_after(looked)
 
-    def is_own(self, customer: str) -> bool:
-        """Whether this process has the customer's lock, or gets it now."""
-        with self.guard:
-            if not self.files.get(customer):
-                lock = self.spool.lock(f"customer-{customer}")
-                if not lock and customer not in self.files:
-                    log.warning("another worker has the customer", customer=customer)
-                self.files[customer] = lock
-            return bool(self.files[customer])
-
-    def for_each(self, work: Callable[[Customer], None]) -> bool:
-        """Does something for each customer, until the desk is away; whether it was there."""
-        for customer in self.settings.customers.values():
-            if self.ending.is_set():
-                break
-            try:
-                if self.is_own(customer.name):
-                    work(customer)
-            except Away as error:
-                log.error("desk away", why=error)
-                return False
-            except Exception as error:
-                log.error("round failed", customer=customer.name, why=repr(error))
-        return True
-
-    def look(self) -> bool:
-        """Puts into the lanes what is to be told from the journal, and what is due."""
-        return self.for_each(self.look_at)
-
-    def look_at(self, customer: Customer) -> None:
-        name = customer.name
-        for spool in self.book.untold(name):
-            self.add(f"journal {name}", name, spool, lambda it=spool: self.tell(name, it))
-        for message in self.desk.due(name):
-            lane = self.destination(message["recipients"][0])
-            self.add(lane, name, message["spool"], lambda it=message: self.deliver(name, it))
-
-    def add(self, lane: str, customer: str, spool: str, work: Callable[[], None]) -> None:
-        """Puts a message into a lane, unless it is in one."""
-        def job():
-            try:
-                work()
-            except Away as error:
-                log.error("desk away", customer=customer, spool=spool, why=error)
-            finally:
-                with self.guard:
-                    self.busy.discard((customer, spool))
-
-        with self.guard:
-            if (customer, spool) in self.busy:
-                return
-            self.busy.add((customer, spool))
-        self.lanes.add(lane, customer, job)
-
-    def is_busy(self, customer: str, spool: str) -> bool:
-        with self.guard:
-            return (customer, spool) in self.busy
+    def see_after(self, looked: float) -> float:
+        """Reads the reports that have come. After each `pause` it looks after what has none; returns
+        when it did so last."""
+        try:
+            count = self.outcomes.read()
+            if time.monotonic() >= looked + self.settings.pause:
+                looked = time.monotonic()
+                self.missing.look(self.handover.is_busy)
+            if not count:
+                self.ending.wait(BETWEEN_LOOKS)
+        except Away as error:
+            log.error("desk away", why=error)
+            self.ending.wait(self.settings.pause)
+        except FAULTS as error:
+            log.error("not looked after", why=repr(error))
+            self.ending.wait(self.settings.pause)
+        return looked
 
     def chores(self, is_sweep: bool, is_cleaning: bool) -> bool:
         """Mails notices, sweeps and cleans; whether the desk was there."""
-        def work(customer):
+        def work(customer: Customer) -> None:
             with self.locks[customer.name]:
                 are_mailed = self.notices.send(customer.name)
                 if is_sweep and self.sweep(customer):
                     are_mailed = self.notices.send(customer.name)
                 # (a notice that waits wants the header of its message)
                 if is_cleaning and are_mailed:
-                    self.cleaning.clean(customer.name, self.is_busy)
-        return self.for_each(work)
+                    self.cleaning.clean(customer.name, self.handed.spools_under_way(customer.name))
+        is_there = self.for_each(work)
+        if is_cleaning and is_there:
+            self.clean_up()
+        return is_there
+
+    def clean_up(self) -> None:
+        """Removes what belongs to no customer's message any more."""
+        try:
+            self.handed.forget(time.time() - self.settings.keep_days * 86400)
+            self.cleaning.clean_unknown()
+        except (Away, *FAULTS) as error:
+            log.error("not cleaned", why=repr(error))
+
+    # ---- customers
+
+    def for_each(self, work: Callable[[Customer], None]) -> bool:
+        """Does something for each customer; whether the desk was there for all of them."""
+        is_there = True
+        for customer in self.settings.customers.values():
+            if self.ending.is_set():
+                break
+            try:
+                work(customer)
+            except Away as error:
+                log.error("desk away", customer=customer.name, why=error)
+                is_there = False
+            except Exception as error:
+                log.error("round failed", customer=customer.name, why=repr(error))
+        return is_there
 
     def sweep(self, customer: Customer) -> bool:
         """Sweeps a customer, unless that might push out notices that were not mailed, or give up
-        what was delivered and is still to be told."""
-        name = customer.name
-        queued = self.names.queued(name)
-        if (not self.notices.has_room_for(name, len(queued))
-                or any(not self.is_busy(name, it) for it in self.book.untold(name))):
+        what was handed over, or delivered and is still to be told."""
+        name, now = customer.name, time.time()
+        entries = list(self.desk.messages(name))
+        busy = self.handed.spools_under_way(name)
+        is_late = any(it["arrival"] <= now - GIVEN_UP and self.names.known(name, it) in busy
+                      for it in entries)
+        if is_late or self.book.untold(name) or not self.notices.has_room_for(name, len(entries)):
             log.error("not swept: notices or outcomes wait", customer=name)
             return False
         reply = self.desk.sweep(name)
@@ -143,74 +180,11 @@ class Delivery:
             log.info("sweep", customer=name, **reply)
         return True
 
-    # ---- one message
-
-    def destination(self, recipient: str) -> str:
-        """What the limit of sessions is for: a next hop, or a domain."""
-        domain = recipient.rpartition("@")[2].lower()
-        hop = self.settings.hop(domain)
-        return f"{hop[0]}:{hop[1]}" if hop else domain
-
-    def limit(self, destination: str) -> threading.Semaphore:
-        with self.guard:
-            return self.limits.setdefault(destination, threading.Semaphore(self.settings.sessions))
-
-    def deliver(self, customer: str, due: dict) -> None:
-        message = self.still_due(customer, due)
-        if message:
-            self.attempt(customer, message)
-            self.tell(customer, due["spool"])
-
-    def tell(self, customer: str, spool: str) -> None:
+    def tell(self, customer: str, spools: List[str]) -> None:
         with self.locks[customer]:
-            self.reports.tell(customer, spool)
+            self.reports.tell(customer, spools)
 
-    def still_due(self, customer: str, due: dict) -> Optional[dict]:
-        """The message as it is now; None where it was held, deleted or requeued since it was
-        listed, where an attempt was reported since, or one is still to be."""
-        message = self.desk.message(customer, due["id"])
-        is_due = (message and message["state"] != "hold" and message["spool"] == due["spool"]
-                  and message["attempts"] == due["attempt"] - 1
-                  and not self.book.report(customer, due["spool"]))
-        return message if is_due else None
-
-    def attempt(self, customer: str, message: dict) -> None:
-        """Attempts a message with one destination after the other, and journals each."""
-        spool, id, number = message["spool"], message["id"], message["attempts"] + 1
-        kept = self.spool.read(spool)
-        content = kept[1] if kept and kept[0].customer == customer else None
-        if content is None:
-            log.error("content missing", customer=customer, id=id, spool=spool)
-        self.names.record(customer, id, spool)
-        groups: Dict[str, List[str]] = {}
-        for it in message["pending"]:
-            groups.setdefault(it["address"].rpartition("@")[2].lower(), []).append(it["address"])
-        for domain, recipients in groups.items():
-            if content is None:
-                outcomes = smtp.to_all(recipients, "deferred", "4.3.0", "the content is missing")
-            else:
-                outcomes = self.attempt_domain(domain, message["sender"], recipients, content)
-            self.journal(Report(customer, spool, id, number, outcomes))
-
-    def attempt_domain(self, domain: str, sender: str, recipients: List[str],
-                       content: bytes) -> List[smtp.Outcome]:
-        hop = self.settings.hop(domain)
-        with self.limit(self.destination(recipients[0])):
-            try:
-                hosts = [smtp.Host(hop[0], *hop)] if hop else mx.hosts(self.settings, domain)
-            except mx.Unroutable as error:
-                return smtp.to_all(recipients, error.result, error.status, error.text)
-            return smtp.attempt(self.settings, hosts, sender, recipients, content)
-
-    def journal(self, report: Report) -> None:
-        """Writes down what came of an attempt. While the disk is full it waits, since the message
-        would be sent again if this were forgotten."""
-        while True:
-            try:
-                self.book.attempted(report)
-                return
-            except sqlite3.Error as error:
-                log.error("outcome not kept", customer=report.customer, id=report.id,
-                          outcomes=report.outcomes, why=repr(error))
-                if self.ending.wait(self.settings.pause):
-                    return
+    def ended(self, attempt: Attempt, outcomes: List[Dict[str, str]]) -> None:
+        """Nothing more is awaited of an attempt."""
+        self.resting.end(attempt.recipients)
+        self.resting.answered(outcomes)

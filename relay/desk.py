@@ -74,8 +74,8 @@ class Desk:
     def notice(self, customer: str, number: int) -> dict:
         return self.ask(f"/relay/notice/{customer}", {"number": number})
 
-    def due(self, customer: str) -> Iterator[dict]:
-        return self.pages("due", customer, "due", "id")
+    def due(self, customer: str, after: Optional[str] = None) -> Iterator[dict]:
+        return self.pages("due", customer, "due", "id", after)
 
     def messages(self, customer: str, after: Optional[str] = None) -> Iterator[dict]:
         return self.pages("messages", customer, "messages", "id", after)

@@ -4,14 +4,14 @@ The order makes that nothing is lost: the content is synced before the desk know
 answer before the MTA hears it. A message that comes again has the same name, which the desk and the
 book know.
 """
-import email.parser
 import hashlib
 import re
 import sqlite3
 import threading
 from contextlib import contextmanager
+from dataclasses import dataclass
 from email.utils import formatdate
-from typing import Optional
+from typing import Optional, Tuple
 
 import desk as desks
 import log
@@ -19,33 +19,148 @@ from book import Book
 from desk import Away, Desk, Refused
 from names import Names
 from settings import Settings
-from spool import Envelope, Spool
+from spool import Draft, Envelope, Spool
 
 # Postfix's long queue IDs; short ones are used again, so no name can be made of them.
 CONSONANTS = "0-9B-DF-HJ-NP-TV-Zb-df-hj-np-tv-y"
 LONG_ID = re.compile(f"[{CONSONANTS}z]{{10,24}}z[{CONSONANTS}]{{1,16}}")
-LOGIN = re.compile(r"\(Authenticated sender: (.*)\) by \S+ \(.*?\) with \S+ id ([0-9A-Za-z]+)\b")
+# The first field of a message that Postfix hands over is its own. Nobody else's is read.
+FIRST_FIELD = re.compile(rb"[!-9;-~]+:[^\n]*\n(?:[ \t][^\n]*\n)*(?=[^ \t])")
+LARGEST_FIELD = 4096
+# (each stands on a line of its own, which no client can begin)
+BY_POSTFIX = re.compile(rb"[ \t]+by \S+ \(.*\) with \S+ id ([0-9A-Za-z]+)\b.*")
+LOGIN = re.compile(rb"[ \t]+\(Authenticated sender: (.*)\)")
+LINE_OF_LOGIN = re.compile(rb"\n[ \t]+\(Authenticated sender: [^\n]*\)\r?(?=\n)")
 REFUSALS = {desks.BAD_ADDRESS: "553 5.1.3", desks.QUOTA_MESSAGES: "452 4.2.2",
             desks.QUOTA_BYTES: "452 4.2.2", desks.SERIALS_SPENT: "452 4.3.1"}
+
+
+class NotTaken(Exception):
+    """A message is not taken; the text is the answer to the MTA."""
+
+
+@dataclass(frozen=True)
+class Asked:
+    """What the MTA says of a message before its data: who hands it over, its queue ID there, its
+    sender and recipient, and the parameters of DSN."""
+    client: str
+    ident: Optional[str]
+    sender: str
+    recipient: str
+    notify: str = ""
+    original: str = ""
+    envelope_id: str = ""
+    returned: str = ""
+    is_utf8: bool = False
+
+    def envelope(self, customer: str, spool: str) -> Envelope:
+        return Envelope(customer, spool, self.sender, self.recipient, self.notify, self.original,
+                        self.envelope_id, self.returned, self.is_utf8)
 
 
 def spool_name(ident: str, recipient: str) -> str:
     """The name of the message for this one recipient: the same whenever the MTA tries it again."""
     local, at, domain = recipient.rpartition("@")
-    digest = hashlib.sha256(f"{local}{at}{domain.lower()}".encode()).hexdigest()
+    digest = hashlib.sha256(f"{local}{at}{domain.lower()}".encode(errors="replace")).hexdigest()
     return f"{ident}-{digest[:16]}"
 
 
-def head_of(content: bytes) -> bytes:
-    """The header fields of a message."""
-    return re.split(rb"\r?\n\r?\n", content, maxsplit=1)[0]
+def first_field(content: bytes) -> bytes:
+    found = FIRST_FIELD.match(content)
+    return found[0] if found else b""
 
 
-def login_of(content: bytes, ident: str) -> Optional[str]:
-    """The login that Postfix wrote into the topmost `Received`, if it is of this queue ID."""
-    head = email.parser.BytesHeaderParser().parsebytes(head_of(content))
-    found = LOGIN.search(" ".join(str(head.get("Received", "")).split()))
-    return found[1] if found and found[2] == ident else None
+def login_of(field: bytes, ident: str) -> Tuple[bool, Optional[str]]:
+    """Whether a field is the `Received` that Postfix wrote for this queue ID, and the login there."""
+    login = None
+    for line in field.split(b"\n") if field.startswith(b"Received:") else ():
+        by, found = (it.fullmatch(line.rstrip(b"\r")) for it in (BY_POSTFIX, LOGIN))
+        if by:
+            return by[1].decode() == ident, login
+        login = found[1].decode("utf-8", "replace") if found else login
+    return False, None
+
+
+class Incoming:
+    """A message while its data come. Its first field decides whose it is; its content goes to a
+    file. What goes wrong meanwhile is answered at the end."""
+
+    def __init__(self, intake: "Intake", asked: Asked):
+        self.intake, self.asked = intake, asked
+        self.head, self.size = b"", 0
+        self.name = ""
+        self.draft: Optional[Draft] = None
+        self.envelope: Optional[Envelope] = None
+        self.answer: Optional[str] = None
+
+    @property
+    def has_head(self) -> bool:
+        """Whether `begin` is to be called, before more of the content is added."""
+        is_whole = len(self.head) >= LARGEST_FIELD or first_field(self.head)
+        return bool(not self.draft and not self.answer and is_whole)
+
+    def add(self, piece: bytes) -> None:
+        self.size += len(piece)
+        if self.size > self.intake.settings.largest:
+            self.end_with("552 5.3.4 the message is too large")
+        elif self.draft:
+            self.do(lambda: self.draft.write(piece))
+        elif not self.answer:
+            self.head += piece
+
+    def begin(self) -> None:
+        """Finds out whose the message is, and begins its file."""
+        self.do(self.begin_file)
+
+    def end(self) -> str:
+        """Keeps the message, submits it, and returns the answer to the MTA."""
+        try:
+            if not self.draft and not self.answer:
+                self.begin()
+            if not self.answer:
+                self.do(lambda: self.end_with(self.intake.take(self.envelope, self.draft)))
+            return self.answer
+        finally:
+            self.drop()
+
+    def drop(self) -> None:
+        """Removes the file, unless it was kept."""
+        if self.draft:
+            self.draft.drop()
+
+    # ---- the steps
+
+    def do(self, step) -> None:
+        if self.answer:
+            return
+        try:
+            step()
+        except NotTaken as error:
+            self.end_with(str(error))
+        except Exception as error:  # a full disk, a book that cannot be written: never 250
+            log.error("not taken", spool=self.name, why=repr(error))
+            self.end_with("451 4.3.0 the message could not be kept")
+
+    def end_with(self, answer: str) -> None:
+        self.answer = self.answer or answer
+
+    def begin_file(self) -> None:
+        ident = self.asked.ident
+        if not ident or not LONG_ID.fullmatch(ident):
+            log.error("no long queue ID", ident=ident, sender=self.asked.sender,
+                      recipient=self.asked.recipient)
+            raise NotTaken("451 4.3.5 no long queue ID by XFORWARD IDENT")
+        self.name = spool_name(ident, self.asked.recipient)
+        before = self.intake.answered(self.name)
+        if before:
+            raise NotTaken(before)
+        customer = self.intake.customer(ident, self.name, self.asked.sender, first_field(self.head))
+        self.envelope = self.asked.envelope(customer, self.name)
+        self.draft = self.intake.spool.draft(self.envelope)
+        self.draft.write(self.intake.received(self.asked.client, self.envelope))
+        field = first_field(self.head)
+        self.draft.write(LINE_OF_LOGIN.sub(b"", field) + self.head[len(field):])
+        self.head = b""
 
 
 class Intake:
@@ -70,42 +185,58 @@ class Intake:
                 self.busy.discard(name)
                 self.changed.notify_all()
 
-    def take(self, client: str, ident: Optional[str], sender: str, recipient: str,
-             content: bytes) -> str:
-        """The answer to a message's data."""
-        if not ident or not LONG_ID.fullmatch(ident):
-            log.error("no long queue ID", ident=ident, sender=sender, recipient=recipient)
-            return "451 4.3.5 no long queue ID by XFORWARD IDENT"
-        name = spool_name(ident, recipient)
-        try:
-            with self.alone_with(name):
-                answer = self.book.answer(name)
-                if answer:
-                    log.info("taken before", spool=name)
-                    return answer
-                customer = self.customer(ident, name, sender, content)
-                if not customer:
-                    log.warning("no customer", spool=name, sender=sender)
-                    return "550 5.7.1 no customer sends as this"
-                return self.take_new(client, Envelope(customer, name, sender, recipient), content)
-        except Exception as error:  # a full disk, a book that cannot be written: never 250
-            log.error("not taken", spool=name, why=repr(error))
-            return "451 4.3.0 the message could not be kept"
+    def answered(self, name: str) -> Optional[str]:
+        """What was answered when this name was taken."""
+        answer = self.book.answer(name)
+        if answer:
+            log.info("taken before", spool=name)
+        return answer
 
-    def take_new(self, client: str, envelope: Envelope, content: bytes) -> str:
-        content = self.received(client, envelope) + content
-        self.spool.keep(envelope, content)
-        try:
-            reply = self.desk.submit(envelope.customer, envelope.spool, envelope.sender,
-                                     envelope.recipient, len(content))
-        except Refused as refusal:
-            return self.refused(envelope, refusal)
-        except Away as error:
-            log.warning("desk away", spool=envelope.spool, why=error)
-            with self.changed:
-                self.unsettled.add(envelope.customer)
-            return "451 4.3.0 the desk is away"
-        return self.judged(envelope, reply)
+    def customer(self, ident: str, name: str, sender: str, field: bytes) -> str:
+        """Whose message it is: as at an earlier try, by the login, or by the sender's domain.
+
+        A login that stands in no table is nobody's: its sender could name any domain.
+        """
+        before = self.spool.envelope(name)
+        if before:
+            return before.customer
+        is_ours, login = login_of(field, ident)
+        if self.settings.logins and not is_ours:
+            log.error("no Received of Postfix", spool=name, sender=sender,
+                      help="the first field has to be Postfix's own")
+            raise NotTaken("451 4.3.5 the first field does not tell the login")
+        domain = sender.rpartition("@")[2].lower()
+        found = (self.settings.logins.get(login) if login is not None
+                 else self.settings.domains.get(domain))
+        if not found:
+            log.warning("no customer", spool=name, sender=sender, login=login)
+            raise NotTaken("550 5.7.1 no customer sends as this")
+        return found
+
+    def received(self, client: str, envelope: Envelope) -> bytes:
+        text = (f"Received: from {client}\r\n"
+                f"\tby {self.settings.host} with LMTP id {envelope.spool}\r\n"
+                f"\tfor <{envelope.recipient}>; {formatdate(localtime=True)}\r\n")
+        return text.encode("utf-8" if envelope.is_utf8 else "latin-1", "replace")
+
+    def take(self, envelope: Envelope, draft: Draft) -> str:
+        """Keeps a message, submits it, and returns the answer by the desk's verdict."""
+        with self.alone_with(envelope.spool):
+            before = self.answered(envelope.spool)
+            if before:
+                return before
+            self.spool.keep(draft, envelope.spool)
+            try:
+                reply = self.desk.submit(envelope.customer, envelope.spool, envelope.sender,
+                                         envelope.recipient, draft.size)
+            except Refused as refusal:
+                return self.refused(envelope, refusal)
+            except Away as error:
+                log.warning("desk away", spool=envelope.spool, why=error)
+                with self.changed:
+                    self.unsettled.add(envelope.customer)
+                return "451 4.3.0 the desk is away"
+            return self.judged(envelope, reply)
 
     def settle(self) -> None:
         """Learns which submits were done that nobody heard of, before the MTA tries them again: a
@@ -121,21 +252,6 @@ class Intake:
                     self.unsettled.add(customer)
             else:
                 log.info("settled", customer=customer)
-
-    def customer(self, ident: str, name: str, sender: str, content: bytes) -> Optional[str]:
-        """Whose message it is: as at an earlier try, by the login, or by the sender's domain."""
-        before = self.spool.envelope(name)
-        if before:
-            return before.customer
-        login = login_of(content, ident)
-        domain = sender.rpartition("@")[2].lower()
-        return self.settings.logins.get(login) or self.settings.domains.get(domain)
-
-    def received(self, client: str, envelope: Envelope) -> bytes:
-        text = (f"Received: from {client}\r\n"
-                f"\tby {self.settings.host} with LMTP id {envelope.spool}\r\n"
-                f"\tfor <{envelope.recipient}>; {formatdate(localtime=True)}\r\n")
-        return text.encode("latin-1", "replace")
 
     def judged(self, envelope: Envelope, reply: dict) -> str:
         verdict = reply["verdict"]

@@ -1,207 +1,220 @@
-"""LMTP (RFC 2033), as Postfix speaks it with XFORWARD: one recipient a transaction."""
+"""LMTP (RFC 2033), as Postfix speaks it with XFORWARD and DSN: one recipient a transaction.
+
+`aiosmtpd` speaks it. Here is what that leaves out: the queue ID over XFORWARD, the parameters of DSN
+(RFC 3461), data that go to a file as they come, and how many sessions there may be.
+"""
+import asyncio
+import collections
+import logging
 import re
-import socket
-import socketserver
-import sys
 import threading
-from typing import Optional
+from concurrent.futures import ThreadPoolExecutor
+from contextlib import contextmanager
+from typing import Dict, Optional, Tuple
+
+from aiosmtpd.lmtp import LMTP
+from aiosmtpd.smtp import syntax
 
 import log
-from intake import Intake
+from intake import Asked, Incoming, Intake
 from settings import Settings
 
-# How many seconds a client may say nothing, and how long a line of a command may be.
-IDLE, LONGEST_LINE = 300, 4096
-MAIL = re.compile(r"FROM:\s*<([^>]*)>((?: \S+)*)\s*", re.IGNORECASE)
-RCPT = re.compile(r"TO:\s*<([^>]+)>\s*", re.IGNORECASE)
-IDENT = re.compile(r"\bIDENT=(\S+)", re.IGNORECASE)
+# How many seconds a client may say nothing; and the bytes of a line of a command, or of a piece
+# of data.
+IDLE, LONGEST_LINE, LARGEST_PIECE = 300, 4096, 65536
+# An address with its brackets, and what stands behind it.
+ADDRESS = re.compile(r'(?s)(.*?<(?:"(?:[^"\\]|\\.)*"|[^">])*>)(.*)')
 CLIENT = re.compile(r"[A-Za-z0-9.:_\[\]-]{1,255}")
+GOING_DOWN = "421 4.3.2 going down"
+# (its own lines tell each command of each client)
+logging.getLogger("mail.log").setLevel(logging.CRITICAL)
 
 
 def from_xtext(text: str) -> str:
-    """The value of an attribute of XFORWARD: `+` and two hexadecimal digits are a byte."""
+    """The value of a parameter (RFC 3461): `+` and two hexadecimal digits are a byte."""
     return re.sub(r"\+([0-9A-Fa-f]{2})", lambda found: chr(int(found[1], 16)), text)
 
 
-class Session(socketserver.StreamRequestHandler):
+def parted(argument: Optional[str], names) -> Tuple[Optional[str], Dict[str, str]]:
+    """The argument of MAIL or RCPT without the parameters of these names, and their values."""
+    found = ADDRESS.fullmatch(argument or "")
+    if not found:
+        return argument, {}
+    kept, values = [found[1]], {}
+    for word in found[2].split():
+        name, equals, value = word.partition("=")
+        if equals and name.upper() in names:
+            values[name.upper()] = value
+        else:
+            kept.append(word)
+    return " ".join(kept), values
+
+
+class Session(LMTP):
     """A client's session."""
-    timeout = IDLE
+    line_length_limit = LARGEST_PIECE
+    command_size_limits = collections.defaultdict(lambda: LONGEST_LINE)
 
-    def setup(self) -> None:
-        super().setup()
-        self.client, self.ident = "unknown", None
-        self.sender: Optional[str] = None
-        self.recipient: Optional[str] = None
+    def __init__(self, server: "Server"):
+        settings = server.settings
+        super().__init__(server, hostname=settings.host, ident="LMTP", timeout=IDLE,
+                         data_size_limit=settings.largest, enable_SMTPUTF8=True, loop=server.loop)
+        self.server, self.is_admitted = server, False
+        self.ident: Optional[str] = None
+        self.parameters: Dict[str, str] = {}
 
-    def handle(self) -> None:
-        try:
-            self.say(f"220 {self.server.settings.host} LMTP")
-            while not self.server.ending:
-                line = self.rfile.readline(LONGEST_LINE + 1)
-                if len(line) > LONGEST_LINE:
-                    self.say("500 5.5.2 the line is too long")
-                    return
-                if not line.endswith(b"\n") or self.done(line.decode("latin-1").rstrip("\r\n")):
-                    return
-            self.say("421 4.3.2 going down")
-        except socket.timeout:
-            log.info("idle client", client=self.client)
-        except OSError as error:
-            log.info("client lost", client=self.client, why=repr(error))
-
-    def say(self, text: str) -> None:
-        self.wfile.write(text.encode("ascii", "replace") + b"\r\n")
-
-    def answer(self, text: str) -> None:
-        """Answers the data of the one recipient."""
-        self.say(text)
-
-    def done(self, line: str) -> bool:
-        """Does a command, and tells whether it was the last."""
-        verb, _, rest = line.partition(" ")
-        command = getattr(self, f"do_{verb.lower()}", None)
-        if verb.upper() == "QUIT":
-            self.say("221 2.0.0 bye")
-            return True
-        if command:
-            command(rest)
+    def connection_made(self, transport) -> None:
+        self.is_admitted = self.server.admits(self)
+        if self.is_admitted:
+            super().connection_made(transport)
         else:
-            self.say("500 5.5.2 no such command")
-        return False
+            transport.write(b"421 4.3.2 too many sessions\r\n")
+            transport.close()
 
-    def reset(self) -> None:
-        self.ident = self.sender = self.recipient = None
+    def connection_lost(self, error) -> None:
+        if self.is_admitted:
+            self.server.sessions.discard(self)
+            super().connection_lost(error)
 
-    # ---- commands
+    def _set_rset_state(self) -> None:
+        """(aiosmtpd calls this wherever a transaction begins anew.)"""
+        super()._set_rset_state()
+        self.ident, self.parameters = None, {}
 
-    def do_lhlo(self, rest: str) -> None:
-        self.reset()
-        self.client = rest.strip() if CLIENT.fullmatch(rest.strip()) else "unknown"
-        settings = self.server.settings
-        size = f"SIZE {settings.largest}"
-        for it in (settings.host, "PIPELINING", "8BITMIME", "ENHANCEDSTATUSCODES", size):
-            self.say(f"250-{it}")
-        self.say("250 XFORWARD NAME ADDR PROTO HELO SOURCE PORT IDENT")
+    @syntax("XFORWARD attributes")
+    async def smtp_XFORWARD(self, argument: Optional[str]) -> None:
+        attributes = [word.partition("=") for word in (argument or "").split(" ")]
+        idents = [value for name, _, value in attributes if name.upper() == "IDENT"]
+        self.ident = from_xtext(idents[0]) if len(idents) == 1 else None
+        await self.push("250 2.0.0 ok")
 
-    def do_xforward(self, rest: str) -> None:
-        found = IDENT.search(rest)
-        if found:
-            self.ident = from_xtext(found[1])
-        self.say("250 2.0.0 ok")
+    async def smtp_MAIL(self, argument: Optional[str]) -> None:
+        argument, values = parted(argument, ("RET", "ENVID"))
+        if not self.envelope.mail_from:
+            self.parameters = values
+        await super().smtp_MAIL(argument)
 
-    def do_mail(self, rest: str) -> None:
-        found = MAIL.fullmatch(rest)
-        size = re.search(r" SIZE=([0-9]{1,18})(?: |$)", found[2], re.IGNORECASE) if found else None
-        if self.sender is not None:
-            self.say("503 5.5.1 there is a sender")
-        elif not found:
-            self.say("501 5.5.4 MAIL FROM:<address>")
-        elif size and int(size[1]) > self.server.settings.largest:
-            self.say("552 5.3.4 the message is too large")
-        else:
-            self.sender, self.recipient = found[1], None
-            self.say("250 2.1.0 ok")
-
-    def do_rcpt(self, rest: str) -> None:
-        found = RCPT.fullmatch(rest)
-        if self.sender is None:
-            self.say("503 5.5.1 MAIL first")
-        elif not found:
-            self.say("501 5.5.4 RCPT TO:<address>")
-        elif self.recipient is not None:
-            self.say("452 4.5.3 one recipient a transaction")
-        else:
-            self.recipient = found[1]
-            self.say("250 2.1.5 ok")
-
-    def do_data(self, _: str) -> None:
-        if self.recipient is None:
-            self.say("503 5.5.1 RCPT first")
+    async def smtp_RCPT(self, argument: Optional[str]) -> None:
+        if self.envelope.rcpt_tos:
+            await self.push("452 4.5.3 one recipient a transaction")
             return
-        self.say("354 go on")
-        content = self.content()
-        if content is None:
-            self.answer("552 5.3.4 the message is too large")
+        argument, values = parted(argument, ("NOTIFY", "ORCPT"))
+        await super().smtp_RCPT(argument)
+        self.parameters.update(values)
+
+    @syntax("DATA")
+    async def smtp_DATA(self, argument: Optional[str]) -> None:
+        if self.server.is_ending:
+            await self.push(GOING_DOWN)
+            self.transport.close()
+        elif not self.envelope.rcpt_tos:
+            await self.push("503 5.5.1 RCPT first")
         else:
-            self.answer(self.server.intake.take(
-                self.client, self.ident, self.sender, self.recipient, content))
-        self.reset()
+            await self.receive(Incoming(self.server.intake, self.asked()))
+            self._set_rset_state()
 
-    def do_rset(self, _: str) -> None:
-        self.reset()
-        self.say("250 2.0.0 ok")
+    def asked(self) -> Asked:
+        sender = "" if self.envelope.mail_from == "<>" else self.envelope.mail_from
+        name = self.session.host_name or ""
+        return Asked(client=name if CLIENT.fullmatch(name) else "unknown", ident=self.ident,
+                     sender=sender, recipient=self.envelope.rcpt_tos[0],
+                     notify=self.parameters.get("NOTIFY", ""),
+                     original=self.parameters.get("ORCPT", ""),
+                     envelope_id=self.parameters.get("ENVID", ""),
+                     returned=self.parameters.get("RET", ""),
+                     is_utf8=bool(self.envelope.smtp_utf8))
 
-    def do_noop(self, _: str) -> None:
-        self.say("250 2.0.0 ok")
+    async def receive(self, incoming: Incoming) -> None:
+        """Writes the data to a file as they come, and answers them."""
+        await self.push("354 go on")
+        try:
+            starts_line = True
+            while True:
+                piece = await self.piece()
+                if starts_line and piece == b".\r\n":
+                    break
+                incoming.add(piece[1:] if starts_line and piece.startswith(b".") else piece)
+                starts_line = piece.endswith(b"\r\n")
+                if incoming.has_head:
+                    await self.server.in_thread(incoming.begin)
+        except BaseException:
+            incoming.drop()
+            raise
+        with self.server.answering():
+            await self.push(await self.server.in_thread(incoming.end))
 
-    def do_vrfy(self, _: str) -> None:
-        self.say("252 2.0.0 not known before it is tried")
-
-    def content(self) -> Optional[bytes]:
-        """The data up to its dot; None where there is too much of it. Only CR LF ends a line."""
-        parts, size, end = [], 0, b"\r\n"
-        while True:
-            part = self.rfile.readline(65536)
-            if not part:
-                raise ConnectionError("the client left within its data")
-            if end == b"\r\n" and part.startswith(b"."):
-                if part == b".\r\n":
-                    return b"".join(parts) if size <= self.server.settings.largest else None
-                part, end = part[1:], b""
-            end = (end + part)[-2:]
-            size += len(part)
-            if size <= self.server.settings.largest:
-                parts.append(part)
-            else:
-                parts.clear()
+    async def piece(self) -> bytes:
+        """The next line of the data, or a part of a long one. Only CR LF ends a line."""
+        try:
+            return await self._reader.readuntil(b"\r\n")
+        except asyncio.LimitOverrunError as error:
+            return await self._reader.read(error.consumed)
 
 
-class Server(socketserver.ThreadingTCPServer):
-    """Listens for sessions, of which there are at most so many at once."""
-    allow_reuse_address, daemon_threads, block_on_close, request_queue_size = True, True, False, 128
+class Server:
+    """Listens for sessions, of which there are at most so many at once. The sessions run in one
+    thread; what waits for a disk or the desk does so in others."""
 
     def __init__(self, settings: Settings, intake: Intake):
         self.settings, self.intake = settings, intake
-        self.changed, self.sessions, self.ending = threading.Condition(), set(), False
-        self.address_family = socket.AF_INET6 if ":" in settings.listen[0] else socket.AF_INET
-        super().__init__(settings.listen, Session)
+        self.sessions, self.is_ending, self.answers = set(), False, 0
+        self.pool = ThreadPoolExecutor(settings.connections)
+        self.loop = asyncio.new_event_loop()
+        self.listening = self.loop.run_until_complete(
+            self.loop.create_server(lambda: Session(self), *settings.listen, backlog=128))
+        self.address = self.listening.sockets[0].getsockname()[:2]
 
-    def process_request(self, request, client_address) -> None:
-        with self.changed:
-            is_free = len(self.sessions) < self.settings.connections
-            if is_free:
-                self.sessions.add(request)
-        if is_free:
-            super().process_request(request, client_address)
-            return
+    def start(self) -> None:
+        threading.Thread(target=self.loop.run_forever, daemon=True).start()
+
+    def admits(self, session: Session) -> bool:
+        if len(self.sessions) < self.settings.connections:
+            self.sessions.add(session)
+            return True
         log.warning("too many sessions", most=self.settings.connections)
-        request.settimeout(1)
-        try:
-            request.sendall(b"421 4.3.2 too many sessions\r\n")
-        except OSError:
-            pass
-        self.shutdown_request(request)
+        return False
 
-    def process_request_thread(self, request, client_address) -> None:
+    async def in_thread(self, work):
+        return await self.loop.run_in_executor(self.pool, work)
+
+    @contextmanager
+    def answering(self):
+        """A message has come whole, and waits for its answer meanwhile."""
+        self.answers += 1
         try:
-            super().process_request_thread(request, client_address)
+            yield
         finally:
-            with self.changed:
-                self.sessions.discard(request)
-                self.changed.notify_all()
+            self.answers -= 1
 
-    def handle_error(self, request, client_address) -> None:
-        log.error("session failed", client=client_address, why=repr(sys.exc_info()[1]))
+    # ---- what aiosmtpd asks
+
+    async def handle_EHLO(self, _, session, __, name: str, answers: list) -> list:
+        session.host_name = name
+        return [*answers[:-1], "250-PIPELINING", "250-ENHANCEDSTATUSCODES", "250-DSN",
+                "250 XFORWARD IDENT"]
+
+    async def handle_MAIL(self, _, __, envelope, address: str, options: list) -> str:
+        envelope.mail_from = address
+        envelope.mail_options.extend(options)
+        return "250 2.1.0 ok"
+
+    async def handle_RCPT(self, _, __, envelope, address: str, options: list) -> str:
+        envelope.rcpt_tos.append(address)
+        envelope.rcpt_options.extend(options)
+        return "250 2.1.5 ok"
+
+    async def handle_exception(self, error: Exception) -> str:
+        log.error("session failed", why=repr(error))
+        return "451 4.3.0 the session failed"
+
+    # ---- the end
 
     def stop(self) -> None:
-        """Takes no more sessions, and returns when each has answered what it has whole."""
-        self.ending = True
-        self.shutdown()
-        self.server_close()
-        with self.changed:
-            for request in self.sessions:
-                try:
-                    request.shutdown(socket.SHUT_RD)
-                except OSError:
-                    pass
-            self.changed.wait_for(lambda: not self.sessions)
+        """Takes no more messages, and returns when each that came whole was answered."""
+        asyncio.run_coroutine_threadsafe(self.end(), self.loop).result()
+
+    async def end(self) -> None:
+        self.is_ending = True
+        self.listening.close()
+        while self.answers:
+            await asyncio.sleep(0.02)

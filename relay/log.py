@@ -17,8 +17,11 @@ def told(value) -> str:
 
 def write(level: str, event: str, words: dict) -> None:
     words = {"level": level, "event": event, **words}
-    sys.stderr.write(" ".join(f"{name}={told(it)}" for name, it in words.items()) + "\n")
-    sys.stderr.flush()
+    try:
+        sys.stderr.write(" ".join(f"{name}={told(it)}" for name, it in words.items()) + "\n")
+        sys.stderr.flush()
+    except (OSError, ValueError):
+        pass  # (the work goes on where nobody can read of it)
 
 
 def info(event: str, **words) -> None:

@@ -60,6 +60,14 @@ class Names:
                     return message
         return None
 
+    def anywhere(self, customer: str, spool: str, id: str) -> Optional[dict]:
+        """The customer's message of this name, shown whole: under this ID, or a greater one where it
+        was requeued."""
+        message = self.desk.message(customer, id)
+        if message and message["spool"] == spool:
+            return message
+        return self.message(customer, spool, id)
+
     def unrecorded(self) -> Set[str]:
         """The customers of contents that have no record: nobody knows whether their submits were
         done."""

@@ -1,6 +1,6 @@
 """Telling the desk what came of attempts: what is in the journal, until the desk has heard it."""
 from dataclasses import replace
-from typing import Optional
+from typing import List, Optional, Tuple
 
 import desk as desks
 import log
@@ -14,29 +14,47 @@ class Reports:
     def __init__(self, desk: Desk, book: Book, names: Names, notices: Notices):
         self.desk, self.book, self.names, self.notices = desk, book, names, notices
 
-    def tell(self, customer: str, spool: str) -> None:
-        """Tells the outcomes of a name, and mails the notices that come of them.
+    def tell(self, customer: str, spools: List[str]) -> None:
+        """Tells the outcomes of names, and mails the notices that come of them.
 
         What the desk does not take stays in the journal, and until it is told the message is not
         tried again. Away is raised where the desk is.
         """
-        report = self.book.report(customer, spool)
+        told: List[Tuple[Report, bool]] = []
+        try:
+            for spool in spools:
+                report = self.book.report(customer, spool)
+                if report:
+                    told += self.tell_one(report)
+        finally:
+            # (many are written down as told at once: the desk takes each again, and says so)
+            if told:
+                self.book.all_reported(told)
+
+    def tell_one(self, report: Optional[Report]) -> List[Tuple[Report, bool]]:
+        """Tells one, as the desk takes it; the report that it took, if it did, and whether its
+        message left the queue by it with no notice waiting."""
         while report:
             is_failure = any(it["result"] == "failed" for it in report.outcomes)
-            if is_failure and not self.notices.has_room(customer):
-                log.error("no room for a notice", customer=customer, id=report.id, spool=spool)
-                return
+            if is_failure and not self.notices.has_room(report.customer):
+                log.error("no room for a notice", customer=report.customer, id=report.id,
+                          spool=report.spool)
+                return []
             try:
-                reply = self.desk.outcome(customer, report.id, report.attempt, report.outcomes)
+                reply = self.desk.outcome(report.customer, report.id, report.attempt,
+                                          report.outcomes)
             except Refused as refusal:
                 report = self.mended(report, refusal)
                 continue
-            self.book.reported(report)
-            log.info("outcome", customer=customer, id=report.id, spool=spool,
+            log.info("outcome", customer=report.customer, id=report.id, spool=report.spool,
                      attempt=report.attempt, outcomes=words_of(report), result=reply["result"])
-            if self.notices.send(customer) and reply.get("left") == 0:
-                self.book.finished(spool)
-            return
+            return [(report, self.followed(report, is_failure) and reply.get("left") == 0)]
+        return []
+
+    def followed(self, report: Report, is_failure: bool) -> bool:
+        """Mails what a sender is to hear of these outcomes; whether nothing waits."""
+        self.notices.confirm(report)
+        return not is_failure or self.notices.send(report.customer)
 
     def mended(self, report: Report, refusal: Refused) -> Optional[Report]:
         """The report as the desk may take it; None where it is not to be told, or not now."""
@@ -62,9 +80,7 @@ class Reports:
     def fitted(self, report: Report) -> Optional[Report]:
         """The report for the message as the customer made it meanwhile: under a new ID where it
         was requeued, and of those recipients alone that are still pending."""
-        message = self.desk.message(report.customer, report.id)
-        if not message or message["spool"] != report.spool:
-            message = self.names.message(report.customer, report.spool, report.id)
+        message = self.names.anywhere(report.customer, report.spool, report.id)
         pending = {it["address"].lower() for it in message["pending"]} if message else set()
         outcomes = [it for it in report.outcomes if it["recipient"].lower() in pending]
         if not outcomes:

@@ -5,6 +5,7 @@ from typing import Dict
 import log
 from book import Book
 from desk import Desk, Refused
+from handed import Handed
 from names import Names
 from settings import Settings
 from spool import Spool
@@ -15,7 +16,7 @@ class Restoring:
 
     def __init__(self, settings: Settings, desk: Desk, spool: Spool, book: Book):
         self.desk, self.spool, self.book = desk, spool, book
-        self.customers = settings.customers
+        self.customers, self.handed = settings.customers, Handed(book)
         self.names = Names(desk, spool, book)
 
     def restore(self) -> None:
@@ -26,13 +27,14 @@ class Restoring:
             self.end_finished(customer, queued)
             self.submit_lost(customer, queued)
             self.move_reports(customer, queued)
+            self.move_attempts(customer, queued)
 
     def reset_notices(self, customer: str) -> None:
         """Numbers go on from the last one that the desk has."""
         numbers = [it["number"] for it in self.desk.notices(customer)]
         greatest, mailed = max(numbers, default=0), self.book.last_notice(customer)
         if mailed > greatest:
-            self.book.told(customer, greatest)
+            self.book.set_back(customer, greatest)
             log.warning("notices numbered anew", customer=customer, mailed=mailed, now=greatest)
 
     def end_finished(self, customer: str, queued: Dict[str, str]) -> None:
@@ -52,16 +54,17 @@ class Restoring:
     def submit_lost(self, customer: str, queued: Dict[str, str]) -> None:
         """What was taken, and the desk does not have any more, is submitted again."""
         for spool, (is_finished, _) in self.book.uncleaned(customer).items():
-            is_lost = spool not in queued and not is_finished
-            kept = self.spool.read(spool) if is_lost else None
-            if not kept:
+            if spool in queued or is_finished:
                 continue
-            envelope, content = kept
+            with self.spool.opened(spool) as kept:
+                if not kept:
+                    continue
+            envelope = kept.envelope
             words = dict(customer=customer, spool=spool, sender=envelope.sender,
                          recipient=envelope.recipient)
             try:
                 reply = self.desk.submit(
-                    customer, spool, envelope.sender, envelope.recipient, len(content))
+                    customer, spool, envelope.sender, envelope.recipient, kept.size)
                 verdict = reply["verdict"]
             except Refused as refusal:
                 reply, verdict = {}, str(refusal)
@@ -84,3 +87,17 @@ class Restoring:
             else:
                 self.book.reported(report)
                 log.warning("outcome dropped", customer=customer, id=report.id, spool=spool)
+
+    def move_attempts(self, customer: str, queued: Dict[str, str]) -> None:
+        """The reports of attempts under way go to the message of their name, as its next attempt."""
+        for attempt in self.handed.under_way():
+            if attempt.customer != customer:
+                continue
+            id = queued.get(attempt.spool)
+            message = self.desk.message(customer, id) if id else None
+            if message:
+                self.handed.moved(attempt, message["id"], message["attempts"] + 1)
+            else:
+                self.handed.resolved(attempt, [])
+                log.warning("attempt dropped", customer=customer, id=attempt.id,
+                            spool=attempt.spool)

@@ -2,17 +2,67 @@
 import fcntl
 import json
 import os
+import tempfile
+from contextlib import contextmanager
 from dataclasses import asdict, dataclass
 from pathlib import Path
-from typing import List, Optional, Tuple
+from typing import BinaryIO, Iterator, List, Optional
+
+# How many bytes of a message are searched for the end of its header fields.
+LARGEST_HEAD = 65536
 
 
 @dataclass(frozen=True)
 class Envelope:
+    """Whose message it is, its sender and its recipient; and what its client asked for by DSN
+    (RFC 3461), as it came: empty where it asked for nothing."""
     customer: str
     spool: str
     sender: str
     recipient: str
+    notify: str = ""
+    original: str = ""
+    envelope_id: str = ""
+    returned: str = ""
+    is_utf8: bool = False
+
+
+@dataclass(frozen=True)
+class Kept:
+    """A message of the spool, opened: its content begins at `start` and has `size` bytes."""
+    envelope: Envelope
+    file: BinaryIO
+    start: int
+    size: int
+
+    def head(self) -> bytes:
+        """Its header fields, as far as they lie in the first 65,536 bytes."""
+        self.file.seek(self.start)
+        return head_of(self.file.read(LARGEST_HEAD))
+
+
+def head_of(content: bytes) -> bytes:
+    """The header fields of a message."""
+    ends = [at for at in (content.find(b"\r\n\r\n"), content.find(b"\n\n")) if at >= 0]
+    return content[:min(ends)] if ends else content
+
+
+class Draft:
+    """A message while it comes, in a file of its own."""
+
+    def __init__(self, folder: Path, envelope: Envelope):
+        self.file, self.size = tempfile.NamedTemporaryFile(dir=folder, delete=False), 0
+        self.file.write(json.dumps(asdict(envelope)).encode() + b"\n")
+
+    def write(self, piece: bytes) -> None:
+        """Adds a piece of the content, whose bytes are counted."""
+        self.file.write(piece)
+        self.size += len(piece)
+
+    def drop(self) -> None:
+        """Removes it; what was kept stays."""
+        self.file.close()
+        drop(Path(self.file.name))
 
 
 def sync_folder(path: Path) -> None:
@@ -21,6 +71,13 @@ def sync_folder(path: Path) -> None:
         os.fsync(opened)
     finally:
         os.close(opened)
+
+
+def drop(path: Path) -> None:
+    try:
+        path.unlink()
+    except FileNotFoundError:
+        pass
 
 
 class Spool:
@@ -34,38 +91,50 @@ class Spool:
             path.mkdir(parents=True, exist_ok=True)
         sync_folder(folder)
 
-    def keep(self, envelope: Envelope, content: bytes) -> None:
-        """Writes a file, so that it is there whole after any stop; or raises OSError."""
-        path = self.new / envelope.spool
-        try:
-            with open(path, "wb") as file:
-                file.write(json.dumps(asdict(envelope)).encode() + b"\n")
-                file.write(content)
-                file.flush()
-                os.fsync(file.fileno())
-            os.rename(path, self.content / envelope.spool)
-            sync_folder(self.content)
-        except OSError:
-            self.drop(path)
-            raise
+    def draft(self, envelope: Envelope) -> Draft:
+        return Draft(self.new, envelope)
+
+    def keep(self, draft: Draft, spool: str) -> None:
+        """Gives a draft its name, so that it is there whole after any stop; or raises OSError."""
+        draft.file.flush()
+        os.fsync(draft.file.fileno())
+        os.rename(draft.file.name, self.content / spool)
+        sync_folder(self.content)
 
     def envelope(self, spool: str) -> Optional[Envelope]:
-        found = self.read(spool, 0)
-        return found and found[0]
+        with self.opened(spool) as kept:
+            return kept and kept.envelope
 
-    def read(self, spool: str, size: int = -1) -> Optional[Tuple[Envelope, bytes]]:
-        """The envelope and the content of a name; None where there is no such file."""
+    @contextmanager
+    def opened(self, spool: str) -> Iterator[Optional[Kept]]:
+        """The message of a name; None where there is no such file."""
         try:
-            with open(self.content / spool, "rb") as file:
-                return Envelope(**json.loads(file.readline())), file.read(size)
-        except (FileNotFoundError, TypeError, ValueError):
-            return None
+            file = open(self.content / spool, "rb")
+        except FileNotFoundError:
+            yield None
+            return
+        with file:
+            yield kept_in(file)
 
     def names(self) -> List[str]:
         return sorted(os.listdir(self.content))
 
+    def size(self, spool: str) -> int:
+        """How many bytes the file of a name has; 0 where there is none."""
+        try:
+            return (self.content / spool).stat().st_size
+        except FileNotFoundError:
+            return 0
+
+    def age(self, spool: str, now: float) -> float:
+        """How many seconds ago the file of a name was written; 0 where there is none."""
+        try:
+            return now - (self.content / spool).stat().st_mtime
+        except FileNotFoundError:
+            return 0.0
+
     def remove(self, spool: str) -> None:
-        self.drop(self.content / spool)
+        drop(self.content / spool)
 
     def put_aside(self, spool: str) -> None:
         os.rename(self.content / spool, self.aside / spool)
@@ -73,14 +142,7 @@ class Spool:
     def drop_unfinished(self) -> None:
         """Removes what was being written when an intake was stopped; nothing was submitted."""
         for path in self.new.iterdir():
-            self.drop(path)
-
-    @staticmethod
-    def drop(path: Path) -> None:
-        try:
-            path.unlink()
-        except FileNotFoundError:
-            pass
+            drop(path)
 
     def lock(self, name: str):
         """The lock of this name, until it is closed or the process ends; None where another has
@@ -92,3 +154,13 @@ class Spool:
             file.close()
             return None
         return file
+
+
+def kept_in(file: BinaryIO) -> Optional[Kept]:
+    """The message of a file; None where its first line is no envelope."""
+    try:
+        envelope = Envelope(**json.loads(file.readline()))
+    except (TypeError, ValueError):
+        return None
+    start = file.tell()
+    return Kept(envelope, file, start, os.fstat(file.fileno()).st_size - start)

@@ -1,0 +1,149 @@
+"""What was handed over to the Postfix that delivers: a table of the worker's book.
+
+An attempt is written down before it is handed over, with an envelope ID of its own. Its queue ID is
+added when that Postfix has it, its outcomes as reports come, and then the moment when it was done.
+It stays for a while, so that a late report finds it.
+"""
+import json
+import time
+from dataclasses import dataclass
+from typing import Dict, List, Optional, Set, Tuple
+
+from book import Book, Report
+
+Outcome = Dict[str, str]
+COLUMNS = ("envelope, customer, spool, id, attempt, recipients, sender, at, queue_id, outcomes, "
+           "done, is_lost")
+
+
+@dataclass(frozen=True)
+class Attempt:
+    """An attempt that is handed over, or is about to be: then it has no queue ID."""
+    envelope: str
+    customer: str
+    spool: str
+    id: str
+    number: int
+    recipients: List[str]
+    sender: str
+    at: float
+    queue_id: Optional[str] = None
+    outcomes: Tuple[Outcome, ...] = ()
+    done: Optional[float] = None
+    is_lost: bool = False
+
+    def report(self, outcomes: List[Outcome]) -> Report:
+        return Report(self.customer, self.spool, self.id, self.number, outcomes)
+
+    def report_for(self, message: dict, outcomes: List[Outcome]) -> Report:
+        """The same outcomes, as the next attempt of a message that the desk shows."""
+        return Report(self.customer, self.spool, message["id"], message["attempts"] + 1, outcomes)
+
+    def with_more(self, told: List[Outcome]) -> List[Outcome]:
+        """Its outcomes with those that are told of its recipients, of which each counts once."""
+        wanted = {it.lower(): it for it in self.recipients}
+        known = {it["recipient"].lower(): it for it in self.outcomes}
+        for it in told:
+            name = it["recipient"].lower()
+            if name in wanted:
+                known.setdefault(name, {**it, "recipient": wanted[name]})
+        return list(known.values())
+
+
+def attempt_of(row: tuple) -> Attempt:
+    return Attempt(*row[:5], json.loads(row[5]), *row[6:9], tuple(json.loads(row[9])), row[10],
+                   bool(row[11]))
+
+
+class Handed:
+    def __init__(self, book: Book):
+        self.book = book
+
+    def find(self, where: str, *values) -> List[Attempt]:
+        rows = self.book.database().execute(f"SELECT {COLUMNS} FROM handed WHERE {where}", values)
+        return [attempt_of(it) for it in rows.fetchall()]
+
+    def of(self, envelope: str) -> Optional[Attempt]:
+        return next(iter(self.find("envelope = ?", envelope)), None)
+
+    def last_of(self, spool: str) -> Optional[Attempt]:
+        """The last attempt of a name."""
+        return next(iter(self.find("spool = ? ORDER BY at DESC LIMIT 1", spool)), None)
+
+    def under_way(self) -> List[Attempt]:
+        return self.find("done IS NULL")
+
+    def spools_under_way(self, customer: str) -> Set[str]:
+        asked = "SELECT spool FROM handed WHERE customer = ? AND done IS NULL"
+        return {spool for spool, in self.book.database().execute(asked, (customer,)).fetchall()}
+
+    def is_under_way(self, customer: str, spool: str) -> bool:
+        return bool(self.book.one("SELECT 1 FROM handed WHERE customer = ? AND spool = ? "
+                                  "AND done IS NULL", customer, spool))
+
+    def about(self, attempts: List[Attempt]) -> None:
+        """These are about to be handed over."""
+        with self.book.writing() as database:
+            database.executemany(
+                "INSERT INTO handed (envelope, customer, spool, id, attempt, recipients, sender, at) "
+                "VALUES (?, ?, ?, ?, ?, ?, ?, ?)",
+                [(it.envelope, it.customer, it.spool, it.id, it.number, json.dumps(it.recipients),
+                  it.sender, it.at) for it in attempts])
+
+    def over(self, taken: Dict[str, str], not_begun: List[str]) -> None:
+        """Some were taken, each under a queue ID; others certainly were not. (A report may have come
+        before this is written down.)"""
+        with self.book.writing() as database:
+            database.executemany("UPDATE handed SET queue_id = ? WHERE envelope = ?",
+                                 [(id, it) for it, id in taken.items()])
+            database.executemany("DELETE FROM handed WHERE envelope = ? AND done IS NULL",
+                                 [(it,) for it in not_begun])
+
+    def resolved(self, attempt: Attempt, outcomes: List[Outcome], is_lost: bool = False) -> None:
+        """Nothing more is awaited of an attempt. Its outcomes, if there are any, are to be told."""
+        with self.book.writing() as database:
+            self.end(database, attempt.envelope, list(attempt.outcomes), is_lost)
+            if outcomes:
+                self.book.journal(database, attempt.report(outcomes))
+
+    def moved(self, attempt: Attempt, id: str, number: int) -> None:
+        """An attempt under way is of the message under this queue ID, and its attempt of a number."""
+        with self.book.writing() as database:
+            database.execute("UPDATE handed SET id = ?, attempt = ? WHERE envelope = ?",
+                             (id, number, attempt.envelope))
+
+    def reported(self, reports: Dict[str, List[Outcome]]) -> List[Attempt]:
+        """Adds what reports say to the attempts under way. Those of which all recipients are known
+        by now are journaled, and returned."""
+        found = []
+        with self.book.writing() as database:
+            for envelope, told in reports.items():
+                attempt = self.of(envelope)
+                if not attempt or attempt.done:
+                    continue
+                outcomes = attempt.with_more(told)
+                if len(outcomes) < len({it.lower() for it in attempt.recipients}):
+                    database.execute("UPDATE handed SET outcomes = ? WHERE envelope = ?",
+                                     (json.dumps(outcomes), envelope))
+                    continue
+                self.end(database, envelope, outcomes, False)
+                self.book.journal(database, attempt.report(told_of(outcomes)))
+                found.append(attempt)
+        return found
+
+    @staticmethod
+    def end(database, envelope: str, outcomes: List[Outcome], is_lost: bool) -> None:
+        database.execute(
+            "UPDATE handed SET outcomes = ?, done = ?, is_lost = ? WHERE envelope = ?",
+            (json.dumps(outcomes), time.time(), is_lost, envelope))
+
+    def forget(self, before: float) -> None:
+        """Drops what was done before a moment."""
+        with self.book.writing() as database:
+            database.execute("DELETE FROM handed WHERE done < ?", (before,))
+
+
+def told_of(outcomes: List[Outcome]) -> List[Outcome]:
+    """What the desk is told of outcomes: not which host said so."""
+    return [{name: it[name] for name in ("recipient", "result", "status", "text") if name in it}
+            for it in outcomes]

@@ -1,0 +1,153 @@
+"""The Postfix instance that delivers: sessions with it, what lies in its queue, and taking back."""
+import json
+import re
+import smtplib
+import subprocess
+from dataclasses import dataclass
+from typing import Dict, Set, Tuple
+
+from handed import Attempt
+from settings import Settings
+from spool import Kept
+
+# After these nobody knows whether a message was taken.
+BROKEN = (OSError, smtplib.SMTPException)
+# Where its own reports go. It takes no mail from outside for this address.
+REPORTS = "outcome@desk.invalid"
+QUEUED = re.compile(rb"queued as ([0-9A-Za-z]+)")
+STATUS = re.compile(rb"([245])\.([0-9]{1,3})\.([0-9]{1,3})(?![0-9.])")
+# Subjects of a status (RFC 3463): the system of the instance, and its policy.
+OF_THE_SYSTEM, OF_POLICY = 3, 7
+
+
+class NotTaken(Exception):
+    """The instance took nothing of a message, by an answer with this code and text.
+
+    `is_of_all` where it would take no other one either. Else the message is deferred, or failed where
+    it never will be taken; a refusal by the instance's own policy is for its operator to mend.
+    """
+
+    def __init__(self, code: int, text: bytes):
+        super().__init__(f"{code} {text.decode('latin-1')}")
+        found = STATUS.match(text)
+        subject, detail = (int(found[2]), int(found[3])) if found else (0, 0)
+        self.is_of_all = code == 421 or (code < 500 and subject in (0, OF_THE_SYSTEM))
+        is_final = code >= 500 and subject not in (0, OF_POLICY)
+        self.result = "failed" if is_final else "deferred"
+        self.status = f"{5 if is_final else 4}.{subject}.{detail}"
+
+
+def xtext(text: str) -> str:
+    """A text as the value of a parameter (RFC 3461)."""
+    return re.sub(r"[^!-~]|[+=]", lambda found: f"+{ord(found[0]):02X}", text)
+
+
+class Session:
+    """A session with the instance, for many messages."""
+
+    def __init__(self, settings: Settings):
+        """Raises OSError or SMTPException where there is none to be had."""
+        self.smtp = smtplib.SMTP(*settings.instance, local_hostname=settings.host,
+                                 timeout=settings.timeout)
+        self.smtp.ehlo()
+        lacking = [it for it in ("dsn", "chunking", "8bitmime") if not self.smtp.has_extn(it)]
+        if lacking:
+            self.close()
+            raise OSError(f"the delivering instance does not announce {lacking}")
+        self.is_content_begun = False
+
+    def send(self, attempt: Attempt, kept: Kept) -> str:
+        """Hands a message over, and returns its queue ID.
+
+        NotTaken is raised where it was refused. After OSError or SMTPException nobody knows, if its
+        content was begun.
+        """
+        self.is_content_begun = False
+        is_utf8 = kept.envelope.is_utf8 and self.smtp.has_extn("smtputf8")
+        options = f"SIZE={kept.size} BODY=8BITMIME RET=HDRS ENVID={xtext(attempt.envelope)}"
+        self.ask(f"MAIL FROM:<{attempt.sender}> {options}{' SMTPUTF8' if is_utf8 else ''}")
+        for it in attempt.recipients:
+            self.ask(f"RCPT TO:<{it}> NOTIFY=SUCCESS,FAILURE ORCPT=rfc822;{xtext(it)}")
+        # (the content goes from its file to the socket; BDAT counts its bytes, and changes none)
+        self.is_content_begun = True
+        self.smtp.putcmd(f"BDAT {kept.size} LAST")
+        if self.smtp.sock.sendfile(kept.file, kept.start, kept.size) != kept.size:
+            raise OSError("the content became shorter meanwhile")
+        text = self.answer()
+        found = QUEUED.search(text)
+        if not found:
+            raise smtplib.SMTPServerDisconnected(f"no queue ID: {text!r}")
+        return found[1].decode()
+
+    def ask(self, command: str) -> bytes:
+        self.smtp.putcmd(command)
+        return self.answer()
+
+    def answer(self) -> bytes:
+        """The text of an answer of the class 2; else the transaction is ended."""
+        code, text = self.smtp.getreply()
+        if 200 <= code < 300:
+            return text
+        if code == 421:
+            self.close()
+        else:
+            self.smtp.rset()
+        raise NotTaken(code, text)
+
+    def is_alive(self) -> bool:
+        """Whether the instance still answers in this session; it closes one that was idle."""
+        try:
+            return self.smtp.sock is not None and self.smtp.noop()[0] == 250
+        except BROKEN:
+            return False
+
+    def close(self) -> None:
+        self.smtp.close()
+
+
+@dataclass
+class Queue:
+    """What lies in the instance: by queue ID the queue that it lies in, the senders with their
+    recipients, and since when the oldest report does (infinity where none does)."""
+    ids: Dict[str, str]
+    envelopes: Set[Tuple[str, str]]
+    oldest_report: float
+
+    def add(self, row: dict) -> None:
+        self.ids[row["queue_id"]] = row["queue_name"]
+        sender = "" if row["sender"] == "MAILER-DAEMON" else row["sender"].lower()
+        for it in row["recipients"]:
+            self.envelopes.add((sender, it["address"].lower()))
+            if it["address"] == REPORTS:
+                self.oldest_report = min(self.oldest_report, float(row["arrival_time"]))
+
+    def has(self, attempt: Attempt) -> bool:
+        """Whether an attempt lies there, or may lie there where its queue ID is not known."""
+        if attempt.queue_id:
+            return attempt.queue_id in self.ids
+        return any((attempt.sender.lower(), it.lower()) in self.envelopes
+                   for it in attempt.recipients)
+
+
+def queue(settings: Settings) -> Queue:
+    """What lies in the instance now; OSError where it cannot be asked, and nothing is known."""
+    found = Queue({}, set(), float("inf"))
+    asked = ["postqueue", "-c", str(settings.delivering), "-j"]
+    with subprocess.Popen(asked, stdin=subprocess.DEVNULL, stdout=subprocess.PIPE,
+                          stderr=subprocess.PIPE) as listing:
+        for line in listing.stdout:
+            found.add(json.loads(line))
+        why = listing.stderr.read(1000).decode(errors="replace").strip()
+    if listing.returncode:
+        raise OSError(f"postqueue ended with {listing.returncode}: {why}")
+    return found
+
+
+def take_back(settings: Settings, id: str) -> bool:
+    """Deletes a message from the instance's queue, and tells whether it was there. It wants the
+    rights of root; OSError where they are not given."""
+    done = subprocess.run([*settings.postsuper, "-c", str(settings.delivering), "-d", id],
+                          stdin=subprocess.DEVNULL, capture_output=True, timeout=settings.timeout)
+    if done.returncode:
+        raise OSError(done.stderr[-300:].decode(errors="replace").strip())
+    return b"Deleted: 1 message" in done.stderr
