@@ -1,60 +1,72 @@
-"""A Postfix of a test's own: configuration, queue and log in a folder, on loopback, without chroot.
+"""Instances of Postfix of a test's own: configuration, queue and log in a folder, on loopback,
+without chroot.
 
-It has the very lines of docs/RELAY.md, and is begun and stopped as root. Mail that comes in at
-`address` goes to a worker over LMTP; what comes in at `plain`, and what Postfix itself writes, goes
-to one sink.
+They have the very lines that `relay/worker install` writes, and are begun and stopped as root.
+`Postfix` takes mail in: what comes in at `address` goes to a worker over LMTP; what comes in at
+`plain`, and what Postfix itself writes, goes to one sink. `Delivering` takes mail from the worker,
+and delivers it to sinks.
 """
 import contextlib
 import json
-import re
+import os
+import signal
 import smtplib
 import subprocess
+import sys
 import time
 from pathlib import Path
+from types import SimpleNamespace
 
-from serving import LONGEST, Wrong, expect, free_address, listens, named
+from serving import LONGEST, Wrong, expect, free_address, listens, until
 
-PAGE = Path(__file__).resolve().parent.parent / "docs/RELAY.md"
-# The listener of customers, as the page shows it, and what of it is not tried: TLS, and logging in.
-CUSTOMERS = "submission     inet  n  -  y"
-NOT_TRIED = re.compile(
-    "(?m)^  -o smtpd_(tls_security_level|sasl_auth_enable|relay_restrictions=permit_sasl).*\n")
+sys.path.append(str(Path(__file__).resolve().parent.parent / "relay"))
+import instances
 
 # How many seconds lie between two runs of the queue.
 FLUSHED_EACH = 0.25
+LARGEST = 11_000_000
+MAILDIR = ("new", "cur", "tmp")
 
-# What only this one has.
+# What only the instances of a test have.
 MAIN_OF_A_TEST = """\
 compatibility_level = 3.6
 queue_directory = {folder}/queue
 data_directory = {folder}/data
-maillog_file = {log}
+maillog_file = {folder}/mail.log
 maillog_file_prefixes = {folder}
-inet_interfaces = 127.0.0.1
-inet_protocols = ipv4
-mynetworks = 127.0.0.0/8
-myhostname = mta.relay.example
 mydestination =
 local_recipient_maps =
 alias_maps =
 alias_database =
 append_dot_mydomain = no
-notify_classes =
-smtpd_relay_restrictions = permit_mynetworks, reject
 smtpd_peername_lookup = no
-smtpd_authorized_xclient_hosts = 127.0.0.1
 smtpd_client_connection_count_limit = 0
 smtpd_client_connection_rate_limit = 0
 disable_dns_lookups = yes
-relayhost = [{sink_host}]:{sink_port}
 minimal_backoff_time = 1s
 maximal_backoff_time = 1s
 queue_run_delay = 1s
+"""
+FRONT_OF_A_TEST = """\
+inet_interfaces = 127.0.0.1
+inet_protocols = ipv4
+mynetworks = 127.0.0.0/8
+myhostname = mta.relay.example
+notify_classes =
+smtpd_relay_restrictions = permit_mynetworks, reject
+smtpd_authorized_xclient_hosts = 127.0.0.1
+relayhost = [{sink_host}]:{sink_port}
+"""
+DELIVERING_OF_A_TEST = """\
+transport_maps = texthash:{folder}/conf/transport
+default_transport = smtp:[no-such-host.invalid]
+smtp_connect_timeout = 5s
 """
 MASTER_OF_A_TEST = """\
 pickup unix n - n 60 1 pickup
 cleanup unix n - n - 0 cleanup
 qmgr unix n - n 300 1 qmgr
+tlsmgr unix - - n 1000? 1 tlsmgr
 rewrite unix - - n - - trivial-rewrite
 bounce unix - - n - 0 bounce
 defer unix - - n - 0 bounce
@@ -67,60 +79,92 @@ showq unix n - n - - showq
 error unix - - n - - error
 retry unix - - n - - error
 discard unix - - n - - discard
+virtual unix - n n - - virtual
+lmtp unix - - n - - lmtp
 anvil unix - - n - 1 anvil
 scache unix - - n - 1 scache
 postlog unix-dgram n - n - 1 postlogd
 """
 
 
-def shown(file):
-    """The lines that the page shows of a file of Postfix."""
-    found = re.search(rf"(?ms)^`{re.escape(file)}`.*?^```\n(.*?)^```$", PAGE.read_text())
-    expect(found, PAGE.name, "shows no lines of", file)
-    return found[1]
+def parameters_of(text):
+    """The parameters of a text of main.cf."""
+    return {name.strip(): value.strip() for name, _, value in
+            (line.partition("=") for line in text.splitlines())}
 
 
-def master_of(address, plain, worker):
-    """The services that the page shows, at these addresses, and those that each Postfix has."""
-    text, dropped = NOT_TRIED.subn("", shown("master.cf"))
-    expect(dropped == 3, "the listener of customers is shown as", text)
-    places = ((CUSTOMERS, f"{named(address)} inet n - n"), ("127.0.0.1:2528", named(plain)),
-              ("[127.0.0.1]:10024", f"[{worker[0]}]:{worker[1]}"))
-    for here, there in places:
-        expect(text.count(here) == 1, PAGE.name, "does not show once", here)
-        text = text.replace(here, there)
-    return text + MASTER_OF_A_TEST
+def services_of(text):
+    """The services of a text of master.cf, by the names that the worker's lines have."""
+    return {"/".join(line.split()[:2]): line for line in text.splitlines()}
 
 
-class Postfix:
-    """Its worker listens at one address, and its one sink at another."""
+class Instance:
+    """An instance with the lines that the worker's `install` writes, and those of a test."""
 
-    def __init__(self, folder, worker, sink):
-        self.folder, self.log = folder, folder / "mail.log"
-        self.address, self.plain = free_address(), free_address()
+    def __init__(self, folder, address, lines, own):
+        self.folder, self.address = folder, address
+        self.conf, self.log = folder / "conf", folder / "mail.log"
         # (its processes are of another user)
         folder.chmod(0o755)
-        self.conf = folder / "conf"
         for made in (self.conf, folder / "queue", folder / "data"):
             made.mkdir()
         subprocess.run(["chown", "postfix", folder / "data"], check=True)
-        main = MAIN_OF_A_TEST.format(
-            folder=folder, log=self.log, sink_host=sink[0], sink_port=sink[1])
-        (self.conf / "main.cf").write_text(main + shown("main.cf"))
-        master = master_of(self.address, self.plain, worker)
-        (self.conf / "master.cf").write_text(master)
+        installed = {name: it.value for name, it in lines.parameters.items()}
+        main = {**installed, **parameters_of((MAIN_OF_A_TEST + own).replace("{folder}", str(folder)))}
+        master = {**services_of(MASTER_OF_A_TEST),
+                  **{name: it.value for name, it in lines.services.items()}}
+        self.write("main.cf", *(f"{name} = {value}" for name, value in main.items()))
+        self.write("master.cf", *master.values())
+        for name, text in lines.tables.items():
+            self.write(name, text)
+
+    def write(self, name, *lines):
+        (self.conf / name).write_text("".join(f"{it}\n" for it in lines))
 
     def __enter__(self):
+        self.start()
+        return self
+
+    def __exit__(self, *_):
+        self.stop()
+
+    def start(self):
+        """Starts it, and waits until it listens."""
         self.run("postfix", "start")
         try:
             self.until(lambda: listens(self.address), "it listens")
         except BaseException:
             self.stop()
             raise
-        return self
 
-    def __exit__(self, *_):
-        self.stop()
+    def stop(self):
+        """Stops it; none that runs does as well."""
+        if self.master():
+            self.run("postfix", "stop")
+
+    def kill(self):
+        """Kills all its processes by SIGKILL, as when the machine stops."""
+        master = self.master()
+        expect(master, "there is no process of Postfix to kill")
+        os.kill(master, signal.SIGSTOP)
+        for it in (*children_of(master), master):
+            with contextlib.suppress(ProcessLookupError):
+                os.kill(it, signal.SIGKILL)
+        until(lambda: not self.master() and not listens(self.address), "Postfix lives when killed")
+
+    def master(self):
+        """The number of its master process; None where it does not run."""
+        with contextlib.suppress(OSError, ValueError):
+            number = int((self.folder / "queue/pid/master.pid").read_text())
+            if str(self.conf).encode() in environment_of(number):
+                return number
+        return None
+
+    def set(self, **main):
+        """Sets parameters of main.cf, and has it read them."""
+        self.run("postconf", "-e", *(f"{name}={value}" for name, value in main.items()))
+        if self.master():
+            self.run("postfix", "reload")
 
     def run(self, command, *words):
         """What one of its commands prints."""
@@ -130,36 +174,13 @@ class Postfix:
         expect(ended.returncode == 0, command, words, "ended with", ended.returncode, ended.stderr)
         return ended.stdout.decode()
 
-    def stop(self):
-        self.run("postfix", "stop")
-
     def until(self, holds, told, longest=LONGEST):
-        """Waits until something holds, and has the queue run meanwhile."""
-        until = time.monotonic() + longest
+        """Waits until something holds."""
+        end = time.monotonic() + longest
         while not holds():
-            if time.monotonic() > until:
+            if time.monotonic() > end:
                 raise Wrong("Postfix does not come to", told, self.queue(), self.told()[-600:])
             time.sleep(0.05)
-
-    # ---- what comes in
-
-    @contextlib.contextmanager
-    def session(self, login=None):
-        """A client's session; `login` is the name under which it stands for having logged in."""
-        with smtplib.SMTP(*self.address, timeout=LONGEST) as client:
-            if login:
-                client.ehlo("client.example")
-                code, told = client.docmd("XCLIENT", f"LOGIN={login}")
-                expect(code == 220, "XCLIENT got", code, told)
-                client.ehlo_resp = client.helo_resp = None
-            client.ehlo("client.example")
-            yield client
-
-    def take(self, sender, recipients, subject="tried", login=None):
-        """Takes one message in."""
-        with self.session(login) as client:
-            refused = client.sendmail(sender, recipients, text_of(sender, recipients, subject))
-        expect(not refused, "Postfix refused", refused)
 
     # ---- what is in it
 
@@ -205,6 +226,71 @@ class Postfix:
     def told(self):
         """Its log."""
         return self.log.read_text(errors="replace") if self.log.exists() else ""
+
+
+class Postfix(Instance):
+    """The instance that takes mail in. Its worker listens at one address, its one sink at another."""
+
+    def __init__(self, folder, worker, sink):
+        address, self.plain = free_address(), free_address()
+        lines = instances.front(SimpleNamespace(
+            listen=worker, customers_at=address, notices_hop=self.plain, connections=50))
+        own = FRONT_OF_A_TEST.format(sink_host=sink[0], sink_port=sink[1])
+        super().__init__(folder, address, lines, own)
+
+    @contextlib.contextmanager
+    def session(self, login=None):
+        """A client's session; `login` is the name under which it stands for having logged in."""
+        with smtplib.SMTP(*self.address, timeout=LONGEST) as client:
+            if login:
+                client.ehlo("client.example")
+                code, told = client.docmd("XCLIENT", f"LOGIN={login}")
+                expect(code == 220, "XCLIENT got", code, told)
+                client.ehlo_resp = client.helo_resp = None
+            client.ehlo("client.example")
+            yield client
+
+    def take(self, sender, recipients, subject="tried", login=None):
+        """Takes one message in."""
+        with self.session(login) as client:
+            refused = client.sendmail(sender, recipients, text_of(sender, recipients, subject))
+        expect(not refused, "Postfix refused", refused)
+
+
+class Delivering(Instance):
+    """The instance that delivers. Mail for a domain goes to the sink of `hops`; its reports come
+    into the Maildir `reports`, which is of the user with this number."""
+
+    def __init__(self, folder, hops=None, uid=65534, largest=LARGEST):
+        self.reports = folder / "outcomes/reports"
+        lines = instances.delivering(SimpleNamespace(
+            host="relay.example", instance=free_address(), largest=largest, reports=self.reports),
+            uid, uid)
+        at = next(it for it in lines.services if it.endswith("/inet"))
+        host, port = at[:-len("/inet")].rsplit(":", 1)
+        super().__init__(folder, (host, int(port)), lines, DELIVERING_OF_A_TEST)
+        for made in (self.reports.parent, self.reports, *(self.reports / it for it in MAILDIR)):
+            made.mkdir()
+            os.chown(made, uid, uid)
+        self.route(hops or {})
+
+    def route(self, hops):
+        """Sends the mail of these domains, and of no other, to these addresses."""
+        lines = (f"{domain} smtp:[{host}]:{port}" for domain, (host, port, *_) in hops.items())
+        self.write("transport", *lines)
+        if self.master():
+            self.run("postfix", "reload")
+
+
+def environment_of(number):
+    """The environment of a process, as bytes."""
+    return Path(f"/proc/{number}/environ").read_bytes()
+
+
+def children_of(number):
+    """The processes that a process began."""
+    found = Path(f"/proc/{number}/task/{number}/children").read_text()
+    return [int(it) for it in found.split()]
 
 
 def text_of(sender, recipients, subject):

@@ -1,0 +1,201 @@
+"""What the worker wants of Postfix: the lines of the instance that takes mail in, and of the one
+that delivers, each with its reason. `installing` writes them."""
+from dataclasses import dataclass
+from typing import Dict, List
+
+from settings import Address, Settings
+
+# Where the reports of the delivering instance go, in its own names; no mail of a customer may.
+REPORTS_DOMAIN = "desk.invalid"
+REPORTS = f"outcome@{REPORTS_DOMAIN}"
+LOOPBACK = "127.0.0.0/8 [::1]/128"
+# Processes that bring mail to the worker: fewer than the sessions that it takes at once.
+MOST_TO_THE_WORKER = 10
+# What the header that each instance puts before a message may have, in bytes.
+HEADER_ROOM = 4096
+
+# A failed STARTTLS is tried again in plain text by the instance itself; each other soft failure
+# comes back as a hard one, marked by its last word.
+SOFT_FAILURES = r"""/^4(\.7\.5 Cannot start TLS: .*)/ 4$1
+/^4(\.[0-9]+\.[0-9]+ .*)/ 5$1 (deferred)
+"""
+TO_THE_WORKER = f"/^Content-Type: multipart\\/report/ REDIRECT {REPORTS}\n"
+
+
+@dataclass(frozen=True)
+class Line:
+    """The value of a parameter of main.cf, or a service of master.cf. A proposal is left alone
+    where somebody has set another value."""
+    value: str
+    why: str
+    is_proposal: bool = False
+
+
+@dataclass(frozen=True)
+class Instance:
+    """The parameters of main.cf, the services of master.cf by the names that `postconf -M` takes,
+    and the files beside these two."""
+    parameters: Dict[str, Line]
+    services: Dict[str, Line]
+    tables: Dict[str, str]
+
+
+def named(address: Address) -> str:
+    """An address as master.cf has it."""
+    host, port = address
+    return f"[{host}]:{port}" if ":" in host else f"{host}:{port}"
+
+
+def is_loopback(address: Address) -> bool:
+    return address[0] in ("::1", "localhost") or address[0].startswith("127.")
+
+
+def service(name: str, kind: str, processes: str, *words: str) -> str:
+    """A service without chroot, which everybody may use where it is on the network."""
+    return " ".join([name, kind, "n" if kind == "inet" else "-", "-", "n", "-", processes, *words])
+
+
+# ---- the instance that takes mail in
+
+def front(settings: Settings) -> Instance:
+    most = min(MOST_TO_THE_WORKER, max(1, settings.connections - 1))
+    services = {"desk/unix": Line(
+        service("desk", "unix", str(most), "lmtp", "-o", "lmtp_send_xforward_command=yes"),
+        f"the way to the worker, with the queue ID; at most {most} at once")}
+    services.update(customers_listener(settings))
+    services.update(notices_listener(settings))
+    return Instance({
+        "enable_long_queue_ids": Line(
+            "yes", "the worker names a message by its queue ID, and short ones are used again"),
+        "smtpd_sasl_authenticated_header": Line(
+            "yes", "the worker finds the customer by the login"),
+        "desk_destination_recipient_limit": Line(
+            "1", "each recipient is answered for itself, also after a stop"),
+    }, services, {})
+
+
+def way_to_the_worker(settings: Settings) -> str:
+    """What the listener of customers has to say."""
+    host, port = settings.listen
+    return f"content_filter=desk:[{host}]:{port}"
+
+
+def customers_listener(settings: Settings) -> Dict[str, Line]:
+    """The listener of customers; none where the firm adds the way to the worker to its own."""
+    if not settings.customers_at:
+        return {}
+    at = named(settings.customers_at)
+    return {f"{at}/inet": Line(
+        service(at, "inet", "-", "smtpd", "-o", way_to_the_worker(settings), "-o",
+                "smtpd_relay_restrictions=permit_mynetworks,permit_sasl_authenticated,reject"),
+        "takes the mail of customers, which alone goes to the desk")}
+
+
+def notices_listener(settings: Settings) -> Dict[str, Line]:
+    """The listener of notices; none where another machine takes them."""
+    if not is_loopback(settings.notices_hop):
+        return {}
+    at = named(settings.notices_hop)
+    options = ("content_filter=", "mynetworks=127.0.0.0/8,[::1]/128",
+               "smtpd_client_restrictions=permit_mynetworks,reject",
+               "smtpd_relay_restrictions=permit_mynetworks,reject",
+               "smtpd_recipient_restrictions=")
+    words = [it for option in options for it in ("-o", option)]
+    return {f"{at}/inet": Line(service(at, "inet", "-", "smtpd", *words),
+                               "takes notices, and does not lead back to the desk")}
+
+
+# ---- the instance that delivers
+
+def delivering(settings: Settings, uid: int, gid: int) -> Instance:
+    """`uid` and `gid` are those of the worker, who reads the reports."""
+    parameters = {**whose_mail(settings), **one_attempt(), **reports_kept(settings, uid, gid),
+                  **way_out()}
+    return Instance(parameters, delivering_services(settings),
+                    {"soft_failures": SOFT_FAILURES, "reports": TO_THE_WORKER})
+
+
+def whose_mail(settings: Settings) -> Dict[str, Line]:
+    """What it takes: the worker's mail, as it comes."""
+    return {
+        "multi_instance_enable": Line("yes", "it starts with the machine"),
+        "myhostname": Line(settings.host, "the name of the relay"),
+        "enable_long_queue_ids": Line("yes", "an ID that was handed over never stands for another"),
+        "inet_interfaces": Line("loopback-only", "the worker is on this machine"),
+        "inet_protocols": Line("all", "hosts with IPv6 are reached by it", True),
+        "mynetworks": Line(LOOPBACK, "nobody else hands mail over"),
+        "mydestination": Line("", "no mail stays here"),
+        "local_recipient_maps": Line("", "no mail stays here"),
+        "local_transport": Line("error:5.1.2 no mail stays here", "no mail stays here"),
+        "alias_maps": Line("", "no mail stays here"),
+        "alias_database": Line("", "no mail stays here"),
+        "local_header_rewrite_clients": Line("", "the message goes out as it came"),
+        "smtpd_relay_restrictions": Line("permit_mynetworks, reject", "as `mynetworks`"),
+        "smtpd_recipient_restrictions": Line(
+            f"check_recipient_access inline:{{{{{REPORTS_DOMAIN} = REJECT 5.1.2 no such domain}}}}, "
+            "permit_mynetworks, reject", "no customer writes a report"),
+        "smtpd_peername_lookup": Line("no", "DNS knows nothing of loopback"),
+        "smtpd_client_connection_count_limit": Line("0", "all sessions come from one address"),
+        "smtpd_error_sleep_time": Line("0", "one refused message does not slow down the others"),
+        "in_flow_delay": Line("0", "the worker bounds what is under way"),
+        "message_size_limit": Line(str(settings.largest + HEADER_ROOM),
+                                   "what the intake took, with the header of this instance"),
+        "smtputf8_enable": Line("yes", "addresses past ASCII"),
+    }
+
+
+def one_attempt() -> Dict[str, Line]:
+    """What comes back to the worker after one attempt."""
+    return {
+        "default_delivery_status_filter": Line(
+            "regexp:$config_directory/soft_failures", "one attempt: a soft failure is reported"),
+        "virtual_delivery_status_filter": Line("", "a report waits for a full disk"),
+        "minimal_backoff_time": Line("30s", "after a failed STARTTLS, plain text is tried then"),
+        "queue_run_delay": Line("30s", "after a failed STARTTLS, plain text is tried then"),
+        "smtp_discard_ehlo_keywords": Line(
+            "dsn", "success is reported here, never by the next host to the sender", True),
+    }
+
+
+def reports_kept(settings: Settings, uid: int, gid: int) -> Dict[str, Line]:
+    """How each report comes into the worker's folder."""
+    box = settings.reports
+    return {
+        "internal_mail_filter_classes": Line("bounce", "reports pass by `reports`"),
+        "notify_classes": Line("2bounce", "what became of mail without a sender is reported too"),
+        "2bounce_notice_recipient": Line(REPORTS, "and goes to the worker"),
+        "virtual_mailbox_domains": Line(REPORTS_DOMAIN, "reports are the only mail that stays"),
+        "virtual_mailbox_base": Line(str(box.parent), "the folder of reports"),
+        "virtual_mailbox_maps": Line(f"inline:{{{{{REPORTS} = {box.name}/}}}}", "a Maildir"),
+        "virtual_mailbox_limit": Line("0", "Postfix wants it above `message_size_limit`"),
+        "virtual_uid_maps": Line(f"static:{uid}", "the worker reads them"),
+        "virtual_gid_maps": Line(f"static:{gid}", "the worker reads them"),
+    }
+
+
+def way_out() -> Dict[str, Line]:
+    """How it delivers; all of this a firm may set otherwise."""
+    return {
+        "smtp_tls_security_level": Line("may", "TLS wherever the host offers it", True),
+        "smtp_tls_loglevel": Line("1", "the log has a line for each TLS session", True),
+        "smtp_tls_connection_reuse": Line("yes", "the connection cache keeps TLS sessions", True),
+        "smtp_connect_timeout": Line("15s", "a dead host holds no process for long", True),
+        "smtp_helo_timeout": Line("60s", "a host that does not greet holds no process for long",
+                                  True),
+        "smtp_destination_concurrency_limit": Line(
+            "5", "one slow domain does not hold all processes", True),
+    }
+
+
+def delivering_services(settings: Settings) -> Dict[str, Line]:
+    at = named(settings.instance)
+    found = {f"{at}/inet": Line(service(at, "inet", "-", "smtpd"), "the worker hands over here")}
+    for name in ("bounce", "defer", "trace"):
+        words = service(name, "unix", "0", "bounce", "-o", "cleanup_service_name=reports")
+        found[f"{name}/unix"] = Line(words, "what it writes passes by `reports`")
+    found["reports/unix"] = Line(
+        "reports unix n - n - 0 cleanup -o header_checks=regexp:$config_directory/reports",
+        "sends each report to the worker")
+    found["tlsproxy/unix"] = Line(service("tlsproxy", "unix", "0", "tlsproxy"),
+                                  "holds the TLS sessions that are kept")
+    return found
