@@ -71,11 +71,13 @@ class Delivery:
     def once(self) -> bool:
         """One round of everything, up to the last report; whether the desk was there."""
         self.handover.start()
-        is_there = self.look()
-        self.handover.wait()
-        looked = time.monotonic()
-        while self.handed.under_way():
-            looked = self.see_after(looked)
+        is_there, begun, looked = True, -1, time.monotonic()
+        while is_there and self.handover.begun != begun:
+            begun = self.handover.begun
+            is_there = self.look()
+            self.handover.wait()
+            while self.handed.under_way():
+                looked = self.see_after(looked)
         is_there = self.chores(True, True) and is_there
         self.end()
         return is_there
@@ -188,3 +190,4 @@ class Delivery:
         """Nothing more is awaited of an attempt."""
         self.resting.end(attempt.recipients)
         self.resting.answered(outcomes)
+        self.handover.go_on()

@@ -38,8 +38,11 @@ class Handover:
         self.book: Book = handed.book
         self.turns: "queue.SimpleQueue[Optional[Tuple[str, Optional[str]]]]" = queue.SimpleQueue()
         self.guard = threading.Condition()
+        # customers that wait for their turn, and those of whom mail waits until a domain is free
         self.waiting: Set[str] = set()
+        self.held_up: Set[str] = set()
         self.busy: Set[str] = set()
+        self.begun = 0  # how many attempts were begun
         self.ending = threading.Event()
         self.threads = [threading.Thread(target=self.run, daemon=True)
                         for _ in range(settings.sessions)]
@@ -57,6 +60,13 @@ class Handover:
                 return
             self.waiting.add(customer)
         self.turns.put((customer, None))
+
+    def go_on(self) -> None:
+        """Some attempt has ended: mail that waited for its domain may go."""
+        with self.guard:
+            customers, self.held_up = self.held_up, set()
+        for it in customers:
+            self.add(it)
 
     def is_busy(self, attempt: Attempt) -> bool:
         with self.guard:
@@ -124,11 +134,16 @@ class Handover:
         not_free = self.handed.spools_under_way(customer) | set(self.book.untold(customer))
         for it in self.desk.due(customer, after):
             last = it["id"]
-            if it["spool"] not in not_free and self.resting.begin(it["recipients"]):
-                found.append(self.attempt(customer, it))
-                size += self.spool.size(it["spool"])
-                if len(found) >= BATCH or size >= BATCH_BYTES:
-                    return found, last
+            if it["spool"] in not_free:
+                continue
+            if not self.resting.begin(it["recipients"]):
+                with self.guard:
+                    self.held_up.add(customer)
+                continue
+            found.append(self.attempt(customer, it))
+            size += self.spool.size(it["spool"])
+            if len(found) >= BATCH or size >= BATCH_BYTES:
+                return found, last
         return found, None
 
     def attempt(self, customer: str, due: dict) -> Attempt:
@@ -139,6 +154,7 @@ class Handover:
     def hand_over(self, due: List[Attempt], session: Session) -> None:
         """Hands over a batch. What was not begun is as if it had never been written down."""
         with self.guard:
+            self.begun += len(due)
             self.busy.update(it.envelope for it in due)
         taken: Dict[str, str] = {}
         left = list(due)

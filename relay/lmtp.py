@@ -53,6 +53,7 @@ def parted(argument: Optional[str], names) -> Tuple[Optional[str], Dict[str, str
 class Session(LMTP):
     """A client's session."""
     line_length_limit = LARGEST_PIECE
+    command_size_limit = LONGEST_LINE
     command_size_limits = collections.defaultdict(lambda: LONGEST_LINE)
 
     def __init__(self, server: "Server"):

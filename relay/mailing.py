@@ -138,14 +138,24 @@ def status_of(notice: dict, original: Original) -> Message:
     outcomes = {it["recipient"].lower(): it for it in attempt.outcomes} if attempt else {}
     for group in groups:
         recipient = str(group["Final-Recipient"]).partition(";")[2].strip().lower()
-        if envelope and envelope.original:
-            group["Original-Recipient"] = envelope.original
         told = outcomes.get(recipient)
+        if envelope and envelope.original:
+            put_first(group, "Original-Recipient", envelope.original)
         if told and told.get("remote"):
             group["Remote-MTA"] = f"dns; {told['remote']}"
         if told:
             group["Last-Attempt-Date"] = formatdate(attempt.done or attempt.at)
     return status
+
+
+def put_first(group: Message, name: str, value: str) -> None:
+    """Puts a field before those that a group has."""
+    fields = group.items()
+    for it in group.keys():
+        del group[it]
+    group[name] = value
+    for it in fields:
+        group[it[0]] = it[1]
 
 
 def returned_of(original: Original) -> Optional[Message]:

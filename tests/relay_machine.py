@@ -1,21 +1,22 @@
-"""What the parts of tests/relay work on: a Postfix and sinks that they share, and a desk and a
-worker for each of them."""
+"""What the parts of tests/relay work on: two instances of Postfix and sinks that they share, and a
+desk and a worker for each of them."""
 import contextlib
 import re
 import shutil
 import signal
 import subprocess
-import sys
 import tempfile
 from pathlib import Path
 
-from postfix import Postfix
+from postfix import Delivering, Postfix
 from serving import (HEADER, KEYS, LONGEST, RELAY, Server, Wrong, asked, expect, free_address, named,
                      until, words)
 from sinks import ACCEPTS, DEFERS, REFUSES, Sink
 
 HERE = Path(__file__).resolve().parent
 WORKER = HERE.parent / "relay/worker"
+# The Python that has Debian's packages, as the worker's first line names it.
+PYTHON = "/usr/bin/python3"
 # the limits of a customer: messages, bytes, lines, notices and delay
 WIDE = "1000,500000000,1000,1000,0"
 DOMAINS = {"acme": "a.example", "birch": "b.example", "cedar": "c.example"}
@@ -24,27 +25,33 @@ SETTINGS = {
     "spool": {"folder": "spool", "keep-days": "7"},
     "logins": {"ann": "acme", "bea": "birch", "cay": "cedar"},
     "domains": {domain: name for name, domain in DOMAINS.items()},
-    "delivery": {"host": "relay.example", "next-hop": "mx", "sessions": "4", "timeout": "30",
-                 "pause": "1", "sweep-every": "300", "clean-every": "300"},
+    "delivery": {"host": "relay.example", "postsuper": "postsuper", "sessions": "4",
+                 "timeout": "30", "pause": "1", "rest": "1", "settle-after": "2",
+                 "lost-after": "60", "sweep-every": "300", "clean-every": "300"},
     "notices": {"from": "MAILER-DAEMON@relay.example"},
 }
 BOUNCED = re.compile(r"(?s)\nFinal-Recipient: rfc822; (\S+)\n.*?\nDiagnostic-Code: smtp; (.*?)\n\n")
 
 
 class Shared:
-    """Postfix and the sinks: of mail that is accepted, refused, deferred and slow, and of what
-    senders are told."""
+    """Both instances of Postfix, and the sinks: of mail that is accepted, refused, deferred and slow,
+    and of what senders are told."""
 
     def __init__(self, folder):
         self.intake = free_address()
         self.good, self.hard, self.soft = Sink(ACCEPTS), Sink(REFUSES), Sink(DEFERS)
         self.slow, self.senders = Sink(ACCEPTS), Sink(ACCEPTS)
         self.sinks = {"good": self.good, "hard": self.hard, "soft": self.soft, "slow": self.slow}
-        self.postfix = Postfix(folder, self.intake, self.senders.address)
+        # (the processes of Postfix are of other users)
+        folder.chmod(0o755)
+        (folder / "front").mkdir()
+        (folder / "delivering").mkdir()
+        self.postfix = Postfix(folder / "front", self.intake, self.senders.address)
+        self.delivering = Delivering(folder / "delivering", self.hops())
 
     def __enter__(self):
         with contextlib.ExitStack() as entered:
-            for it in (*self.sinks.values(), self.senders, self.postfix):
+            for it in (*self.sinks.values(), self.senders, self.postfix, self.delivering):
                 entered.enter_context(it)
             self.entered = entered.pop_all()
         return self
@@ -52,9 +59,16 @@ class Shared:
     def __exit__(self, *_):
         self.entered.close()
 
+    def hops(self):
+        """The domain of each sink, and its address."""
+        return {f"{name}.example": it.address for name, it in self.sinks.items()}
+
     def fresh(self):
-        """Nothing is in the queue, and all sinks are as they were at first."""
+        """Nothing is in the queues, and all sinks are as they were at first."""
         self.postfix.drop()
+        self.delivering.drop()
+        for it in self.delivering.reports.glob("*/*"):
+            it.unlink()
         for it in (*self.sinks.values(), self.senders):
             it.forget()
             it.hangs = False
@@ -199,8 +213,9 @@ class Relay:
             found[section] = {it: of for it, of in found[section].items() if of in self.customers}
         found["desk"]["address"] = named(self.desk.address)
         found["intake"] = {"listen": named(self.shared.intake)}
-        sinks = self.shared.sinks.items()
-        found["next-hops"] = {f"{name}.example": named(it.address) for name, it in sinks}
+        delivering = self.shared.delivering
+        found["delivery"].update({"instance": named(delivering.address),
+                                  "postfix": delivering.conf, "reports": delivering.reports})
         found["notices"]["next-hop"] = named(self.senders.address)
         for section, values in (*self.settings.items(), *more.items()):
             found.setdefault(section.replace("_", "-"), {}).update(values)
@@ -219,7 +234,7 @@ class Relay:
             way = [str(HERE / "relay_killed.py"), str(WORKER), *(str(it) for it in killed),
                    "relay.ini", *asked]
         self.count += 1
-        begun = Running([sys.executable, "-B", *way], self.folder,
+        begun = Running([PYTHON, "-B", *way], self.folder,
                         self.folder / f"{asked[0]}.{self.count}.log")
         self.begun.append(begun)
         return begun

@@ -1,20 +1,19 @@
 """The worker kills itself before and behind each of its steps, and nothing is lost.
 
 A step is killed at its first and at its second call. All mail goes to one destination by one
-session, so that one message is under way at a time: it alone comes twice, or a notice that is just
-being mailed.
+session. No message comes twice; only a notice does that was just being mailed.
 """
 from relay_machine import WIDE, Relay
 from serving import expect
 
-INTAKE = ["spool.Spool.keep", "desk.Desk.submit", "book.Book.taken", "lmtp.Session.answer"]
-DELIVERY = ["smtp.attempt", "book.Book.attempted", "desk.Desk.outcome", "notices.mail",
-            "book.Book.told"]
+INTAKE = ["spool.Spool.keep", "desk.Desk.submit", "book.Book.taken", "intake.Incoming.end"]
+DELIVERY = ["handed.Handed.about", "instance.Session.send", "handed.Handed.over",
+            "handed.Handed.reported", "desk.Desk.outcome", "book.Book.all_reported",
+            "mailing.Hop.mail", "book.Book.told"]
 MOMENTS = ["before", "behind"]
 COUNTS = [1, 2]
-# The other side has it, and nobody has written that down: no worker can know.
-DOUBLES_MAIL = {("smtp.attempt", "behind"), ("book.Book.attempted", "before")}
-DOUBLES_A_NOTICE = {("notices.mail", "behind"), ("book.Book.told", "before")}
+# The next hop of notices has it, and nobody has written that down.
+DOUBLES_A_NOTICE = {("mailing.Hop.mail", "behind"), ("book.Book.told", "before")}
 ONE_SESSION, ONE_CUSTOMER = {"delivery": {"sessions": "1"}}, {"acme": WIDE}
 
 
@@ -53,7 +52,7 @@ def at_intake(program, shared, step, when, count):
                it.notices())
         it.expect_bounced({"no@good.example": "554 5.7.1 not wanted here"})
         it.desk.expect_usage("acme", delivered=2, failed=1)
-    return 0, 0
+    return 0
 
 
 def at_delivery(program, shared, step, when, count):
@@ -72,20 +71,18 @@ def at_delivery(program, shared, step, when, count):
         it.again("acme")
         it.deliver()
         it.desk.expect_usage("acme", delivered=3, failed=2)
-        mail = doubled(it.delivered(), at_one("a", "b", "s"), (step, when) in DOUBLES_MAIL,
-                       f"{told} mail")
+        it.expect_delivered(*at_one("a", "b", "s"))
         notices = doubled(it.notices(), at_one("x1", "x2"), (step, when) in DOUBLES_A_NOTICE,
                           f"{told} notices")
         expect(not it.bounces(), told, "Postfix bounced", it.bounces())
-    return mail, notices
+    return notices
 
 
 def killed_at(program, shared, step):
     """A step's deaths; answers the line that is told of them."""
     try_it = at_intake if step in INTAKE else at_delivery
     found = [try_it(program, shared, step, when, count) for when in MOMENTS for count in COUNTS]
-    mail, notices = (sum(it) for it in zip(*found))
-    return (f"killed at {step}: {len(found)} deaths, nothing lost, {mail} messages and {notices}"
+    return (f"killed at {step}: {len(found)} deaths, nothing lost, no message twice, {sum(found)}"
             " notices twice")
 
 

@@ -4,7 +4,7 @@ import time
 from interposed import library_in
 from lacking import lacks
 from relay_machine import WIDE, Relay
-from serving import expect, free_address, named, until
+from serving import expect, free_address, until
 
 HOUR, DAY = 3600, 86_400
 # a customer whose senders are warned after an hour
@@ -14,7 +14,7 @@ WARNED = f"1000,500000000,1000,1000,{HOUR}"
 def hanging_holds_up_nobody(program, shared):
     """One customer's mail goes to a destination that says nothing: that of another one is delivered
     meanwhile."""
-    settings = {"delivery": {"timeout": "30", "sessions": "2"}}
+    settings = {"delivery": {"sessions": "2"}}
     slow, good = ([f"p{it}@{name}.example" for it in range(6)] for name in ("slow", "good"))
     with Relay(program, shared, settings=settings) as it:
         shared.slow.hangs = True
@@ -73,23 +73,29 @@ def late_and_given_up(program, shared):
 
 def next_hop_away(program, shared):
     """Nobody listens at a next hop: the mail is deferred with a status of the connection, and goes
-    later."""
-    nobody = named(free_address())
-    with Relay(program, shared) as it:
-        it.set(next_hops={"good.example": nobody})
+    later. Its domain rests meanwhile: the rest of its mail is not tried, and that of others is."""
+    away = [f"p{it}@away.example" for it in range(5)]
+    shared.delivering.route({**shared.hops(), "away.example": free_address()})
+    with Relay(program, shared, settings={"delivery": {"rest": "3600"}}) as it:
         it.intake()
-        it.take("acme", "p@good.example")
+        it.take("acme", *away)
+        it.take("birch", "p@good.example")
         it.postfix.empty()
         it.deliver()
-        shown = it.desk.own("acme", "GET", f"/v1/message/{it.desk.only('acme')}")
-        found = (shown["attempts"], shown["state"], shown["pending"][0]["status"][:4])
-        expect(found == (1, "deferred", "4.4."), "the message is", shown)
-        it.set()
+        shown = [it.desk.own("acme", "GET", f"/v1/message/{row['id']}")
+                 for row in it.desk.messages("acme")]
+        tried = [one for one in shown if one["attempts"]]
+        expect(0 < len(tried) <= 2 and all(
+            (one["attempts"], one["state"], one["pending"][0]["status"][:4]) == (1, "deferred", "4.4.")
+            for one in tried), "of a domain that is away the messages are", shown)
+        it.expect_delivered("p@good.example")
+        shared.delivering.route({**shared.hops(), "away.example": shared.good.address})
         it.again("acme")
         it.deliver()
-        it.expect_delivered("p@good.example")
-        it.desk.expect_usage("acme", delivered=1)
-    return 1
+        it.expect_delivered("p@good.example", *away)
+        it.desk.expect_usage("acme", delivered=len(away))
+    shared.delivering.route(shared.hops())
+    return len(away) + 1
 
 
 TIME = [hanging_holds_up_nobody, late_and_given_up, next_hop_away]

@@ -38,7 +38,7 @@ class Session(socketserver.StreamRequestHandler):
         for line in self.rfile:
             verb = line[:4].upper()
             if verb in (b"EHLO", b"HELO"):
-                self.say("250-sink.example", "250-PIPELINING", "250 ENHANCEDSTATUSCODES")
+                self.say("250-sink.example", "250-PIPELINING", "250-8BITMIME", "250 ENHANCEDSTATUSCODES")
             elif verb == b"MAIL":
                 sender, taken = ADDRESS.search(line)[1].decode(), []
                 self.say("250 2.1.0 ok")
