@@ -1,11 +1,11 @@
-"""What of an instance is not as it is wanted, what of that is somebody else's, and how it is written
-so that a run may be cut anywhere."""
+"""What of an instance is not as it is wanted, what of that is somebody else's, and how it is
+written so that a run may be cut anywhere."""
 from dataclasses import dataclass, field
 from pathlib import Path
 from typing import Dict, List, Optional, Tuple, Union
 
-from instances import Line
 from places import Files, Main, Master, NotInstalled, Record, run
+from postfix_lines import Line
 
 
 @dataclass(frozen=True)

@@ -1,5 +1,5 @@
-"""The command `install`: it gives both instances of Postfix the lines of `instances`, and makes the
-user, the spool, and the right to take deleted mail back.
+"""The command `install`: it gives both instances of Postfix their lines, and makes the worker's
+user, its spool, and its right to take deleted mail back.
 
 It changes nothing unless it may change all: what stands there and is in no record of its own is
 somebody else's. A run that was cut can be run again, since each record is written first.
@@ -15,10 +15,10 @@ import tempfile
 from pathlib import Path
 from typing import Iterator, List, Optional
 
-import instances
+import postfix_lines
 from halves import Half, Target
-from instances import Instance, Line
 from places import Files, Main, Master, NotInstalled, Record, run
+from postfix_lines import Instance, Line
 from settings import Address, Settings, address
 
 SUDOERS = Path("/etc/sudoers.d")
@@ -38,7 +38,7 @@ HELP = "apt-get install postfix"
 def rule_of(settings: Settings, postsuper: str) -> str:
     """The rule of sudo: one message of this queue may be deleted, and nothing else."""
     folder = re.sub(r"[^A-Za-z0-9/_-]", lambda found: "\\" + found[0], str(settings.delivering))
-    return ("# The worker takes back what its customer deletes. (Written by relay/worker install.)\n"
+    return ("# The worker takes back mail that is deleted. (Written by relay/worker install.)\n"
             f"{settings.user} ALL=(root) NOPASSWD: {postsuper} ^-c {folder} -d {QUEUE_ID}$\n")
 
 
@@ -96,14 +96,14 @@ class Installation:
         self.settings = settings
         self.folders = listed()
         self.why_no_rule = lacks_sudo() if settings.postsuper[0] == "sudo" else "by other words"
-        self.front = self.half(settings.front, instances.front(settings), [])
+        self.front = self.half(settings.front, postfix_lines.front(settings), [])
         self.is_made = settings.delivering in self.folders and not self.front.record.making
         self.delivering = self.delivering_half()
 
     def delivering_half(self) -> Half:
         user, more = user_of(self.settings), []
-        lines = instances.delivering(self.settings, *((user.pw_uid, user.pw_gid) if user
-                                                      else (0, 0)))
+        numbers = (user.pw_uid, user.pw_gid) if user else (0, 0)
+        lines = postfix_lines.delivering(self.settings, *numbers)
         if not self.why_no_rule:
             where = run("postconf", "-h", "command_directory").stdout.strip()
             rule = Line(rule_of(self.settings, f"{where}/postsuper"), "takes deleted mail back")
@@ -127,7 +127,7 @@ class Installation:
     def faults(self) -> Iterator[str]:
         user = user_of(self.settings)
         if user and user.pw_uid < LEAST_UID:
-            yield f"[spool] user: {user.pw_name} is none that Postfix delivers to (numbers from 100)"
+            yield f"[spool] user: {user.pw_name} has a number below {LEAST_UID}, as Postfix wants none"
         for it in (self.settings.folder, self.settings.reports):
             if it.exists() and (not user or it.stat().st_uid != user.pw_uid):
                 yield f"{it} is not of the user {self.settings.user}"
@@ -143,13 +143,13 @@ class Installation:
                   self.settings.notices_hop]
         wanted = [it for it in wanted if it]
         for it in sorted({it for it in wanted if wanted.count(it) > 1}):
-            yield f"{instances.named(it)} stands twice in the settings"
+            yield f"{postfix_lines.named(it)} stands twice in the settings"
         for half in (self.front, self.delivering):
             for _, change in half.new_listeners():
                 at = address(change.name[:-len("/inet")])
                 why = occupied(at)
                 if why:
-                    yield f"{half.folder}: cannot listen at {instances.named(at)}: {why}"
+                    yield f"{half.folder}: cannot listen at {postfix_lines.named(at)}: {why}"
 
     def faults_of_records(self) -> Iterator[str]:
         for half in (self.front, self.delivering):
@@ -225,11 +225,11 @@ class Installation:
 
     def hints(self) -> Iterator[str]:
         """What is left to do by hand."""
-        way = instances.way_to_the_worker(self.settings)
+        way = postfix_lines.way_to_the_worker(self.settings)
         services = Master(self.settings.front).standing().values()
         if not self.settings.customers_at and not any(way in it for it in services):
             yield f"add to your listener of customers in master.cf: -o {way}"
-        if not instances.is_loopback(self.settings.notices_hop):
+        if not postfix_lines.is_loopback(self.settings.notices_hop):
             yield "[notices] next-hop is another machine's: its Postfix must not lead to the desk"
         if self.why_no_rule.startswith("sudo"):
             yield (f"{self.why_no_rule}: mail that is deleted while it is being delivered is not"
