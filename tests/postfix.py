@@ -20,7 +20,7 @@ from types import SimpleNamespace
 from serving import LONGEST, Wrong, expect, free_address, listens, until
 
 sys.path.append(str(Path(__file__).resolve().parent.parent / "relay"))
-import instances
+import postfix_lines
 
 # How many seconds lie between two runs of the queue.
 FLUSHED_EACH = 0.25
@@ -110,7 +110,8 @@ class Instance:
             made.mkdir()
         subprocess.run(["chown", "postfix", folder / "data"], check=True)
         installed = {name: it.value for name, it in lines.parameters.items()}
-        main = {**installed, **parameters_of((MAIN_OF_A_TEST + own).replace("{folder}", str(folder)))}
+        own = (MAIN_OF_A_TEST + own).replace("{folder}", str(folder))
+        main = {**installed, **parameters_of(own)}
         master = {**services_of(MASTER_OF_A_TEST),
                   **{name: it.value for name, it in lines.services.items()}}
         self.write("main.cf", *(f"{name} = {value}" for name, value in main.items()))
@@ -229,11 +230,11 @@ class Instance:
 
 
 class Postfix(Instance):
-    """The instance that takes mail in. Its worker listens at one address, its one sink at another."""
+    """The instance that takes mail in. Its worker listens at one address, its sink at another."""
 
     def __init__(self, folder, worker, sink):
         address, self.plain = free_address(), free_address()
-        lines = instances.front(SimpleNamespace(
+        lines = postfix_lines.front(SimpleNamespace(
             listen=worker, customers_at=address, notices_hop=self.plain, connections=50))
         own = FRONT_OF_A_TEST.format(sink_host=sink[0], sink_port=sink[1])
         super().__init__(folder, address, lines, own)
@@ -263,7 +264,7 @@ class Delivering(Instance):
 
     def __init__(self, folder, hops=None, uid=65534, largest=LARGEST):
         self.reports = folder / "outcomes/reports"
-        lines = instances.delivering(SimpleNamespace(
+        lines = postfix_lines.delivering(SimpleNamespace(
             host="relay.example", instance=free_address(), largest=largest, reports=self.reports),
             uid, uid)
         at = next(it for it in lines.services if it.endswith("/inet"))

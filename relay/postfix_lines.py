@@ -8,6 +8,7 @@ from settings import Address, Settings
 # Where the reports of the delivering instance go, in its own names; no mail of a customer may.
 REPORTS_DOMAIN = "desk.invalid"
 REPORTS = f"outcome@{REPORTS_DOMAIN}"
+NO_SUCH_DOMAIN = "REJECT 5.1.2 no such domain"
 LOOPBACK = "127.0.0.0/8 [::1]/128"
 # Processes that bring mail to the worker: fewer than the sessions that it takes at once.
 MOST_TO_THE_WORKER = 10
@@ -132,7 +133,7 @@ def whose_mail(settings: Settings) -> Dict[str, Line]:
         "local_header_rewrite_clients": Line("", "the message goes out as it came"),
         "smtpd_relay_restrictions": Line("permit_mynetworks, reject", "as `mynetworks`"),
         "smtpd_recipient_restrictions": Line(
-            f"check_recipient_access inline:{{{{{REPORTS_DOMAIN} = REJECT 5.1.2 no such domain}}}}, "
+            f"check_recipient_access inline:{{{{{REPORTS_DOMAIN} = {NO_SUCH_DOMAIN}}}}}, "
             "permit_mynetworks, reject", "no customer writes a report"),
         "smtpd_peername_lookup": Line("no", "DNS knows nothing of loopback"),
         "smtpd_client_connection_count_limit": Line("0", "all sessions come from one address"),

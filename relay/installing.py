@@ -1,0 +1,264 @@
+"""The command `install`: it gives both instances of Postfix their lines, and makes the worker's
+user, its spool, and its right to take deleted mail back.
+
+It changes nothing unless it may change all: what stands there and is in no record of its own is
+somebody else's. A run that was cut can be run again, since each record is written first.
+"""
+import os
+import pwd
+import re
+import shutil
+import signal
+import socket
+import sys
+import tempfile
+from pathlib import Path
+from typing import Iterator, List, Optional
+
+import postfix_lines
+from halves import Half, Target
+from places import Files, Main, Master, NotInstalled, Record, run
+from postfix_lines import Instance, Line
+from settings import Address, Settings, address
+
+SUDOERS = Path("/etc/sudoers.d")
+# Since this version a rule may have a regular expression.
+OLDEST_SUDO = (1, 9, 10)
+SUDO = re.compile(r"Sudo version ([0-9]+)\.([0-9]+)\.([0-9]+)")
+# (an ID has no vowel: the word ALL of postsuper is none)
+QUEUE_ID = "[0-9B-DF-HJ-NP-TV-Zb-df-hj-np-tv-z]+"
+# Postfix delivers to users from this number on (virtual_minimum_uid).
+LEAST_UID = 100
+MAILDIR = ("new", "cur", "tmp")
+HELP = "apt-get install postfix"
+
+
+# ---- the worker's right to take mail back
+
+def rule_of(settings: Settings, postsuper: str) -> str:
+    """The rule of sudo: one message of this queue may be deleted, and nothing else."""
+    folder = re.sub(r"[^A-Za-z0-9/_-]", lambda found: "\\" + found[0], str(settings.delivering))
+    return ("# The worker takes back mail that is deleted. (Written by relay/worker install.)\n"
+            f"{settings.user} ALL=(root) NOPASSWD: {postsuper} ^-c {folder} -d {QUEUE_ID}$\n")
+
+
+def check_rule(text: str) -> None:
+    if shutil.which("visudo"):
+        with tempfile.NamedTemporaryFile("w", suffix=".sudoers") as file:
+            file.write(text)
+            file.flush()
+            run("visudo", "-c", "-q", "-f", file.name)
+
+
+def lacks_sudo() -> str:
+    """Why sudo gives the worker no right; nothing where it does."""
+    if not shutil.which("sudo"):
+        return "sudo is not installed"
+    found = SUDO.search(run("sudo", "-V").stdout)
+    if not found or tuple(map(int, found.groups())) < OLDEST_SUDO:
+        return "sudo is older than 1.9.10"
+    return ""
+
+
+# ---- what is there
+
+def user_of(settings: Settings) -> "Optional[pwd.struct_passwd]":
+    try:
+        return pwd.getpwnam(settings.user)
+    except KeyError:
+        return None
+
+
+def listed() -> List[Path]:
+    """The folders of the instances that Postfix knows beside its first one."""
+    told = run("postconf", "-h", "multi_instance_directories", needs=HELP).stdout
+    return [Path(it) for it in re.split(r"[\s,]+", told.strip()) if it]
+
+
+def occupied(at: Address) -> str:
+    """Why nobody can listen at an address; nothing where one can."""
+    host, port = at
+    family = socket.AF_INET6 if ":" in host else socket.AF_INET
+    with socket.socket(family, socket.SOCK_STREAM) as tried:
+        tried.setsockopt(socket.SOL_SOCKET, socket.SO_REUSEADDR, 1)
+        try:
+            tried.bind((host, port))
+            tried.listen(1)
+        except OSError as error:
+            return error.strerror
+    return ""
+
+
+class Installation:
+    """Both instances as the settings want them, and what is wrong with that."""
+
+    def __init__(self, settings: Settings):
+        self.settings = settings
+        self.folders = listed()
+        self.why_no_rule = lacks_sudo() if settings.postsuper[0] == "sudo" else "by other words"
+        self.front = self.half(settings.front, postfix_lines.front(settings), [])
+        self.is_made = settings.delivering in self.folders and not self.front.record.making
+        self.delivering = self.delivering_half()
+
+    def delivering_half(self) -> Half:
+        user, more = user_of(self.settings), []
+        numbers = (user.pw_uid, user.pw_gid) if user else (0, 0)
+        lines = postfix_lines.delivering(self.settings, *numbers)
+        if not self.why_no_rule:
+            where = run("postconf", "-h", "command_directory").stdout.strip()
+            rule = Line(rule_of(self.settings, f"{where}/postsuper"), "takes deleted mail back")
+            more = [(SUDOERS, {self.settings.user: rule}, 0o440, check_rule)]
+        return self.half(self.settings.delivering, lines, more, self.is_made)
+
+    def half(self, folder: Path, lines: Instance, more: list, is_there: bool = True) -> Half:
+        record = Record.load(folder) or Record(str(self.settings.folder))
+        tables = {name: Line(text, "") for name, text in lines.tables.items()}
+        targets = []
+        for where, wanted, mode, check in [(folder, tables, 0o644, None), *more]:
+            names = [*wanted, *record.wrote.get(str(where), {})]
+            targets.append(Target(Files(where, names, mode, check), wanted))
+        targets += [Target(Master(folder), lines.services), Target(Main(folder), lines.parameters)]
+        made = Half(folder, targets, record, is_there)
+        made.plan()
+        return made
+
+    # ---- what is wrong
+
+    def faults(self) -> Iterator[str]:
+        user = user_of(self.settings)
+        if user and user.pw_uid < LEAST_UID:
+            yield f"[spool] user: {user.pw_name} has a number below {LEAST_UID}, as Postfix wants none"
+        for it in (self.settings.folder, self.settings.reports):
+            if it.exists() and (not user or it.stat().st_uid != user.pw_uid):
+                yield f"{it} is not of the user {self.settings.user}"
+        if not (self.settings.front / "main.cf").is_file():
+            yield f"[intake] postfix: {self.settings.front} has no main.cf"
+        yield from self.faults_of_addresses()
+        yield from self.faults_of_records()
+        yield from self.front.faults()
+        yield from self.delivering.faults()
+
+    def faults_of_addresses(self) -> Iterator[str]:
+        wanted = [self.settings.listen, self.settings.instance, self.settings.customers_at,
+                  self.settings.notices_hop]
+        wanted = [it for it in wanted if it]
+        for it in sorted({it for it in wanted if wanted.count(it) > 1}):
+            yield f"{postfix_lines.named(it)} stands twice in the settings"
+        for half in (self.front, self.delivering):
+            for _, change in half.new_listeners():
+                at = address(change.name[:-len("/inet")])
+                why = occupied(at)
+                if why:
+                    yield f"{half.folder}: cannot listen at {postfix_lines.named(at)}: {why}"
+
+    def faults_of_records(self) -> Iterator[str]:
+        for half in (self.front, self.delivering):
+            if half.record.spool != str(self.settings.folder):
+                yield (f"{half.folder}: install wrote it for the worker with the spool "
+                       f"{half.record.spool} ({Record.path(half.folder)})")
+        where = self.settings.delivering
+        is_own = Record.path(where).exists() or self.front.record.making == str(where)
+        if where.exists() and not is_own:
+            yield f"[delivery] postfix: {where} is there, and install did not make it"
+
+    # ---- what it does
+
+    def lines(self) -> List[str]:
+        """What would change, as far as it is known before the delivering instance is there."""
+        made = [] if user_of(self.settings) else [f"user {self.settings.user}: is made"]
+        made += [] if self.settings.reports.exists() else [f"{self.settings.reports}: is made"]
+        made += [] if self.is_made else [f"{self.settings.delivering}: is made by postmulti"]
+        return [*made, *self.delivering.lines(), *self.front.lines()]
+
+    def apply(self) -> None:
+        self.make_user()
+        self.make_folders()
+        if not self.is_made:
+            self.make_instance()
+            self.is_made = True
+        # (the number of the user, and what postmulti wrote, are known by now)
+        self.delivering = self.delivering_half()
+        for half in (self.delivering, self.front):
+            for line in half.lines():
+                print(line, flush=True)
+            half.apply()
+            half.runs()
+
+    def make_user(self) -> None:
+        if not user_of(self.settings):
+            run("useradd", "--system", "--user-group", "--no-create-home", "--home-dir",
+                self.settings.folder, "--shell", "/usr/sbin/nologin", self.settings.user)
+            print(f"user {self.settings.user}: is made", flush=True)
+
+    def make_folders(self) -> None:
+        """The spool, and the Maildir of reports, for the worker alone."""
+        user, reports = user_of(self.settings), self.settings.reports
+        for made in (self.settings.folder, reports, *(reports / it for it in MAILDIR)):
+            if not made.exists():
+                made.parent.mkdir(parents=True, exist_ok=True)
+                made.mkdir(0o700)
+                print(f"{made}: is made", flush=True)
+            if made.stat().st_uid == 0:
+                os.chown(made, user.pw_uid, user.pw_gid)
+
+    def make_instance(self) -> None:
+        """Has postmulti make the delivering instance, with nothing of it that listens, and no
+        chroot. The front's record tells meanwhile that it is being made."""
+        folder = self.settings.delivering
+        self.front.record.making = str(folder)
+        self.front.record.save(self.front.folder)
+        if not run("postconf", "-h", "multi_instance_wrapper").stdout.strip():
+            run("postmulti", "-e", "init")
+            print("multi_instance_wrapper, multi_instance_enable: are set by postmulti -e init")
+        if folder not in self.folders:
+            name = folder.name if folder.name.startswith("postfix-") else f"postfix-{folder.name}"
+            run("postmulti", "-I", name, "-e", "create", f"config_directory={folder}")
+        print(f"{folder}: is made by postmulti", flush=True)
+        run("postconf", "-c", folder, "-F", "*/*/chroot=n")
+        run("postconf", "-c", folder, "-MX", "smtp/inet")
+        run("postconf", "-c", folder, "-X", "master_service_disable")
+        record = Record(str(self.settings.folder), made={
+            it.name: it.standing() for it in (Main(folder), Master(folder))})
+        record.save(folder)
+        self.front.record.making = ""
+        self.front.record.save(self.front.folder)
+
+    def hints(self) -> Iterator[str]:
+        """What is left to do by hand."""
+        way = postfix_lines.way_to_the_worker(self.settings)
+        services = Master(self.settings.front).standing().values()
+        if not self.settings.customers_at and not any(way in it for it in services):
+            yield f"add to your listener of customers in master.cf: -o {way}"
+        if not postfix_lines.is_loopback(self.settings.notices_hop):
+            yield "[notices] next-hop is another machine's: its Postfix must not lead to the desk"
+        if self.why_no_rule.startswith("sudo"):
+            yield (f"{self.why_no_rule}: mail that is deleted while it is being delivered is not"
+                   " taken back")
+
+
+def install(settings: Settings, is_dry: bool = False) -> int:
+    # (what it starts lives on: with these signals blocked, Postfix would not stop; and others have
+    # to read its settings)
+    signal.pthread_sigmask(signal.SIG_SETMASK, [])
+    os.umask(0o022)
+    try:
+        if os.geteuid() != 0:
+            raise NotInstalled("install has to be run as root")
+        work = Installation(settings)
+        faults, lines = [*work.faults()], work.lines()
+        for it in faults:
+            print(f"relay: {it}", file=sys.stderr)
+        if faults:
+            raise NotInstalled("nothing was changed")
+        if not lines:
+            print("nothing to change")
+        if is_dry:
+            print("\n".join(lines))
+        else:
+            work.apply()
+        for it in work.hints():
+            print(it)
+    except (NotInstalled, OSError) as error:
+        print(f"relay: {error}", file=sys.stderr)
+        return 1
+    return 0
