@@ -78,6 +78,7 @@ class Delivery:
             self.handover.wait()
             while self.handed.under_way():
                 looked = self.see_after(looked)
+                self.handover.wait()
         is_there = self.chores(True, True) and is_there
         self.end()
         return is_there
@@ -187,7 +188,9 @@ class Delivery:
             self.reports.tell(customer, spools)
 
     def ended(self, attempt: Attempt, outcomes: List[Dict[str, str]]) -> None:
-        """Nothing more is awaited of an attempt."""
+        """Nothing more is awaited of an attempt. Without an outcome its message may be due again."""
         self.resting.end(attempt.recipients)
         self.resting.answered(outcomes)
         self.handover.go_on()
+        if not outcomes:
+            self.handover.add(attempt.customer)

@@ -38,8 +38,10 @@ class Handover:
         self.book: Book = handed.book
         self.turns: "queue.SimpleQueue[Optional[Tuple[str, Optional[str]]]]" = queue.SimpleQueue()
         self.guard = threading.Condition()
-        # customers that wait for their turn, and those of whom mail waits until a domain is free
+        # Customers that wait for their turn or have it; those who are to have another one behind it;
+        # and those of whom mail waits until a domain is free.
         self.waiting: Set[str] = set()
+        self.again: Set[str] = set()
         self.held_up: Set[str] = set()
         self.busy: Set[str] = set()
         self.begun = 0  # how many attempts were begun
@@ -54,9 +56,10 @@ class Handover:
             it.start()
 
     def add(self, customer: str) -> None:
-        """A customer may have mail that is due. It waits for its turn, unless it does so already."""
+        """A customer may have mail that is due, and waits for its turn."""
         with self.guard:
             if customer in self.waiting:
+                self.again.add(customer)
                 return
             self.waiting.add(customer)
         self.turns.put((customer, None))
@@ -94,15 +97,20 @@ class Handover:
             turn = self.turns.get()
             if turn is None:
                 break
-            session, after = self.take(turn, session)
             with self.guard:
-                if after and not self.ending.is_set():
-                    self.turns.put((turn[0], after))
-                else:
-                    self.waiting.discard(turn[0])
-                    self.guard.notify_all()
+                self.again.discard(turn[0])
+            session, after = self.take(turn, session)
+            self.end_turn(turn[0], after)
         if session:
             session.close()
+
+    def end_turn(self, customer: str, after: Optional[str]) -> None:
+        with self.guard:
+            if (after or customer in self.again) and not self.ending.is_set():
+                self.turns.put((customer, after))
+            else:
+                self.waiting.discard(customer)
+                self.guard.notify_all()
 
     def take(self, turn: Tuple[str, Optional[str]], session: Optional[Session]
              ) -> Tuple[Optional[Session], Optional[str]]:
@@ -130,20 +138,24 @@ class Handover:
     def due(self, customer: str, after: Optional[str]) -> Tuple[List[Attempt], Optional[str]]:
         """The customer's next messages that may be handed over now, and behind which queue ID the
         rest of its list begins."""
-        found, size, last = [], 0, None
+        found, size, last, is_held_up = [], 0, None, False
+        with self.guard:
+            self.held_up.add(customer)  # (before the look: an attempt may end meanwhile)
         not_free = self.handed.spools_under_way(customer) | set(self.book.untold(customer))
         for it in self.desk.due(customer, after):
             last = it["id"]
             if it["spool"] in not_free:
                 continue
             if not self.resting.begin(it["recipients"]):
-                with self.guard:
-                    self.held_up.add(customer)
+                is_held_up = True
                 continue
             found.append(self.attempt(customer, it))
             size += self.spool.size(it["spool"])
             if len(found) >= BATCH or size >= BATCH_BYTES:
                 return found, last
+        if not is_held_up:
+            with self.guard:
+                self.held_up.discard(customer)
         return found, None
 
     def attempt(self, customer: str, due: dict) -> Attempt:

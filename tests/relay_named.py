@@ -32,7 +32,7 @@ def death_before_the_answer(program, shared):
     for at in (1, 2, 3):
         with Relay(program, shared) as it:
             it.desk.line("acme", "recipient", f"no@{FAR}", "REJECT not wanted here")
-            first = it.intake(("lmtp.Session.answer", "before", at))
+            first = it.intake(("intake.Incoming.end", "behind", at))
             it.take("acme", f"yes@{FAR}", f"no@{FAR}", f"ok@{FAR}")
             first.dies()
             it.intake()
