@@ -76,7 +76,8 @@ def login_of(field: bytes, ident: str) -> Tuple[bool, Optional[str]]:
     for line in field.split(b"\n") if field.startswith(b"Received:") else ():
         by, found = (it.fullmatch(line.rstrip(b"\r")) for it in (BY_POSTFIX, LOGIN))
         if by:
-            return by[1].decode() == ident, login
+            is_ours = by[1].decode() == ident
+            return is_ours, login if is_ours else None
         login = found[1].decode("utf-8", "replace") if found else login
     return False, None
 

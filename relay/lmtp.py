@@ -10,7 +10,7 @@ import re
 import threading
 from concurrent.futures import ThreadPoolExecutor
 from contextlib import contextmanager
-from typing import Dict, Optional, Tuple
+from typing import AsyncIterator, Dict, Optional, Tuple
 
 from aiosmtpd.lmtp import LMTP
 from aiosmtpd.smtp import syntax
@@ -19,9 +19,9 @@ import log
 from intake import Asked, Incoming, Intake
 from settings import Settings
 
-# How many seconds a client may say nothing; and the bytes of a line of a command, or of a piece
-# of data.
-IDLE, LONGEST_LINE, LARGEST_PIECE = 300, 4096, 65536
+# How many seconds a client may say nothing; the bytes of a line of a command, and of a piece of the
+# data; and what ends the data.
+IDLE, LONGEST_LINE, LARGEST_PIECE, END = 300, 4096, 65536, b"\r\n.\r\n"
 # An address with its brackets, and what stands behind it.
 ADDRESS = re.compile(r'(?s)(.*?<(?:"(?:[^"\\]|\\.)*"|[^">])*>)(.*)')
 CLIENT = re.compile(r"[A-Za-z0-9.:_\[\]-]{1,255}")
@@ -127,15 +127,9 @@ class Session(LMTP):
 
     async def receive(self, incoming: Incoming) -> None:
         """Writes the data to a file as they come, and answers them."""
-        await self.push("354 go on")
         try:
-            starts_line = True
-            while True:
-                piece = await self.piece()
-                if starts_line and piece == b".\r\n":
-                    break
-                incoming.add(piece[1:] if starts_line and piece.startswith(b".") else piece)
-                starts_line = piece.endswith(b"\r\n")
+            async for piece in self.pieces():
+                incoming.add(piece)
                 if incoming.has_head:
                     await self.server.in_thread(incoming.begin)
         except BaseException:
@@ -144,12 +138,24 @@ class Session(LMTP):
         with self.server.answering():
             await self.push(await self.server.in_thread(incoming.end))
 
-    async def piece(self) -> bytes:
-        """The next line of the data, or a part of a long one. Only CR LF ends a line."""
-        try:
-            return await self._reader.readuntil(b"\r\n")
-        except asyncio.LimitOverrunError as error:
-            return await self._reader.read(error.consumed)
+    async def pieces(self) -> AsyncIterator[bytes]:
+        """The content, in pieces of any size, without the dots that were added to its lines. Only CR
+        LF ends a line."""
+        # (so that a dot on the first line stands behind a line's end, too)
+        self._reader.feed_data(b"\r\n")
+        await self.push("354 go on")
+        text, is_last, begins_at = b"", False, len(b"\r\n")
+        while not is_last:
+            try:
+                text += (await self._reader.readuntil(END))[:-len(b".\r\n")]
+                is_last = True
+            except asyncio.LimitOverrunError as error:
+                text += await self._reader.read(error.consumed)
+            # (a dot may follow the beginning of a line's end)
+            left = 0 if is_last else 2 if text.endswith(b"\r\n") else int(text.endswith(b"\r"))
+            piece, text = text[:len(text) - left], text[len(text) - left:]
+            yield piece.replace(b"\r\n.", b"\r\n")[begins_at:]
+            begins_at = 0
 
 
 class Server:

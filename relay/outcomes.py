@@ -111,6 +111,8 @@ class Outcomes:
         try:
             with box.get_file(key) as file:
                 text = file.read(LARGEST)
+            # (of mail with SMTPUTF8 it is the same by another name: RFC 6533)
+            text = text.replace(b"message/global-delivery-status", b"message/delivery-status")
             return read_report(email.message_from_bytes(text, policy=email.policy.compat32))
         except (KeyError, OSError, ValueError, LookupError, TypeError) as error:
             log.error("report not read", file=key, why=repr(error))

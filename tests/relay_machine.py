@@ -142,11 +142,11 @@ class Desk:
 class Running:
     """A process of the worker, which ends by itself, is killed, or kills itself."""
 
-    def __init__(self, words_of, folder, log):
+    def __init__(self, words_of, folder, log, errors=None):
         self.asked, self.log = words_of[1:], log
-        with open(log, "ab") as errors:
-            self.process = subprocess.Popen(words_of, stdin=subprocess.DEVNULL, stdout=errors,
-                                            stderr=errors, cwd=folder)
+        with open(log, "ab") as output:
+            self.process = subprocess.Popen(words_of, stdin=subprocess.DEVNULL, stdout=output,
+                                            stderr=output if errors is None else errors, cwd=folder)
 
     def ends(self, status=0, longest=LONGEST):
         """Waits until it has ended, with this status."""
@@ -226,16 +226,16 @@ class Relay:
 
     # ---- the worker
 
-    def run(self, *asked, killed=None):
+    def run(self, *asked, killed=None, errors=None):
         """Begins a command of the worker; `killed` names the step, when and the count at which it
-        kills itself."""
+        kills itself, and `errors` a file for its standard error."""
         way = [str(WORKER), "relay.ini", *asked]
         if killed:
             way = [str(HERE / "relay_killed.py"), str(WORKER), *(str(it) for it in killed),
                    "relay.ini", *asked]
         self.count += 1
         begun = Running([PYTHON, "-B", *way], self.folder,
-                        self.folder / f"{asked[0]}.{self.count}.log")
+                        self.folder / f"{asked[0]}.{self.count}.log", errors)
         self.begun.append(begun)
         return begun
 

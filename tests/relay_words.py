@@ -134,7 +134,9 @@ def as_it_came(program, shared):
              b"Subject: 2\r\n\r\n" + b"x" * 990 + b"\r\n",
              b"Subject: 3\r\nMIME-Version: 1.0\r\nContent-Transfer-Encoding: 8bit\r\n\r\n\xff \xc3\xbc\r\n",
              b"Subject: 4\r\n\r\n",
-             b"Subject: 5\r\n\r\n" + b"12345678\r\n" * 100_000]
+             b"Subject: 5\r\n\r\n" + b"12345678\r\n" * 100_000,
+             # (so that a piece that is read may end before, within and behind each line's end)
+             b"Subject: 6\r\n\r\n" + b".\r\n..\r\n" * 100_000 + b"\r.\n." * 1000 + b"\r\n"]
     with Relay(program, shared) as it:
         it.intake()
         for at, text in enumerate(texts):

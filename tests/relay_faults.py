@@ -1,0 +1,270 @@
+"""Faults that a worker may have, each tried by its name: what strangers and customers can do to it,
+and what a machine that fails does.
+
+Each takes the program of the desk and what all share.
+"""
+import contextlib
+import os
+import re
+import signal
+import time
+
+from lacking import tell
+from operations_disk import small_disk
+from postfix import text_of
+from relay_machine import Relay
+from relay_words import LONG, lmtp, received
+from serving import LONGEST, expect, named, until
+from sinks import Lossy
+
+FAR = "good.example"
+MEGABYTE = 1_000_000
+
+
+def memory_of(running):
+    """The greatest memory that a process has had, in megabytes."""
+    status = open(f"/proc/{running.process.pid}/status", encoding="ascii").read()
+    return int(re.search(r"VmHWM:\s+([0-9]+) kB", status)[1]) / 1024
+
+
+def threads_of(running):
+    return len(os.listdir(f"/proc/{running.process.pid}/task"))
+
+
+def forged_helo(program, shared):
+    """A client's HELO looks like the queue ID of another customer's mail. Its mail is its own all the
+    same, and that of the other one is not taken for it."""
+    with Relay(program, shared) as it:
+        it.desk.kill()
+        it.intake()
+        it.take("birch", f"p@{FAR}", subject="of-the-victim", login="bea")
+        it.postfix.deferred("451 4.3.0")
+        ident = it.postfix.queue()[0]["queue_id"]
+        it.desk.start()
+        with it.postfix.session("ann") as client:
+            client.ehlo_resp = client.helo_resp = None
+            client.ehlo(f"x-IDENT={ident}")
+            client.sendmail("eve@b.example", [f"p@{FAR}"], text_of("eve@b.example", [f"p@{FAR}"], "forged"))
+        it.postfix.empty()
+        it.deliver()
+        found = sorted(b"of-the-victim" in text for _, _, text in shared.good.mail)
+        expect(found == [False, True], "delivered was", shared.good.mail)
+        for customer in ("acme", "birch"):
+            it.desk.expect_usage(customer, delivered=1)
+    return "forged HELO: it names no queue ID, and no customer"
+
+
+def foreign_first_field(program, shared):
+    """Mail whose first field is not Postfix's own tells no login, and is not taken where logins are
+    looked at; where they are not, the sender's domain decides."""
+    text = b"Subject: x\r\n\r\nHello.\r\n"
+    for logins, wanted in (({"ann": "acme"}, 451), ({}, 250)):
+        with Relay(program, shared, settings={"logins": logins}) as it:
+            if not logins:
+                it.settings = {}
+                it.set()
+                lines = (it.folder / "relay.ini").read_text()
+                it.write("relay.ini", re.sub(r"(?s)\[logins\].*?\n(?=\[)", "", lines).rstrip())
+            it.intake()
+            for head in (b"", received("4jZpsK03Zxz1c38f", "ann"), b"X-First: y\r\n" + received(LONG, "ann")):
+                with lmtp(it, LONG) as client:
+                    client.mail("eve@a.example")
+                    client.rcpt(f"p{len(head)}@{FAR}")
+                    code, words = client.data(head + text)
+                expect(code == wanted, "with the logins", logins, head, "is", code, words)
+    return "foreign first field: not taken where a login decides"
+
+
+def one_desk_down(program, shared):
+    """The calls of one customer fail: the mail of the others goes on, and its own once they do."""
+    with Relay(program, shared) as it, Lossy(it.desk.address, b"/acme HTTP/1.1") as lossy:
+        it.intake()
+        it.take("acme", f"a@{FAR}")
+        it.take("birch", f"b@{FAR}")
+        it.postfix.empty()
+        it.set(desk={"address": named(lossy.address)})
+        running = it.run("deliver")
+        until(lambda: it.delivered().get(f"b@{FAR}"), "one customer holds up another")
+        until(lambda: it.desk.usage("birch")["delivered"] == 1, "an outcome is not told")
+        expect("desk away" in running.log.read_text(), "the fault is not told")
+        lossy.loses = False
+        until(lambda: it.desk.usage("acme")["delivered"] == 1, "the customer's mail does not go on")
+        it.expect_delivered(f"a@{FAR}", f"b@{FAR}")
+    return "one desk of two down: the other one's mail goes on"
+
+
+def full_disk_while_a_notice_is_mailed(program, shared):
+    """The spool's disk is full when a notice was mailed: it is mailed once, and not each time that
+    the worker looks; and the mail goes on when there is room."""
+    with Relay(program, shared) as it, small_disk(it.folder / "disk") as is_mounted:
+        if not is_mounted:
+            tell("a file system of the test", "a full disk while a notice is mailed")
+            return "full disk while a notice is mailed: not tried"
+        it.set(spool={"folder": "disk/spool"})
+        it.intake()
+        it.take("acme", "x@hard.example")
+        it.postfix.empty()
+        filler = it.folder / "disk/filler"
+        it.senders.answer = lambda _: fill(filler) or "250 2.1.5 ok"
+        running = it.run("deliver")
+        until(lambda: it.senders.mail, "no notice comes")
+        time.sleep(5)
+        expect(it.notices() == {"x@hard.example": 1}, "on a full disk notices were", it.notices())
+        expect("full" in running.log.read_text(), "the full disk is not told")
+        filler.unlink()
+        it.senders.answer = lambda _: "250 2.1.5 ok"
+        it.take("acme", f"p@{FAR}")
+        it.postfix.empty()
+        until(lambda: it.desk.usage("acme")["delivered"] == 1, "the mail does not go on")
+        it.expect_delivered(f"p@{FAR}")
+        expect(it.notices() == {"x@hard.example": 1}, "notices were", it.notices())
+        running.kill()
+        it.begun[0].kill()
+    return "full disk while a notice is mailed: it is mailed once"
+
+
+def fill(path):
+    """Fills the disk of a file, to its last byte."""
+    with contextlib.suppress(OSError), open(path, "wb", buffering=0) as file:
+        while file.write(b"x" * 4096):
+            pass
+
+
+def standard_error_gone(program, shared):
+    """Nobody reads what the worker prints any more: mail is delivered and told, and SIGTERM ends
+    it."""
+    with Relay(program, shared) as it:
+        it.intake()
+        it.take("acme", f"p@{FAR}", "x@hard.example")
+        it.postfix.empty()
+        reading, writing = os.pipe()
+        running = it.run("deliver", errors=writing)
+        os.close(writing)
+        os.close(reading)
+        until(lambda: it.desk.usage("acme")["pending"] == 0, "the outcomes are not told")
+        until(it.notices, "no notice comes")
+        running.process.send_signal(signal.SIGTERM)
+        running.ends()
+        it.expect_delivered(f"p@{FAR}")
+    return "standard error gone: the work goes on, and SIGTERM ends it"
+
+
+def large_and_many(program, shared):
+    """Messages of ten megabytes, whose heads are bombs, come and go over several sessions at once:
+    neither process needs memory for them, nor a thread for each."""
+    count, bomb = 8, received(LONG) + b"a: b\r\n" * (10 * MEGABYTE // 6) + b"\r\nHello.\r\n"
+    with Relay(program, shared) as it, contextlib.ExitStack() as clients:
+        intake = it.intake()
+        begun, before = time.monotonic(), memory_of(intake)
+        open_ones = [clients.enter_context(lmtp(it, LONG)) for _ in range(count)]
+        for at, client in enumerate(open_ones):
+            client.mail("ann@a.example")
+            client.rcpt(f"p{at}@{FAR}")
+            client.docmd("DATA")
+        for client in open_ones:
+            client.sock.sendall(bomb + b".\r\n")
+        for client in open_ones:
+            code, words = client.getreply()
+            expect(code == 250, "a large message is", code, words)
+        seconds, more = time.monotonic() - begun, memory_of(intake) - before
+        expect(more < 40, count, "large messages took", more, "megabytes of the intake")
+        running = it.run("deliver")
+        until(lambda: len(shared.good.mail) == count, "the large messages do not come", 2 * LONGEST)
+        most, threads = memory_of(running), threads_of(running)
+        expect(most < 120 and threads < 10, "the delivery took", most, "megabytes,", threads, "threads")
+    return (f"large and many: {count} of 10 MB in {seconds:.1f} s, {more:.0f} MB more in the intake, "
+            f"{most:.0f} MB and {threads} threads in the delivery")
+
+
+def refused_for_now(program, shared):
+    """The next hop of notices cannot take one for its recipient: those behind it are mailed, and it
+    waits."""
+    with Relay(program, shared) as it:
+        it.senders.answer = lambda to: ("450 4.2.2 mailbox full" if to.startswith("full")
+                                        else "250 2.1.5 ok")
+        it.intake()
+        for sender in ("full@a.example", "ann@a.example", "bob@a.example"):
+            it.postfix.take(sender, [f"x-{sender[:3]}@hard.example"])
+            it.postfix.empty()
+        it.deliver()
+        told = it.deliver()
+        expect(sorted(it.notices()) == ["x-ann@hard.example", "x-bob@hard.example"],
+               "notices were", it.notices())
+        expect("lost notices" not in told, "a notice that waits is told as lost", told)
+        it.desk.expect_usage("acme", failed=3)
+    return "a notice refused for now: the others are mailed"
+
+
+def left_over(program, shared):
+    """What Postfix gave up before it was submitted goes from the spool, once Postfix would not try
+    it any more."""
+    with Relay(program, shared, settings={"spool": {"keep-days": "0"}}) as it:
+        killed = it.intake(("desk.Desk.submit", "before", 1))
+        it.take("acme", f"p@{FAR}")
+        killed.dies()
+        it.postfix.drop()
+        left = list((it.folder / "spool/content").iterdir())
+        expect(len(left) == 1, "the spool has", left)
+        time.sleep(1.1)
+        it.deliver()
+        expect(not list((it.folder / "spool/content").iterdir()), "content is left over")
+    return "left over: content that was given up goes"
+
+
+def what_senders_ask_for(program, shared):
+    """NOTIFY, RET, ENVID and ORCPT of the sender come to its notices (RFC 3461)."""
+    asked = {"never": "NOTIFY=NEVER", "delay": "NOTIFY=DELAY", "failure": "NOTIFY=FAILURE,DELAY",
+             "success": "NOTIFY=SUCCESS"}
+    with Relay(program, shared) as it:
+        it.intake()
+        for name, notify in asked.items():
+            domain = "good" if name == "success" else "hard"
+            with it.postfix.session("ann") as client:
+                client.mail("ann@a.example", ["ENVID=abc+2B1", "RET=FULL"])
+                client.rcpt(f"{name}@{domain}.example", [notify, f"ORCPT=rfc822;{name}+2Bx@a.example"])
+                client.data(text_of("ann@a.example", [f"{name}@x"], f"asked-{name}"))
+        it.postfix.empty()
+        it.deliver()
+        until(lambda: len(it.notices()) == 2, "notices were", 5)
+        found = it.notices()
+        expect(found == {"failure@hard.example": 1, "success@good.example": 1}, "notices were", found)
+        for _, to, text in it.senders.mail:
+            missing = [one for one in (b"Original-Envelope-Id: abc", b"Original-Recipient: rfc822;",
+                                       b"Remote-MTA: dns; ", b"Last-Attempt-Date: ",
+                                       b"Content-Type: message/rfc822", b"\r\nHello.\r\n")
+                       if one not in text]
+            expect(to == ["ann@a.example"] and not missing, "a notice lacks", missing, text)
+        actions = sorted(re.search(rb"Action: (\w+)", text)[1] for _, _, text in it.senders.mail)
+        expect(actions == [b"failed", b"relayed"], "the actions are", actions)
+    return "what senders ask for: NEVER is kept, and ENVID, ORCPT, RET and SUCCESS are"
+
+
+def taken_back(program, shared):
+    """Mail lies in the delivering instance when its customer deletes one message and holds another:
+    both are taken back, the one that was held goes when it is released."""
+    with Relay(program, shared, settings={"delivery": {"settle-after": "1"}}) as it:
+        shared.delivering.set(defer_transports="smtp")
+        try:
+            it.intake()
+            it.take("acme", f"gone@{FAR}", f"held@{FAR}")
+            it.postfix.empty()
+            running = it.run("deliver")
+            until(lambda: len(shared.delivering.queue()) == 2, "the mail is not handed over")
+            ids = {it.desk.own("acme", "GET", f"/v1/message/{row['id']}")["pending"][0]["address"]:
+                   row["id"] for row in it.desk.messages("acme")}
+            it.desk.own("acme", "DELETE", f"/v1/message/{ids[f'gone@{FAR}']}")
+            it.desk.own("acme", "POST", f"/v1/hold/{ids[f'held@{FAR}']}")
+            until(lambda: not shared.delivering.queue(), "the mail is not taken back")
+            until(lambda: running.log.read_text().count("taken back") == 2, "that is not told")
+        finally:
+            shared.delivering.set(defer_transports="")
+        it.desk.own("acme", "POST", f"/v1/release/{ids[f'held@{FAR}']}")
+        until(lambda: it.desk.usage("acme")["delivered"] == 1, "what was released does not come")
+        it.expect_delivered(f"held@{FAR}")
+        it.desk.expect_usage("acme", delivered=1, deleted=1)
+    return "deleted or held in the instance: taken back"
+
+
+FAULTS = [forged_helo, foreign_first_field, one_desk_down, full_disk_while_a_notice_is_mailed,
+          standard_error_gone, large_and_many, refused_for_now, left_over, what_senders_ask_for,
+          taken_back]
