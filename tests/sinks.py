@@ -19,6 +19,9 @@ class Session(socketserver.StreamRequestHandler):
         for line in lines:
             self.wfile.write(line.encode() + b"\r\n")
 
+    def greet(self):
+        self.say("250-sink.example", "250-PIPELINING", "250-8BITMIME", "250 ENHANCEDSTATUSCODES")
+
     def handle(self):
         sink = self.server.sink
         with sink.lock:
@@ -33,12 +36,23 @@ class Session(socketserver.StreamRequestHandler):
             with sink.lock:
                 sink.sessions -= 1
 
+    def lines(self):
+        """What the client sends, also behind STARTTLS."""
+        while True:
+            line = self.rfile.readline()
+            if not line:
+                return
+            yield line
+
+    def secure(self):
+        self.say("502 5.5.1 no TLS here")
+
     def talk(self, sink):
         sender, taken = "", []
-        for line in self.rfile:
+        for line in self.lines():
             verb = line[:4].upper()
             if verb in (b"EHLO", b"HELO"):
-                self.say("250-sink.example", "250-PIPELINING", "250-8BITMIME", "250 ENHANCEDSTATUSCODES")
+                self.greet()
             elif verb == b"MAIL":
                 sender, taken = ADDRESS.search(line)[1].decode(), []
                 self.say("250 2.1.0 ok")
@@ -47,6 +61,8 @@ class Session(socketserver.StreamRequestHandler):
             elif verb == b"DATA":
                 self.data(sink, sender, taken)
                 taken = []
+            elif verb == b"STAR":
+                self.secure()
             elif verb == b"QUIT":
                 return self.say("221 2.0.0 bye")
             else:
@@ -81,6 +97,10 @@ class Threads(socketserver.ThreadingTCPServer):
     request_queue_size = 128
     block_on_close = False
 
+    def __init__(self, address, session):
+        self.address_family = socket.AF_INET6 if ":" in address[0] else socket.AF_INET
+        super().__init__(address, session)
+
     def handle_error(self, *_):
         """A client that goes away is no error."""
 
@@ -88,7 +108,7 @@ class Threads(socketserver.ThreadingTCPServer):
 class Sink:
     """A server that answers each recipient by this text, or by what this function answers."""
 
-    def __init__(self, answer=ACCEPTS, address=("127.0.0.1", 0)):
+    def __init__(self, answer=ACCEPTS, address=("127.0.0.1", 0), session=Session):
         self.answer = answer if callable(answer) else lambda _: answer
         # the recipients that were asked for; and of what was taken sender, recipients and text
         self.asked, self.mail = [], []
@@ -97,7 +117,7 @@ class Sink:
         self.hangs, self.gate, self.lock = False, threading.Event(), threading.Lock()
         self.gate.set()
         self.waiting = 0
-        self.server = Threads(address, Session)
+        self.server = Threads(address, session)
         self.server.sink = self
         self.address = self.server.server_address
         threading.Thread(target=self.server.serve_forever, args=(0.05,), daemon=True).start()
