@@ -154,7 +154,7 @@ def one_attempt() -> Dict[str, Line]:
         "minimal_backoff_time": Line("30s", "after a failed STARTTLS, plain text is tried then"),
         "queue_run_delay": Line("30s", "after a failed STARTTLS, plain text is tried then"),
         "smtp_discard_ehlo_keywords": Line(
-            "dsn", "success is reported here, never by the next host to the sender", True),
+            "dsn", "success is reported here, never by the next host to the sender"),
     }
 
 

@@ -21,11 +21,11 @@ UNSHARE = ["unshare", "--mount", "--net", "--pid", "--fork", "--kill-child", "--
 PYTHON = "/usr/bin/python3"
 # The folders of its own, with what it takes along of those of the machine around it.
 COPIED = {"/etc": "*", "/var/lib": "postfix", "/var/spool": "postfix", "/var/log": "", "/run": "",
-          "/srv": "", "/opt": ""}
+          "/srv": ""}
 DEVICES = ("null", "zero", "full", "random", "urandom", "tty")
 LINKS = {"fd": "/proc/self/fd", "stdin": "/proc/self/fd/0", "stdout": "/proc/self/fd/1",
          "stderr": "/proc/self/fd/2"}
-REPOSITORY = Path("/opt/desk")
+REPOSITORY = Path("/srv/desk")
 LOG = Path("/var/log/mail.log")
 # of the system's header files: mount(2), netdevice(7)
 MS_BIND, SIOCGIFFLAGS, SIOCSIFFLAGS, IFF_UP = 4096, 0x8913, 0x8914, 1

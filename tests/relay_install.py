@@ -255,7 +255,7 @@ def no_listener():
 def no_sudo():
     """Without sudo, or with one that knows no regular expression, the worker is told what it
     cannot do."""
-    folder = Path("/opt/bin")
+    folder = Path("/srv/bin")
     folder.mkdir()
     (folder / "sudo").write_text("#!/bin/sh\necho Sudo version 1.9.5p2\n")
     (folder / "sudo").chmod(0o755)
