@@ -1,11 +1,19 @@
 """What of an instance is not as it is wanted, what of that is somebody else's, and how it is
 written so that a run may be cut anywhere."""
+import socket
+import time
 from dataclasses import dataclass, field
 from pathlib import Path
 from typing import Dict, List, Optional, Tuple, Union
 
 from places import Files, Main, Master, NotInstalled, Record, run
 from postfix_lines import Line
+from settings import address
+
+# The end of the name of a service that listens on the network.
+LISTENER = "/inet"
+# How long Postfix may take until it listens.
+SECONDS = 10
 
 
 @dataclass(frozen=True)
@@ -80,7 +88,7 @@ class Half:
     def new_listeners(self) -> List[Tuple[Target, Change]]:
         """What begins to listen on the network."""
         return [(target, it) for target, changes in self.planned() for it in changes
-                if isinstance(target.place, Master) and it.name.endswith("/inet")
+                if isinstance(target.place, Master) and it.name.endswith(LISTENER)
                 and it.was is None]
 
     def lines(self) -> List[str]:
@@ -108,6 +116,21 @@ class Half:
                     self.record.made.get(target.place.name, {}).pop(it.name, None)
         self.record.save(self.folder)
 
+    def wait_for_listeners(self) -> None:
+        """Postfix ends by itself, and tells its log alone, where it cannot listen."""
+        names = [name for target in self.targets if isinstance(target.place, Master)
+                 for name in target.wanted if name.endswith(LISTENER)]
+        end = time.monotonic() + SECONDS
+        while names:
+            try:
+                socket.create_connection(address(names[0][:-len(LISTENER)]), SECONDS).close()
+                names.pop(0)
+            except OSError as error:
+                if time.monotonic() > end:
+                    raise NotInstalled(f"{self.folder}: nobody listens at {names[0]}: "
+                                       f"{error.strerror}; see the log of Postfix") from None
+                time.sleep(0.1)
+
     def runs(self) -> None:
         """Has Postfix read what was written; starts it where it does not run."""
         try:
@@ -119,6 +142,7 @@ class Half:
             if self.record.is_unread:
                 run("postfix", "-c", self.folder, "reload")
                 print(f"{self.folder}: reloaded")
+        self.wait_for_listeners()
         if self.record.is_unread:
             self.record.is_unread = False
             self.record.save(self.folder)

@@ -16,7 +16,7 @@ from pathlib import Path
 from typing import Iterator, List, Optional
 
 import postfix_lines
-from halves import Half, Target
+from halves import LISTENER, Half, Target
 from places import Files, Main, Master, NotInstalled, Record, run
 from postfix_lines import Instance, Line
 from settings import Address, Settings, address
@@ -146,7 +146,7 @@ class Installation:
             yield f"{postfix_lines.named(it)} stands twice in the settings"
         for half in (self.front, self.delivering):
             for _, change in half.new_listeners():
-                at = address(change.name[:-len("/inet")])
+                at = address(change.name[:-len(LISTENER)])
                 why = occupied(at)
                 if why:
                     yield f"{half.folder}: cannot listen at {postfix_lines.named(at)}: {why}"

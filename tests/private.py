@@ -29,7 +29,7 @@ REPOSITORY = Path("/srv/desk")
 LOG = Path("/var/log/mail.log")
 # of the system's header files: mount(2), netdevice(7)
 MS_BIND, SIOCGIFFLAGS, SIOCSIFFLAGS, IFF_UP = 4096, 0x8913, 0x8914, 1
-SECONDS = 300
+SECONDS = 900
 
 
 def is_possible(part):

@@ -33,6 +33,9 @@ SETTINGS = {
     "notices": {"from": "MAILER-DAEMON@relay.example"},
 }
 CUSTOMERS = "name,key,messages,bytes,lines,notices,delay\nacme,acmekey000000001,9,9,9,9,9\n"
+MOVED = {"intake": {"listen": "127.0.0.1:10030", "customers": "127.0.0.1:10031",
+                    "largest": "20000000"},
+         "delivery": {"instance": "127.0.0.1:10032"}, "notices": {"next-hop": "127.0.0.1:10033"}}
 QUEUED = "4jbPwk62v8z1bcMh"
 NOTHING = "nothing to change\n"
 
@@ -205,7 +208,10 @@ def ours_changed():
     """A line of ours that somebody changed is somebody else's from then on."""
     set_main(DESK, notify_classes="bounce")
     refused("/etc/postfix-desk/main.cf: notify_classes = bounce,", "it would write 2bounce")
-    set_main(DESK, notify_classes="2bounce")
+    set_main(DESK, notify_classes="2bounce", mynetworks="127.0.0.0/8")
+    # (it had that value when it was made)
+    refused("/etc/postfix-desk/main.cf: mynetworks = 127.0.0.0/8,")
+    set_main(DESK, mynetworks="127.0.0.0/8 [::1]/128")
     run("postconf", "-F", "desk/unix/process_limit=20")
     refused("desk/unix = desk unix - - n - 20 lmtp")
     run("postconf", "-F", "desk/unix/process_limit=10")
@@ -219,12 +225,10 @@ def ours_changed():
 
 def moved():
     """Other settings move what install wrote; a second worker's are refused."""
-    settings(intake={"listen": "127.0.0.1:10030", "customers": "127.0.0.1:10031",
-                     "largest": "20000000"},
-             delivery={"instance": "127.0.0.1:10032"}, notices={"next-hop": "127.0.0.1:10033"})
+    settings(**MOVED)
     told = install()
     for it in ("127.0.0.1:10025/inet = unset, was 127.0.0.1:10025 inet",
-               "content_filter=desk:[127.0.0.1]:10030", "message_size_limit = 20004096, was 11004096",
+               "content_filter=desk:[127.0.0.1]:10030", "message_size_limit = 20004096, was 110040",
                "/etc/postfix: reloaded", "/etc/postfix-desk: reloaded"):
         expect(it in told, it, "is not told in", told)
     until(lambda: not listens(("127.0.0.1", 10025)), "the old port is listened at")
@@ -233,7 +237,7 @@ def moved():
     settings(spool={"folder": "other"})
     refused("/etc/postfix: install wrote it for the worker with the spool /srv/mail/spool")
     settings()
-    told = install()
+    install()
     until(lambda: not listens(("127.0.0.1", 10033)), "the old port is listened at")
     heard(10025, 10026, 10027)
 
@@ -250,6 +254,19 @@ def no_listener():
     run("postconf", "-MX", "submission/inet")
     settings()
     install()
+
+
+def silent():
+    """Where Postfix does not listen after all, install says so; and does its work when it can."""
+    set_main(DESK, master_service_disable="inet")
+    run("postfix", "-c", DESK, "stop")
+    told = install(1)
+    expect("/etc/postfix-desk: nobody listens at 127.0.0.1:10026" in told, "of no one:", told)
+    drop_main(DESK, "master_service_disable")
+    run("postfix", "-c", DESK, "stop")
+    told = install()
+    expect("/etc/postfix-desk: started" in told, "of a start is told", told)
+    heard(10025, 10026, 10027)
 
 
 def no_sudo():
@@ -271,33 +288,47 @@ def no_sudo():
 
 
 def whole():
-    for it in (foreign, fresh, taken_back, firm, ours_changed, moved, no_listener, no_sudo):
+    for it in (foreign, fresh, taken_back, firm, ours_changed, moved, no_listener, silent,
+               no_sudo):
         it()
     print(json.dumps(state()))
 
 
 def cut():
-    """Install kills itself before or behind its first write, its second one and so on, each time
-    going on from what is there; at its end all is as if it had never been cut."""
+    """Install is cut again and again, and at its end all is as if it had never been; so it is when
+    it has to move what it wrote."""
     settings()
+    count = cut_to_its_end()
+    expect(count > 20, "install was cut only", count, "times")
+    unchanged()
+    heard(10025, 10026, 10027)
+    found = state()
+    settings(**MOVED)
+    count += cut_to_its_end()
+    unchanged()
+    until(lambda: not listens(("127.0.0.1", 10025)), "the old port is listened at")
+    heard(10031, 10032, 10033)
+    print(count)
+    print(json.dumps(found))
+
+
+def cut_to_its_end():
+    """Install kills itself before or behind its first write, its second one and so on, each time
+    going on from what is there; returns how often."""
     count, number, last = 0, 1, None
     for when in itertools.cycle(("before", "behind")):
         ended = subprocess.run([sys.executable, "-B", __file__, "cut-at", when, str(number)],
                                cwd=HERE, stdin=subprocess.DEVNULL, stdout=subprocess.PIPE,
                                stderr=subprocess.STDOUT, timeout=2 * LONGEST)
         if ended.returncode == 0:
-            break
+            return count
         expect(ended.returncode == -signal.SIGKILL, "a cut install ended with", ended.returncode,
                ended.stdout.decode(errors="replace"))
         count += 1
         if when == "behind":
             number = number + 1 if kept() == last else max(1, number - 1)
             last = kept()
-    expect(count > 20, "install was cut only", count, "times")
-    unchanged()
-    heard(10025, 10026, 10027)
-    print(count)
-    print(json.dumps(state()))
+    return count
 
 
 def cut_at(when, number):
