@@ -270,10 +270,17 @@ class Delivering(Instance):
         at = next(it for it in lines.services if it.endswith("/inet"))
         host, port = at[:-len("/inet")].rsplit(":", 1)
         super().__init__(folder, (host, int(port)), lines, DELIVERING_OF_A_TEST)
+        self.uid = uid
         for made in (self.reports.parent, self.reports, *(self.reports / it for it in MAILDIR)):
             made.mkdir()
-            os.chown(made, uid, uid)
+        self.open_reports()
         self.route(hops or {})
+
+    def open_reports(self):
+        """Its user may write the folders of reports, again where that was taken away."""
+        for it in (self.reports.parent, self.reports, *(self.reports / it for it in MAILDIR)):
+            it.chmod(0o755)
+            os.chown(it, self.uid, self.uid)
 
     def route(self, hops):
         """Sends the mail of these domains, and of no other, to these addresses."""

@@ -68,7 +68,8 @@ class Shared:
         self.postfix.drop()
         self.delivering.drop()
         for it in self.delivering.reports.glob("*/*"):
-            it.unlink()
+            if it.is_file():
+                it.unlink()
         for it in (*self.sinks.values(), self.senders):
             it.forget()
             it.hangs = False
