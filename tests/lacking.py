@@ -2,6 +2,7 @@
 import importlib
 import os
 import shutil
+import subprocess
 import sys
 
 
@@ -15,6 +16,14 @@ def lacks(program, part=None):
     is_there = shutil.which(program)
     if not is_there:
         tell(program, part)
+    return not is_there
+
+
+def lacks_module(python, name):
+    """Whether this Python has no such module; then a line tells that this tool is not tried."""
+    is_there = subprocess.run([python, "-c", f"import {name}"], capture_output=True).returncode == 0
+    if not is_there:
+        tell(f"{name} of {python}")
     return not is_there
 
 
