@@ -237,8 +237,7 @@ class Installation:
 
 
 def install(settings: Settings, is_dry: bool = False) -> int:
-    # (what it starts lives on: with these signals blocked, Postfix would not stop; and others have
-    # to read its settings)
+    # (a signal may cut it; and others read what it makes)
     signal.pthread_sigmask(signal.SIG_SETMASK, [])
     os.umask(0o022)
     try:

@@ -26,7 +26,7 @@ FRONT, DESK, SUDOERS = Path("/etc/postfix"), Path("/etc/postfix-desk"), Path("/e
 PATH = "/usr/sbin:/usr/bin:/sbin:/bin"
 SETTINGS = {
     "desk": {"address": "127.0.0.1:8025", "key-file": "relay.key", "directory": "customers.csv"},
-    "spool": {"folder": "spool"},
+    "spool": {"folder": "state/spool"},
     "intake": {"listen": "127.0.0.1:10024", "customers": "127.0.0.1:10025"},
     "domains": {"a.example": "acme"},
     "delivery": {"host": "relay.example"},
@@ -145,12 +145,12 @@ def foreign():
     DESK.rmdir()
     settings(delivery={"instance": "127.0.0.1:10027"})
     refused("127.0.0.1:10027 stands twice")
-    settings(spool={"folder": "spool", "user": "root"})
+    settings(spool={"user": "root"})
     refused("[spool] user: root has a number below 100")
     settings()
-    (HERE / "spool").mkdir()
-    refused("/srv/mail/spool is not of the user hqrelay")
-    (HERE / "spool").rmdir()
+    (HERE / "state/spool").mkdir(parents=True)
+    refused("/srv/mail/state/spool is not of the user hqrelay")
+    shutil.rmtree(HERE / "state")
     taken = subprocess.Popen(["smtp-sink", "-u", "nobody", "127.0.0.1:10026", "10"])
     until(lambda: listens(("127.0.0.1", 10026)), "smtp-sink does not listen")
     refused("cannot listen at 127.0.0.1:10026: Address already in use")
@@ -170,8 +170,9 @@ def fresh():
                "/etc/postfix-desk: is made", "/etc/postfix-desk: started", "/etc/postfix: started"):
         expect(it in told, it, "is not told in", told)
     heard(10025, 10026, 10027)
-    folder = (HERE / "spool").stat()
+    folder = (HERE / "state/spool").stat()
     expect(folder.st_mode & 0o777 == 0o700 and folder.st_uid >= 100, "the spool is", folder)
+    run("runuser", "-u", "hqrelay", "--", "test", "-w", "state/spool/reports/new")
     rule = (SUDOERS / "hqrelay").stat()
     expect(rule.st_mode & 0o777 == 0o440, "the rule of sudo is", rule)
     run("runuser", "-u", "hqrelay", "--", "postqueue", "-c", DESK, "-j")
@@ -235,7 +236,7 @@ def moved():
     heard(10031, 10032, 10033)
     unchanged()
     settings(spool={"folder": "other"})
-    refused("/etc/postfix: install wrote it for the worker with the spool /srv/mail/spool")
+    refused("/etc/postfix: install wrote it for the worker with the spool /srv/mail/state/spool")
     settings()
     install()
     until(lambda: not listens(("127.0.0.1", 10033)), "the old port is listened at")

@@ -4,9 +4,8 @@ other ways and other addresses; and what its reports say, as the worker reads th
 Mail is handed over here without a worker.
 """
 import base64
-import email
-import email.policy
 import hashlib
+import mailbox
 import re
 import smtplib
 import socket
@@ -23,9 +22,8 @@ from sinks import ACCEPTS, DEFERS, REFUSES, Session, Sink
 
 # (the worker's own reading of reports)
 sys.path.append(str(Path(__file__).resolve().parent.parent / "relay"))
-from outcomes import read_report
+from outcomes import Outcomes
 
-POLICY = email.policy.default
 CONTENT = b"From: <ann@a.example>\r\nSubject: tried\r\n\r\nhello\r\n"
 UTF8 = "j\N{LATIN SMALL LETTER O WITH DIAERESIS}rg"
 SIGNING = """\
@@ -142,12 +140,11 @@ class Tried:
         return self.read(envelope)
 
     def read(self, envelope):
-        found = []
-        for path in self.instance.reports.glob("new/*"):
-            text = path.read_bytes()
-            if f"Original-Envelope-Id: {envelope}\n".encode() in text:
-                of, outcomes = read_report(email.message_from_bytes(text, policy=POLICY))
-                expect(of == envelope and outcomes, "the worker does not read", text.decode())
+        found, box = [], mailbox.Maildir(str(self.instance.reports), create=False)
+        for key in box.keys():
+            if f"Original-Envelope-Id: {envelope}\n".encode() in box.get_bytes(key):
+                of, outcomes = Outcomes.read_one(None, box, key)
+                expect(of == envelope and outcomes, "the worker does not read", box.get_bytes(key))
                 found += outcomes
         return found
 
