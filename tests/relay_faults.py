@@ -13,6 +13,7 @@ from lacking import tell
 from operations_disk import small_disk
 from postfix import text_of
 from relay_machine import Relay
+from relay_path import contents
 from relay_words import LONG, lmtp, received
 from serving import LONGEST, expect, named, until
 from sinks import Lossy
@@ -77,7 +78,9 @@ def foreign_first_field(program, shared):
 
 def one_desk_down(program, shared):
     """The calls of one customer fail: the mail of the others goes on, and its own once they do."""
-    with Relay(program, shared) as it, Lossy(it.desk.address, b"/acme HTTP/1.1") as lossy:
+    settings = {"delivery": {"clean-every": "1"}}
+    with Relay(program, shared, None, settings) as it, \
+            Lossy(it.desk.address, b"/acme HTTP/1.1") as lossy:
         it.intake()
         it.take("acme", f"a@{FAR}")
         it.take("birch", f"b@{FAR}")
@@ -86,6 +89,7 @@ def one_desk_down(program, shared):
         running = it.run("deliver")
         until(lambda: it.delivered().get(f"b@{FAR}"), "one customer holds up another")
         until(lambda: it.desk.usage("birch")["delivered"] == 1, "an outcome is not told")
+        until(lambda: len(contents(it)) == 1, "one customer holds up the clean-up of another")
         expect("desk away" in running.log.read_text(), "the fault is not told")
         lossy.loses = False
         until(lambda: it.desk.usage("acme")["delivered"] == 1, "the customer's mail does not go on")
@@ -96,15 +100,16 @@ def one_desk_down(program, shared):
 def full_disk_while_a_notice_is_mailed(program, shared):
     """The spool's disk is full when a notice was mailed: it is mailed once, and not each time that
     the worker looks; and the mail goes on when there is room."""
-    with Relay(program, shared) as it, small_disk(it.folder / "disk") as is_mounted:
+    disk = shared.postfix.folder / "disk-of-notices"
+    with small_disk(disk) as is_mounted, Relay(program, shared) as it:
         if not is_mounted:
             tell("a file system of the test", "a full disk while a notice is mailed")
             return "full disk while a notice is mailed: not tried"
-        it.set(spool={"folder": "disk/spool"})
+        it.set(spool={"folder": disk / "spool"})
         it.intake()
         it.take("acme", "x@hard.example")
         it.postfix.empty()
-        filler = it.folder / "disk/filler"
+        filler = disk / "filler"
         it.senders.answer = lambda _: fill(filler) or "250 2.1.5 ok"
         running = it.run("deliver")
         until(lambda: it.senders.mail, "no notice comes")
@@ -118,8 +123,6 @@ def full_disk_while_a_notice_is_mailed(program, shared):
         until(lambda: it.desk.usage("acme")["delivered"] == 1, "the mail does not go on")
         it.expect_delivered(f"p@{FAR}")
         expect(it.notices() == {"x@hard.example": 1}, "notices were", it.notices())
-        running.kill()
-        it.begun[0].kill()
     return "full disk while a notice is mailed: it is mailed once"
 
 

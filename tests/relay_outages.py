@@ -158,22 +158,21 @@ def foreign_reports(program, shared):
 def full_disk(program, shared):
     """The spool's disk is full while mail is handed over and told: no message comes twice, and all
     goes on when there is room."""
-    with Relay(program, shared) as it, small_disk(it.folder / "disk") as is_mounted:
+    disk = shared.postfix.folder / "disk-of-mail"
+    with small_disk(disk) as is_mounted, Relay(program, shared) as it:
         if not is_mounted:
             tell("a file system of the test", "a full disk while mail is handed over")
             return "full disk: not tried"
-        it.set(spool={"folder": "disk/spool"})
-        filler = it.folder / "disk/filler"
+        it.set(spool={"folder": disk / "spool"})
+        filler = disk / "filler"
         shared.good.answer = lambda _: fill(filler) or "250 2.1.5 ok"
-        running = begun(it)
+        begun(it)
         until(lambda: it.delivered(), "nothing is delivered")
         time.sleep(4)
         expect(max(it.delivered().values()) == 1, "on a full disk came", it.delivered())
         shared.good.answer = lambda _: "250 2.1.5 ok"
         filler.unlink()
         all_came(it)
-        running.kill()
-        it.begun[0].kill()
     return "full disk: each message once"
 
 
