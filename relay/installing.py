@@ -127,7 +127,7 @@ class Installation:
     def faults(self) -> Iterator[str]:
         user = user_of(self.settings)
         if user and user.pw_uid < LEAST_UID:
-            yield f"[spool] user: {user.pw_name} has a number below {LEAST_UID}, as Postfix wants none"
+            yield f"[spool] user: {user.pw_name} has a number below {LEAST_UID}; Postfix wants none"
         for it in (self.settings.folder, self.settings.reports):
             if it.exists() and (not user or it.stat().st_uid != user.pw_uid):
                 yield f"{it} is not of the user {self.settings.user}"

@@ -71,7 +71,7 @@ def front(settings: Settings) -> Instance:
         "smtpd_sasl_authenticated_header": Line(
             "yes", "the worker finds the customer by the login"),
         "desk_destination_recipient_limit": Line(
-            "1", "each recipient is answered for itself, also after a stop"),
+            "1", "the worker answers each recipient by itself, also after a stop"),
     }, services, {})
 
 
@@ -89,7 +89,7 @@ def customers_listener(settings: Settings) -> Dict[str, Line]:
     return {f"{at}/inet": Line(
         service(at, "inet", "-", "smtpd", "-o", way_to_the_worker(settings), "-o",
                 "smtpd_relay_restrictions=permit_mynetworks,permit_sasl_authenticated,reject"),
-        "takes the mail of customers, which alone goes to the desk")}
+        "takes the mail of customers; no other goes to the desk")}
 
 
 def notices_listener(settings: Settings) -> Dict[str, Line]:
@@ -119,11 +119,11 @@ def delivering(settings: Settings, uid: int, gid: int) -> Instance:
 def whose_mail(settings: Settings) -> Dict[str, Line]:
     """What it takes: the worker's mail, as it comes."""
     return {
-        "multi_instance_enable": Line("yes", "it starts with the machine"),
+        "multi_instance_enable": Line("yes", "the instance starts with the machine"),
         "myhostname": Line(settings.host, "the name of the relay"),
         "enable_long_queue_ids": Line("yes", "an ID that was handed over never stands for another"),
         "inet_interfaces": Line("loopback-only", "the worker is on this machine"),
-        "inet_protocols": Line("all", "hosts with IPv6 are reached by it", True),
+        "inet_protocols": Line("all", "Postfix reaches hosts by IPv6 too", True),
         "mynetworks": Line(LOOPBACK, "nobody else hands mail over"),
         "mydestination": Line("", "no mail stays here"),
         "local_recipient_maps": Line("", "no mail stays here"),
@@ -140,7 +140,7 @@ def whose_mail(settings: Settings) -> Dict[str, Line]:
         "smtpd_error_sleep_time": Line("0", "one refused message does not slow down the others"),
         "in_flow_delay": Line("0", "the worker bounds what is under way"),
         "message_size_limit": Line(str(settings.largest + HEADER_ROOM),
-                                   "what the intake took, with the header of this instance"),
+                                   "room for what the intake takes, and for a header"),
         "smtputf8_enable": Line("yes", "addresses past ASCII"),
     }
 
@@ -149,12 +149,13 @@ def one_attempt() -> Dict[str, Line]:
     """What comes back to the worker after one attempt."""
     return {
         "default_delivery_status_filter": Line(
-            "regexp:$config_directory/soft_failures", "one attempt: a soft failure is reported"),
-        "virtual_delivery_status_filter": Line("", "a report waits for a full disk"),
-        "minimal_backoff_time": Line("30s", "after a failed STARTTLS, plain text is tried then"),
-        "queue_run_delay": Line("30s", "after a failed STARTTLS, plain text is tried then"),
+            "regexp:$config_directory/soft_failures",
+            "one attempt: Postfix reports a soft failure"),
+        "virtual_delivery_status_filter": Line("", "a report waits while the disk is full"),
+        "minimal_backoff_time": Line("30s", "after a failed STARTTLS Postfix tries plain text"),
+        "queue_run_delay": Line("30s", "after a failed STARTTLS Postfix tries plain text"),
         "smtp_discard_ehlo_keywords": Line(
-            "dsn", "success is reported here, never by the next host to the sender"),
+            "dsn", "this instance reports success, and no next host does"),
     }
 
 
@@ -162,12 +163,13 @@ def reports_kept(settings: Settings, uid: int, gid: int) -> Dict[str, Line]:
     """How each report comes into the worker's folder."""
     box = settings.reports
     return {
-        "internal_mail_filter_classes": Line("bounce", "reports pass by `reports`"),
-        "notify_classes": Line("2bounce", "what became of mail without a sender is reported too"),
-        "2bounce_notice_recipient": Line(REPORTS, "and goes to the worker"),
+        "internal_mail_filter_classes": Line("bounce", "header checks see reports"),
+        "notify_classes": Line("2bounce", "Postfix reports failed mail without a sender too"),
+        "2bounce_notice_recipient": Line(REPORTS, "these reports go to the worker"),
         "virtual_mailbox_domains": Line(REPORTS_DOMAIN, "reports are the only mail that stays"),
-        "virtual_mailbox_base": Line(str(box.parent), "the folder of reports"),
-        "virtual_mailbox_maps": Line(f"inline:{{{{{REPORTS} = {box.name}/}}}}", "a Maildir"),
+        "virtual_mailbox_base": Line(str(box.parent), "the folder above that of reports"),
+        "virtual_mailbox_maps": Line(f"inline:{{{{{REPORTS} = {box.name}/}}}}",
+                                     "a Maildir keeps each report"),
         "virtual_mailbox_limit": Line("0", "Postfix wants it above `message_size_limit`"),
         "virtual_uid_maps": Line(f"static:{uid}", "the worker reads them"),
         "virtual_gid_maps": Line(f"static:{gid}", "the worker reads them"),
@@ -193,7 +195,7 @@ def delivering_services(settings: Settings) -> Dict[str, Line]:
     found = {f"{at}/inet": Line(service(at, "inet", "-", "smtpd"), "the worker hands over here")}
     for name in ("bounce", "defer", "trace"):
         words = service(name, "unix", "0", "bounce", "-o", "cleanup_service_name=reports")
-        found[f"{name}/unix"] = Line(words, "what it writes passes by `reports`")
+        found[f"{name}/unix"] = Line(words, "its reports pass by the service `reports`")
     found["reports/unix"] = Line(
         "reports unix n - n - 0 cleanup -o header_checks=regexp:$config_directory/reports",
         "sends each report to the worker")

@@ -6,18 +6,17 @@
 import ctypes
 import fcntl
 import os
-import shutil
 import socket
 import struct
 import subprocess
-import sys
 import threading
 from pathlib import Path
 
 from lacking import lacks, tell
-from serving import LONGEST, Wrong, until
+from serving import Wrong, until
 
 UNSHARE = ["unshare", "--mount", "--net", "--pid", "--fork", "--kill-child", "--mount-proc"]
+# The Python of the worker's first line.
 PYTHON = "/usr/bin/python3"
 # The folders of its own, with what it takes along of those of the machine around it.
 COPIED = {"/etc": "*", "/var/lib": "postfix", "/var/spool": "postfix", "/var/log": "", "/run": "",
@@ -28,13 +27,16 @@ LINKS = {"fd": "/proc/self/fd", "stdin": "/proc/self/fd/0", "stdout": "/proc/sel
 REPOSITORY = Path("/srv/desk")
 LOG = Path("/var/log/mail.log")
 # of the system's header files: mount(2), netdevice(7)
-MS_BIND, SIOCGIFFLAGS, SIOCSIFFLAGS, IFF_UP = 4096, 0x8913, 0x8914, 1
+MS_BIND, MS_REC, SIOCGIFFLAGS, SIOCSIFFLAGS, IFF_UP = 4096, 16384, 0x8913, 0x8914, 1
 SECONDS = 900
 
 
 def is_possible(part):
     """Whether such a machine can be made; else a line tells that this part is not tried."""
     if lacks("unshare", part):
+        return False
+    if subprocess.run([PYTHON, "-c", "import aiosmtpd"], stderr=subprocess.DEVNULL).returncode:
+        tell("aiosmtpd of the system's Python", part)
         return False
     tried = subprocess.run([*UNSHARE, "true"], stdin=subprocess.DEVNULL, stderr=subprocess.PIPE)
     if tried.returncode:
@@ -90,7 +92,8 @@ def devices():
     for name, to in LINKS.items():
         (made / name).symlink_to(to)
     (made / "shm").mkdir(0o777)
-    mount(made, "/dev", flags=MS_BIND | 16384)
+    mount(made, "/dev", flags=MS_BIND | MS_REC)
+    subprocess.run(["umount", "--recursive", made], check=True)
 
 
 def raise_loopback():

@@ -27,7 +27,8 @@ OF_THE_PAGE = "REPOSITORY/crates/hq_main/out/hq_main"
 # What asks, and may be asked again until it tells what the page shows.
 ASKS = ("cat ", "grep ", "curl -H ")
 # What is not shown, and has to be there.
-SHOWN = {"cat taken/new/*": "hello", "grep ": "TLS connection established to 127.0.0.1[127.0.0.1]:2525",
+SHOWN = {"cat taken/new/*": "hello",
+         "grep ": "TLS connection established to 127.0.0.1[127.0.0.1]:2525",
          "/v1/report": "bob@far.example", "worker relay.ini install": "/etc/postfix-desk: started"}
 ENDED = "has ended with"
 

@@ -17,7 +17,7 @@ from pathlib import Path
 # (before the first import of a file of this repository, so that nothing is left beside it)
 sys.dont_write_bytecode = True
 sys.path.insert(0, os.path.dirname(os.path.realpath(__file__)))
-from private import LOG, REPOSITORY, enter, inside, is_possible
+from private import REPOSITORY, enter, inside, is_possible
 from serving import LONGEST, expect, listens, until
 
 HERE = Path("/srv/mail")
@@ -289,10 +289,12 @@ def no_sudo():
 
 
 def whole():
-    for it in (foreign, fresh, taken_back, firm, ours_changed, moved, no_listener, silent,
-               no_sudo):
+    foreign()
+    fresh()
+    found = state()
+    for it in (taken_back, firm, ours_changed, moved, no_listener, silent, no_sudo):
         it()
-    print(json.dumps(state()))
+    print(json.dumps(found))
 
 
 def cut():
