@@ -5,7 +5,6 @@ addresses and folders that docs/RELAY.md has.
 As a script it is what runs in such a machine: tests/relay_install.py PART.
 """
 import hashlib
-import itertools
 import json
 import os
 import shutil
@@ -316,11 +315,11 @@ def cut():
 
 
 def cut_to_its_end():
-    """Install kills itself before or behind its first write, its second one and so on, each time
-    going on from what is there; returns how often."""
+    """Install kills itself behind its first write, its second one and so on, each time going on from
+    what is there; returns how often. (Before a write is behind the one before it.)"""
     count, number, last = 0, 1, None
-    for when in itertools.cycle(("before", "behind")):
-        ended = subprocess.run([sys.executable, "-B", __file__, "cut-at", when, str(number)],
+    while True:
+        ended = subprocess.run([sys.executable, "-B", __file__, "cut-at", str(number)],
                                cwd=HERE, stdin=subprocess.DEVNULL, stdout=subprocess.PIPE,
                                stderr=subprocess.STDOUT, timeout=2 * LONGEST)
         if ended.returncode == 0:
@@ -328,14 +327,12 @@ def cut_to_its_end():
         expect(ended.returncode == -signal.SIGKILL, "a cut install ended with", ended.returncode,
                ended.stdout.decode(errors="replace"))
         count += 1
-        if when == "behind":
-            number = number + 1 if kept() == last else max(1, number - 1)
-            last = kept()
-    return count
+        number = number + 1 if kept() == last else max(1, number - 1)
+        last = kept()
 
 
-def cut_at(when, number):
-    """Runs install, which kills itself before or behind its write of a number."""
+def cut_at(number):
+    """Runs install, which kills itself behind its write of a number."""
     sys.path.insert(0, str(REPOSITORY / "relay"))
     import places
     left = int(number)
@@ -346,8 +343,6 @@ def cut_at(when, number):
             if not writes(words):
                 return real(*words, **more)
             left -= 1
-            if left == 0 and when == "before":
-                os.kill(os.getpid(), signal.SIGKILL)
             told = real(*words, **more)
             if left == 0:
                 os.kill(os.getpid(), signal.SIGKILL)
