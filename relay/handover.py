@@ -13,10 +13,10 @@ from typing import Callable, Dict, List, Optional, Set, Tuple
 import log
 from book import Book
 from desk import Away, Desk
+from dsn import clean
 from handed import Attempt, Handed
 from instance import BROKEN, NotTaken, Session
 from names import Names
-from outcomes import clean
 from resting import Resting
 from settings import Settings
 from spool import Spool

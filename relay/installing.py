@@ -16,7 +16,7 @@ from pathlib import Path
 from typing import Iterator, List, Optional
 
 import postfix_lines
-from halves import LISTENER, Half, Target
+from plans import LISTENER, Plan, Target
 from places import Files, Main, Master, NotInstalled, Record, run
 from postfix_lines import Instance, Line
 from settings import Address, Settings, address
@@ -96,11 +96,11 @@ class Installation:
         self.settings = settings
         self.folders = listed()
         self.why_no_rule = lacks_sudo() if settings.postsuper[0] == "sudo" else "by other words"
-        self.front = self.half(settings.front, postfix_lines.front(settings), [])
+        self.front = self.plan_of(settings.front, postfix_lines.front(settings), [])
         self.is_made = settings.delivering in self.folders and not self.front.record.making
-        self.delivering = self.delivering_half()
+        self.delivering = self.plan_of_delivery()
 
-    def delivering_half(self) -> Half:
+    def plan_of_delivery(self) -> Plan:
         user, more = user_of(self.settings), []
         numbers = (user.pw_uid, user.pw_gid) if user else (0, 0)
         lines = postfix_lines.delivering(self.settings, *numbers)
@@ -108,9 +108,9 @@ class Installation:
             where = run("postconf", "-h", "command_directory").stdout.strip()
             rule = Line(rule_of(self.settings, f"{where}/postsuper"), "takes deleted mail back")
             more = [(SUDOERS, {self.settings.user: rule}, 0o440, check_rule)]
-        return self.half(self.settings.delivering, lines, more, self.is_made)
+        return self.plan_of(self.settings.delivering, lines, more, self.is_made)
 
-    def half(self, folder: Path, lines: Instance, more: list, is_there: bool = True) -> Half:
+    def plan_of(self, folder: Path, lines: Instance, more: list, is_there: bool = True) -> Plan:
         record = Record.load(folder) or Record(str(self.settings.folder))
         tables = {name: Line(text, "") for name, text in lines.tables.items()}
         targets = []
@@ -118,8 +118,8 @@ class Installation:
             names = [*wanted, *record.wrote.get(str(where), {})]
             targets.append(Target(Files(where, names, mode, check), wanted))
         targets += [Target(Master(folder), lines.services), Target(Main(folder), lines.parameters)]
-        made = Half(folder, targets, record, is_there)
-        made.plan()
+        made = Plan(folder, targets, record, is_there)
+        made.compare()
         return made
 
     # ---- what is wrong
@@ -144,18 +144,18 @@ class Installation:
         wanted = [it for it in wanted if it]
         for it in sorted({it for it in wanted if wanted.count(it) > 1}):
             yield f"{postfix_lines.named(it)} stands twice in the settings"
-        for half in (self.front, self.delivering):
-            for _, change in half.new_listeners():
+        for plan in (self.front, self.delivering):
+            for _, change in plan.new_listeners():
                 at = address(change.name[:-len(LISTENER)])
                 why = occupied(at)
                 if why:
-                    yield f"{half.folder}: cannot listen at {postfix_lines.named(at)}: {why}"
+                    yield f"{plan.folder}: cannot listen at {postfix_lines.named(at)}: {why}"
 
     def faults_of_records(self) -> Iterator[str]:
-        for half in (self.front, self.delivering):
-            if half.record.spool != str(self.settings.folder):
-                yield (f"{half.folder}: install wrote it for the worker with the spool "
-                       f"{half.record.spool} ({Record.path(half.folder)})")
+        for plan in (self.front, self.delivering):
+            if plan.record.spool != str(self.settings.folder):
+                yield (f"{plan.folder}: install wrote it for the worker with the spool "
+                       f"{plan.record.spool} ({Record.path(plan.folder)})")
         where = self.settings.delivering
         is_own = Record.path(where).exists() or self.front.record.making == str(where)
         if where.exists() and not is_own:
@@ -177,12 +177,12 @@ class Installation:
             self.make_instance()
             self.is_made = True
         # (the number of the user, and what postmulti wrote, are known by now)
-        self.delivering = self.delivering_half()
-        for half in (self.delivering, self.front):
-            for line in half.lines():
+        self.delivering = self.plan_of_delivery()
+        for plan in (self.delivering, self.front):
+            for line in plan.lines():
                 print(line, flush=True)
-            half.apply()
-            half.runs()
+            plan.apply()
+            plan.runs()
 
     def make_user(self) -> None:
         if not user_of(self.settings):

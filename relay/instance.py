@@ -6,18 +6,15 @@ import subprocess
 from dataclasses import dataclass
 from typing import Dict, Set, Tuple
 
+from dsn import OF_POLICY, OF_THE_SYSTEM, STATUS, xtext
 from handed import Attempt
+from postfix_lines import REPORTS
 from settings import Settings
 from spool import Kept
 
 # After these nobody knows whether a message was taken.
 BROKEN = (OSError, smtplib.SMTPException)
-# Where its own reports go. It takes no mail from outside for this address.
-REPORTS = "outcome@desk.invalid"
 QUEUED = re.compile(rb"queued as ([0-9A-Za-z]+)")
-STATUS = re.compile(rb"([245])\.([0-9]{1,3})\.([0-9]{1,3})(?![0-9.])")
-# Subjects of a status (RFC 3463): the system of the instance, and its policy.
-OF_THE_SYSTEM, OF_POLICY = 3, 7
 
 
 class NotTaken(Exception):
@@ -28,18 +25,14 @@ class NotTaken(Exception):
     """
 
     def __init__(self, code: int, text: bytes):
-        super().__init__(f"{code} {text.decode('latin-1')}")
-        found = STATUS.match(text)
+        told = text.decode("latin-1")
+        super().__init__(f"{code} {told}")
+        found = STATUS.match(told)
         subject, detail = (int(found[2]), int(found[3])) if found else (0, 0)
         self.is_of_all = code == 421 or (code < 500 and subject in (0, OF_THE_SYSTEM))
         is_final = code >= 500 and subject not in (0, OF_POLICY)
         self.result = "failed" if is_final else "deferred"
         self.status = f"{5 if is_final else 4}.{subject}.{detail}"
-
-
-def xtext(text: str) -> str:
-    """A text as the value of a parameter (RFC 3461)."""
-    return re.sub(r"[^!-~]|[+=]", lambda found: f"+{ord(found[0]):02X}", text)
 
 
 class Session:

@@ -16,6 +16,7 @@ from aiosmtpd.lmtp import LMTP
 from aiosmtpd.smtp import syntax
 
 import log
+from dsn import from_xtext
 from intake import Asked, Incoming, Intake
 from settings import Settings
 
@@ -28,11 +29,6 @@ CLIENT = re.compile(r"[A-Za-z0-9.:_\[\]-]{1,255}")
 GOING_DOWN = "421 4.3.2 going down"
 # (its own lines tell each command of each client)
 logging.getLogger("mail.log").setLevel(logging.CRITICAL)
-
-
-def from_xtext(text: str) -> str:
-    """The value of a parameter (RFC 3461): `+` and two hexadecimal digits are a byte."""
-    return re.sub(r"\+([0-9A-Fa-f]{2})", lambda found: chr(int(found[1], 16)), text)
 
 
 def parted(argument: Optional[str], names) -> Tuple[Optional[str], Dict[str, str]]:

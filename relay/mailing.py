@@ -12,8 +12,9 @@ from email.mime.text import MIMEText
 from email.utils import formatdate, make_msgid
 from typing import Dict, List, Optional
 
+from dsn import OF_THE_SYSTEM, STATUS
 from handed import Attempt
-from instance import BROKEN, STATUS
+from instance import BROKEN
 from settings import Settings
 from spool import Envelope, Kept
 
@@ -23,8 +24,6 @@ POLICY = email.policy.compat32.clone(linesep="\r\n", max_line_length=LONGEST_LIN
 # A larger message is not returned whole, as Postfix's `bounce_size_limit` has it.
 LARGEST_RETURNED = 50_000
 DONE, REFUSED, ASIDE, LATER = "done", "refused", "aside", "later"
-# The subject of a status that tells of the system (RFC 3463).
-OF_THE_SYSTEM = b"3"
 
 
 @dataclass(frozen=True)
@@ -84,11 +83,12 @@ class Hop:
 
     def judged(self, code: int, text: bytes) -> str:
         """What a refusal of this one notice means."""
-        self.why = f"{code} {text.decode('latin-1')}"
+        told = text.decode("latin-1")
+        self.why = f"{code} {told}"
         if code >= 500:
             return REFUSED
-        found = STATUS.match(text)
-        return ASIDE if code != 421 and found and found[2] != OF_THE_SYSTEM else LATER
+        found = STATUS.match(told)
+        return ASIDE if code != 421 and found and int(found[2]) != OF_THE_SYSTEM else LATER
 
 
 def written(settings: Settings, notice: dict, original: Original) -> bytes:

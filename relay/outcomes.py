@@ -6,11 +6,11 @@ is: so a report counts only for an attempt whose envelope ID it has, and nobody 
 import email
 import email.policy
 import mailbox
-import re
 from email.message import Message
 from typing import Callable, Dict, List, Optional, Tuple
 
 import log
+from dsn import STATUS, clean, from_xtext
 from handed import Attempt, Handed, Outcome, told_of
 from names import Names
 from settings import Settings
@@ -21,17 +21,6 @@ BATCH, LARGEST = 200, 262_144
 ASIDE, MOST_ASIDE = "aside", 100
 # The end of the text of a failure that would have been tried again.
 DEFERRED = " (deferred)"
-LONGEST_TEXT = 1000
-
-
-def clean(text) -> str:
-    """A text in one line, as the desk takes it."""
-    return " ".join(re.sub(r"[^ -~]+", " ", str(text)).split())[:LONGEST_TEXT]
-
-
-def from_xtext(text: str) -> str:
-    return re.sub(r"\+([0-9A-Fa-f]{2})", lambda found: chr(int(found[1], 16)), text)
-
 
 def outcome_of(group: Message) -> Optional[Outcome]:
     """What a group of a report says of its recipient; None where it is still being tried.
@@ -40,8 +29,8 @@ def outcome_of(group: Message) -> Optional[Outcome]:
     """
     kind, _, text = (it.strip() for it in clean(group["Diagnostic-Code"] or "").partition(";"))
     action = clean(group["Action"] or "").lower()
-    found = re.fullmatch(r"[245]\.([0-9]{1,3})\.([0-9]{1,3})", clean(group["Status"] or ""))
-    detail = f"{int(found[1])}.{int(found[2])}" if found else "0.0"
+    found = STATUS.fullmatch(clean(group["Status"] or ""))
+    detail = f"{int(found[2])}.{int(found[3])}" if found else "0.0"
     if action in ("delivered", "relayed", "expanded"):
         result, status = "delivered", f"2.{detail}"
     elif action != "failed":

@@ -1,7 +1,7 @@
 """What the worker wants of Postfix: the lines of the instance that takes mail in, and of the one
 that delivers, each with its reason. `installing` writes them."""
 from dataclasses import dataclass
-from typing import Dict, List
+from typing import Dict
 
 from settings import Address, Settings
 

@@ -63,7 +63,7 @@ class Target:
 
 
 @dataclass
-class Half:
+class Plan:
     """One instance: its folder, its targets, and what install wrote there. Files have to stand
     before the lines that name them, services before their parameters."""
     folder: Path
@@ -72,7 +72,7 @@ class Half:
     is_there: bool = True
     plans: Dict[int, List[Change]] = field(default_factory=dict)
 
-    def plan(self) -> None:
+    def compare(self) -> None:
         for number, target in enumerate(self.targets):
             is_read = self.is_there or isinstance(target.place, Files)
             standing = target.place.standing() if is_read else {}
