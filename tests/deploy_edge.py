@@ -101,9 +101,12 @@ def long_requests(proxy, desk):
 
 def often_at_the_page(proxy):
     """The page has a limit by address, and its calls and other addresses none of that."""
-    with ThreadPoolExecutor(8) as them:
-        found = [it[0] for it in them.map(lambda _: ask(proxy, "GET /style.css HTTP/1.1"), range(200))]
-    expect(set(found) == {200, 429}, "200 times the page is", set(found))
+    with connection(proxy) as client:
+        client.sendall((head("HEAD /style.css HTTP/1.1") + b"\r\n") * 200
+                       + head("HEAD / HTTP/1.1", "Connection: close") + b"\r\n")
+        text = b"".join(iter(lambda: client.recv(65536), b""))
+    found = re.findall(rb"HTTP/1.1 (\d+)", text)
+    expect(len(found) == 201 and set(found) == {b"200", b"429"}, "201 times the page is", set(found))
     done(proxy.ask(*USAGE, ACME), "a call beside the page")
     time.sleep(1)
     expect(ask(proxy, "GET / HTTP/1.1")[0] == 200, "the page, a second later")
@@ -128,6 +131,9 @@ def slow_bodies(proxy):
 def slow_heads(proxy, addresses):
     """Half heads, over TLS and before it, keep no customer and no worker out, and are cut."""
     most = resource.getrlimit(resource.RLIMIT_NOFILE)[1]
+    if most != resource.RLIM_INFINITY and most < 3 * HALF_HEADS:
+        tell(f"{3 * HALF_HEADS} files that a process may have", f"slow heads from {addresses} addresses")
+        return
     resource.setrlimit(resource.RLIMIT_NOFILE, (most, most))
     with ExitStack() as kept:
         them = []
@@ -159,12 +165,14 @@ def keys(proxy):
 def strangers(proxy):
     """Who tries keys is refused soon, costs no customer anything, and is told by the log."""
     time.sleep(1)
-    before = len(proxy.logged())
+    before, begun = len(proxy.logged()), time.monotonic()
     with ThreadPoolExecutor(8) as them:
         jobs = [them.submit(proxy.ask, *USAGE, f"wrongkey{it:08d}") for it in range(300)]
         expect_served(proxy, "beside who tries keys")
         found = [it.result()[0] for it in jobs]
-    expect(set(found) == {401, 429} and found.count(401) < 60, "300 wrong keys get", found.count(401), "401")
+    # (twenty at once and two a second)
+    most = 25 + 2 * (time.monotonic() - begun)
+    expect(set(found) == {401, 429} and found.count(401) < most, "of 300 wrong keys got 401", found.count(401))
     until(lambda: len(proxy.logged()) >= before + 11, "the log of nginx is not written")
     of_them = [it for it in proxy.logged()[before:] if it["uri"] == "/v1/usage"]
     wrong = [it for it in of_them if not it["customer"]]
