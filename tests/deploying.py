@@ -2,6 +2,7 @@
 
 The files are read as they stand. Only addresses, ports and the folders of a machine are replaced.
 """
+import json
 import os
 import re
 import shlex
@@ -16,27 +17,22 @@ from pathlib import Path
 from serving import HEADER, LONGEST, RELAY, Wrong, asked, expect, free_address, listens, named, until
 
 DEPLOY = Path(__file__).resolve().parent.parent / "deploy"
-OUTER = """\
-worker_processes 1;
-pid {folder}/nginx.pid;
-error_log {folder}/error.log;
-events {{ worker_connections 512; }}
-http {{
-  access_log off;
-  client_body_temp_path {folder}/t1;
-  proxy_temp_path {folder}/t2;
-  fastcgi_temp_path {folder}/t3;
-  uwsgi_temp_path {folder}/t4;
-  scgi_temp_path {folder}/t5;
-  include {folder}/hq-desk.conf;
-}}
-"""
+TEMPORARY = "client_body", "proxy", "fastcgi", "uwsgi", "scgi"
 
 
 def settings_of(path):
     """The settings of a unit of systemd, each with its last value."""
-    lines = path.read_text().replace("\\\n", " ").split("\n")
-    return dict(it.split("=", 1) for it in lines if "=" in it and not it.startswith("#"))
+    return {name: values[-1] for name, values in all_settings_of(path).items()}
+
+
+def all_settings_of(path):
+    """The settings of a unit of systemd, each with all its values."""
+    found = {}
+    for line in path.read_text().replace("\\\n", " ").split("\n"):
+        if "=" in line and not line.startswith("#"):
+            name, value = line.split("=", 1)
+            found.setdefault(name, []).append(value)
+    return found
 
 
 def seconds(text):
@@ -47,11 +43,12 @@ def seconds(text):
 class Desk:
     """A desk by its unit, as systemd runs it: whenever it ends it is started again."""
 
-    def __init__(self, folder, program, name, rows):
+    def __init__(self, folder, program, name, rows, address=None):
         self.folder, self.program, self.name, self.more = Path(folder), program, name, {}
         # (so that it is not started again while it is stopped)
         self.turn = threading.Lock()
-        self.address, self.process, self.keeper, self.runs = named(free_address()), None, None, False
+        self.address = address or named(free_address())
+        self.process, self.keeper, self.runs = None, None, False
         self.directory, self.store = self.folder / f"{name}.csv", self.folder / f"{name}.db"
         self.has(rows)
         (self.folder / f"{name}.key").write_text(f"{RELAY}\n")
@@ -147,19 +144,14 @@ def done(found, *told):
     return body
 
 
-class Proxy:
-    """nginx by deploy/nginx.conf, with a certificate of its own, before these desks."""
+class Nginx:
+    """An nginx by a configuration of its own in a folder."""
 
-    def __init__(self, folder, desks, without_limits=False, sessions=""):
-        self.folder, self.desks, self.sessions = Path(folder), desks, sessions
-        self.public, self.inner = named(free_address()), named(free_address())
-        self.folder.mkdir(exist_ok=True)
-        # (its worker is nobody where it is begun by root)
-        self.folder.chmod(0o755)
-        self.certificate()
-        self.configure(without_limits)
-        self.maps()
-        asked_for = ["nginx", "-p", folder, "-c", self.folder / "nginx.conf", "-g", "daemon off;"]
+    def __init__(self, folder, configuration, address):
+        self.folder, self.address = folder, address
+        asked_for = ["nginx", "-e", folder / "begun.log", "-p", folder, "-c", folder / configuration]
+        if "daemon off" not in (folder / configuration).read_text():
+            asked_for += ["-g", "daemon off;"]
         self.process = subprocess.Popen(asked_for, stdin=subprocess.DEVNULL,
                                         stdout=subprocess.DEVNULL, stderr=subprocess.DEVNULL)
         try:
@@ -169,48 +161,13 @@ class Proxy:
             self.stop()
             raise
 
-    def __enter__(self):
-        return self
-
-    def __exit__(self, *_):
-        self.stop()
-
-    def certificate(self):
-        names = ["-subj", "/CN=desk.example", "-addext", "subjectAltName=IP:127.0.0.1"]
-        kind = ["openssl", "req", "-x509", "-newkey", "ec", "-pkeyopt", "ec_paramgen_curve:P-256"]
-        subprocess.run([*kind, "-nodes", "-days", "2", "-keyout", self.folder / "tls.key", "-out",
-                        self.folder / "tls.crt", *names], check=True, stderr=subprocess.DEVNULL)
-        self.context = ssl.create_default_context(cafile=self.folder / "tls.crt")
-
-    def configure(self, without_limits):
-        text = (DEPLOY / "nginx.conf").read_text()
-        first = self.desks[0].address if self.desks else named(free_address())
-        for old, new in (("listen 443", f"listen {self.public}"), ("127.0.0.1:8024", self.inner),
-                         ("127.0.0.1:8025", first), ("/etc/hq", str(self.folder)),
-                         ("/srv/desk/web", str(self.folder / "web"))):
-            expect(old in text, "deploy/nginx.conf has no", old)
-            text = text.replace(old, new)
-        if without_limits:
-            text = re.sub(r"(?m)^ *limit_(req|conn) .*;\n", "", text)
-        (self.folder / "hq-desk.conf").write_text(text)
-        shutil.copy(DEPLOY / "nginx-errors.conf", self.folder)
-        shutil.copytree(DEPLOY.parent / "web", self.folder / "web")
-        (self.folder / "sessions.map").write_text(self.sessions)
-        (self.folder / "nginx.conf").write_text(OUTER.format(folder=self.folder))
-
-    def maps(self):
-        """Writes which desk has whom, by the script."""
-        desks = [f"{it.address}={it.directory}" for it in self.desks]
-        subprocess.run([DEPLOY / "desk-maps", self.folder, *desks], check=True, timeout=LONGEST,
-                       stdout=subprocess.DEVNULL)
-
     def log(self):
-        path = self.folder / "error.log"
+        path = self.folder / "begun.log"
         return path.read_text()[-500:] if path.exists() else ""
 
     def listens(self):
         expect(self.process.poll() is None, "nginx ended:", self.log())
-        host, _, port = self.public.rpartition(":")
+        host, _, port = self.address.rpartition(":")
         return listens((host, int(port)))
 
     def workers(self):
@@ -231,6 +188,106 @@ class Proxy:
             self.process.kill()
             raise Wrong("nginx does not end") from None
 
+
+class Proxy:
+    """nginx for customers, with a certificate of its own, and nginx for workers, before these desks:
+    by the files of deploy/."""
+
+    def __init__(self, folder, desks, without_limits=False, sessions=""):
+        self.folder, self.desks, self.sessions = Path(folder), desks, sessions
+        self.public, self.inner = named(free_address()), named(free_address())
+        self.front = self.back = None
+        self.folder.mkdir(exist_ok=True)
+        # (its worker is another user where it is begun by root)
+        self.folder.chmod(0o755)
+        self.certificate()
+        self.configure(without_limits)
+        self.maps()
+        try:
+            self.start()
+        except BaseException:
+            self.stop()
+            raise
+
+    def __enter__(self):
+        return self
+
+    def __exit__(self, *_):
+        self.stop()
+
+    def certificate(self):
+        names = ["-subj", "/CN=desk.example", "-addext", "subjectAltName=IP:127.0.0.1"]
+        kind = ["openssl", "req", "-x509", "-newkey", "ec", "-pkeyopt", "ec_paramgen_curve:P-256"]
+        subprocess.run([*kind, "-nodes", "-days", "2", "-keyout", self.folder / "tls.key", "-out",
+                        self.folder / "tls.crt", *names], check=True, stderr=subprocess.DEVNULL)
+        self.context = ssl.create_default_context(cafile=self.folder / "tls.crt")
+
+    def put(self, name, to, places):
+        """A file of deploy/ with the addresses and the folders of this test."""
+        text = (DEPLOY / name).read_text()
+        for old, new in places.items():
+            expect(old in text, f"deploy/{name} has no", old)
+            text = text.replace(old, new)
+        (self.folder / to).write_text(text)
+
+    def configure(self, without_limits):
+        folder = str(self.folder)
+        first = self.desks[0].address if self.desks else named(free_address())
+        as_user = "" if os.getuid() else "user www-data;\n"
+        temporary = "".join(f"  {it}_temp_path {folder}/{it};\n" for it in TEMPORARY)
+        self.put("nginx-main.conf", "nginx.conf", {
+            "user www-data;\n": as_user,
+            "/run/nginx.pid": f"{folder}/nginx.pid", "/var/log/nginx": folder,
+            "  include /etc/nginx/conf.d/*.conf;\n": f"{temporary}  include {folder}/hq-desk.conf;\n"})
+        self.put("nginx.conf", "hq-desk.conf", {
+            "listen 443": f"listen {self.public}", "127.0.0.1:825": first, "/etc/hq": folder,
+            "/var/log/nginx": folder, "/srv/desk/web": f"{folder}/web"})
+        self.put("nginx-workers.conf", "nginx-workers.conf", {
+            # (its unit has another user)
+            "worker_processes 1;\n": f"{as_user}worker_processes 1;\n", "127.0.0.1:825": first,
+            "127.0.0.1:824": self.inner, "/etc/hq": folder,
+            "/run/hq-desk-workers": f"{folder}/workers"})
+        for name in ("nginx-errors.conf", "nginx-refusals.conf"):
+            shutil.copy(DEPLOY / name, self.folder)
+        (self.folder / "workers").mkdir(exist_ok=True)
+        (self.folder / "workers").chmod(0o755)
+        if without_limits:
+            path = self.folder / "hq-desk.conf"
+            path.write_text(re.sub(r"(?m)^ *limit_(req|conn) .*;\n", "", path.read_text()))
+        shutil.copytree(DEPLOY.parent / "web", self.folder / "web", dirs_exist_ok=True)
+        (self.folder / "sessions.map").write_text(self.sessions)
+
+    def maps(self):
+        """Writes which desk has whom, by the script."""
+        desks = [f"{it.address}={it.directory}" for it in self.desks]
+        subprocess.run([DEPLOY / "desk-maps", self.folder, *desks], check=True, timeout=LONGEST,
+                       stdout=subprocess.DEVNULL)
+
+    def start(self):
+        self.front = Nginx(self.folder, "nginx.conf", self.public)
+        self.back = Nginx(self.folder, "nginx-workers.conf", self.inner)
+
+    def stop(self):
+        for it in (self.front, self.back):
+            if it:
+                it.stop()
+        self.front = self.back = None
+
+    def restart(self):
+        self.stop()
+        self.start()
+
+    def reload(self):
+        for it in (self.front, self.back):
+            it.reload()
+
+    def with_text(self, old, new):
+        """Has this text in the place of another one in the files of both, and goes by it."""
+        for name in ("hq-desk.conf", "nginx-workers.conf"):
+            path = self.folder / name
+            path.write_text(path.read_text().replace(old, new))
+        self.reload()
+
     def ask(self, method, path, key=None, body=None, **more):
         """A customer asks, over TLS."""
         return asked(self.public, method, path, key, body, self.context, **more)
@@ -238,3 +295,7 @@ class Proxy:
     def relay(self, path, body=None):
         """A worker asks, on loopback."""
         return asked(self.inner, "POST", path, RELAY, body)
+
+    def logged(self):
+        """The lines of the log of customers' nginx."""
+        return [json.loads(it) for it in (self.folder / "hq-desk.log").read_text().splitlines()]

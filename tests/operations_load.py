@@ -1,5 +1,7 @@
 """What workers and customers ask through nginx while something is done to the desks behind it."""
+import http.client
 import json
+import ssl
 import threading
 import time
 from typing import Dict, List, NamedTuple, Set
@@ -20,10 +22,12 @@ class Accepted(NamedTuple):
 
 
 class Load:
-    """A worker and a customer for each of these, given as key by name, until the block ends."""
+    """A worker and a customer for each of these, given as key by name, until the block ends. Where
+    nginx `restarts`, connections may be cut."""
 
-    def __init__(self, proxy, customers: Dict[str, str], mark: str):
+    def __init__(self, proxy, customers: Dict[str, str], mark: str, restarts=False):
         self.proxy, self.customers, self.mark = proxy, customers, mark
+        self.cut = (ConnectionError, ssl.SSLError, http.client.HTTPException) if restarts else ()
         self.runs, self.wrong = True, []
         self.accepted: List[Accepted] = []
         # (status and moment of each reply that was not 200)
@@ -59,12 +63,16 @@ class Load:
             self.wrong.append(f"the load of {name}: {fault!r}")
 
     def answered(self, ask, pause):
-        """The body of a reply; what is 502 is asked again, since nobody knows if it was done."""
+        """The body of a reply; what is 502 or cut is asked again, since nobody knows if it was done."""
         while True:
-            status, body = ask()
+            try:
+                status, body = ask()
+            except self.cut:
+                status, body = None, None
             if status == 200:
                 return body
-            expect(status == 502 and body == {"name": "DeskAway", "proxy": 502}, status, body)
+            expect(status in (502, None) and body in ({"name": "DeskAway", "proxy": 502}, None),
+                   status, body)
             self.others.append((status, time.monotonic()))
             time.sleep(pause)
 

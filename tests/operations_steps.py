@@ -1,7 +1,7 @@
 """The procedures of docs/PRODUCTION.md, each run by the very lines that the page shows.
 
-What calls systemctl or nginx is done to the desks and the nginx of the test; all else is run by a
-shell, with the folders and addresses of the test.
+What calls systemctl is done to the desks and the two nginx of the test; all else is run by a shell,
+with the folders and addresses of the test.
 """
 import re
 import subprocess
@@ -28,7 +28,7 @@ class Place:
         self.proxy, self.desks = proxy, {it.name: it for it in desks}
         there = {"/etc/hq": folder, "/var/lib/hqdesk": folder, "/opt/hq/deploy": DEPLOY,
                  "/opt/hq/hq_main": program, "runuser -u hqdesk -- ": ""}
-        shown = {f"127.0.0.1:{8025 + it}": desk.address for it, desk in enumerate(desks)}
+        shown = {f"127.0.0.1:{825 + it}": desk.address for it, desk in enumerate(desks)}
         self.here = {**there, **shown}
 
     def run(self, title, after_stop=lambda: None, **names):
@@ -47,15 +47,23 @@ class Place:
         return stopped, time.monotonic() - stopped - paused
 
     def step(self, line, names):
-        if line == "nginx -s reload":
-            self.proxy.reload()
+        if line == "nginx -t":
+            self.of_shell(f"nginx -t -p {self.proxy.folder} -c {self.proxy.folder}/nginx.conf", names)
         elif line.startswith("systemctl "):
             _, verb, *units = line.split()
-            self.of_systemctl(verb, [self.desks[it.partition("@")[2]] for it in units])
+            if "nginx" in units:
+                self.of_nginx(verb, units)
+            else:
+                self.of_desks(verb, [self.desks[it.partition("@")[2]] for it in units])
         else:
             self.of_shell(line, names)
 
-    def of_systemctl(self, verb, desks):
+    def of_nginx(self, verb, units):
+        expect(sorted(units) == ["hq-desk-workers", "nginx"], "one nginx of two is left out:", units)
+        expect(verb in ("reload", "restart"), "no such step:", verb)
+        (self.proxy.reload if verb == "reload" else self.proxy.restart)()
+
+    def of_desks(self, verb, desks):
         expect(verb in ("stop", "start", "restart"), "no such step:", verb)
         for it in desks if verb != "start" else []:
             it.stop()
@@ -66,6 +74,6 @@ class Place:
         for it, value in self.here.items():
             line = line.replace(it, str(value))
         found = subprocess.run(["sh", "-euc", line], stdin=subprocess.DEVNULL, capture_output=True,
-                               text=True, timeout=LONGEST, env={"PATH": "/usr/bin:/bin", **names})
+                               text=True, timeout=LONGEST, env={"PATH": "/usr/bin:/bin:/usr/sbin", **names})
         if found.returncode:
             raise Wrong(line, "ended with", found.returncode, found.stderr)

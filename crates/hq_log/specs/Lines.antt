@@ -1,7 +1,8 @@
 -- A line of a log: an object of JSON, its members in the order of their names, and LF (10).
-use Rattle.std.specs.Prelude.{ℕ, ◌==◌, ◌&&◌, ◌-◌, Bool, true, false, List, [], ◌∷◌, ◌++◌, take}
-use Rattle.std.specs.Prelude.{length, codes, Option, Some, None, option_map, option_and_then}
-use Rattle.std.specs.Prelude.{bytes_eq, if◌then◌else◌}
+use Rattle.std.specs.Prelude.{ℕ, ◌==◌, ◌&&◌, ◌||◌, ◌-◌, Bool, true, false, List, [], ◌∷◌, ◌++◌}
+use Rattle.std.specs.Prelude.{take, length, codes, nat_le, nat_lt, Option, Some, None, option_map}
+use Rattle.std.specs.Prelude.{option_and_then, bytes_eq, if◌then◌else◌}
+use Rattle.std.specs.Fmt.Cut.{floor_char_boundary}
 use Rattle.serde_json.specs.Data.{Data, null, string}
 use Rattle.serde_json.specs.Find.{get, as_number, as_u64}
 use Rattle.serde_json.specs.Written.{compact_text}
@@ -35,9 +36,23 @@ abbrev pub number_or_null : Option ℕ → Data
 number_or_null None = null
 number_or_null (Some n) = count n
 
+-- how many bytes of a text stand in a line at most
+abbrev pub most_shown : ℕ
+most_shown = 256
+
+-- what stands of a text: all of it, or the characters that end within so many bytes
+unfoldable pub shown : List ℕ → List ℕ
+shown text = if nat_le (length text) most_shown then text else
+    take (floor_char_boundary text most_shown) text
+
+-- a text that is there does not stand whole
+abbrev pub is_long : Option (List ℕ) → Bool
+is_long None = false
+is_long (Some text) = nat_lt most_shown (length text)
+
 abbrev pub text_or_null : Option (List ℕ) → Data
 text_or_null None = null
-text_or_null (Some text) = string text
+text_or_null (Some text) = string (shown text)
 
 -- the number of the refusal or the fault that a body tells
 abbrev pub error_in : List ℕ → Option ℕ
@@ -69,13 +84,25 @@ is_sweep_path (Some path) = bytes_eq path (codes "/relay/sweep")
 abbrev pub is_sweep_of_all : LogEntry → Bool
 is_sweep_of_all e = e.status == 200 && is_sweep_path e.path
 
--- an object's text with what was told of each customer as its last member
-abbrev pub with_told : List ℕ → List ℕ → List ℕ
-with_told object body = take (length object - 1) object ++ codes ",\"told\":" ++ body ++ codes "}"
+-- an object's text with one more member behind the others, which begins so and has this value
+abbrev pub with_last : List ℕ → List ℕ → List ℕ → List ℕ
+with_last start value object = take (length object - 1) object ++ start ++ value ++ codes "}"
+
+-- the method or the path does not stand whole
+abbrev pub is_cut : LogEntry → Bool
+is_cut e = is_long e.method || is_long e.path
+
+-- a line says that something of it is cut
+abbrev pub cut_told : LogEntry → List ℕ → List ℕ
+cut_told e object = if is_cut e then with_last (codes ",\"cut\":") (codes "true") object else object
+
+-- what was told of each customer is the last member of the line of a sweep of all
+abbrev pub sweep_told : LogEntry → List ℕ → List ℕ
+sweep_told e object = if is_sweep_of_all e then with_last (codes ",\"told\":") e.body object else
+    object
 
 abbrev pub log_text : LogEntry → List ℕ
-log_text e = if is_sweep_of_all e then with_told (compact_text (log_members e)) e.body else
-    compact_text (log_members e)
+log_text e = sweep_told e (cut_told e (compact_text (log_members e)))
 
 abbrev pub log_line : LogEntry → List ℕ
 log_line e = log_text e ++ 10 ∷ []

@@ -10,6 +10,9 @@ use hq_envelope::Moment;
 use serde_json::{Value, json};
 use std::alloc::{AllocError, Global};
 
+/// How many bytes of a text stand in a line at most: more than any path of the desk has.
+const MOST_SHOWN: usize = 256;
+
 /// What a line tells of an exchange.
 #[derive(Clone, Copy, Drop)]
 pub struct Entry<'e> {
@@ -19,7 +22,8 @@ pub struct Entry<'e> {
     pub customer: Option<&'e str>,
     /// The method; `None` where it could not be read.
     pub method: Option<&'e str>,
-    /// The path, as it stands; `None` where it could not be read.
+    /// The path, as it stands; `None` where it could not be read. A line has the first 256 bytes of
+    /// it, and of the method, and says where that is not all.
     pub path: Option<&'e str>,
     /// The status of the reply.
     pub status: u16,
@@ -30,13 +34,45 @@ pub struct Entry<'e> {
     pub milliseconds: Option<u64>,
 }
 
-/// A text, or null.
+/// What stands of a text in a line: all of it, or the characters that end within 256 bytes.
+fn shown(text: &str) -> &str
+    ensures { result.now ≡ lines.shown text.now }
+{
+    if text.len() <= MOST_SHOWN {
+        return text;
+    }
+    text.split_at(text.floor_char_boundary(MOST_SHOWN)).0
+}
+
+/// Whether a text that is there does not stand whole in a line.
+fn is_long(text: Option<&str>) -> bool
+    ensures { result ≡ lines.is_long (option_map (λ t. t.now) text.entry) }
+{
+    match text {
+        None => false,
+        Some(text) => text.len() > MOST_SHOWN,
+    }
+}
+
+/// Puts a member behind the others of an object's text; `start` is all of it before its value.
+fn add_last(object: &mut Vec<u8>, start: &str, value: &[u8]) -> Result<(), AllocError>
+    ensures { IfOk result (λ _. object.new.items
+        ≡ lines.with_last start.now value.now object.old.items) }
+{
+    object.pop();
+    object.extend_from_slice(start.as_bytes())?;
+    object.extend_from_slice(value)?;
+    object.push(b'}')?;
+    Ok(())
+}
+
+/// What is shown of a text, or null.
 fn text_value(alloc: Global, text: Option<&str>) -> Result<Value, AllocError>
     ensures { IfOk result (λ v. view v ≡ lines.text_or_null (option_map (λ t. t.now) text.entry)) }
 {
     match text {
         None => Ok(Value::Null),
-        Some(text) => Value::try_from_str(alloc, text),
+        Some(text) => Value::try_from_str(alloc, shown(text)),
     }
 }
 
@@ -89,7 +125,14 @@ impl Entry<'_> {
         self.status == 200 && matches!(self.path, Some("/relay/sweep"))
     }
 
-    /// All but what was told of a sweep of all.
+    /// Whether its method or its path does not stand whole in the line.
+    fn is_cut(&self) -> bool
+        ensures { result ≡ lines.is_cut (lines.entry_seen self.now) }
+    {
+        is_long(self.method) || is_long(self.path)
+    }
+
+    /// All but that something is cut, and what was told of a sweep of all.
     #[tactic(auto, unfolding(crate::specs::Lines::log_members))]
     fn members(&self, alloc: Global) -> Result<Value, AllocError>
         ensures { IfOk result (λ v. view v ≡ lines.log_members (lines.entry_seen self.now)) }
@@ -120,11 +163,11 @@ impl Entry<'_> {
         ensures { IfOk result (λ bytes. bytes.items ≡ lines.log_line (lines.entry_seen self.now)) }
     {
         let mut line = self.members_text(alloc)?;
+        if self.is_cut() {
+            add_last(&mut line, ",\"cut\":", b"true")?;
+        }
         if self.is_sweep_of_all() {
-            line.pop();
-            line.extend_from_slice(b",\"told\":")?;
-            line.extend_from_slice(self.body)?;
-            line.push(b'}')?;
+            add_last(&mut line, ",\"told\":", self.body)?;
         }
         line.push(b'\n')?;
         Ok(line)
