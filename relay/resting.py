@@ -10,6 +10,8 @@ from typing import Dict, Iterable, List
 
 # So many messages may be under way to a domain: as long as none was answered, and after that.
 UNPROVEN, PROVEN = 2, 100
+# A domain that has answered rests behind so many failures in a row, any other one behind the first.
+MOST_FAILURES = 10
 # A rest doubles with each further failure, up to so many seconds: the desk's longest wait.
 LONGEST = 4000.0
 # Beyond so many domains those that are idle are forgotten.
@@ -22,6 +24,7 @@ OF_THE_CONNECTION, NOT_AVAILABLE = "4.4.", "421"
 class Domain:
     under_way: int = 0
     is_proven: bool = False
+    failures: int = 0
     rest: float = 0.0
     until: float = 0.0
 
@@ -72,12 +75,17 @@ class Resting:
                 is_dead = outcome["result"] == "deferred" and (
                     outcome["status"].startswith(OF_THE_CONNECTION)
                     or outcome["text"].startswith(NOT_AVAILABLE))
-                if not is_dead:
-                    found.is_proven, found.rest, found.until = True, 0.0, 0.0
-                elif now >= found.until:
-                    found.rest = min(LONGEST, max(self.first, 2 * found.rest))
-                    found.is_proven, found.until = False, now + found.rest
+                if is_dead:
+                    self.fail(found, now)
+                else:
+                    found.is_proven, found.failures, found.rest, found.until = True, 0, 0.0, 0.0
             self.forget(now)
+
+    def fail(self, domain: Domain, now: float) -> None:
+        domain.failures += 1
+        if now >= domain.until and domain.failures >= (MOST_FAILURES if domain.is_proven else 1):
+            domain.rest = min(LONGEST, max(self.first, 2 * domain.rest))
+            domain.is_proven, domain.failures, domain.until = False, 0, now + domain.rest
 
     def forget(self, now: float) -> None:
         """Drops the domains that are idle, once there are many."""

@@ -98,4 +98,21 @@ def next_hop_away(program, shared):
     return len(away) + 1
 
 
-TIME = [hanging_holds_up_nobody, late_and_given_up, next_hop_away]
+def one_failure(program, shared):
+    """One message of a domain that answers is turned away as by a host that is down: the rest of its
+    mail goes on."""
+    with Relay(program, shared, settings={"delivery": {"rest": "3600"}}) as it:
+        shared.good.answer = lambda to: "421 4.3.2 down" if to.startswith("s") else "250 2.1.5 ok"
+        it.intake()
+        it.run("deliver")
+        names = [f"{one}@good.example" for one in ("a", "b", "s", "c", "d")]
+        for one in names:
+            it.take("acme", one)
+            it.postfix.empty()
+            until(lambda: it.desk.own("acme", "GET", "/v1/report")["report"].count(one) == (one[0] == "s")
+                  and one in shared.good.asked, f"{one} is not tried")
+        until(lambda: it.desk.usage("acme")["delivered"] == 4, "the mail of the domain does not go on")
+    return len(names)
+
+
+TIME = [one_failure, hanging_holds_up_nobody, late_and_given_up, next_hop_away]
