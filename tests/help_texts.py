@@ -55,8 +55,8 @@ Options:
       --store <FILE>               The file that keeps what is done, a database of SQLite, made
                                    where it is missing. By default the desk stands in memory,
                                    and is empty at first. Example: --store desk.db
-      --listen <ADDRESS>           The address to listen on: an IP address and a port. With port 0
-                                   a free one is taken. Example: --listen 127.0.0.1:8025 [default: 127.0.0.1:8025]
+      --listen <ADDRESS>           The address to listen on: an IP address and a port, with port 0
+                                   a free one; or unix: and a path. Example: --listen 127.0.0.1:8025 [default: 127.0.0.1:8025]
       --count <N>                  How many connections are served before it ends, 1 to 1000000.
                                    Example: --count 100 [default: 1000000]
       --idle-timeout <SECONDS>     How long a client may take for one read or one write,

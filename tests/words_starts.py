@@ -130,11 +130,13 @@ def checks_are_those_of_a_start(runs):
 
 
 def addresses_are_refused(runs):
-    """A text that is no address, and an address that another socket has; it is looked at when a store is open."""
+    """A text that is no address, an address that another socket has, and a path where no socket can be; it is looked at when a
+    store is open."""
     with socket.create_server(("127.0.0.1", 0)) as taken:
         port = taken.getsockname()[1]
         for listen in ("localhost:8025", "127.0.0.1", "127.0.0.1:", ":8025", "8025", "127.0.0.1:70000", "127.0.0.1:-1",
-                       "256.0.0.1:8025", "::1:8025", " 127.0.0.1:8025", "", f"127.0.0.1:{port}"):
+                       "256.0.0.1:8025", "::1:8025", " 127.0.0.1:8025", "", f"127.0.0.1:{port}", "unix:", "Unix:desk.sock",
+                       "unix:none/desk.sock", "unix:customers.csv", f"unix:{'x' * 108}"):
             runs.expect(serve(listen=listen), 1, b"", b"hq: network\n")
 
 

@@ -3,20 +3,20 @@
 ghost use Rattle.std.specs.Prelude.{◌≡◌};
 ghost use Rattle.hq_serve.specs.Listening.{connections_left, Accepts};
 
+use crate::sockets::{Listener, Stream};
 use std::io;
-use std::net::{TcpListener, TcpStream};
 
 /// A listening socket, and how many connections are still to come to it: one less for each that is
 /// accepted, and nothing else changes that number.
 #[derive(Drop)]
 pub struct Connections {
-    listener: TcpListener,
+    listener: Listener,
     left: u32,
 }
 
 impl Connections {
     /// So many connections of a socket.
-    pub fn new(listener: TcpListener, count: u32) -> Connections
+    pub fn new(listener: Listener, count: u32) -> Connections
         ensures { connections_left result ≡ count }
     {
         Connections {
@@ -33,13 +33,13 @@ impl Connections {
     }
 
     /// The next one; `None` where no more are to come. An error tells that none could be accepted.
-    pub(crate) fn accept(&mut self) -> io::Result<Option<TcpStream>>
+    pub(crate) fn accept(&mut self) -> io::Result<Option<Stream>>
         ensures { Accepts self.old self.new result }
     {
         if self.left == 0 {
             return Ok(None);
         }
-        let (stream, _) = self.listener.accept()?;
+        let stream = self.listener.accept()?;
         self.left -= 1;
         Ok(Some(stream))
     }

@@ -5,8 +5,8 @@ ghost use Rattle.std.specs.Duration.{as_nanos};
 ghost use Rattle.std.specs.Time.{instant_nanos};
 ghost use Rattle.hq_serve.specs.Deadlines.{IsDeadline, IsFixed};
 
+use crate::sockets::Stream;
 use std::io::{self, ErrorKind, Read, Write};
-use std::net::{Shutdown, TcpStream};
 use std::rt::Clock;
 use std::time::{Duration, Instant};
 
@@ -27,7 +27,7 @@ pub(crate) enum Until {
 #[derive(Drop)]
 pub(crate) struct Due<'s, C> {
     /// The stream; its own limits of time are set before each read and each write.
-    pub stream: &'s TcpStream,
+    pub stream: &'s Stream,
     /// What tells the time.
     pub clock: &'s C,
     /// How long one read or one write may take; of zero, each fails with `TimedOut`.
@@ -85,22 +85,21 @@ impl<C: Clock> Due<'_, C> {
 
 impl<C: Clock> Read for Due<'_, C> {
     fn read(&mut self, buf: &mut [u8]) -> io::Result<usize> {
-        let mut stream = self.stream;
-        stream.set_read_timeout(Some(self.left()?))?;
+        let stream = self.stream;
+        stream.set_read_timeout(self.left()?)?;
         stream.read(buf)
     }
 }
 
 impl<C: Clock> Write for Due<'_, C> {
     fn write(&mut self, buf: &[u8]) -> io::Result<usize> {
-        let mut stream = self.stream;
-        stream.set_write_timeout(Some(self.left()?))?;
+        let stream = self.stream;
+        stream.set_write_timeout(self.left()?)?;
         stream.write(buf)
     }
 
     fn flush(&mut self) -> io::Result<()> {
-        let mut stream = self.stream;
-        stream.flush()
+        Ok(())
     }
 }
 
@@ -110,8 +109,8 @@ impl<C: Clock> Write for Due<'_, C> {
 /// A stream that is closed before all bytes of its client are read is reset, and the response may
 /// be lost on its way. An error tells that the stream or the clock failed, or that the client sent
 /// nothing for what was left of the second.
-pub(crate) fn linger<C: Clock>(clock: &C, stream: &TcpStream) -> io::Result<()> {
-    stream.shutdown(Shutdown::Write)?;
+pub(crate) fn linger<C: Clock>(clock: &C, stream: &Stream) -> io::Result<()> {
+    stream.end_writing()?;
     let second = Duration::from_secs(1);
     let mut rest = Due {
         stream,

@@ -5,9 +5,13 @@
 mod connections;
 mod due;
 mod listening;
+mod places;
 mod serving;
+mod sockets;
 
 pub use connections::Connections;
 pub use hq_base::EngineFault;
 pub use listening::{End, Limits, serve_on};
+pub use places::{Place, bind};
 pub use serving::serve_one;
+pub use sockets::Listener;

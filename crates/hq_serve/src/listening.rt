@@ -5,6 +5,7 @@ ghost use Rattle.hq_serve.specs.Listening.{connections_left, DoesSome, ServesCom
 use crate::connections::Connections;
 use crate::due::{Due, Until, linger};
 use crate::serving::serve_one;
+use crate::sockets::Stream;
 use hq_base::EngineFault;
 use hq_desk::Desk;
 use hq_envelope::Moment;
@@ -13,7 +14,6 @@ use hq_store::Shelf;
 use hq_wire::Directory;
 use std::alloc::Global;
 use std::io::{BufWriter, Read, Write};
-use std::net::TcpStream;
 use std::rt::Clock;
 use std::time::{Duration, SystemTime};
 
@@ -84,7 +84,7 @@ fn serve_gathered<R: Read, W: Write + Drop, S: Shelf + Drop, L: Log>(
 /// Serves one connection within its limits, and where that ends well, lets the client end its side.
 fn serve_stream<C: Clock + AllocGlobal, S: Shelf + Drop, L: Log>(
     rt: &C,
-    stream: &TcpStream,
+    stream: &Stream,
     limits: Limits,
     desk: &mut Desk<S>,
     directory: &Directory,

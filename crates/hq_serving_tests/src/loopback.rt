@@ -5,7 +5,7 @@ use crate::desk::open;
 use crate::exchanges::{EMPTY, TOO_LONG, USAGE};
 use hq_envelope::Fail as Failure;
 use hq_log::NoLog;
-use hq_serve::{Connections, End, Limits, serve_on};
+use hq_serve::{Connections, End, Limits, Listener, serve_on};
 use std::io::{self, Read, Write};
 use std::net::{Net, Shutdown, TcpListener, TcpStream};
 use std::process::Abort;
@@ -54,7 +54,7 @@ struct Outcome {
 fn served(rt: &HostRuntime, listener: TcpListener, count: u32) -> Result<Outcome, Failure> {
     let mut office = open(rt.alloc())?;
     let mut errors = Vec::new(rt.alloc());
-    let mut connections = Connections::new(listener, count);
+    let mut connections = Connections::new(Listener::Tcp(listener), count);
     let end = serve_on(
         rt,
         &mut connections,

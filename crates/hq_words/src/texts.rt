@@ -126,8 +126,8 @@ where it is missing. By default the desk stands in memory,
 and is empty at first. Example: --store desk.db";
 
 pub(crate) const LISTEN: &str = "\
-The address to listen on: an IP address and a port. With port 0
-a free one is taken. Example: --listen 127.0.0.1:8025";
+The address to listen on: an IP address and a port, with port 0
+a free one; or unix: and a path. Example: --listen 127.0.0.1:8025";
 
 pub(crate) const COUNT: &str = "\
 How many connections are served before it ends, 1 to 1000000.

@@ -24,3 +24,12 @@ loop-stream-preserved g c =
     c.args.desk.now
     c.loop-stream.desk c.serve_stream-served.new.desk c.loop-stream.invariant came.0
     (ap connections_left came.1) c.serve_stream-served.ensures
+
+pub loop-stream-preserved-in-Some : goal.loop-stream-preserved-in-Some
+loop-stream-preserved-in-Some g c =
+    let came = rw c.in-Ok-Some.field-0-is at c.in-Ok-Some.ensures in
+    one_more g.S.Shelf.sight c.args.directory.now (connections_left c.args.connections.now)
+    (connections_left c.loop-stream.connections) (connections_left c.accept.new.self)
+    c.args.desk.now
+    c.loop-stream.desk c.serve_stream-served.new.desk c.loop-stream.invariant came.0
+    (ap connections_left came.1) c.serve_stream-served.ensures
