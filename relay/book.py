@@ -3,7 +3,8 @@
 What a call has written is synced to the disk when it returns. The tables:
 
 `names`: spool names that were taken, and what was answered; a record outlives the MTA's retries.
-`finished` are those of which all was told, `gone` is since when one is in no list of the desk.
+`finished` are those of which all was told (2: its notices are still to be mailed), `gone` is since
+when one is in no list of the desk.
 `messages`: which spool name a queue ID of the desk stands for.
 `journal`: outcomes that the desk was not told yet.
 `handed`: attempts that were handed over to the Postfix that delivers (`handed.py`).
@@ -46,6 +47,8 @@ CREATE TABLE IF NOT EXISTS waiting (
 """
 # How many seconds a thread waits for another one's writing.
 LONGEST_WAIT = 60
+# So many notices of deliveries may wait for each customer.
+MOST_WAITING = 1000
 
 
 @dataclass(frozen=True)
@@ -60,10 +63,9 @@ class Report:
 
 @dataclass(frozen=True)
 class Waiting:
-    """A notice that was set aside, as a mail: since when, and when it was tried last (0: never)."""
+    """A notice that was set aside: since when, and when it was tried last (0: never)."""
     name: str
     recipient: str
-    content: bytes
     since: float
     tried: float
 
@@ -133,18 +135,21 @@ class Book:
         asked = "SELECT spool FROM messages WHERE customer = ? AND id = ? AND at >= ?"
         return self.one(asked, customer, id, since)
 
-    def finished(self, spool: str) -> None:
-        """The message left the queue by its last outcome, and its notices were mailed."""
-        with self.writing() as database:
-            database.execute("UPDATE names SET finished = 1 WHERE spool = ?", (spool,))
+    def all_mailed(self, customer: str) -> None:
+        """No notice of a customer waits: its messages that left the queue by a failure are finished."""
+        asked = "SELECT 1 FROM names WHERE customer = ? AND finished = 2 LIMIT 1"
+        if self.one(asked, customer):
+            with self.writing() as database:
+                database.execute(
+                    "UPDATE names SET finished = 1 WHERE customer = ? AND finished = 2", (customer,))
 
     def is_finished(self, spool: str) -> bool:
-        return bool(self.one("SELECT finished OR cleaned FROM names WHERE spool = ?", spool))
+        return bool(self.one("SELECT finished = 1 OR cleaned FROM names WHERE spool = ?", spool))
 
     def uncleaned(self, customer: str) -> Dict[str, Tuple[bool, Optional[int]]]:
         """The customer's names whose content was not cleaned away: whether they are finished, and
         since when they are gone."""
-        asked = "SELECT spool, finished, gone FROM names WHERE customer = ? AND NOT cleaned"
+        asked = "SELECT spool, finished = 1, gone FROM names WHERE customer = ? AND NOT cleaned"
         rows = self.database().execute(asked, (customer,))
         return {spool: (bool(finished), gone) for spool, finished, gone in rows}
 
@@ -194,13 +199,14 @@ class Book:
 
     def all_reported(self, told: List[Tuple[Report, bool]]) -> None:
         """The outcomes of these names need not be told any more; of some the message left the
-        queue by it, and there is no notice to be mailed."""
+        queue by it."""
         with self.writing() as database:
             for report, is_last in told:
                 self.forget_report(database, report)
+                is_failure = any(it["result"] == "failed" for it in report.outcomes)
                 if is_last:
-                    database.execute("UPDATE names SET finished = 1 WHERE spool = ?",
-                                     (report.spool,))
+                    database.execute("UPDATE names SET finished = ? WHERE spool = ?",
+                                     (2 if is_failure else 1, report.spool))
 
     @staticmethod
     def journal(database, report: Report) -> None:
@@ -222,8 +228,10 @@ class Book:
         if not rows:
             return None
         id, attempt, _ = rows[0]
-        outcomes = [it for row in rows for it in json.loads(row[2])]
-        return Report(customer, spool, id, attempt, outcomes)
+        outcomes: Dict[str, Dict[str, str]] = {}
+        for it in (it for row in rows for it in json.loads(row[2])):
+            outcomes.setdefault(it["recipient"].lower(), it)
+        return Report(customer, spool, id, attempt, list(outcomes.values()))
 
     def untold(self, customer: str) -> List[str]:
         """The names whose outcomes the desk was not told."""
@@ -251,20 +259,24 @@ class Book:
         now = time.time()
         with self.writing() as database:
             self.pass_by(database, customer, number)
-            self.wait(database, customer,
-                      Waiting(f"{customer}/{number}", recipient, content, now, now))
+            self.wait(database, customer, Waiting(f"{customer}/{number}", recipient, now, now),
+                      content)
 
-    def wait_with(self, customer: str, name: str, recipient: str, content: bytes) -> None:
-        """A notice of the worker's own waits to be mailed: one of each name."""
+    def wait_with(self, customer: str, name: str, recipient: str, content: bytes) -> bool:
+        """A notice of the worker's own waits to be mailed: one of each name. Not if too many do."""
         with self.writing() as database:
-            self.wait(database, customer, Waiting(name, recipient, content, time.time(), 0))
+            count, = database.execute("SELECT COUNT(*) FROM waiting WHERE customer = ?",
+                                      (customer,)).fetchone()
+            if count < MOST_WAITING:
+                self.wait(database, customer, Waiting(name, recipient, time.time(), 0), content)
+            return count < MOST_WAITING
 
     @staticmethod
-    def wait(database, customer: str, it: Waiting) -> None:
+    def wait(database, customer: str, it: Waiting, content: bytes) -> None:
         database.execute(
             "INSERT OR IGNORE INTO waiting (name, customer, recipient, content, since, tried) "
             "VALUES (?, ?, ?, ?, ?, ?)",
-            (it.name, customer, it.recipient, it.content, it.since, it.tried))
+            (it.name, customer, it.recipient, content, it.since, it.tried))
 
     @staticmethod
     def pass_by(database, customer: str, number: int) -> None:
@@ -283,9 +295,13 @@ class Book:
 
     def waiting(self, customer: str) -> List[Waiting]:
         """The customer's notices that were set aside, the oldest first."""
-        asked = ("SELECT name, recipient, content, since, tried FROM waiting WHERE customer = ? "
+        asked = ("SELECT name, recipient, since, tried FROM waiting WHERE customer = ? "
                  "ORDER BY since, name")
         return [Waiting(*it) for it in self.database().execute(asked, (customer,)).fetchall()]
+
+    def content_of(self, name: str) -> bytes:
+        """A notice that was set aside, as a mail."""
+        return self.one("SELECT content FROM waiting WHERE name = ?", name) or b""
 
     def tried(self, name: str) -> None:
         with self.writing() as database:

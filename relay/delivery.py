@@ -1,9 +1,9 @@
 """Delivery: what is due is handed over, what became of it is told, and customers are swept.
 
-There is a thread for each session with the instance that delivers, one that reads its reports, and
-one that mails notices, sweeps and cleans. A customer whose calls fail holds up no other.
+Customers have turns at the sessions with the instance that delivers, at the desk, and at the next
+hop of notices, in some threads each. One thread reads the reports of the instance, and one sweeps
+and cleans. What hangs or fails for one customer holds up no other.
 """
-import sqlite3
 import threading
 import time
 from typing import Callable, Dict, List
@@ -11,7 +11,7 @@ from typing import Callable, Dict, List
 import log
 from book import Book
 from cleaning import Cleaning
-from desk import Away, Desk, Refused
+from desk import Away, Desk
 from handed import Attempt, Handed
 from handover import Handover
 from missing import Missing
@@ -22,17 +22,19 @@ from reports import Reports
 from resting import Resting
 from settings import Customer, Settings
 from spool import Spool
+from turns import Turns
 
 # How many seconds lie between two looks at the reports.
 BETWEEN_LOOKS = 0.1
 # At this age, in seconds, a sweep gives a message up.
 GIVEN_UP = 432_000
-FAULTS = (Refused, OSError, sqlite3.Error)
+# Threads that mail notices.
+MAILING = 2
 
 
 class Delivery:
     def __init__(self, settings: Settings, desk: Desk, spool: Spool, book: Book):
-        self.settings, self.desk, self.spool, self.book = settings, desk, spool, book
+        self.settings, self.desk, self.book = settings, desk, book
         self.handed, self.resting = Handed(book), Resting(settings.rest)
         self.names = Names(desk, spool, book)
         self.notices = Notices(settings, desk, spool, self.handed, self.names)
@@ -41,27 +43,36 @@ class Delivery:
         # Outcomes, notices, sweeps and clean-up of a customer wait for each other.
         self.locks = {it: threading.Lock() for it in settings.customers}
         self.ending = threading.Event()
-        self.handover = Handover(settings, desk, spool, self.handed, self.names, self.resting,
-                                 self.tell)
-        self.outcomes = Outcomes(settings, self.handed, self.names, self.tell, self.ended)
+        self.handover = Handover(settings, desk, spool, self.handed, self.names, self.resting)
+        self.telling = Turns(settings.sessions, settings.pause, self.tell)
+        self.mailing = Turns(MAILING, settings.pause, self.mail)
+        self.turns = [self.handover.turns, self.telling, self.mailing]
+        self.outcomes = Outcomes(settings, self.handed, self.names, self.telling.add, self.ended)
         self.missing = Missing(settings, desk, self.handed, self.names, self.outcomes.read,
                                self.ended)
         self.threads = [threading.Thread(target=it, daemon=True)
                         for it in (self.keep_house, self.watch)]
 
     def start(self) -> None:
-        self.handover.start()
+        self.begin_turns()
         for it in self.threads:
             it.start()
 
+    def begin_turns(self) -> None:
+        self.handover.start()
+        self.telling.start()
+        self.mailing.start()
+
     def is_well(self) -> bool:
         """Whether all threads are at work."""
-        return all(it.is_alive() for it in (*self.threads, *self.handover.threads))
+        threads = (it for turns in self.turns for it in turns.threads)
+        return all(it.is_alive() for it in (*self.threads, *threads))
 
     def end(self) -> None:
         """Begins nothing more, and returns when what is under way is done."""
         self.ending.set()
-        self.handover.end()
+        for it in self.turns:
+            it.end()
         for it in self.threads:
             if it.is_alive():
                 it.join()
@@ -70,27 +81,39 @@ class Delivery:
 
     def once(self) -> bool:
         """One round of everything, up to the last report; whether the desk was there."""
-        self.handover.start()
-        is_there, begun, looked = True, -1, time.monotonic()
-        while is_there and self.handover.begun != begun:
+        self.begin_turns()
+        begun, looked = -1, time.monotonic()
+        while self.handover.begun != begun and self.is_there():
             begun = self.handover.begun
-            is_there = self.look()
-            self.handover.wait()
+            self.look()
+            self.wait()
             while self.handed.under_way():
                 looked = self.see_after(looked)
-                self.handover.wait()
-        is_there = self.chores(True, True) and is_there
+                self.wait()
+        for customer in self.settings.customers:
+            self.mailing.add(customer)
+        self.wait()
+        is_there = self.chores(True, True) and self.is_there()
+        self.wait()
         self.end()
         return is_there
 
-    def look(self) -> bool:
-        """Tells what is in the journal, and has what is due handed over."""
-        def work(customer: Customer) -> None:
-            untold = self.book.untold(customer.name)
-            if untold:
-                self.tell(customer.name, untold)
-            self.handover.add(customer.name)
-        return self.for_each(work)
+    def wait(self) -> None:
+        """Returns when no customer waits for a turn."""
+        while any(it.waiting for it in self.turns):
+            for it in self.turns:
+                it.wait()
+
+    def is_there(self) -> bool:
+        """Whether no customer's last turn has failed."""
+        return not any(it.rests for it in self.turns)
+
+    def look(self) -> None:
+        """Has what is in the journal told, and what is due handed over."""
+        for customer in self.settings.customers:
+            if self.book.untold(customer):
+                self.telling.add(customer)
+            self.handover.turns.add(customer)
 
     def keep_house(self) -> None:
         """Sweeps and cleans by the timers, until `end`."""
@@ -119,23 +142,58 @@ class Delivery:
                 self.missing.look(self.handover.is_busy)
             if not count:
                 self.ending.wait(BETWEEN_LOOKS)
-        except Away as error:
-            log.error("desk away", why=error)
-            self.ending.wait(self.settings.pause)
-        except FAULTS as error:
+        except Exception as error:
             log.error("not looked after", why=repr(error))
             self.ending.wait(self.settings.pause)
         return looked
 
+    # ---- turns of a customer
+
+    def tell(self, customer: str) -> bool:
+        """Tells a customer's outcomes. Where its notices are being mailed, that has it told behind."""
+        if not self.locks[customer].acquire(blocking=False):
+            return False
+        try:
+            untold = self.book.untold(customer)
+            self.reports.tell(customer, untold)
+        finally:
+            self.locks[customer].release()
+        self.mailing.add(customer)
+        return False
+
+    def mail(self, customer: str) -> bool:
+        """Mails a customer's notices, and has told what waited for that."""
+        with self.locks[customer]:
+            are_mailed = self.notices.send(customer)
+            if are_mailed:
+                self.book.all_mailed(customer)
+        if are_mailed and self.book.untold(customer):
+            self.telling.add(customer)
+        return False
+
+    def ended(self, attempt: Attempt, outcomes: List[Dict[str, str]]) -> None:
+        """Nothing more is awaited of an attempt. Without an outcome its message may be due again."""
+        self.resting.end(attempt.recipients)
+        self.resting.answered(outcomes)
+        self.handover.go_on()
+        if not outcomes:
+            self.handover.turns.add(attempt.customer)
+
+    # ---- sweeps and clean-up
+
     def chores(self, is_sweep: bool, is_cleaning: bool) -> bool:
-        """Mails notices, sweeps and cleans; whether the desk was there."""
+        """Has notices mailed, sweeps and cleans; whether the desk was there."""
         def work(customer: Customer) -> None:
+            self.mailing.add(customer.name)
+            if not (is_sweep or is_cleaning):
+                return
             with self.locks[customer.name]:
-                are_mailed = self.notices.send(customer.name)
+                are_mailed = self.notices.unmailed(customer.name) == []
                 if is_sweep and self.sweep(customer):
                     are_mailed = self.notices.send(customer.name)
                 # (a notice that waits wants the header of its message)
                 if is_cleaning and are_mailed:
+                    self.book.all_mailed(customer.name)
                     self.cleaning.clean(customer.name, self.handed.spools_under_way(customer.name))
         is_there = self.for_each(work)
         if is_cleaning and is_there:
@@ -147,10 +205,8 @@ class Delivery:
         try:
             self.handed.forget(time.time() - self.settings.keep_days * 86400)
             self.cleaning.clean_unknown()
-        except (Away, *FAULTS) as error:
+        except Exception as error:
             log.error("not cleaned", why=repr(error))
-
-    # ---- customers
 
     def for_each(self, work: Callable[[Customer], None]) -> bool:
         """Does something for each customer; whether the desk was there for all of them."""
@@ -171,26 +227,16 @@ class Delivery:
         """Sweeps a customer, unless that might push out notices that were not mailed, or give up
         what was handed over, or delivered and is still to be told."""
         name, now = customer.name, time.time()
-        entries = list(self.desk.messages(name))
-        busy = self.handed.spools_under_way(name)
-        is_late = any(it["arrival"] <= now - GIVEN_UP and self.names.known(name, it) in busy
-                      for it in entries)
-        if is_late or self.book.untold(name) or not self.notices.has_room_for(name, len(entries)):
-            log.error("not swept: notices or outcomes wait", customer=name)
-            return False
-        reply = self.desk.sweep(name)
+        with self.handover.listing[name]:
+            entries = list(self.desk.messages(name))
+            busy = self.handed.spools_under_way(name)
+            is_late = any(it["arrival"] <= now - GIVEN_UP and self.names.known(name, it) in busy
+                          for it in entries)
+            if (is_late or self.book.untold(name)
+                    or not self.notices.has_room_for(name, len(entries))):
+                log.error("not swept: notices or outcomes wait", customer=name)
+                return False
+            reply = self.desk.sweep(name)
         if any(reply.values()):
             log.info("sweep", customer=name, **reply)
         return True
-
-    def tell(self, customer: str, spools: List[str]) -> None:
-        with self.locks[customer]:
-            self.reports.tell(customer, spools)
-
-    def ended(self, attempt: Attempt, outcomes: List[Dict[str, str]]) -> None:
-        """Nothing more is awaited of an attempt. Without an outcome its message may be due again."""
-        self.resting.end(attempt.recipients)
-        self.resting.answered(outcomes)
-        self.handover.go_on()
-        if not outcomes:
-            self.handover.add(attempt.customer)

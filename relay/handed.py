@@ -35,10 +35,6 @@ class Attempt:
     def report(self, outcomes: List[Outcome]) -> Report:
         return Report(self.customer, self.spool, self.id, self.number, outcomes)
 
-    def report_for(self, message: dict, outcomes: List[Outcome]) -> Report:
-        """The same outcomes, as the next attempt of a message that the desk shows."""
-        return Report(self.customer, self.spool, message["id"], message["attempts"] + 1, outcomes)
-
     def with_more(self, told: List[Outcome]) -> List[Outcome]:
         """Its outcomes with those that are told of its recipients, of which each counts once."""
         wanted = {it.lower(): it for it in self.recipients}

@@ -10,6 +10,7 @@ import re
 import shutil
 import signal
 import socket
+import stat
 import sys
 import tempfile
 from pathlib import Path
@@ -198,8 +199,10 @@ class Installation:
                 made.parent.mkdir(parents=True, exist_ok=True)
                 made.mkdir(0o700)
                 print(f"{made}: is made", flush=True)
-            if made.stat().st_uid == 0:
-                os.chown(made, user.pw_uid, user.pw_gid)
+            # (a run that was cut may have left it root's; a link would lead elsewhere)
+            found = made.lstat()
+            if stat.S_ISDIR(found.st_mode) and found.st_uid == 0:
+                os.chown(made, user.pw_uid, user.pw_gid, follow_symlinks=False)
 
     def make_instance(self) -> None:
         """Has postmulti make the delivering instance, with nothing of it that listens, and no

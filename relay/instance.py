@@ -3,6 +3,7 @@ import json
 import re
 import smtplib
 import subprocess
+import threading
 from dataclasses import dataclass
 from typing import Dict, Set, Tuple
 
@@ -12,6 +13,8 @@ from postfix_lines import REPORTS
 from settings import Settings
 from spool import Kept
 
+# How many seconds the answer to a content may take (RFC 5321, 4.5.3.2.6).
+LONGEST_END = 600
 # After these nobody knows whether a message was taken.
 BROKEN = (OSError, smtplib.SMTPException)
 QUEUED = re.compile(rb"queued as ([0-9A-Za-z]+)")
@@ -40,8 +43,9 @@ class Session:
 
     def __init__(self, settings: Settings):
         """Raises OSError or SMTPException where there is none to be had."""
+        self.timeout = settings.timeout
         self.smtp = smtplib.SMTP(*settings.instance, local_hostname=settings.host,
-                                 timeout=settings.timeout)
+                                 timeout=self.timeout)
         self.smtp.ehlo()
         lacking = [it for it in ("dsn", "chunking", "8bitmime") if not self.smtp.has_extn(it)]
         if lacking:
@@ -66,7 +70,7 @@ class Session:
         self.smtp.putcmd(f"BDAT {kept.size} LAST")
         if self.smtp.sock.sendfile(kept.file, kept.start, kept.size) != kept.size:
             raise OSError("the content became shorter meanwhile")
-        text = self.answer()
+        text = self.last_answer()
         found = QUEUED.search(text)
         if not found:
             raise smtplib.SMTPServerDisconnected(f"no queue ID: {text!r}")
@@ -87,6 +91,13 @@ class Session:
             self.smtp.rset()
         raise NotTaken(code, text)
 
+    def last_answer(self) -> bytes:
+        """The answer to a content, for which filters there may need long."""
+        self.smtp.sock.settimeout(max(LONGEST_END, self.timeout))
+        text = self.answer()
+        self.smtp.sock.settimeout(self.timeout)
+        return text
+
     def is_alive(self) -> bool:
         """Whether the instance still answers in this session; it closes one that was idle."""
         try:
@@ -100,37 +111,46 @@ class Session:
 
 @dataclass
 class Queue:
-    """What lies in the instance: by queue ID the queue that it lies in, the senders with their
-    recipients, and since when the oldest report does (infinity where none does)."""
+    """What lies in the instance: by queue ID the queue that it lies in, and its sender with its
+    recipients; and since when the oldest report does (infinity where none does)."""
     ids: Dict[str, str]
-    envelopes: Set[Tuple[str, str]]
+    envelopes: Dict[str, Set[Tuple[str, str]]]
     oldest_report: float
 
     def add(self, row: dict) -> None:
-        self.ids[row["queue_id"]] = row["queue_name"]
+        id, recipients = row["queue_id"], [it["address"] for it in row["recipients"]]
         sender = "" if row["sender"] == "MAILER-DAEMON" else row["sender"].lower()
-        for it in row["recipients"]:
-            self.envelopes.add((sender, it["address"].lower()))
-            if it["address"] == REPORTS:
-                self.oldest_report = min(self.oldest_report, float(row["arrival_time"]))
+        self.ids[id] = row["queue_name"]
+        self.envelopes[id] = {(sender, it.lower()) for it in recipients}
+        if REPORTS in recipients:
+            self.oldest_report = min(self.oldest_report, float(row["arrival_time"]))
 
-    def has(self, attempt: Attempt) -> bool:
-        """Whether an attempt lies there, or may lie there where its queue ID is not known."""
+    def has(self, attempt: Attempt, known: Set[str]) -> bool:
+        """Whether an attempt lies there; where its queue ID is not known, whether it may be one that
+        is none of those known."""
         if attempt.queue_id:
             return attempt.queue_id in self.ids
-        return any((attempt.sender.lower(), it.lower()) in self.envelopes
-                   for it in attempt.recipients)
+        own = {(attempt.sender.lower(), it.lower()) for it in attempt.recipients}
+        return any(own & found for id, found in self.envelopes.items() if id not in known)
 
 
 def queue(settings: Settings) -> Queue:
     """What lies in the instance now; OSError where it cannot be asked, and nothing is known."""
-    found = Queue({}, set(), float("inf"))
+    found = Queue({}, {}, float("inf"))
     asked = ["postqueue", "-c", str(settings.delivering), "-j"]
     with subprocess.Popen(asked, stdin=subprocess.DEVNULL, stdout=subprocess.PIPE,
                           stderr=subprocess.PIPE) as listing:
-        for line in listing.stdout:
-            found.add(json.loads(line))
-        why = listing.stderr.read(1000).decode(errors="replace").strip()
+        limit = threading.Timer(settings.timeout, listing.kill)
+        limit.start()
+        try:
+            for line in listing.stdout:
+                found.add(json.loads(line))
+            why = listing.stderr.read(1000).decode(errors="replace").strip()
+        except (ValueError, KeyError) as error:
+            listing.kill()
+            why = repr(error)
+        finally:
+            limit.cancel()
     if listing.returncode:
         raise OSError(f"postqueue ended with {listing.returncode}: {why}")
     return found
@@ -139,8 +159,12 @@ def queue(settings: Settings) -> Queue:
 def take_back(settings: Settings, id: str) -> bool:
     """Deletes a message from the instance's queue, and tells whether it was there. It wants the
     rights of root; OSError where they are not given."""
-    done = subprocess.run([*settings.postsuper, "-c", str(settings.delivering), "-d", id],
-                          stdin=subprocess.DEVNULL, capture_output=True, timeout=settings.timeout)
+    asked = [*settings.postsuper, "-c", str(settings.delivering), "-d", id]
+    try:
+        done = subprocess.run(asked, stdin=subprocess.DEVNULL, capture_output=True,
+                              timeout=settings.timeout)
+    except subprocess.TimeoutExpired:
+        raise OSError(f"{asked[0]} does not end") from None
     if done.returncode:
         raise OSError(done.stderr[-300:].decode(errors="replace").strip())
     return b"Deleted: 1 message" in done.stderr

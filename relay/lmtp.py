@@ -16,7 +16,7 @@ from aiosmtpd.lmtp import LMTP
 from aiosmtpd.smtp import syntax
 
 import log
-from dsn import from_xtext
+from dsn import clean, from_xtext
 from intake import Asked, Incoming, Intake
 from settings import Settings
 
@@ -40,7 +40,7 @@ def parted(argument: Optional[str], names) -> Tuple[Optional[str], Dict[str, str
     for word in found[2].split():
         name, equals, value = word.partition("=")
         if equals and name.upper() in names:
-            values[name.upper()] = value
+            values[name.upper()] = clean(from_xtext(value))
         else:
             kept.append(word)
     return " ".join(kept), values
@@ -77,6 +77,13 @@ class Session(LMTP):
         """(aiosmtpd calls this wherever a transaction begins anew.)"""
         super()._set_rset_state()
         self.ident, self.parameters = None, {}
+
+    def _getaddr(self, argument: str) -> Tuple[Optional[str], Optional[str]]:
+        """(aiosmtpd asks this for an address and what follows it. It is taken as it stands.)"""
+        found = ADDRESS.fullmatch(argument)
+        if not found or not found[1].startswith("<"):
+            return None, None
+        return (found[1][1:-1] or "<>"), found[2]
 
     @syntax("XFORWARD attributes")
     async def smtp_XFORWARD(self, argument: Optional[str]) -> None:

@@ -1,6 +1,7 @@
 """A notice as a mail (RFC 3464, 6522), and handing it to a Postfix that sends it on."""
 import email
 import email.policy
+import secrets
 import smtplib
 import textwrap
 import time
@@ -71,7 +72,9 @@ class Hop:
             if not self.smtp:
                 self.smtp = smtplib.SMTP(*self.settings.notices_hop, timeout=self.settings.timeout,
                                          local_hostname=self.settings.host)
-            self.smtp.sendmail("", [f"<{recipient}>"], content)
+                self.smtp.ehlo_or_helo_if_needed()
+            options = ["BODY=8BITMIME"] if self.smtp.has_extn("8bitmime") else []
+            self.smtp.sendmail("", [f"<{recipient}>"], content, options)
             return DONE
         except smtplib.SMTPRecipientsRefused as error:
             return self.judged(*next(iter(error.recipients.values())))
@@ -104,10 +107,12 @@ def written(settings: Settings, notice: dict, original: Original) -> bytes:
                       for it in notice["human"].split("\r\n"))
     report.attach(MIMEText(human, "plain", "us-ascii"))
     report.attach(status_of(notice, original))
-    returned = returned_of(original)
+    # (a whole message goes in as it came: read and written anew it would be another)
+    mark = secrets.token_hex(16)
+    returned = returned_of(original, mark)
     if returned:
         report.attach(returned)
-    return report.as_bytes(policy=POLICY)
+    return report.as_bytes(policy=POLICY).replace(mark.encode(), original.whole or b"", 1)
 
 
 def success(host: str, id: str, sender: str, delivered: List[Dict[str, str]]) -> dict:
@@ -158,14 +163,19 @@ def put_first(group: Message, name: str, value: str) -> None:
         group[it[0]] = it[1]
 
 
-def returned_of(original: Original) -> Optional[Message]:
-    """The message itself, where its sender asked for it, or else its header fields."""
+def returned_of(original: Original, mark: str) -> Optional[Message]:
+    """The header fields of the message; or a mark in the place of all of it, where its sender asked
+    for that."""
     if original.whole is not None:
         returned = MIMEBase("message", "rfc822")
-        returned.set_payload([email.message_from_bytes(original.whole)])
-        return returned
-    if original.head is None:
+        returned.set_payload(mark)
+        text = original.whole
+    elif original.head is not None:
+        returned = MIMEBase("text", "rfc822-headers")
+        returned.set_payload(original.head.decode("ascii", "surrogateescape") + "\n")
+        text = original.head
+    else:
         return None
-    returned = MIMEBase("text", "rfc822-headers")
-    returned.set_payload(original.head.decode("ascii", "surrogateescape") + "\n")
+    if not text.isascii():
+        returned["Content-Transfer-Encoding"] = "8bit"
     return returned

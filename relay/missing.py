@@ -5,8 +5,8 @@ from typing import Callable, Dict, List
 
 import instance
 import log
-from desk import Desk
-from handed import Attempt, Handed
+from desk import Away, Desk, Refused
+from handed import Attempt, Handed, told_of
 from instance import Queue
 from names import Names
 from settings import Settings
@@ -27,22 +27,19 @@ class Missing:
         self.since: Dict[str, float] = {}
 
     def look(self, is_busy: Callable[[Attempt], bool]) -> None:
-        """Looks after all that was handed over before a while. `is_busy` tells what is just being
-        handed over. OSError is raised where the instance cannot be asked."""
-        now = time.time()
-        old = [it for it in self.handed.under_way()
-               if it.at <= now - self.settings.settle_after and not is_busy(it)]
-        if not old:
-            self.since.clear()
-            return
-        queue = instance.queue(self.settings)
-        while self.read():
+        """Looks after all that was handed over and is not busy any more. `is_busy` tells what is just
+        being handed over. OSError is raised where the instance cannot be asked."""
+        now = time.monotonic()
+        old = [it for it in self.handed.under_way() if not is_busy(it)]
+        queue = instance.queue(self.settings) if old else None
+        while queue and self.read():
             pass
-        left = {it.envelope for it in self.handed.under_way()}
+        left = {it.envelope: it for it in self.handed.under_way()}
         self.since = {it: at for it, at in self.since.items() if it in left}
+        known = {it.queue_id for it in left.values() if it.queue_id}
         lying: List[Attempt] = []
-        for attempt in (it for it in old if it.envelope in left):
-            if queue.has(attempt):
+        for attempt in (left[it.envelope] for it in old if it.envelope in left):
+            if queue.has(attempt, known):
                 self.since.pop(attempt.envelope, None)
                 lying.append(attempt)
             else:
@@ -51,32 +48,43 @@ class Missing:
 
     def miss(self, attempt: Attempt, queue: Queue, now: float) -> None:
         since = self.since.setdefault(attempt.envelope, now)
-        # A report that lies in the queue since before may be this one's.
         wait = self.settings.lost_after if attempt.queue_id else self.settings.settle_after
-        if queue.oldest_report <= since + 1 or since > now - wait:
+        # A report that lies in the queue since before may be this one's.
+        is_report_there = queue.oldest_report <= time.time() - (now - since) + 1
+        if is_report_there or since > now - wait:
             return
         words = dict(customer=attempt.customer, id=attempt.id, spool=attempt.spool,
                      envelope=attempt.envelope)
         self.since.pop(attempt.envelope)
-        self.handed.resolved(attempt, [], is_lost=True)
-        self.ended(attempt, [])
+        self.resolve(attempt, is_lost=True)
         if attempt.queue_id:
             log.error("no report", queue_id=attempt.queue_id,
                       means="it is tried again, and may come twice", **words)
         else:
             log.warning("was not handed over", **words)
 
+    def resolve(self, attempt: Attempt, is_lost: bool) -> None:
+        """Awaits nothing more of an attempt. What is known of some of its recipients is told."""
+        self.handed.resolved(attempt, told_of(list(attempt.outcomes)), is_lost)
+        self.ended(attempt, [])
+
     def take_back(self, lying: List[Attempt], queue: Queue) -> None:
         """Takes back what its customer deleted meanwhile, and what it holds and nobody sends yet."""
         for customer in sorted({it.customer for it in lying}):
-            states = {it["id"]: it["state"] for it in self.desk.messages(customer)}
-            for attempt in (it for it in lying if it.customer == customer):
-                state = states.get(attempt.id)
-                if state == "hold":
-                    if queue.ids[attempt.queue_id] in TAKEN_BACK_ON_HOLD:
-                        self.take_one_back(attempt)
-                elif not state and not self.names.anywhere(customer, attempt.spool, attempt.id):
+            try:
+                self.take_back_of(customer, [it for it in lying if it.customer == customer], queue)
+            except (Away, Refused) as error:
+                log.error("desk away", customer=customer, why=error)
+
+    def take_back_of(self, customer: str, lying: List[Attempt], queue: Queue) -> None:
+        states = {it["id"]: it["state"] for it in self.desk.messages(customer)}
+        for attempt in lying:
+            state = states.get(attempt.id)
+            if state == "hold":
+                if queue.ids[attempt.queue_id] in TAKEN_BACK_ON_HOLD:
                     self.take_one_back(attempt)
+            elif not state and not self.names.anywhere(customer, attempt.spool, attempt.id):
+                self.take_one_back(attempt)
 
     def take_one_back(self, attempt: Attempt) -> None:
         words = dict(customer=attempt.customer, id=attempt.id, queue_id=attempt.queue_id)
@@ -86,6 +94,5 @@ class Missing:
             log.warning("not taken back", why=error, **words)
             return
         if is_taken_back:
-            self.handed.resolved(attempt, [])
-            self.ended(attempt, [])
+            self.resolve(attempt, is_lost=False)
             log.info("taken back", **words)

@@ -23,14 +23,11 @@ class Notices:
         self.settings, self.desk, self.spool, self.handed = settings, desk, spool, handed
         self.book, self.names = handed.book, names
         self.mailed: Dict[str, int] = {}  # mailed, and not written down since the disk is full
-
-    # ---- room on the desk
-
-    def has_room(self, customer: str) -> bool:
-        """Whether one more notice pushes out none that waits. If not, tries to mail them."""
-        return self.has_room_for(customer, 1) or self.send(customer)
+        self.begun: Dict[str, int] = {}  # whose mailing this process has begun
+        self.until = 0.0  # the moment up to which the next hop rests
 
     def has_room_for(self, customer: str, more: int) -> bool:
+        """Whether so many more notices push out none on the desk that waits."""
         waiting = self.unmailed(customer)
         if not waiting:
             return waiting is not None
@@ -54,6 +51,8 @@ class Notices:
 
     def send(self, customer: str) -> bool:
         """Mails what was not mailed yet, and tells whether none of the desk's waits."""
+        if time.monotonic() < self.until:
+            return self.unmailed(customer) == []
         with Hop(self.settings) as hop:
             self.send_waiting(customer, hop)
             numbers = self.unmailed(customer)
@@ -73,13 +72,10 @@ class Notices:
         notice = self.desk.notice(customer, number)
         words = dict(customer=customer, number=number, kind=notice["kind"], id=notice["id"],
                      to=notice["to"])
-        if self.book.begun(customer) == number:
-            log.warning("notice may come twice", means="a stop came as it was mailed", **words)
-        # (who cannot write this down could not write down either that it was mailed)
-        self.book.mailing(customer, number)
+        self.begin(customer, number, words)
         original = self.original(customer, notice["id"])
         if is_wanted(notice["kind"], original.envelope):
-            content = written(self.settings, notice, original)
+            content = self.written(notice, original)
             result = self.mail(hop, notice["to"], content, words)
             if result == LATER:
                 return False
@@ -92,6 +88,24 @@ class Notices:
         self.book.told(customer, number)
         return True
 
+    def begin(self, customer: str, number: int, words: dict) -> None:
+        """Writes down that a notice is about to be mailed. Who cannot write this could not write
+        either that it was mailed."""
+        if self.begun.get(customer) == number:
+            return
+        if self.book.begun(customer) == number:
+            log.warning("notice may come twice", means="a stop came as it was mailed", **words)
+        self.book.mailing(customer, number)
+        self.begun[customer] = number
+
+    def written(self, notice: dict, original: Original) -> bytes:
+        """A notice as a mail; without its message where that is too strange to be quoted."""
+        try:
+            return written(self.settings, notice, original)
+        except Exception as error:  # whatever a stranger wrote
+            log.error("message not quoted", id=notice["id"], why=repr(error))
+            return written(self.settings, notice, Original())
+
     def send_waiting(self, customer: str, hop: Hop) -> None:
         """Tries the notices that were set aside, those whose time has come."""
         now = time.time()
@@ -99,7 +113,7 @@ class Notices:
             words = dict(customer=customer, notice=it.name, to=it.recipient)
             if now < next_try(it):
                 continue
-            result = self.mail(hop, it.recipient, it.content, words)
+            result = self.mail(hop, it.recipient, self.book.content_of(it.name), words)
             if result == ASIDE and now < it.since + LONGEST:
                 self.book.tried(it.name)
             elif result == LATER:
@@ -109,8 +123,7 @@ class Notices:
                     log.error("notice given up", **words)
                 self.book.waited(it.name)
 
-    @staticmethod
-    def mail(hop: Hop, recipient: str, content: bytes, words: dict) -> str:
+    def mail(self, hop: Hop, recipient: str, content: bytes, words: dict) -> str:
         result = hop.mail(recipient, content)
         if result == DONE:
             log.info("notice mailed", **words)
@@ -118,6 +131,8 @@ class Notices:
             log.error("notice refused", why=hop.why, **words)
         else:
             log.warning("notice waits", why=hop.why, **words)
+        if result == LATER:
+            self.until = time.monotonic() + self.settings.pause
         return result
 
     def original(self, customer: str, id: str) -> Original:
@@ -137,9 +152,11 @@ class Notices:
         envelope = self.spool.envelope(report.spool) if delivered else None
         if envelope and envelope.sender and is_wanted("SUCCESS", envelope):
             notice = success(self.settings.host, report.id, envelope.sender, delivered)
-            content = written(self.settings, notice, self.original(report.customer, report.id))
-            self.book.wait_with(report.customer, f"{report.customer}/{report.spool}",
-                                envelope.sender, content)
+            content = self.written(notice, self.original(report.customer, report.id))
+            if not self.book.wait_with(report.customer, f"{report.customer}/{report.spool}",
+                                       envelope.sender, content):
+                log.error("notice given up", customer=report.customer, to=envelope.sender,
+                          means="too many wait")
 
 
 def next_try(waiting: Waiting) -> float:

@@ -6,47 +6,54 @@ is: so a report counts only for an attempt whose envelope ID it has, and nobody 
 import email
 import email.policy
 import mailbox
+from dataclasses import replace
 from email.message import Message
-from typing import Callable, Dict, List, Optional, Tuple
+from typing import Callable, Dict, List, Optional, Set, Tuple
 
 import log
-from dsn import STATUS, clean, from_xtext
+from desk import Away, Refused
+from dsn import STATUS, clean
 from handed import Attempt, Handed, Outcome, told_of
 from names import Names
+from postfix_lines import SOFT_MARK
 from settings import Settings
 
 # So many reports are read at once, and so many bytes of each.
 BATCH, LARGEST = 200, 262_144
 # The folder for what is none of ours, and how many of these are kept.
 ASIDE, MOST_ASIDE = "aside", 100
-# The end of the text of a failure that would have been tried again.
-DEFERRED = " (deferred)"
+# The subject of a status that tells of the connection (RFC 3463).
+OF_THE_CONNECTION = 4
 
 def outcome_of(group: Message) -> Optional[Outcome]:
     """What a group of a report says of its recipient; None where it is still being tried.
 
-    The words of a host stand behind `smtp;`, and their code alone decides: it may write anything.
+    A failure that would have been tried again has the mark of `postfix_lines` in its status. The
+    domain did not answer where the instance itself, and not a host, tells of the connection.
     """
     kind, _, text = (it.strip() for it in clean(group["Diagnostic-Code"] or "").partition(";"))
     action = clean(group["Action"] or "").lower()
     found = STATUS.fullmatch(clean(group["Status"] or ""))
-    detail = f"{int(found[2])}.{int(found[3])}" if found else "0.0"
+    digit, subject, detail = found.groups() if found else ("5", "0", "0")
+    is_soft = digit == "4" or (len(subject) > 1 and subject.startswith(SOFT_MARK))
+    if is_soft and digit != "4":
+        subject = subject[len(SOFT_MARK):]
     if action in ("delivered", "relayed", "expanded"):
-        result, status = "delivered", f"2.{detail}"
-    elif action != "failed":
-        return None
+        result, digit = "delivered", "2"
+    elif action == "failed":
+        result, digit = ("deferred", "4") if is_soft else ("failed", "5")
     else:
-        is_soft = text.startswith("4") if kind.lower() == "smtp" else text.endswith(DEFERRED)
-        result, status = ("deferred", f"4.{detail}") if is_soft else ("failed", f"5.{detail}")
-        text = text[:-len(DEFERRED)] if is_soft and text.endswith(DEFERRED) else text
-    remote = clean(group["Remote-MTA"] or "").partition(";")[2].strip()
-    return {"recipient": recipient_of(group), "result": result, "status": status, "text": text,
-            "remote": remote}
+        return None
+    is_dead = is_soft and int(subject) == OF_THE_CONNECTION and kind.lower() != "smtp"
+    return {"recipient": recipient_of(group), "result": result,
+            "status": f"{digit}.{int(subject)}.{int(detail)}", "text": text,
+            "remote": clean(group["Remote-MTA"] or "").partition(";")[2].strip(),
+            "is_dead": "yes" if is_dead else ""}
 
 
 def recipient_of(group: Message) -> str:
     named = group["Original-Recipient"] or group["Final-Recipient"] or ""
-    return from_xtext(clean(named).partition(";")[2].strip())
+    return clean(named).partition(";")[2].strip()
 
 
 def read_report(message: Message) -> Tuple[Optional[str], List[Outcome]]:
@@ -60,64 +67,74 @@ def read_report(message: Message) -> Tuple[Optional[str], List[Outcome]]:
         if part.get_content_type() == "message/delivery-status" and part.is_multipart():
             whole, *groups = part.get_payload()
             told = [outcome_of(it) for it in groups]
-            envelope = whole["Original-Envelope-Id"]
-            return envelope and from_xtext(clean(envelope)), [it for it in told if it]
+            return clean(whole["Original-Envelope-Id"] or ""), [it for it in told if it]
     return None, []
 
 
 class Outcomes:
-    """Reads reports, and journals what is to be told: `tell` tells names of a customer."""
+    """Reads reports, and journals what is to be told. `journaled` hears of whom there is something,
+    `ended` of each attempt that has ended so."""
 
     def __init__(self, settings: Settings, handed: Handed, names: Names,
-                 tell: Callable[[str, List[str]], None], ended: Callable[[Attempt, list], None]):
+                 journaled: Callable[[str], None], ended: Callable[[Attempt, list], None]):
         self.settings, self.handed, self.names = settings, handed, names
-        self.tell, self.ended = tell, ended
+        self.journaled, self.ended = journaled, ended
 
     def box(self) -> mailbox.Maildir:
         # (a new one each time: one that is kept may miss a file of the same moment)
         return mailbox.Maildir(str(self.settings.reports), create=False)
 
     def read(self) -> int:
-        """Journals the outcomes of reports that have come, tells the desk, and removes the reports.
-        Returns how many there were."""
+        """Journals the outcomes of reports that have come, and removes the reports. Returns how many
+        there were."""
         if not all((self.settings.reports / it).is_dir() for it in ("new", "cur", "tmp")):
             return 0
-        box, reports, keys = self.box(), {}, []
+        box, reports, keys = self.box(), {}, {}
         for key in box.keys()[:BATCH]:
             envelope, told = self.read_one(box, key)
             if envelope and self.handed.of(envelope):
                 reports.setdefault(envelope, []).extend(told)
-                keys.append(key)
+                keys.setdefault(envelope, []).append(key)
             else:
                 self.put_aside(box, key)
-        if reports:
-            self.take(reports)
-        for key in keys:
+        taken = self.take(reports) if reports else set()
+        for key in (it for envelope in taken for it in keys.get(envelope, ())):
             box.discard(key)
-        return len(keys)
+        return len(taken)
 
     def read_one(self, box: mailbox.Maildir, key: str) -> Tuple[Optional[str], List[Outcome]]:
+        """The envelope ID of a report and what it says; no ID where it is none. (A file that cannot
+        be opened now raises OSError, and stays.)"""
+        with box.get_file(key) as file:
+            text = file.read(LARGEST)
         try:
-            with box.get_file(key) as file:
-                text = file.read(LARGEST)
             # (of mail with SMTPUTF8 it is the same by another name: RFC 6533)
             text = text.replace(b"message/global-delivery-status", b"message/delivery-status")
             return read_report(email.message_from_bytes(text, policy=email.policy.compat32))
-        except (KeyError, OSError, ValueError, LookupError, TypeError) as error:
+        except Exception as error:  # whatever a stranger wrote
             log.error("report not read", file=key, why=repr(error))
             return None, []
 
-    def take(self, reports: Dict[str, List[Outcome]]) -> None:
+    def take(self, reports: Dict[str, List[Outcome]]) -> Set[str]:
+        """Journals what reports say; the envelope IDs of those that need not be read again."""
         late = [it for it in map(self.handed.of, reports) if it and it.is_lost]
         for attempt in late:
-            self.move(attempt, reports)
+            try:
+                self.move(attempt, reports)
+            except (Away, Refused) as error:
+                log.error("desk away", customer=attempt.customer, why=error)
+                reports.pop(attempt.envelope)
+        for envelope, told in reports.items():
+            attempt = self.handed.of(envelope)
+            if told and not attempt.with_more(told):
+                log.error("report of nobody", customer=attempt.customer, id=attempt.id,
+                          envelope=envelope, recipients=",".join(it["recipient"] for it in told))
         done = self.handed.reported(reports)
         for attempt in done:
             self.ended(attempt, attempt.with_more(reports[attempt.envelope]))
-        for attempt in late:
-            self.handed.resolved(attempt, [])
         for customer in sorted({it.customer for it in (*done, *late)}):
-            self.tell(customer, [it.spool for it in (*done, *late) if it.customer == customer])
+            self.journaled(customer)
+        return set(reports)
 
     def move(self, lost: Attempt, reports: Dict[str, List[Outcome]]) -> None:
         """A report came of an attempt that was given up as lost. Where its message was delivered, or
@@ -130,11 +147,11 @@ class Outcomes:
                                lost.customer)
         for it in now:
             reports.setdefault(it.envelope, []).extend(final)
-        if now or not final:
-            return
-        message = self.names.anywhere(lost.customer, lost.spool, lost.id)
+        is_alone = final and not now
+        message = self.names.anywhere(lost.customer, lost.spool, lost.id) if is_alone else None
         if message:
-            self.handed.book.attempted(lost.report_for(message, told_of(final)))
+            lost = replace(lost, id=message["id"], number=message["attempts"] + 1)
+        self.handed.resolved(lost, told_of(final) if message else [])
 
     def put_aside(self, box: mailbox.Maildir, key: str) -> None:
         """Keeps what is none of ours apart, as long as there are few of these."""

@@ -15,10 +15,12 @@ MOST_TO_THE_WORKER = 10
 # What the header that each instance puts before a message may have, in bytes.
 HEADER_ROOM = 4096
 
+# What stands before the subject of a status where a soft failure is made a hard one.
+SOFT_MARK = "9"
 # A failed STARTTLS is tried again in plain text by the instance itself; each other soft failure
-# comes back as a hard one, marked by its last word.
-SOFT_FAILURES = r"""/^4(\.7\.5 Cannot start TLS: .*)/ 4$1
-/^4(\.[0-9]+\.[0-9]+ .*)/ 5$1 (deferred)
+# comes back as a hard one, marked in its status (RFC 3463 has no subject that begins so).
+SOFT_FAILURES = rf"""/^4(\.7\.5 Cannot start TLS: .*)/ 4$1
+/^4\.([0-9]{{1,2}}\.[0-9]+ .*)/ 5.{SOFT_MARK}$1
 """
 TO_THE_WORKER = f"/^Content-Type: multipart\\/report/ REDIRECT {REPORTS}\n"
 

@@ -15,7 +15,7 @@ class Reports:
         self.desk, self.book, self.names, self.notices = desk, book, names, notices
 
     def tell(self, customer: str, spools: List[str]) -> None:
-        """Tells the outcomes of names, and mails the notices that come of them.
+        """Tells the outcomes of names.
 
         What the desk does not take stays in the journal, and until it is told the message is not
         tried again. Away is raised where the desk is.
@@ -33,10 +33,9 @@ class Reports:
 
     def tell_one(self, report: Optional[Report]) -> List[Tuple[Report, bool]]:
         """Tells one, as the desk takes it; the report that it took, if it did, and whether its
-        message left the queue by it with no notice waiting."""
+        message left the queue by it."""
         while report:
-            is_failure = any(it["result"] == "failed" for it in report.outcomes)
-            if is_failure and not self.notices.has_room(report.customer):
+            if is_failure(report) and not self.notices.has_room_for(report.customer, 1):
                 log.error("no room for a notice", customer=report.customer, id=report.id,
                           spool=report.spool)
                 return []
@@ -48,13 +47,9 @@ class Reports:
                 continue
             log.info("outcome", customer=report.customer, id=report.id, spool=report.spool,
                      attempt=report.attempt, outcomes=words_of(report), result=reply["result"])
-            return [(report, self.followed(report, is_failure) and reply.get("left") == 0)]
+            self.notices.confirm(report)
+            return [(report, reply.get("left") == 0)]
         return []
-
-    def followed(self, report: Report, is_failure: bool) -> bool:
-        """Mails what a sender is to hear of these outcomes; whether nothing waits."""
-        self.notices.confirm(report)
-        return not is_failure or self.notices.send(report.customer)
 
     def mended(self, report: Report, refusal: Refused) -> Optional[Report]:
         """The report as the desk may take it; None where it is not to be told, or not now."""
@@ -90,3 +85,7 @@ class Reports:
 
 def words_of(report: Report) -> str:
     return ",".join(f"{it['recipient']}:{it['result']}" for it in report.outcomes)
+
+
+def is_failure(report: Report) -> bool:
+    return any(it["result"] == "failed" for it in report.outcomes)

@@ -1,7 +1,8 @@
 """Which domains may be tried: those whose hosts cannot be reached rest, and few messages try anew.
 
 The instance that delivers reports each soft failure at once, and so it keeps no count of hosts that
-are dead. A host that hangs would take one of its processes for each message.
+are dead. A host that hangs would take one of its processes for each message. What a host answers is
+no reason to rest: it may be of one sender, and others' mail is taken.
 """
 import threading
 import time
@@ -16,8 +17,6 @@ MOST_FAILURES = 10
 LONGEST = 4000.0
 # Beyond so many domains those that are idle are forgotten.
 MOST = 10_000
-# Statuses of the connection (RFC 3463, X.4.Z), and the code of a host that takes nothing now.
-OF_THE_CONNECTION, NOT_AVAILABLE = "4.4.", "421"
 
 
 @dataclass
@@ -72,10 +71,7 @@ class Resting:
             for outcome in outcomes:
                 name = outcome["recipient"].rpartition("@")[2].lower()
                 found = self.domains.setdefault(name, Domain())
-                is_dead = outcome["result"] == "deferred" and (
-                    outcome["status"].startswith(OF_THE_CONNECTION)
-                    or outcome["text"].startswith(NOT_AVAILABLE))
-                if is_dead:
+                if outcome.get("is_dead"):
                     self.fail(found, now)
                 else:
                     found.is_proven, found.failures, found.rest, found.until = True, 0, 0.0, 0.0

@@ -237,7 +237,7 @@ def load(name: str) -> Settings:
         timeout=reader.read("delivery", "timeout", wait, 60.0),
         pause=reader.read("delivery", "pause", wait, 10.0),
         rest=reader.read("delivery", "rest", wait, 60.0),
-        settle_after=reader.read("delivery", "settle-after", wait, 10.0),
+        settle_after=reader.read("delivery", "settle-after", wait, 600.0),
         lost_after=reader.read("delivery", "lost-after", wait, 900.0),
         sweep_every=reader.read("delivery", "sweep-every", wait, 300.0),
         clean_every=reader.read("delivery", "clean-every", wait, 300.0),

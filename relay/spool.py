@@ -3,7 +3,7 @@ import fcntl
 import json
 import os
 import tempfile
-from contextlib import contextmanager
+from contextlib import contextmanager, suppress
 from dataclasses import asdict, dataclass
 from pathlib import Path
 from typing import BinaryIO, Iterator, List, Optional
@@ -60,9 +60,10 @@ class Draft:
         self.size += len(piece)
 
     def drop(self) -> None:
-        """Removes it; what was kept stays."""
-        self.file.close()
+        """Removes it; what was kept stays. (On a full disk a file cannot be closed without a fault.)"""
         drop(Path(self.file.name))
+        with suppress(OSError):
+            self.file.close()
 
 
 def sync_folder(path: Path) -> None:

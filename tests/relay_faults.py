@@ -232,7 +232,7 @@ def what_senders_ask_for(program, shared):
         found = it.notices()
         expect(found == {"failure@hard.example": 1, "success@good.example": 1}, "notices were", found)
         for _, to, text in it.senders.mail:
-            missing = [one for one in (b"Original-Envelope-Id: abc", b"Original-Recipient: rfc822;",
+            missing = [one for one in (b"Original-Envelope-Id: abc+1\r\n", b"+x@a.example\r\n",
                                        b"Remote-MTA: dns; ", b"Last-Attempt-Date: ",
                                        b"Content-Type: message/rfc822", b"\r\nHello.\r\n")
                        if one not in text]

@@ -240,6 +240,11 @@ class Relay:
         self.begun.append(begun)
         return begun
 
+    def python(self, script, *words):
+        """Runs a script that knows the worker's modules, whose folder is its first argument."""
+        subprocess.run([PYTHON, "-B", "-c", script, str(WORKER.parent), *words], cwd=self.folder,
+                       check=True, timeout=LONGEST)
+
     def intake(self, killed=None):
         """Begins the intake, and waits until it listens."""
         begun = self.run("intake", killed=killed)
