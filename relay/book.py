@@ -73,6 +73,8 @@ class Waiting:
 class Book:
     def __init__(self, folder: Path):
         self.path, self.own = folder / "book.db", threading.local()
+        # (who waits for SQLite's own lock sleeps, and longer each time)
+        self.turn = threading.Lock()
         with self.writing() as database:
             for statement in SCHEMA.split(";"):
                 database.execute(statement)
@@ -90,14 +92,15 @@ class Book:
     def writing(self):
         """A transaction: all of it is done and synced, or nothing."""
         database = self.database()
-        database.execute("BEGIN IMMEDIATE")
-        try:
-            yield database
-            database.execute("COMMIT")
-        except BaseException:
-            if database.in_transaction:
-                database.execute("ROLLBACK")
-            raise
+        with self.turn:
+            database.execute("BEGIN IMMEDIATE")
+            try:
+                yield database
+                database.execute("COMMIT")
+            except BaseException:
+                if database.in_transaction:
+                    database.execute("ROLLBACK")
+                raise
 
     def one(self, asked: str, *values):
         """The first value of the first row; None where there is none."""

@@ -2,6 +2,7 @@
 import json
 import re
 import smtplib
+import socket
 import subprocess
 import threading
 from dataclasses import dataclass
@@ -46,6 +47,8 @@ class Session:
         self.timeout = settings.timeout
         self.smtp = smtplib.SMTP(*settings.instance, local_hostname=settings.host,
                                  timeout=self.timeout)
+        # (else the content waits until the command before it is acknowledged)
+        self.smtp.sock.setsockopt(socket.IPPROTO_TCP, socket.TCP_NODELAY, 1)
         self.smtp.ehlo()
         lacking = [it for it in ("dsn", "chunking", "8bitmime") if not self.smtp.has_extn(it)]
         if lacking:

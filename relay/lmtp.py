@@ -132,9 +132,10 @@ class Session(LMTP):
         """Writes the data to a file as they come, and answers them."""
         try:
             async for piece in self.pieces():
-                incoming.add(piece)
+                # (what comes in one piece begins and ends in one step)
                 if incoming.has_head:
                     await self.server.in_thread(incoming.begin)
+                incoming.add(piece)
         except BaseException:
             incoming.drop()
             raise

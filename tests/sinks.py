@@ -180,6 +180,9 @@ class Lossy(socketserver.ThreadingTCPServer):
         self.shutdown()
         self.server_close()
 
+    def handle_error(self, *_):
+        """A desk or a client that goes away is no error."""
+
 
 class Lost(socketserver.BaseRequestHandler):
     """One request, which is whole when its body is."""
