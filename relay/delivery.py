@@ -46,7 +46,7 @@ class Delivery:
         self.handover = Handover(settings, desk, spool, self.handed, self.names, self.resting)
         self.telling = Turns(settings.sessions, settings.pause, self.tell)
         self.mailing = Turns(MAILING, settings.pause, self.mail)
-        self.turns = [self.handover.turns, self.telling, self.mailing]
+        self.turns = [self.telling, self.mailing]
         self.outcomes = Outcomes(settings, self.handed, self.names, self.telling.add, self.ended)
         self.missing = Missing(settings, desk, self.handed, self.names, self.outcomes.read,
                                self.ended)
@@ -65,12 +65,14 @@ class Delivery:
 
     def is_well(self) -> bool:
         """Whether all threads are at work."""
-        threads = (it for turns in self.turns for it in turns.threads)
+        threads = (it for turns in (self.handover, self.handover.turns, *self.turns)
+                   for it in turns.threads)
         return all(it.is_alive() for it in (*self.threads, *threads))
 
     def end(self) -> None:
         """Begins nothing more, and returns when what is under way is done."""
         self.ending.set()
+        self.handover.end()
         for it in self.turns:
             it.end()
         for it in self.threads:
@@ -100,13 +102,14 @@ class Delivery:
 
     def wait(self) -> None:
         """Returns when no customer waits for a turn."""
-        while any(it.waiting for it in self.turns):
+        while self.handover.is_working() or any(it.waiting for it in self.turns):
             for it in self.turns:
                 it.wait()
+            time.sleep(BETWEEN_LOOKS / 10)
 
     def is_there(self) -> bool:
         """Whether no customer's last turn has failed."""
-        return not any(it.rests for it in self.turns)
+        return not any(it.rests for it in (self.handover.turns, *self.turns))
 
     def look(self) -> None:
         """Has what is in the journal told, and what is due handed over."""

@@ -3,6 +3,7 @@
 An attempt is written down before its first byte goes, and its queue ID when the instance has it. A
 stop between the two leaves an attempt of which nobody knows; `missing.py` looks after these.
 """
+import queue
 import secrets
 import threading
 import time
@@ -18,16 +19,18 @@ from names import Names
 from resting import Resting
 from settings import Settings
 from spool import Spool
-from turns import Postponed, Turns
+from turns import Turns
 
-# So many messages, and bytes, are handed over behind one look at the desk's list.
-BATCH, BATCH_BYTES = 50, 20_000_000
+# So many messages, and bytes, are handed over behind one look at the desk's list; and so many of them
+# in one session before the next one takes some.
+BATCH, BATCH_BYTES, PART = 50, 20_000_000, 10
 # The random part of an envelope ID: IDs of the desk repeat after a restore, and nobody may guess one.
 RANDOM_BYTES = 12
 
 
 class Handover:
-    """Customers have their turns, each for one batch, in as many threads as there may be sessions."""
+    """Customers have their turns, each for one batch; its parts go over as many sessions as there may
+    be, each of which has a thread."""
 
     def __init__(self, settings: Settings, desk: Desk, spool: Spool, handed: Handed, names: Names,
                  resting: Resting):
@@ -36,6 +39,9 @@ class Handover:
         self.book: Book = handed.book
         self.turns = Turns(settings.sessions, settings.pause, self.turn)
         self.own = threading.local()  # each thread's session
+        self.parts: "queue.Queue[Optional[List[Attempt]]]" = queue.Queue(settings.sessions)
+        self.threads = [threading.Thread(target=self.run, daemon=True)
+                        for _ in range(settings.sessions)]
         self.guard = threading.Lock()
         # Customers of whom mail waits until a domain is free; behind which queue ID the list of each
         # goes on; what is just being handed over; and how many attempts were begun.
@@ -49,7 +55,23 @@ class Handover:
     def start(self) -> None:
         for attempt in self.handed.under_way():
             self.resting.resume(attempt.recipients)
+        for it in self.threads:
+            it.start()
         self.turns.start()
+
+    def end(self) -> None:
+        """Begins nothing more, and returns when what is under way was handed over."""
+        self.turns.end()
+        for _ in self.threads:
+            self.parts.put(None)
+        for it in self.threads:
+            if it.is_alive():
+                it.join()
+
+    def is_working(self) -> bool:
+        """Whether a customer waits for its turn, or something is being handed over."""
+        with self.guard:
+            return bool(self.turns.waiting or self.busy)
 
     def go_on(self) -> None:
         """Some attempt has ended: mail that waited for its domain may go."""
@@ -62,6 +84,18 @@ class Handover:
         with self.guard:
             return attempt.envelope in self.busy
 
+    def run(self) -> None:
+        """Hands over one part after the other, in one session. While the instance is away it rests."""
+        for part in iter(self.parts.get, None):
+            try:
+                self.hand_over(part)
+                continue
+            except NotTaken as error:
+                log.error("the delivering instance takes nothing now", why=error)
+            except Exception as error:
+                log.error("hand-over broke", customer=part[0].customer, why=repr(error))
+            self.turns.ending.wait(self.settings.pause)
+
     # ---- one turn
 
     def turn(self, customer: str) -> bool:
@@ -70,8 +104,8 @@ class Handover:
             due, after = self.due(customer, self.after.pop(customer, None))
             if due:
                 self.begin(due)
-        if due:
-            self.hand_over(due)
+        for at in range(0, len(due), PART):
+            self.parts.put(due[at:at + PART])
         if after:
             self.after[customer] = after
         return bool(after)
@@ -122,7 +156,7 @@ class Handover:
             self.resting.end(it.recipients)
 
     def hand_over(self, due: List[Attempt]) -> None:
-        """Hands over a batch. What was not begun is as if it had never been written down."""
+        """Hands over a part. What was not begun is as if it had never been written down."""
         taken: Dict[str, str] = {}
         left = list(due)
         try:
@@ -132,18 +166,15 @@ class Handover:
                 if id:
                     taken[left[0].envelope] = id
                 left.pop(0)
-        except NotTaken as error:
-            log.error("the delivering instance takes nothing now", customer=due[0].customer,
-                      why=error)
-            raise Postponed from error
-        except BROKEN as error:
+        except BROKEN:
             if self.break_off():
                 left.pop(0)  # (of this one nobody knows)
-            log.error("hand-over broke", customer=due[0].customer, why=repr(error))
-            raise Postponed from error
+            raise
         finally:
-            self.leave(due, left)
-            self.handed.over(taken, [it.envelope for it in left])
+            try:
+                self.handed.over(taken, [it.envelope for it in left])
+            finally:
+                self.leave(due, left)
 
     def session(self) -> Session:
         """This thread's session, which is opened anew where it has ended."""

@@ -143,7 +143,7 @@ def whose_mail(settings: Settings) -> Dict[str, Line]:
         "in_flow_delay": Line("0", "the worker bounds what is under way"),
         "message_size_limit": Line(str(settings.largest + HEADER_ROOM),
                                    "room for what the intake takes, and for a header"),
-        "smtputf8_enable": Line("yes", "addresses past ASCII"),
+        "smtputf8_enable": Line("yes", "header fields past ASCII"),
     }
 
 

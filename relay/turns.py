@@ -11,10 +11,6 @@ from desk import Away
 TIMES = 4
 
 
-class Postponed(Exception):
-    """A turn could not be done, as was logged."""
-
-
 class Turns:
     """`work` does something for a customer, and returns whether there is more of it to do. While its
     calls fail a customer rests; its threads go on with the others."""
@@ -74,8 +70,6 @@ class Turns:
         """Whether there is more to do; None where the turn failed."""
         try:
             return self.work(customer)
-        except Postponed:
-            pass
         except Away as error:
             log.error("desk away", customer=customer, why=error)
         except Exception as error:
