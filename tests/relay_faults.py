@@ -174,8 +174,8 @@ def large_and_many(program, shared):
         running = it.run("deliver")
         until(lambda: len(shared.good.mail) == count, "the large messages do not come", 2 * LONGEST)
         most, threads = memory_of(running), threads_of(running)
-        # (four for sessions, four that tell, and five more)
-        expect(most < 120 and threads <= 13, "the delivery took", most, "megabytes,", threads, "threads")
+        # (four that list what is due, four for sessions, four that tell, and five more)
+        expect(most < 120 and threads <= 17, "the delivery took", most, "megabytes,", threads, "threads")
     return (f"large and many: {count} of 10 MB in {seconds:.1f} s, {more:.0f} MB more in the intake, "
             f"{most:.0f} MB and {threads} threads in the delivery")
 
