@@ -181,27 +181,3 @@ def import_of(key, rows):
     body = json.dumps({"label": "first", "csv": file}, separators=(",", ":"))
     counts = json.dumps({"added": rows, "changed": 0, "same": 0}, separators=(",", ":"))
     return f"{START} POST /v1/import {key} {body}", f"200 {counts}"
-
-
-def report_text(count):
-    """The queue report that crates/hq_text_bench must write of so many messages."""
-    lines = ["Queue ID          Size Arrival                         Sender/Recipient"]
-    for number in range(1, count + 1):
-        lines.append(f"{number:010X}         900 Thu, 01 Jan 2026 00:00:00 +0000 ann@a.example")
-        lines.append("    (4.2.0 mailbox busy)")
-        lines.append(f"    bob{number}@far.example")
-    lines.append(f"-- {count} queued, {900 * count} bytes, 0 on hold")
-    return "".join(f"{line}\n" for line in lines).encode()
-
-
-def status_text(count):
-    """The status text that it must write for so many recipients."""
-    lines = [
-        "Reporting-MTA: dns; relay.example",
-        "Arrival-Date: Thu, 01 Jan 2026 00:00:00 +0000",
-        "X-Desk-Queue-Id: 0000000001",
-    ]
-    for number in range(1, count + 1):
-        lines += ["", f"Final-Recipient: rfc822; bob{number}@far.example", "Action: delayed", "Status: 4.2.0"]
-        lines += ["Diagnostic-Code: x-desk; mailbox busy", "Will-Retry-Until: Tue, 06 Jan 2026 00:00:00 +0000"]
-    return "".join(f"{line}\r\n" for line in lines).encode()

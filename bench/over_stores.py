@@ -10,7 +10,9 @@ from model import Customer, Script, import_of
 from serving import HEADER, Wrong, words
 
 ROOT = os.path.dirname(os.path.dirname(os.path.abspath(__file__)))
-PROGRAM = os.path.join(ROOT, "crates", "hq_bench", "out", "hq_bench")
+FAILING = os.path.join(ROOT, "crates", "hq_failing", "out", "hq_failing")
+# the number of a call that is never made
+NEVER = "1000000000"
 DESK = os.path.join(ROOT, "crates", "hq_main", "out", "hq_main")
 REPETITIONS = 15
 # messages of the neighbours together, where stores are compared; the calls of a round, and the rounds
@@ -128,8 +130,13 @@ def desk_words(path, store=None):
     return words(DESK, "batch", store, directory=path)
 
 
+def list_words(path):
+    """The words by which they are served over plain lists."""
+    return [FAILING, path, "lists", "once", NEVER]
+
+
 def measured_directory(folder):
-    """The directory of the customers of crates/hq_bench."""
+    """A directory of eleven customers, each with room for 1,000 messages."""
     path = os.path.join(folder, "measured")
     names = [("acme", "acmekey000000001"), ("birch", "birchkey00000001")]
     names += [(f"birch{it}", f"birchkey{it:08}") for it in range(2, 11)]
@@ -164,7 +171,7 @@ def say_stores():
     with tempfile.TemporaryDirectory() as folder:
         path = measured_directory(folder)
         for store, asked, many in (
-            ("lists", lambda count: [PROGRAM], MANY_IN_LISTS),
+            ("lists", lambda count: list_words(path), MANY_IN_LISTS),
             ("memory", lambda count: desk_words(path), MANY),
             ("file", lambda count: desk_words(path, os.path.join(folder, f"store-{count}")), MANY),
         ):

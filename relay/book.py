@@ -12,6 +12,7 @@ when one is in no list of the desk.
 `mailing`: for each customer the number of a notice whose mailing was begun.
 `waiting`: notices that were set aside, whole, since nobody takes them now.
 """
+import fcntl
 import json
 import sqlite3
 import threading
@@ -73,8 +74,6 @@ class Waiting:
 class Book:
     def __init__(self, folder: Path):
         self.path, self.own = folder / "book.db", threading.local()
-        # (who waits for SQLite's own lock sleeps, and longer each time)
-        self.turn = threading.Lock()
         with self.writing() as database:
             for statement in SCHEMA.split(";"):
                 database.execute(statement)
@@ -86,13 +85,22 @@ class Book:
             database.execute("PRAGMA journal_mode = WAL")
             database.execute("PRAGMA synchronous = FULL")
             self.own.database = database
+            self.own.turn = open(self.path.with_suffix(".turn"), "wb")
         return self.own.database
+
+    def close(self) -> None:
+        """Closes the connection of this thread; the next call opens a new one."""
+        self.database().close()
+        self.own.turn.close()
+        del self.own.database
 
     @contextmanager
     def writing(self):
         """A transaction: all of it is done and synced, or nothing."""
         database = self.database()
-        with self.turn:
+        # (who waits for SQLite's own lock sleeps, and longer each time)
+        fcntl.flock(self.own.turn, fcntl.LOCK_EX)
+        try:
             database.execute("BEGIN IMMEDIATE")
             try:
                 yield database
@@ -101,6 +109,8 @@ class Book:
                 if database.in_transaction:
                     database.execute("ROLLBACK")
                 raise
+        finally:
+            fcntl.flock(self.own.turn, fcntl.LOCK_UN)
 
     def one(self, asked: str, *values):
         """The first value of the first row; None where there is none."""

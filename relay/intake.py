@@ -8,10 +8,9 @@ import hashlib
 import re
 import sqlite3
 import threading
-from contextlib import contextmanager
 from dataclasses import dataclass
 from email.utils import formatdate
-from typing import Optional, Tuple
+from typing import Optional, Set, Tuple
 
 import desk as desks
 import log
@@ -165,26 +164,12 @@ class Incoming:
 
 
 class Intake:
-    def __init__(self, settings: Settings, desk: Desk, spool: Spool, book: Book):
-        self.settings, self.desk, self.spool, self.book = settings, desk, spool, book
-        self.names = Names(desk, spool, book)
-        self.changed, self.busy = threading.Condition(), set()
-        # the customers of whom a submit was begun, and nobody knows whether it was done
-        self.unsettled = self.names.unrecorded().intersection(settings.customers)
+    """`unsettled` are the customers of whom a submit was begun, and nobody knows whether it was done."""
 
-    @contextmanager
-    def alone_with(self, name: str):
-        """No other thread works at this name meanwhile: the MTA may try again what was not
-        answered yet."""
-        with self.changed:
-            self.changed.wait_for(lambda: name not in self.busy)
-            self.busy.add(name)
-        try:
-            yield
-        finally:
-            with self.changed:
-                self.busy.discard(name)
-                self.changed.notify_all()
+    def __init__(self, settings: Settings, desk: Desk, spool: Spool, book: Book,
+                 unsettled: Set[str]):
+        self.settings, self.desk, self.spool, self.book = settings, desk, spool, book
+        self.names, self.guard, self.unsettled = Names(desk, spool, book), threading.Lock(), unsettled
 
     def answered(self, name: str) -> Optional[str]:
         """What was answered when this name was taken."""
@@ -222,7 +207,8 @@ class Intake:
 
     def take(self, envelope: Envelope, draft: Draft) -> str:
         """Keeps a message, submits it, and returns the answer by the desk's verdict."""
-        with self.alone_with(envelope.spool):
+        # (the MTA may try again, over another process too, what was not answered yet)
+        with self.spool.alone_with(envelope.spool):
             before = self.answered(envelope.spool)
             if before:
                 return before
@@ -234,7 +220,7 @@ class Intake:
                 return self.refused(envelope, refusal)
             except Away as error:
                 log.warning("desk away", spool=envelope.spool, why=error)
-                with self.changed:
+                with self.guard:
                     self.unsettled.add(envelope.customer)
                 return "451 4.3.0 the desk is away"
             return self.judged(envelope, reply)
@@ -242,14 +228,14 @@ class Intake:
     def settle(self) -> None:
         """Learns which submits were done that nobody heard of, before the MTA tries them again: a
         customer may have deleted them by then. While the desk is away they wait."""
-        with self.changed:
+        with self.guard:
             customers, self.unsettled = self.unsettled, set()
         for customer in sorted(customers):
             try:
                 self.names.queued(customer)
             except (Away, Refused, OSError, sqlite3.Error) as error:
                 log.warning("not settled", customer=customer, why=repr(error))
-                with self.changed:
+                with self.guard:
                     self.unsettled.add(customer)
             else:
                 log.info("settled", customer=customer)

@@ -7,10 +7,11 @@ import asyncio
 import collections
 import logging
 import re
+import socket
 import threading
 from concurrent.futures import ThreadPoolExecutor
 from contextlib import contextmanager
-from typing import AsyncIterator, Dict, Optional, Tuple
+from typing import AsyncIterator, Dict, List, Optional, Tuple
 
 from aiosmtpd.lmtp import LMTP
 from aiosmtpd.smtp import syntax
@@ -26,6 +27,8 @@ IDLE, LONGEST_LINE, LARGEST_PIECE, END = 300, 4096, 65536, b"\r\n.\r\n"
 # An address with its brackets, and what stands behind it.
 ADDRESS = re.compile(r'(?s)(.*?<(?:"(?:[^"\\]|\\.)*"|[^">])*>)(.*)')
 CLIENT = re.compile(r"[A-Za-z0-9.:_\[\]-]{1,255}")
+# So many sessions may wait to be taken.
+BACKLOG = 128
 GOING_DOWN = "421 4.3.2 going down"
 # (its own lines tell each command of each client)
 logging.getLogger("mail.log").setLevel(logging.CRITICAL)
@@ -162,21 +165,38 @@ class Session(LMTP):
             begins_at = 0
 
 
-class Server:
-    """Listens for sessions, of which there are at most so many at once. The sessions run in one
-    thread; what waits for a disk or the desk does so in others."""
+def listen(settings: Settings) -> List[socket.socket]:
+    """Sockets that listen at the address of the settings: several where a name has several."""
+    found = socket.getaddrinfo(*settings.listen, type=socket.SOCK_STREAM, flags=socket.AI_PASSIVE)
+    addresses = dict.fromkeys((family, address) for family, _, _, _, address in found)
+    listening = [socket.create_server(address, family=family, backlog=BACKLOG)
+                 for family, address in addresses]
+    for it in listening:
+        # (else an answer waits until the one before it is acknowledged; sessions inherit this)
+        it.setsockopt(socket.IPPROTO_TCP, socket.TCP_NODELAY, 1)
+    return listening
 
-    def __init__(self, settings: Settings, intake: Intake):
+
+class Server:
+    """Takes sessions of listening sockets, of which there are at most so many at once. The sessions
+    run in one thread; what waits for a disk or the desk does so in others."""
+
+    def __init__(self, settings: Settings, intake: Intake, listening: List[socket.socket]):
         self.settings, self.intake = settings, intake
         self.sessions, self.is_ending, self.answers = set(), False, 0
         self.pool = ThreadPoolExecutor(settings.connections)
         self.loop = asyncio.new_event_loop()
-        self.listening = self.loop.run_until_complete(
-            self.loop.create_server(lambda: Session(self), *settings.listen, backlog=128))
-        self.address = self.listening.sockets[0].getsockname()[:2]
+        self.listening = [self.loop.run_until_complete(self.takes_from(it)) for it in listening]
 
     def start(self) -> None:
         threading.Thread(target=self.loop.run_forever, daemon=True).start()
+
+    async def takes_from(self, listening: socket.socket) -> asyncio.AbstractServer:
+        """Takes one session at a time: other processes take theirs from the same socket."""
+        server = await self.loop.create_server(lambda: Session(self), sock=listening, backlog=1)
+        # (so many may wait all the same)
+        listening.listen(BACKLOG)
+        return server
 
     def admits(self, session: Session) -> bool:
         if len(self.sessions) < self.settings.connections:
@@ -226,6 +246,7 @@ class Server:
 
     async def end(self) -> None:
         self.is_ending = True
-        self.listening.close()
+        for it in self.listening:
+            it.close()
         while self.answers:
             await asyncio.sleep(0.02)

@@ -1,6 +1,7 @@
 """A notice as a mail (RFC 3464, 6522), and handing it to a Postfix that sends it on."""
 import email
 import email.policy
+import re
 import secrets
 import smtplib
 import textwrap
@@ -21,6 +22,8 @@ from spool import Envelope, Kept
 
 # No line of a mail may have more than 998 bytes.
 LONGEST_LINE = 900
+# Where a field cannot be folded: behind so many bytes without a space.
+UNBROKEN = re.compile(r"\S{%d}(?=\S)" % LONGEST_LINE)
 POLICY = email.policy.compat32.clone(linesep="\r\n", max_line_length=LONGEST_LINE)
 # A larger message is not returned whole, as Postfix's `bounce_size_limit` has it.
 LARGEST_RETURNED = 50_000
@@ -142,6 +145,8 @@ def status_of(notice: dict, original: Original) -> Message:
         whole["Original-Envelope-Id"] = envelope.envelope_id
     outcomes = {it["recipient"].lower(): it for it in attempt.outcomes} if attempt else {}
     for group in groups:
+        if "Diagnostic-Code" in group:
+            group.replace_header("Diagnostic-Code", UNBROKEN.sub(r"\g<0> ", group["Diagnostic-Code"]))
         recipient = str(group["Final-Recipient"]).partition(";")[2].strip().lower()
         told = outcomes.get(recipient)
         if envelope and envelope.original:

@@ -17,6 +17,8 @@ DOMAIN = re.compile(r"[A-Za-z0-9_-]+(\.[A-Za-z0-9_-]+)*")
 LOCAL = re.compile(r'(?:(?!["\\<>(),;@])[!-~])+')
 USER = re.compile(r"[a-z_][a-z0-9_-]{0,30}")
 COLUMNS = ["name", "key", "messages", "bytes", "lines", "notices", "delay"]
+# (a directory may have one column more)
+FURTHER = "history"
 REQUIRED = object()
 
 
@@ -52,6 +54,7 @@ class Settings:
     listen: Address
     largest: int
     connections: int
+    processes: int
     front: Path
     customers_at: Optional[Address]
     logins: Dict[str, str]
@@ -144,11 +147,11 @@ def customers_of(path: Path) -> Dict[str, Customer]:
             rows = list(csv.reader(file))
     except (OSError, ValueError, csv.Error) as error:
         raise ValueError(f"cannot be read: {error}") from None
-    if not rows or rows[0] != COLUMNS:
+    if not rows or rows[0] not in (COLUMNS, [*COLUMNS, FURTHER]):
         raise ValueError(f"has not the header {','.join(COLUMNS)}")
     found = {}
     for number, row in enumerate(filter(None, rows[1:]), 1):
-        if len(row) != len(COLUMNS) or not CUSTOMER.fullmatch(row[0]) or row[0] in found:
+        if len(row) != len(rows[0]) or not CUSTOMER.fullmatch(row[0]) or row[0] in found:
             raise ValueError(f"row {number} is not a customer")
         found[row[0]] = Customer(row[0], count(row[2]), count(row[5]))
     return found
@@ -224,6 +227,7 @@ def load(name: str) -> Settings:
         listen=reader.read("intake", "listen", address),
         largest=reader.read("intake", "largest", count, 11_000_000),
         connections=reader.read("intake", "connections", count, 50),
+        processes=reader.read("intake", "processes", count, 2),
         front=reader.read("intake", "postfix", reader.path, Path("/etc/postfix")),
         customers_at=reader.read("intake", "customers", address, None),
         logins=reader.table("logins", customer),

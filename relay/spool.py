@@ -1,8 +1,8 @@
 """The spool: a file for each message, with its envelope and its content; and the worker's locks."""
 import fcntl
+import itertools
 import json
 import os
-import tempfile
 from contextlib import contextmanager, suppress
 from dataclasses import asdict, dataclass
 from pathlib import Path
@@ -10,6 +10,8 @@ from typing import BinaryIO, Iterator, List, Optional
 
 # How many bytes of a message are searched for the end of its header fields.
 LARGEST_HEAD = 65536
+# How the locks of spool names begin.
+LOCK_OF_A_NAME = "name-"
 
 
 @dataclass(frozen=True)
@@ -50,8 +52,8 @@ def head_of(content: bytes) -> bytes:
 class Draft:
     """A message while it comes, in a file of its own."""
 
-    def __init__(self, folder: Path, envelope: Envelope):
-        self.file, self.size = tempfile.NamedTemporaryFile(dir=folder, delete=False), 0
+    def __init__(self, path: Path, envelope: Envelope):
+        self.file, self.size = open(path, "xb"), 0
         self.file.write(json.dumps(asdict(envelope)).encode() + b"\n")
 
     def write(self, piece: bytes) -> None:
@@ -81,6 +83,14 @@ def drop(path: Path) -> None:
         pass
 
 
+def is_file_at(file: BinaryIO, path: Path) -> bool:
+    """Whether an open file is the one that a path names now."""
+    try:
+        return os.path.samestat(os.fstat(file.fileno()), os.stat(path))
+    except FileNotFoundError:
+        return False
+
+
 class Spool:
     """A folder with `content`, a file for each spool name; `new`, what is being written; `aside`,
     what nobody takes back after a restore; and `locks`."""
@@ -88,12 +98,13 @@ class Spool:
     def __init__(self, folder: Path):
         self.content, self.new = folder / "content", folder / "new"
         self.aside, self.locks = folder / "aside", folder / "locks"
+        self.drafts = itertools.count(1)
         for path in (self.content, self.new, self.aside, self.locks):
             path.mkdir(parents=True, exist_ok=True)
         sync_folder(folder)
 
     def draft(self, envelope: Envelope) -> Draft:
-        return Draft(self.new, envelope)
+        return Draft(self.new / f"{os.getpid()}.{next(self.drafts)}", envelope)
 
     def keep(self, draft: Draft, spool: str) -> None:
         """Gives a draft its name, so that it is there whole after any stop; or raises OSError."""
@@ -141,9 +152,27 @@ class Spool:
         os.rename(self.content / spool, self.aside / spool)
 
     def drop_unfinished(self) -> None:
-        """Removes what was being written when an intake was stopped; nothing was submitted."""
-        for path in self.new.iterdir():
+        """Removes what was being written when an intake was stopped, of which nothing was submitted,
+        and the locks that it had."""
+        for path in (*self.new.iterdir(), *self.locks.glob(f"{LOCK_OF_A_NAME}*")):
             drop(path)
+
+    @contextmanager
+    def alone_with(self, spool: str) -> Iterator[None]:
+        """No other thread or process works at this name meanwhile."""
+        path = self.locks / f"{LOCK_OF_A_NAME}{spool}"
+        file = open(path, "wb")
+        fcntl.flock(file, fcntl.LOCK_EX)
+        # (who had the lock has removed its file, and somebody else may have made another one)
+        while not is_file_at(file, path):
+            file.close()
+            file = open(path, "wb")
+            fcntl.flock(file, fcntl.LOCK_EX)
+        try:
+            yield
+        finally:
+            drop(path)
+            file.close()
 
     def lock(self, name: str):
         """The lock of this name, until it is closed or the process ends; None where another has

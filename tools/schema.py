@@ -1,120 +1,48 @@
-"""Whether a value has the form of a schema: the part of JSON Schema that docs/openapi.json uses.
+"""Whether a value has the form of a schema of docs/openapi.json, as Python's jsonschema sees it."""
+import copy
 
-A number is an integer, since the desk has no others. A keyword that is not known here is a fault,
-so that no part of a schema is passed over.
-"""
-import re
+from jsonschema import Draft202012Validator, RefResolver
+from jsonschema.validators import extend
 
-TYPES = {"string": str, "boolean": bool, "integer": int, "object": dict, "array": list,
-         "null": type(None)}
-SAYS_NOTHING = {"description"}
+# An integer is written in digits alone: the desk takes no 1.0 for 1.
+INTEGERS = Draft202012Validator.TYPE_CHECKER.redefine(
+    "integer", lambda _, it: isinstance(it, int) and not isinstance(it, bool))
+Checked = extend(Draft202012Validator, type_checker=INTEGERS)
 
 
 class Forms:
     """The schemas of a document. `closed` refuses a member that no schema of the object names."""
 
     def __init__(self, document, closed):
-        self.document, self.closed = document, closed
-        self.keywords = {
-            "$ref": self.reference, "type": self.kind, "enum": self.one_of_values,
-            "const": self.constant, "minimum": self.least, "maximum": self.greatest,
-            "maxLength": self.longest, "pattern": self.pattern, "not": self.no_form,
-            "anyOf": self.any_of, "oneOf": self.just_one_of, "items": self.items,
-            "minItems": self.fewest, "maxItems": self.most, "required": self.required,
-            "properties": self.members, "additionalProperties": self.no_others}
+        self.document, self.closed = fitted(copy.deepcopy(document), closed), closed
+        self.references = RefResolver.from_schema(self.document)
 
     def resolved(self, part):
         """A part of the document, or what it refers to."""
         while "$ref" in part:
-            found = self.document
-            for step in part["$ref"].split("/")[1:]:
-                found = found[step]
-            part = found
+            part = self.references.resolve(part["$ref"])[1]
         return part
 
     def faults(self, schema, value, at="the body"):
         """What of the value has not the form."""
-        for keyword, wanted in schema.items():
-            if keyword in SAYS_NOTHING:
-                continue
-            if keyword not in self.keywords:
-                yield f"the schema of {at} has the unknown keyword {keyword}"
-                continue
-            yield from self.keywords[keyword](wanted, value, at)
+        own = fitted(copy.deepcopy(schema), self.closed)
+        for it in Checked(own, resolver=self.references).iter_errors(value):
+            yield f"{at}{it.json_path[1:]}: {it.message}"
 
     def has(self, schema, value):
         return not any(True for _ in self.faults(schema, value))
 
-    def reference(self, wanted, value, at):
-        yield from self.faults(self.resolved({"$ref": wanted}), value, at)
 
-    def kind(self, wanted, value, at):
-        if not isinstance(value, TYPES[wanted]) or wanted == "integer" and isinstance(value, bool):
-            yield f"{at} is no {wanted}"
-
-    def one_of_values(self, wanted, value, at):
-        if value not in wanted:
-            yield f"{at} is none of {wanted}"
-
-    def constant(self, wanted, value, at):
-        if value != wanted or type(value) is not type(wanted):
-            yield f"{at} is not {wanted!r}"
-
-    def least(self, wanted, value, at):
-        if isinstance(value, int) and value < wanted:
-            yield f"{at} is below {wanted}"
-
-    def greatest(self, wanted, value, at):
-        if isinstance(value, int) and value > wanted:
-            yield f"{at} is above {wanted}"
-
-    def longest(self, wanted, value, at):
-        if isinstance(value, str) and len(value) > wanted:
-            yield f"{at} is longer than {wanted}"
-
-    def pattern(self, wanted, value, at):
-        # (`$` of a schema is the end of the text alone)
-        if isinstance(value, str) and not re.search(re.sub(r"\$$", r"\\Z", wanted), value):
-            yield f"{at} does not match {wanted}"
-
-    def no_form(self, wanted, value, at):
-        if self.has(wanted, value):
-            yield f"{at} has the form of {wanted}"
-
-    def any_of(self, wanted, value, at):
-        if not any(self.has(it, value) for it in wanted):
-            yield f"{at} has none of the forms {wanted}"
-
-    def just_one_of(self, wanted, value, at):
-        found = sum(self.has(it, value) for it in wanted)
-        if found != 1:
-            yield f"{at} has {found} of the forms {wanted}"
-
-    def items(self, wanted, value, at):
-        for place, it in enumerate(value if isinstance(value, list) else []):
-            yield from self.faults(wanted, it, f"{at}[{place}]")
-
-    def fewest(self, wanted, value, at):
-        if isinstance(value, list) and len(value) < wanted:
-            yield f"{at} has fewer than {wanted}"
-
-    def most(self, wanted, value, at):
-        if isinstance(value, list) and len(value) > wanted:
-            yield f"{at} has more than {wanted}"
-
-    def required(self, wanted, value, at):
-        for it in wanted if isinstance(value, dict) else []:
-            if it not in value:
-                yield f"{at} has no {it}"
-
-    def members(self, wanted, value, at):
-        for name, it in value.items() if isinstance(value, dict) else []:
-            if name in wanted:
-                yield from self.faults(wanted[name], it, f"{at}.{name}")
-            elif self.closed:
-                yield f"{at} has {name}, of which nothing is told"
-
-    def no_others(self, wanted, value, at):
-        """`false` alone: what may not be there is told by a document that is closed."""
-        if wanted is not False or not self.closed:
-            yield f"{at} may have any members"
+def fitted(part, closed):
+    """A part of a document whose patterns end at the end of a text, and not before a last line feed; and whose objects
+    have no further members where it is `closed`, or any where it is not."""
+    if isinstance(part, list):
+        return [fitted(it, closed) for it in part]
+    if not isinstance(part, dict):
+        return part
+    if "properties" in part:
+        part.pop("additionalProperties", None)
+        part.update({"additionalProperties": False} if closed else {})
+    if isinstance(part.get("pattern"), str) and part["pattern"].endswith("$"):
+        part["pattern"] = part["pattern"][:-1] + r"\Z"
+    return {name: fitted(it, closed) for name, it in part.items()}

@@ -1,8 +1,29 @@
-"""Wrong bodies: the lines that an edit changes, the function whose body they are, and which edits one check can try."""
+"""Wrong bodies: the file in which those of a crate stand, the lines that an edit changes, the function whose body they are,
+and which edits one check can try."""
 import os
+import sys
 
 from kit import rt, rtlib
 from source_functions import functions
+
+
+# The first line of an edit, behind which stands its text in the form of rt.
+NAMED = "wrong: "
+
+
+def file_of(crate):
+    return f"{crate.folder}/strength.txt"
+
+
+def texts_of(crate, part=""):
+    """The edits of a crate with this part in their names: each name, and its text."""
+    found = {}
+    for it in f"\n{rtlib.text_of(file_of(crate)) or ''}".split(f"\n{NAMED}")[1:]:
+        name, _, text = it.partition("\n")
+        if name in found:
+            sys.exit(f"strength: {crate.name} has two edits with the name {name}")
+        found[name] = text
+    return {name: text for name, text in found.items() if part in name}
 
 
 class Sources:
@@ -40,11 +61,9 @@ def changes(old, new):
 class Edit:
     """A wrong body; where it changes just one function's body, that function's path and lines."""
 
-    def __init__(self, file, crate, sources):
-        self.file, self.name = file, f"{crate.name}/{os.path.basename(file)[: -len('.edit')]}"
-        self.path, self.lines, self.bad = None, {}, "no NAME.edit"
-        if file.endswith(".edit"):
-            texts, self.bad = rt.edited(rtlib.text_of(file) or "", crate.folder)
+    def __init__(self, name, text, crate, sources):
+        self.name, self.text, self.path, self.lines = f"{crate.name}/{name}", text, None, {}
+        texts, self.bad = rt.edited(text, crate.folder)
         if not self.bad and len(texts) == 1 and {*texts} <= {*sources.texts}:
             (self.source, text), *_ = texts.items()
             self.find_function(text.encode(), sources)

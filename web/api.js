@@ -2,7 +2,9 @@
 
 const KEPT = "desk-key";
 // POST for their bodies, though they change nothing
-const READERS = ["/v1/check", "/v1/lines-after"];
+const READERS = ["/v1/check", "/v1/lines-after", "/v1/find", "/v1/history-find"];
+// How often a call is asked again that the proxy refused as too often: nothing was done then.
+const AGAIN = 5;
 
 // What came in the place of a reply of 200. `number` is the desk's, and 0 where something else
 // answered, or nobody.
@@ -12,6 +14,11 @@ export class Fault extends Error {
     Object.assign(this, { status, reads, row: body.row });
     Object.assign(this, { number: body.error ?? 0, named: body.name ?? "" });
   }
+
+  // whether the desk is away, and not only of another opinion
+  get isAway() {
+    return !this.number || this.status === 503;
+  }
 }
 
 export const key = {
@@ -20,11 +27,29 @@ export const key = {
   forget: () => sessionStorage.removeItem(KEPT),
 };
 
-let withoutKey = () => {};
+// The name by which the proxy knows who asks; "" where it tells none.
+export const asker = { name: "" };
 
-// Sets what is done when the desk does not know the key.
-export function whenKeyIsRefused(does) {
-  withoutKey = does;
+// How much that changes something is under way, and how often such a thing began or ended: what was
+// read of the queue before its end is too old.
+export const changing = { count: 0, turns: 0 };
+
+// Queue IDs are numbered for each customer: what is marked of one is not to be used on the queue of
+// another, who logged in at the site of the firm meanwhile.
+function nameIs(name) {
+  if (name && asker.name && name !== asker.name) location.reload();
+  asker.name = name ?? asker.name;
+}
+
+const rests = (seconds) => new Promise((done) => setTimeout(done, seconds * 1000));
+
+async function asked(method, path, sent, headers) {
+  const how = { method, headers, body: sent, cache: "no-store", redirect: "error" };
+  for (let tries = 0; ; tries += 1) {
+    const reply = await fetch(path, how);
+    if (reply.status !== 429 || tries === AGAIN) return reply;
+    await rests(Math.min(5, Number(reply.headers.get("Retry-After")) || 1));
+  }
 }
 
 // A call: what a reply of 200 says. All else is thrown as a Fault.
@@ -38,17 +63,15 @@ export async function call(method, path, body, typed) {
   let status = 0;
   let told = {};
   try {
-    const how = { method, headers, body: sent, cache: "no-store", redirect: "error" };
-    const reply = await fetch(path, how);
+    const reply = await asked(method, path, sent, headers);
     status = reply.status;
     told = await reply.json();
+    if (status === 200) nameIs(reply.headers.get("X-Desk-Customer"));
   } catch {
     throw new Fault(status === 200 ? 0 : status, {}, reads);
   }
   if (status === 200) return told;
-  const fault = new Fault(status, Object(told), reads);
-  if (fault.number === 2) withoutKey(fault);
-  throw fault;
+  throw new Fault(status, Object(told), reads);
 }
 
 // The pages of a list, one after the other. `next` makes the call behind an entry.
@@ -61,12 +84,25 @@ async function* pages(first, next, member) {
   }
 }
 
-export const messages = () =>
+// The messages that a pattern is for, behind an ID.
+export const found = (wanted, after = null) =>
   pages(
-    () => call("GET", "/v1/messages"),
-    (last) => call("GET", `/v1/messages-after/${last.id}`),
+    () => call("POST", "/v1/find", { ...wanted, after }),
+    (last) => call("POST", "/v1/find", { ...wanted, after: last.id }),
     "messages",
   );
+
+// Some ends of the history, newest first, and before which number it goes on; null at its end.
+// `wanted` is a pattern, or null for all.
+export async function history(wanted, before) {
+  if (wanted) {
+    const told = await call("POST", "/v1/history-find", { ...wanted, before });
+    return { ends: told.history, next: told.next };
+  }
+  const path = before === null ? "/v1/history" : `/v1/history-before/${before}`;
+  const told = await call("GET", path);
+  return { ends: told.history, next: told.more ? told.history.at(-1).number : null };
+}
 
 export const notices = () =>
   pages(

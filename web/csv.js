@@ -1,4 +1,5 @@
-// Where the rows of a CSV file stand: to show the row that the desk counted.
+// CSV files: where the rows of one stand, to show the row that the desk counted; and one that is
+// made.
 
 // The rows of a text, the header first, each with the number of its first line. Empty lines are
 // no rows.
@@ -24,3 +25,13 @@ export function rowsOf(text) {
   end(text.length);
   return rows;
 }
+
+// A field of a file that is made. A text of strangers must be no formula of a spreadsheet; what is
+// to be imported again must stay as it is.
+function field(value, isSafe) {
+  const text = String(value);
+  return `"${isSafe && /^[=+@\t\r-]/.test(text) ? "'" : ""}${text.replaceAll('"', '""')}"`;
+}
+
+export const csvOf = (rows, isSafe = true) =>
+  rows.map((row) => `${row.map((it) => field(it, isSafe)).join(",")}\r\n`).join("");

@@ -1,24 +1,41 @@
-// The start of the page: its key and its four tabs.
+// The start of the page: its texts, its key and its tabs.
 
-import { call, key, whenKeyIsRefused } from "./api.js";
-import { by, sayNothing } from "./parts.js";
-import { told } from "./words.js";
-import * as notices from "./notices.js";
-import * as queue from "./queue.js";
-import * as rules from "./rules.js";
-import * as usage from "./usage.js";
+import { fill, text } from "./texts.js";
 
-const VIEWS = { queue, rules, notices, usage };
+fill(document);
+fill(document.getElementById("message-row").content);
+
+const { call, key } = await import("./api.js");
+const { by, closeMenus, sayNothing } = await import("./parts.js");
+const { desk, forget, refresh, restore, when } = await import("./desk.js");
+const { told } = await import("./words.js");
+const { tellWho, wearColours } = await import("./look.js");
+const [overview, queue, sent, rules, notices, usage] = await Promise.all(
+  ["overview", "queue", "sent", "rules", "notices", "usage"].map((it) => import(`./${it}.js`)),
+);
+
+const VIEWS = { overview, queue, sent, rules, notices, usage };
 const tabs = [...document.querySelectorAll("[role=tab]")];
+const viewOf = (tab) => tab.getAttribute("aria-controls");
+let chosen = tabs[0];
+
+// ---- tabs: the one that is open stands in the address, so that a reload comes back to it
 
 function select(tab) {
+  chosen = tab;
   for (const it of tabs) {
-    const chosen = it === tab;
-    it.setAttribute("aria-selected", chosen);
-    it.tabIndex = chosen ? 0 : -1;
-    by(it.getAttribute("aria-controls")).hidden = !chosen;
+    it.setAttribute("aria-selected", it === tab);
+    it.tabIndex = it === tab ? 0 : -1;
+    by(viewOf(it)).hidden = it !== tab;
   }
-  VIEWS[tab.getAttribute("aria-controls")].open();
+  tab.scrollIntoView({ block: "nearest", inline: "nearest" });
+  if (location.hash !== `#${viewOf(tab)}`) history.pushState(null, "", `#${viewOf(tab)}`);
+  VIEWS[viewOf(tab)].open();
+}
+
+function turnTo(tab) {
+  sayNothing();
+  select(tab);
 }
 
 function moveBetweenTabs(event) {
@@ -31,70 +48,97 @@ function moveBetweenTabs(event) {
   turnTo(tab);
 }
 
-function turnTo(tab) {
-  sayNothing();
-  select(tab);
-}
+const tabOfAddress = () =>
+  tabs.find((it) => `#${viewOf(it)}` === location.hash) ?? tabs[0];
+
+// ---- the key
 
 function askForKey(words) {
-  by("views").hidden = by("forget").hidden = true;
+  by("starting").hidden = true;
+  for (const id of ["views", "account", "who-name", "refresh"]) by(id).hidden = true;
   by("key-form").hidden = false;
   by("key-fault").textContent = words;
   by("key").focus();
 }
 
 function showViews() {
+  if (!by("views").hidden) return;
+  by("starting").hidden = true;
   by("key-form").hidden = true;
   by("views").hidden = false;
-  by("forget").hidden = !key.get();
-  select(tabs[0]);
+  by("refresh").hidden = false;
+  select(tabOfAddress());
+  // (so that Tab and arrows begin where the page does)
+  if (document.activeElement === document.body) chosen.focus({ focusVisible: false });
 }
 
 async function useKey(event) {
   event.preventDefault();
   const typed = by("key").value.trim();
-  if (!/^[A-Za-z0-9]{16,64}$/.test(typed)) {
-    return askForKey("This is no key. A key is 16 to 64 letters and digits.");
-  }
+  if (!/^[A-Za-z0-9]{16,64}$/.test(typed)) return askForKey(text("noKeyForm"));
   try {
     await call("GET", "/v1/usage", undefined, typed);
   } catch (fault) {
-    return askForKey(told(fault));
+    return askForKey(fault.number === 2 ? text("fault2") : told(fault));
   }
   key.set(typed);
   // (so that nothing is left of whoever used the page before)
+  return location.reload();
+}
+
+function leave() {
+  key.forget();
+  forget();
+  desk.at = 0;
   location.reload();
 }
 
-// The first call asks with the key of this tab, or with none: then the proxy may know who it is.
-async function start() {
-  try {
-    await call("GET", "/v1/usage");
-  } catch (fault) {
-    if (fault.number === 3) key.forget();
-    // (2 is told where it came, and what does not concern the key comes again in a view)
-    if (fault.number !== 2 && !key.get()) askForKey(told(fault));
-    if (!key.get()) return;
-  } finally {
-    by("starting").remove();
-  }
-  showViews();
+// Nobody has this key any more, or nobody is logged in: asked again and again, it stayed so.
+function stranger({ detail: fault }) {
+  const words = key.get() || desk.at ? told(fault) : "";
+  key.forget();
+  forget();
+  desk.at = 0;
+  askForKey(words);
 }
 
-whenKeyIsRefused((fault) => {
-  const known = key.get() || !by("views").hidden;
-  key.forget();
-  // (of two calls at once the second does not wipe out what the first told)
-  askForKey(known ? told(fault) : by("key-fault").textContent);
+// ---- the start
+
+when("stranger", stranger);
+when("changed", () => {
+  if (!by("key-form").hidden) return;
+  if (desk.at) showViews();
+  else if (desk.fault) by("starting").textContent = text("notYet");
+  if (desk.at && by("views").ariaBusy !== "true") VIEWS[viewOf(chosen)].draw?.();
 });
-by("key-form").addEventListener("submit", useKey);
-by("forget").addEventListener("click", () => {
-  key.forget();
-  location.reload();
+document.addEventListener("turn", ({ detail }) => {
+  if (viewOf(chosen) !== detail) turnTo(by(`tab-${detail}`));
 });
-by("told-close").addEventListener("click", sayNothing);
+// (a message of the queue or a notice asks for its history)
+document.addEventListener("history", ({ detail }) => {
+  sent.showOnly(detail);
+  turnTo(by("tab-sent"));
+});
+document.addEventListener("notices", ({ detail }) => {
+  turnTo(by("tab-notices"));
+  notices.openOf(detail);
+});
+document.addEventListener("click", closeMenus);
+document.addEventListener("focusin", closeMenus);
+document.addEventListener("keydown", closeMenus);
+addEventListener("popstate", () => {
+  if (!by("views").hidden && tabOfAddress() !== chosen) turnTo(tabOfAddress());
+});
 for (const tab of tabs) {
   tab.addEventListener("click", () => turnTo(tab));
   tab.addEventListener("keydown", moveBetweenTabs);
 }
-start();
+by("key-form").addEventListener("submit", useKey);
+by("forget").addEventListener("click", leave);
+by("told-close").addEventListener("click", sayNothing);
+by("refresh").addEventListener("click", refresh);
+by("away-again").addEventListener("click", refresh);
+wearColours();
+tellWho();
+restore();
+refresh();

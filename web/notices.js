@@ -1,40 +1,89 @@
-// The notices, the newest first, and the two texts of one.
+// The notices, the newest first, and the two texts of one, with the way to its message.
 
 import { call, notices } from "./api.js";
-import { by, counted, element, foreign, moment, row, say, trying } from "./parts.js";
+import { desk } from "./desk.js";
+import { address, button, by, chip, element, filling, say, trying } from "./parts.js";
+import { moment, text } from "./texts.js";
+import { showMessage } from "./queue.js";
 
-const LABELS = ["Made", "Kind", "Message", "To", "Open"];
+let opened = null;
 
 function drawn(notice) {
-  const attributes = { type: "button", "aria-label": `Open notice ${notice.number}` };
-  const button = element("button", attributes, "Open");
-  button.addEventListener("click", () => trying(() => show(notice.number)));
-  return row(LABELS, [moment(notice.at), notice.kind, notice.id, foreign(notice.to), button]);
+  const opens = () => trying(() => show(notice));
+  const subject = button(text(`notice_${notice.kind}`), opens, {
+    class: "link", "aria-label": text("openNotice", { number: notice.number }),
+  });
+  const to = element("span", { class: "line" }, address(notice.to));
+  const cell = (it) => element("td", { role: "cell" }, it);
+  const row = element("tr", { role: "row", class: "notice", "data-id": notice.id });
+  row.dataset.number = notice.number;
+  row.append(cell(moment(notice.at)), cell(chip(notice.kind, text(`kind_${notice.kind}`))),
+    cell(subject), cell(to), cell(element("code", {}, notice.id)));
+  return row;
 }
 
-async function show(number) {
+// Where more is told of the message of a notice: the queue while it is there, else the history.
+function way(notice, sender) {
+  const isQueued = desk.byId.has(notice.id);
+  const does = () => {
+    if (isQueued) return showMessage(notice.id);
+    const detail = { id: notice.id, sender };
+    return document.dispatchEvent(new CustomEvent("history", { detail }));
+  };
+  return button(text(isQueued ? "openMessage" : "openHistory", { id: notice.id }), does);
+}
+
+async function show(notice) {
   by("notice").hidden = true;
-  const told = await call("GET", `/v1/notice/${number}`);
+  const told = await call("GET", `/v1/notice/${notice.number}`);
+  opened = notice.number;
   by("notice-subject").textContent = told.subject;
-  by("notice-to").textContent = told.to;
+  by("notice-to").replaceChildren(address(told.to));
   by("notice-human").textContent = told.human;
   by("notice-status").textContent = told.status;
+  by("notice-ways").replaceChildren(way(notice, told.to), button(text("close"), close));
   by("notice").hidden = false;
   by("notice").focus();
 }
 
-async function load() {
-  const body = by("notice-list").tBodies[0];
+function close() {
   by("notice").hidden = true;
-  const rows = [];
-  by("notices-shown").textContent = "";
-  for await (const page of notices()) rows.push(...page.map(drawn));
-  body.replaceChildren(...rows.reverse());
-  by("notices-shown").textContent = `(${rows.length ? counted(rows.length, "notice") : "none"})`;
+  by("notice-list").querySelector(`[data-number='${opened}'] button`)?.focus();
 }
 
-export const open = () => trying(load);
+async function load() {
+  const rows = [];
+  if (!by("notice-list").tBodies[0].rows.length) by("notices-shown").textContent = text("loading");
+  try {
+    for await (const page of notices()) rows.push(...page.map(drawn));
+  } catch (fault) {
+    by("notices-shown").textContent = "";
+    throw fault;
+  }
+  // (notices never change: where the numbers are the same, so are the rows, and the focus stays)
+  const numbers = (some) => [...some].map((it) => it.dataset.number).join(" ");
+  rows.reverse();
+  const body = by("notice-list").tBodies[0];
+  if (numbers(rows) !== numbers(body.rows)) body.replaceChildren(...rows);
+  by("notices-shown").textContent = text("noticesAll", { count: rows.length });
+  by("notice-list").hidden = !rows.length;
+  by("notices-none").hidden = rows.length > 0;
+}
 
+export const open = () => filling("notice-list", load);
+
+// Opens the newest notice of a message.
+export async function openOf(id) {
+  await open();
+  const rows = [...by("notice-list").tBodies[0].rows];
+  const row = rows.find((it) => it.dataset.id === id);
+  if (row) row.querySelector("button").click();
+  else say(text("fault12"));
+}
+
+by("notice").addEventListener("keydown", ({ key }) => {
+  if (key === "Escape") close();
+});
 by("reload-notices").addEventListener("click", async () => {
-  if (await open()) say("The notices are loaded again.");
+  if (await open()) say(text("loadedAgain"));
 });

@@ -1,283 +1,199 @@
-// The queue: its table, search, marks, and what is done to messages.
+// The queue: search, filters and order, what is marked and what is done to it, and the list with
+// the detail beside it. All of it is known from the report, so that nothing waits for the desk.
 
-import { call, messages } from "./api.js";
+import { act, actAll, actGroup, drawnBy, leaving } from "./acts.js";
+import { call, found } from "./api.js";
+import { desk, now, refresh, when } from "./desk.js";
+import { ageName } from "./chart.js";
+import { close, isOpen, openDetail, redraw } from "./detail.js";
+import { AGES, byDomain, columnOf, isIn, STATES } from "./groups.js";
 import {
-  ask, bad, by, count, counted, say, sayAndLoad, sayNothing, trying,
-} from "./parts.js";
-import { draw, drawDetail, drawGone, newRow } from "./messages.js";
-import { told } from "./words.js";
+  activeRow, focusOn, list, mark, markAll, marks, messagesShown, rowFor, whenKeysOf,
+} from "./list.js";
+import { answerOf } from "./report.js";
+import { by, element, foreign, sayNothing, trying } from "./parts.js";
+import { text } from "./texts.js";
 
-const AT_ONCE = 2;
-const now = () => Math.floor(Date.now() / 1000);
-const HELD = { state: "hold", reason: "held by customer" };
+// Of the domains that are offered, and how long after a key the desk is asked, in milliseconds.
+const DOMAINS = 50;
+const BEHIND_KEYS = 400;
+// What may be a pattern of the desk: an address, a domain, a name with its @.
+const PATTERN = /^(?:[^\s@]+@|(?:[^\s@]+@)?\.?[a-z0-9_-]+(?:\.[a-z0-9_-]+)+)$/;
+// From so many marked messages on, patterns are worth a question.
+const MANY = 100;
 
-// What can be done to a message: the call, what is told of it, and what is known of the message
-// then.
-const DOES = {
-  hold: {
-    call: (id) => call("POST", `/v1/hold/${id}`),
-    tell: (reply) => (reply.changed ? "held" : "is on hold already"),
-    after: ({ message }, reply) => reply.changed && Object.assign(message, HELD),
-  },
-  release: {
-    call: (id) => call("POST", `/v1/release/${id}`),
-    tell: (reply) => (reply.changed ? "released" : "is not on hold"),
-    after: ({ message }, reply) =>
-      reply.changed && Object.assign(message, { state: "deferred", reason: "", next_try: now() }),
-  },
-  requeue: {
-    call: (id) => call("POST", `/v1/requeue/${id}`),
-    tell: (reply) => `requeued as ${reply.id}`,
-    after: (entry, reply) => {
-      remove(entry);
-      const made = { id: reply.id, state: "incoming", reason: "", arrival: now(), next_try: now() };
-      add({ ...entry.message, ...made });
-    },
-  },
-  delete: {
-    call: (id) => call("DELETE", `/v1/message/${id}`),
-    tell: () => "deleted",
-    after: (entry) => remove(entry),
-  },
-};
-const ALL = {
-  hold: "put on hold",
-  release: "released",
-  delete: "deleted for good. Their senders are told nothing",
+const byText = (of) => (a, b) => of(a).localeCompare(of(b)) || b.arrival - a.arrival;
+const newest = (a, b) => b.arrival - a.arrival || (a.id < b.id ? 1 : -1);
+const ORDERS = {
+  newest,
+  oldest: (a, b) => newest(b, a),
+  largest: (a, b) => b.size - a.size || newest(a, b),
+  sender: byText((it) => it.sender),
+  recipient: byText((it) => it.pending[0]?.address ?? ""),
+  answer: byText(answerOf),
 };
 
-const body = by("messages").tBodies[0];
-const entries = new Map();
-const seen = new IntersectionObserver(comesIntoView, { rootMargin: "200px" });
-const waiting = new Set();
-let asking = 0;
-let loading = 0;
-let report = null;
+// the group that is shown alone, and what the desk is asked for
+let group = null;
+let searching = 0;
+let timer = 0;
+let frame = 0;
 
-// ---- the list
+// ---- what is shown
 
-function add(message) {
-  const entry = { message, whole: null, row: newRow(message.id), detail: null };
-  entries.set(message.id, entry);
-  draw(entry);
-  body.append(entry.row);
-  seen.observe(entry.row);
+function isShown() {
+  const [state, age, domain] = ["state", "age", "domain"].map((it) => by(`only-${it}`).value);
+  const words = by("search").value.trim().toLowerCase();
+  const moment = now();
+  return (it) =>
+    (!state || it.state === state)
+    && (!domain || it.domains.includes(domain))
+    && (!age || columnOf(Math.max(0, moment - it.arrival)) === Number(age))
+    && (!group || (group.kind === "domain" ? it.domains.includes(group.name) : isIn(it, group.of)))
+    && (!words || it.all.includes(words));
 }
 
-function remove(entry) {
-  const next = (entry.detail ?? entry.row).nextElementSibling;
-  const focused = entry.row.contains(document.activeElement);
-  seen.unobserve(entry.row);
-  waiting.delete(entry);
-  entries.delete(entry.message.id);
-  entry.detail?.remove();
-  entry.row.remove();
-  if (focused) (next?.querySelector(".open") ?? by("search")).focus();
+const isFiltered = () =>
+  Boolean(group || ["search", "only-state", "only-age", "only-domain"].some((it) => by(it).value));
+
+function tellCount(number) {
+  const all = desk.messages.length;
+  const words = isFiltered()
+    ? text("found", { count: all, number })
+    : all ? text("messagesAll", { count: all }) : text("emptyQueue");
+  by("shown").textContent = searching ? text("searching", { words }) : words;
+  by("filter-none").hidden = !isFiltered();
+  by("empty").hidden = number > 0;
+  by("empty").textContent = text(isFiltered() ? "nothingFound" : "emptyQueue");
+  by("messages").hidden = number === 0;
 }
 
-async function load() {
-  const mine = ++loading;
-  seen.disconnect();
-  waiting.clear();
-  entries.clear();
-  report = null;
-  body.replaceChildren();
-  by("shown").textContent = "";
-  for await (const page of messages()) {
-    if (mine !== loading) return;
-    page.forEach(add);
-    filter();
+export function draw() {
+  if (!desk.at) return;
+  for (const it of marks) if (!desk.byId.has(it)) marks.delete(it);
+  const shown = desk.messages.filter(isShown()).sort(ORDERS[by("order").value]);
+  // what is not seen is never done anything to
+  const ids = new Set(shown.map((it) => it.id));
+  for (const it of marks) if (!ids.has(it)) marks.delete(it);
+  by("only-group").hidden = !group;
+  by("only-group-name").replaceChildren(group ? foreign(group.words) : "");
+  list(shown);
+  tellCount(shown.length);
+  tellMarks();
+  redraw();
+}
+
+// (several keys within one frame are one drawing)
+function drawSoon() {
+  cancelAnimationFrame(frame);
+  frame = requestAnimationFrame(draw);
+}
+
+export function open() {
+  offerDomains();
+  draw();
+}
+
+function option(value, words) {
+  return element("option", { value }, words);
+}
+
+function offerDomains() {
+  const field = by("only-domain");
+  const chosen = field.value;
+  const domains = byDomain(desk.messages).slice(0, DOMAINS).map((it) => it.name);
+  if (chosen && !domains.includes(chosen)) domains.push(chosen);
+  field.replaceChildren(option("", text("anyDomain")), ...domains.map((it) => option(it, it)));
+  field.value = chosen;
+}
+
+// Shows these messages alone: those of a state, a domain, a group, or some words.
+export function show({ state = "", domain = "", words = "", group: one = null }) {
+  by("search").value = words;
+  by("only-state").value = state;
+  by("only-age").value = "";
+  offerDomains();
+  if (domain && ![...by("only-domain").options].some((it) => it.value === domain)) {
+    by("only-domain").append(option(domain, domain));
   }
-  await search();
+  by("only-domain").value = domain;
+  const groupName = one && (one.name || text(one.kind === "waiting" ? "notTried" : "hold"));
+  group = one && { ...one, words: groupName };
+  document.dispatchEvent(new CustomEvent("turn", { detail: "queue" }));
+  draw();
 }
 
-export const open = () => trying(load);
-
-// ---- what a list has not: asked as a row comes into view, few at once
-
-function comesIntoView(changes) {
-  for (const { target, isIntersecting } of changes) {
-    const entry = entries.get(target.dataset.id);
-    if (entry && isIntersecting && !target.hidden) waiting.add(entry);
-    else waiting.delete(entry);
-  }
-  while (asking < AT_ONCE && waiting.size) askNext();
+function showAll() {
+  show({});
+  by("search").focus();
 }
 
-async function askNext() {
-  asking += 1;
-  while (waiting.size) {
-    const [entry] = waiting;
-    waiting.delete(entry);
-    seen.unobserve(entry.row);
-    try {
-      await askWhole(entry);
-    } catch (fault) {
-      for (const { row } of [entry, ...waiting]) row.cells[6].replaceChildren("not loaded");
-      waiting.clear();
-      say(fault);
+// ---- the search: here at once, and at the desk for what came in since
+
+async function askDesk(words) {
+  const mine = ++searching;
+  const last = desk.messages.at(-1)?.id ?? null;
+  tellCount(messagesShown().length);
+  let isNew = false;
+  await trying(async () => {
+    for (const side of ["sender", "recipient"]) {
+      const pages = found({ class: side, pattern: words }, last);
+      isNew ||= (await pages.next()).value.length > 0;
+      if (mine !== searching) return;
     }
+  });
+  if (isNew) await refresh();
+  if (mine !== searching) return;
+  searching = 0;
+  drawSoon();
+}
+
+function search() {
+  const words = by("search").value.trim().toLowerCase();
+  clearTimeout(timer);
+  searching = 0;
+  drawSoon();
+  if (PATTERN.test(words)) timer = setTimeout(() => askDesk(words), BEHIND_KEYS);
+}
+
+// ---- marks and what is done
+
+function tellMarks() {
+  const number = marks.size;
+  const all = messagesShown().length;
+  by("marked-tools").hidden = number === 0;
+  by("marked").textContent = text("marked", { count: number });
+  by("mark-all").checked = number > 0 && number === all;
+  by("mark-all").indeterminate = number > 0 && number < all;
+}
+
+function doMarked(name) {
+  const ids = [...marks].filter((it) => desk.byId.has(it));
+  const messages = ids.map((it) => desk.byId.get(it));
+  if (ids.length > MANY && ["hold", "release"].includes(name)) {
+    return actGroup(name, messages, text("marked", { count: ids.length }));
   }
-  asking -= 1;
+  return act(name, ids);
 }
 
-async function askWhole(entry) {
-  const { id } = entry.message;
-  try {
-    entry.whole = await call("GET", `/v1/message/${id}`);
-  } catch (fault) {
-    if (fault.number !== 10) throw fault;
-    drawGone(entry);
-    return filter();
-  }
-  entry.message = { ...entry.whole, recipients: entry.whole.pending.length };
-  draw(entry);
-  if (entry.detail) drawDetail(entry);
+function openRow(id) {
+  openDetail(id, { does: (name) => act(name, [id]) });
+  for (const it of document.querySelectorAll("tr.opened")) it.classList.remove("opened");
+  rowFor(id)?.classList.add("opened");
 }
 
-async function turn(entry) {
-  if (entry.detail) {
-    entry.detail.remove();
-    entry.detail = null;
-  } else {
-    await askWhole(entry);
-    if (entry.gone) return;
-    drawDetail(entry);
-    entry.detail.focus();
-  }
-  draw(entry);
+// Opens a message from elsewhere: by its ID, from a notice or the history.
+export function showMessage(id) {
+  show({});
+  if (rowFor(id)) rowFor(id).scrollIntoView({ block: "nearest" });
+  openRow(id);
 }
 
-// ---- search and marks
-
-// The lines of the report by queue ID: it has the recipients and answers of rows that were never
-// in view.
-async function askReport() {
-  const made = new Map();
-  report = made;
-  try {
-    let id = "";
-    for (const line of (await call("GET", "/v1/report")).report.split("\n")) {
-      if (!line.startsWith(" ")) id = line.slice(0, 10);
-      else made.set(id, `${made.get(id) ?? ""} ${line}`);
-    }
-  } catch (fault) {
-    report = null;
-    throw fault;
-  }
-}
-
-// (without the buttons)
-function textOf({ message, row }) {
-  const cells = [...row.cells].slice(1, -1).map((it) => it.textContent);
-  return `${cells.join(" ")} ${report?.get(message.id) ?? ""}`.toLowerCase();
-}
-
-function filter() {
-  const wanted = by("search").value.trim().toLowerCase();
-  let shown = 0;
-  for (const entry of entries.values()) {
-    const hidden = wanted !== "" && !textOf(entry).includes(wanted);
-    entry.row.hidden = hidden;
-    if (entry.detail) entry.detail.hidden = hidden;
-    // what is not seen is never done anything to
-    if (hidden) markOf(entry).checked = false;
-    shown += !hidden && !entry.gone;
-  }
-  const there = [...entries.values()].filter((it) => !it.gone).length;
-  const all = counted(there, "message");
-  const whole = there ? all : "the queue is empty";
-  by("shown").textContent = `(${wanted ? `${count(shown)} of ${all} found` : whole})`;
-  countMarks();
-}
-
-async function search() {
-  filter();
-  if (by("search").value.trim() && !report) await trying(askReport);
-  filter();
-}
-
-const markOf = (entry) => entry.row.querySelector("input");
-const canBeMarked = () => [...entries.values()].filter((it) => !it.row.hidden && !it.gone);
-const marked = () => [...entries.values()].filter((it) => markOf(it).checked);
-
-function countMarks() {
-  const number = marked().length;
-  by("marked").textContent = number ? `${count(number)} marked` : "None marked";
-  by("mark-all").checked = number > 0 && canBeMarked().length === number;
-}
-
-function markAll() {
-  for (const entry of canBeMarked()) markOf(entry).checked = by("mark-all").checked;
-  countMarks();
-}
-
-// ---- what is done
-
-// Does it to one message, and answers what is told of it.
-async function one(entry, name) {
-  const { id } = entry.message;
-  const reply = await DOES[name].call(id);
-  DOES[name].after(entry, reply);
-  if (entries.get(id) === entry) {
-    draw(entry);
-    seen.observe(entry.row);
-  }
-  return `${id}: ${DOES[name].tell(reply)}`;
-}
-
-// Goes through some messages. After a fault, or where no reply came, the others are not asked.
-async function each(some, name) {
-  const lines = [];
-  for (const entry of some) {
-    try {
-      lines.push(await one(entry, name));
-    } catch (fault) {
-      lines.push(bad(`${entry.message.id}: ${told(fault)}`));
-      if (fault.number === 10) drawGone(entry);
-      if (!fault.number || fault.status === 503 || fault.number === 2) break;
-    }
-    if (lines.length % 20 === 0) say(`${lines.length} of ${some.length} asked`);
-  }
-  if (lines.length < some.length) lines.push(bad(`Not asked: ${some.length - lines.length} more.`));
-  filter();
-  say(...lines);
-}
-
-// Does what may take long, and nothing else of that kind meanwhile.
-async function alone(does) {
-  const queue = by("queue");
-  if (queue.ariaBusy === "true") return say("Not done: wait until what was begun is done.");
-  queue.ariaBusy = "true";
-  await trying(does);
-  queue.ariaBusy = "false";
-}
-
-async function doMarked(name) {
-  const some = marked();
-  if (!some.length) return say("No message is marked. Mark some by their boxes first.");
-  const what = counted(some.length, "message");
-  const text = "They are gone for good. Their senders are told nothing.";
-  if (name === "delete" && !(await ask(`Delete ${what}?`, text, `Delete ${what}`))) return;
-  await each(some, name);
-}
-
-async function doOne(entry, name) {
-  const title = `Delete ${entry.message.id}?`;
-  const text = "It is gone for good. Its sender is told nothing.";
-  if (name === "delete" && !(await ask(title, text, "Delete it"))) return;
-  await each([entry], name);
-}
-
-async function doAll(name) {
-  const word = `${name[0].toUpperCase()}${name.slice(1)}`;
-  const usage = await call("GET", "/v1/usage");
-  const title = `${word} all ${counted(usage.messages, "message")}?`;
-  const text = `All of your queue, also what the search does not show, is ${ALL[name]}.`;
-  if (!(await ask(title, text, `${word} all`))) return;
-  const { changed } = await call("POST", `/v1/${name}-all`);
-  const done = `${word} all: ${counted(changed, "message was", "messages were")} changed.`;
-  await sayAndLoad(done, load);
+export function closeDetail() {
+  const id = isOpen();
+  close();
+  for (const it of document.querySelectorAll("tr.opened")) it.classList.remove("opened");
+  focusOn(rowFor(id) ?? null);
 }
 
 async function showReport() {
@@ -285,30 +201,59 @@ async function showReport() {
   by("report").showModal();
 }
 
-// ---- what is clicked
+// ---- what is pressed
 
-body.addEventListener("click", async ({ target }) => {
-  const button = target.closest("button");
-  const entry = button && entries.get(button.closest("tr").dataset.id);
-  if (!entry || entry.busy) return;
-  entry.busy = true;
-  if (button.dataset.does) await doOne(entry, button.dataset.does);
-  else await trying(() => turn(entry));
-  entry.busy = false;
-});
-body.addEventListener("change", countMarks);
-by("mark-all").addEventListener("change", markAll);
+by("only-state").append(option("", text("anyState")), ...STATES.map((it) => option(it, text(it))));
+by("only-age").append(
+  option("", text("anyAge")),
+  ...AGES.map((_, at) => option(at, text("upTo", { age: ageName(at) }))),
+);
+by("only-age").lastChild.textContent = ageName(AGES.length - 1);
+by("order").append(...Object.keys(ORDERS).map((it) => option(it, text(`order_${it}`))));
+for (const id of ["only-state", "only-age", "only-domain", "order"]) {
+  by(id).addEventListener("change", draw);
+}
 by("search").addEventListener("input", search);
-by("show-report").addEventListener("click", () => trying(showReport));
-by("report-close").addEventListener("click", () => by("report").close());
-by("reload-queue").addEventListener("click", async () => {
-  sayNothing();
-  // (a row may have told a fault meanwhile)
-  if ((await open()) && !by("told").hasChildNodes()) say("The queue is loaded again.");
+by("filter").addEventListener("click", () => {
+  const isShut = !by("filters").classList.toggle("open");
+  by("filter").setAttribute("aria-expanded", !isShut);
 });
-for (const button of document.querySelectorAll("[data-marked]")) {
-  button.addEventListener("click", () => alone(() => doMarked(button.dataset.marked)));
+by("filter-none").addEventListener("click", showAll);
+by("only-group-close").addEventListener("click", showAll);
+by("mark-all").addEventListener("change", () => {
+  markAll(by("mark-all").checked);
+  tellMarks();
+});
+by("mark-none").addEventListener("click", () => {
+  markAll(false);
+  tellMarks();
+  by("search").focus();
+});
+whenKeysOf({ opens: openRow, marked: tellMarks });
+for (const it of document.querySelectorAll("[data-marked]")) {
+  it.addEventListener("click", () => doMarked(it.dataset.marked));
 }
-for (const button of document.querySelectorAll("[data-all]")) {
-  button.addEventListener("click", () => alone(() => doAll(button.dataset.all)));
+for (const it of document.querySelectorAll("[data-all]")) {
+  it.addEventListener("click", () => {
+    it.closest("details").open = false;
+    it.closest("details").firstElementChild.focus();
+    if (it.dataset.all === "report") trying(showReport);
+    else actAll(it.dataset.all);
+  });
 }
+by("report-close").addEventListener("click", () => by("report").close());
+by("detail-close").addEventListener("click", closeDetail);
+by("queue").addEventListener("keydown", (event) => {
+  if (event.key === "Escape" && isOpen() && !event.target.closest("details[open]")) closeDetail();
+});
+drawnBy(() => {
+  draw();
+  if (leaving.size === 0) return;
+  for (const id of marks) if (leaving.has(id)) mark(id, false);
+  tellMarks();
+}, () => {
+  if (by("queue").hidden) by("well").focus();
+  else if (isOpen()) by("detail-title").focus();
+  else focusOn(activeRow());
+});
+when("stranger", sayNothing);

@@ -1,68 +1,206 @@
-// The rules: the lines of both classes, the check of an address, and the import of a file.
+// The rules: the lines of both classes, found, set, changed and dropped; and the check of an
+// address.
 
-import { call, lines } from "./api.js";
+import { call, found, history, lines } from "./api.js";
+import { csvOf } from "./csv.js";
+import { desk } from "./desk.js";
 import {
-  ask, bad, by, count, counted, element, foreign, row, sayAndLoad, trying,
+  ask, by, button, download, element, filling, foreign, menu, sayAndLoad, trying,
 } from "./parts.js";
-import { rowsOf } from "./csv.js";
-import { ACTIONS, told } from "./words.js";
+import { domainOf } from "./report.js";
+import { openImport } from "./rules_file.js";
+import { count, text } from "./texts.js";
+import { ACTIONS } from "./words.js";
 
-const HEADER = "It is the header, or the whole file. The header is class,pattern,action.";
-const LABELS = ["Mail", "Pattern", "Action", "Drop"];
-const MAIL = { sender: "from", recipient: "to" };
-const DONE = { added: "set", changed: "changed", same: "was so already" };
+// Of those that a rule would be for.
+const SHOWN = 5;
 
-const spoken = (line) => `mail ${MAIL[line.class]} ${line.pattern}`;
+let rules = [];
+// the rule that is being changed, null where a new one is made
+let edited = null;
+
+const spoken = (line) => text(`mail_${line.class}`, { pattern: line.pattern });
 
 // ---- the list
 
 function drawn(line) {
-  const label = `Drop the rule for ${spoken(line)}`;
-  const attributes = { type: "button", class: "danger", "aria-label": label };
-  const button = element("button", attributes, "Drop");
-  button.addEventListener("click", () => trying(() => drop(line)));
-  return row(LABELS, [MAIL[line.class], foreign(line.pattern), foreign(line.action), button]);
+  const [verb, ...rest] = line.action.split(" ");
+  const words = element("span", { class: "clamp", title: line.action }, foreign(rest.join(" ")));
+  const label = text("actionsOf", { name: spoken(line) });
+  const choices = [
+    [text("edit"), () => edit(line), { "data-rule": "edit" }],
+    [text("drop"), () => trying(() => drop(line)), { "data-rule": "drop", class: "danger" }],
+  ];
+  const cell = (it, name) => element("td", { role: "cell", class: name }, it);
+  const row = element("tr", { role: "row", class: "rule" });
+  const pattern = element("span", { class: "clamp", title: line.pattern }, foreign(line.pattern));
+  const action = element("span", { class: `verb ${verb.toLowerCase()}` }, foreign(verb));
+  const actions = menu(text("actions"), label, choices);
+  row.append(cell(text(line.class), "side"), cell(pattern, "pattern"),
+    cell(action, "action"), cell(words, "words"), cell(actions, "do"));
+  row.dataset.all = `${line.class} ${line.pattern} ${line.action}`.toLowerCase();
+  return row;
+}
+
+function filter() {
+  const words = by("rules-search").value.trim().toLowerCase();
+  const rows = [...by("lines").tBodies[0].rows];
+  for (const it of rows) it.hidden = words !== "" && !it.dataset.all.includes(words);
+  const number = rows.filter((it) => !it.hidden).length;
+  const said = words ? "rulesFound" : "rulesAll";
+  by("lines-shown").textContent = text(said, { count: rows.length, number });
+  by("lines").hidden = number === 0;
+  by("rules-none").hidden = number > 0;
+  by("rules-none").textContent = text(rows.length ? "nothingFound" : "noRules");
+  by("rules-csv").disabled = rows.length === 0;
 }
 
 async function load() {
-  const rows = [];
-  by("lines-shown").textContent = "";
-  for await (const page of lines()) rows.push(...page.map(drawn));
-  by("lines").tBodies[0].replaceChildren(...rows);
-  by("lines-shown").textContent = `(${rows.length ? counted(rows.length, "rule") : "none"})`;
+  const made = [];
+  if (!rules.length) by("lines-shown").textContent = text("loading");
+  try {
+    for await (const page of lines()) made.push(...page);
+  } catch (fault) {
+    if (!rules.length) by("lines-shown").textContent = "";
+    throw fault;
+  }
+  rules = made;
+  by("lines").tBodies[0].replaceChildren(...rules.map(drawn));
+  filter();
 }
 
-export const open = () => trying(load);
+export const open = () => filling("lines", load);
 
 async function drop(line) {
-  const text = `The rule for ${spoken(line)}: ${line.action}`;
-  if (!(await ask("Drop the rule?", text, "Drop it"))) return;
-  let done = `The rule for ${spoken(line)} is dropped.`;
+  const facts = [[text("mail"), spoken(line)], [text("action"), foreign(line.action)]];
+  if (!(await ask(text("dropTitle"), "", text("dropYes"), { isDanger: true, facts }))) return;
+  let done = text("dropped", { rule: spoken(line) });
   try {
     await call("POST", "/v1/line-drop", { class: line.class, pattern: line.pattern });
   } catch (fault) {
     done = fault;
   }
   await sayAndLoad(done, load);
+  by("rules-new").focus();
+}
+
+// ---- a rule is written
+
+function edit(line) {
+  edited = line;
+  const [verb, ...rest] = line ? line.action.split(" ") : ["REJECT"];
+  by("put-title").textContent = text(line ? "editRule" : "newRule");
+  by("put-class").value = line?.class ?? "sender";
+  by("put-pattern").value = line?.pattern ?? "";
+  by("put-action").value = verb;
+  by("put-text").value = rest.join(" ");
+  by("put-stops").replaceChildren();
+  warn();
+  by("put-dialog").showModal();
   by("put-pattern").focus();
 }
 
-async function put(event) {
-  event.preventDefault();
-  const line = {
-    class: by("put-class").value,
-    pattern: by("put-pattern").value.trim(),
-    action: `${by("put-action").value} ${by("put-text").value}`.trim(),
-  };
+const written = () => ({ class: by("put-class").value, pattern: by("put-pattern").value.trim() });
+
+// A pattern that would match nobody, though the desk takes it, and what was likely meant.
+export function meant(pattern) {
+  if (/^<.+@.+>$/.test(pattern)) return pattern.slice(1, -1);
+  const whole = /^(?:\*|%|\.\*|)@(.+)$/.exec(pattern);
+  if (whole) return whole[1];
+  const below = /^\*\.(.+)$/.exec(pattern);
+  if (below) return `.${below[1]}`;
+  if (/^[\w.+-]+@\*$/.test(pattern)) return pattern.slice(0, -1);
+  return null;
+}
+
+function warn() {
+  const { pattern } = written();
+  const better = meant(pattern);
+  const at = by("put-warning");
+  by("put-pattern").setAttribute("aria-invalid", Boolean(better) || /[*?%]/.test(pattern));
+  if (!better) return at.replaceChildren(/[*?%]/.test(pattern) ? text("noStars") : "");
+  const take = button(text("takeIt", { pattern: better }), () => {
+    by("put-pattern").value = better;
+    warn();
+    by("put-pattern").focus();
+  });
+  return at.replaceChildren(text("matchesNobody"), " ", take);
+}
+
+async function put() {
+  const line = { ...written(), action: `${by("put-action").value} ${by("put-text").value}`.trim() };
   const reply = await call("POST", "/v1/line-put", line);
-  await sayAndLoad(`The rule for ${spoken(line)}: ${DONE[reply.put] ?? reply.put}.`, load);
+  const isMoved = edited
+    && (edited.class !== line.class || edited.pattern !== line.pattern.toLowerCase());
+  if (isMoved) {
+    await call("POST", "/v1/line-drop", { class: edited.class, pattern: edited.pattern });
+  }
+  by("put-dialog").close();
+  await sayAndLoad(text(`put_${reply.put}`, { rule: spoken(line) }), load);
+}
+
+// Whether a pattern is for an address, as the desk looks it up.
+function fits(pattern, address) {
+  const [key, whole] = [pattern.toLowerCase(), address.toLowerCase()];
+  const domain = domainOf(whole);
+  const name = whole.slice(0, whole.length - domain.length);
+  return [whole, domain, name].includes(key) || (key.startsWith(".") && domain.endsWith(key));
+}
+
+// Those of some messages and ends that a pattern is for.
+function peopleOf(pattern, queued, ends) {
+  const isSender = pattern.class === "sender";
+  const waiting = isSender
+    ? queued.map((it) => it.sender)
+    : queued.flatMap((it) => desk.byId.get(it.id)?.pending.map((one) => one.address) ?? []);
+  const left = ends.map((it) => (isSender ? it.sender : it.recipient));
+  const some = waiting.filter((it) => fits(pattern.pattern, it));
+  return [...new Set([...some, ...left])].filter(Boolean).slice(0, SHOWN);
+}
+
+// An address that a rule would be for, and the rule that decides about it now.
+async function person(side, address) {
+  const { action, pattern } = await call("POST", "/v1/check", { class: side, address });
+  const rule = action === null ? text("noRuleNow") : text("ruleNow", { action, pattern });
+  return element("li", {}, foreign(address), " ", element("span", { class: "quiet" }, rule));
+}
+
+// Whom a pattern is for: of the queue, and of the newest that left it.
+async function stops() {
+  const pattern = written();
+  by("put-stops").replaceChildren(text("searchingNow"));
+  const pages = found(pattern);
+  const { value: queued } = await pages.next();
+  const isMore = queued.length > 0 && !(await pages.next()).done;
+  const { ends } = await history(pattern, null);
+  const number = `${count(queued.length)}${isMore ? "+" : ""}`;
+  const people = peopleOf(pattern, queued, ends);
+  const some = [];
+  for (const it of people) some.push(await person(pattern.class, it));
+  by("put-stops").replaceChildren(
+    element("p", {}, text("stopsNow", { number, ends: ends.length })),
+    element("ul", {}, ...some),
+  );
+}
+
+// A fault of the dialog stands in it: what is told below is behind it.
+async function inDialog(event, does) {
+  event.preventDefault();
+  by("put-fault").textContent = "";
+  try {
+    await does();
+  } catch (fault) {
+    const { told } = await import("./words.js");
+    by("put-stops").replaceChildren();
+    by("put-fault").textContent = told(fault);
+  }
 }
 
 // ---- the check
 
 function keyItem(key, decides) {
   const item = element("li", {}, foreign(key));
-  if (decides) item.append(" ", element("mark", {}, "decides"));
+  if (decides) item.append(" ", element("mark", {}, text("decides")));
   return item;
 }
 
@@ -73,54 +211,34 @@ async function check(event) {
   const reply = await call("POST", "/v1/check", asked);
   const keys = reply.keys.map((it) => keyItem(it, it === reply.pattern));
   const verb = reply.action?.split(" ")[0];
+  const does = ACTIONS.includes(verb) ? text(`action_${verb}`) : text("askProvider");
   const decision = reply.action === null
-    ? ["No rule is for this address: its mail is taken."]
-    : [element("strong", {}, foreign(reply.action)), `: ${ACTIONS[verb] ?? "see your provider"}`];
+    ? [text("noRuleDecides")]
+    : [element("strong", {}, foreign(reply.action)), `: ${does}`];
   by("checked").replaceChildren(
     element("p", { id: "decision" }, ...decision),
-    element("p", {}, "Looked for in this order, the first that has a rule decides:"),
-    element("ol", { "aria-label": "Keys" }, ...keys),
+    element("p", { class: "quiet" }, text("lookedFor")),
+    element("ol", { "aria-label": text("keys") }, ...keys),
   );
   by("checked").focus();
 }
 
-// ---- the import
-
-function faultOf(fault, csv) {
-  const found = rowsOf(csv)[fault.row];
-  const shown = [bad(told(fault))];
-  if (fault.row === 0) shown.push(element("p", {}, HEADER));
-  if (found) {
-    const where = `Row ${count(fault.row)}, line ${count(found.line)} of the file:`;
-    shown.push(element("p", {}, where), element("pre", { id: "bad-row" }, foreign(found.text)));
-  }
-  shown.push(element("p", {}, "No row was set."));
-  return shown;
-}
-
-async function importFile(event) {
-  event.preventDefault();
-  const csv = await by("import-file").files[0].text();
-  by("imported").replaceChildren();
-  try {
-    const label = by("import-label").value.trim();
-    const reply = await call("POST", "/v1/import", { label, csv });
-    const set = `${count(reply.added)} added, ${count(reply.changed)} changed`;
-    const line = `Imported: ${set}, ${count(reply.same)} there already.`;
-    by("imported").replaceChildren(element("p", {}, line));
-  } catch (fault) {
-    if (fault.row === undefined) throw fault;
-    by("imported").replaceChildren(...faultOf(fault, csv));
-  }
-  by("imported").focus();
-  await open();
-}
+// ---- what is pressed
 
 by("put-action").append(
-  ...Object.entries(ACTIONS).map(([verb, does]) =>
-    element("option", { value: verb }, `${verb}: ${does}`),
-  ),
+  ...ACTIONS.map((it) => element("option", { value: it }, `${it}: ${text(`action_${it}`)}`)),
 );
+by("rules-new").addEventListener("click", () => edit(null));
+by("rules-search").addEventListener("input", filter);
+by("rules-import").addEventListener("click", () => openImport(open));
+by("rules-csv").addEventListener("click", () => {
+  const columns = ["class", "pattern", "action"];
+  const rows = rules.map((it) => columns.map((name) => it[name]));
+  download("rules.csv", csvOf([columns, ...rows], false));
+});
+by("put-pattern").addEventListener("input", warn);
+by("put-class").addEventListener("change", warn);
+by("put-check").addEventListener("click", (event) => inDialog(event, stops));
+by("put-no").addEventListener("click", () => by("put-dialog").close());
+by("put-form").addEventListener("submit", (event) => inDialog(event, put));
 by("check-form").addEventListener("submit", (event) => trying(() => check(event)));
-by("put-form").addEventListener("submit", (event) => trying(() => put(event)));
-by("import-form").addEventListener("submit", (event) => trying(() => importFile(event)));

@@ -1,7 +1,7 @@
 -- Keys that are asked for one after another.
 use Rattle.std.proofs.Common.{◌≡◌, ℕ, List, [], ◌∷◌, ◌++◌, Option, Some, None, length, Result, Ok}
 use Rattle.std.proofs.Common.{Err, IfOk, OnOk, refl, arith, sym, ap, ◌∙◌, subst, inl, inr}
-use Rattle.hq_base.specs.declared.failure.Fault.{Fault}
+use Rattle.hq_values.specs.declared.failure.Fault.{Fault}
 use Rattle.hq_access.specs.declared.action.Action.{Action}
 use Rattle.hq_access.specs.declared.pattern.Class.{Class}
 use Rattle.hq_access.specs.Lookups.{Found, Gets, AsksOn, LooksUp, Looks, TellsLines, first_match}

@@ -6,7 +6,7 @@ use Rattle.std.specs.List.{after_first, before_first, join_with_byte, onto_first
 use Rattle.std.specs.List.{slice_split}
 use Rattle.std.proofs.lemmas.List.Splits.{join_with_byte-slice_split, length-slice_split}
 use Rattle.std.proofs.lemmas.List.Splits.{slice_split_first}
-use Rattle.hq_envelope.specs.Addresses.{is_dot}
+use Rattle.hq_values.specs.Addresses.{is_dot}
 use Rattle.hq_access.specs.Keys.{parents}
 
 -- the labels of a domain

@@ -2,7 +2,7 @@
 use Rattle.std.proofs.Common.{◌≡◌, ℕ, List, [], ◌∷◌, refl, ap, ◌∙◌}
 use Rattle.std.specs.Char.{to_ascii_lowercase}
 use Rattle.std.proofs.lemmas.Str.Ascii.{lowercase-lowercase}
-use Rattle.hq_envelope.specs.Addresses.{folded}
+use Rattle.hq_values.specs.Addresses.{folded}
 
 pub folded_twice : (bytes : List ℕ) → folded (folded bytes) ≡ folded bytes
 folded_twice [] = refl

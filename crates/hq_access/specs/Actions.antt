@@ -4,11 +4,11 @@ use Rattle.std.specs.Prelude.{ℕ, Bool, ◌==◌, List, [], ◌∷◌, ◌++◌
 use Rattle.std.specs.Prelude.{Result, Err}
 use Rattle.std.specs.List.{after_first, before_first}
 use Rattle.std.specs.Str.{str_eq_ignore_ascii_case}
-use Rattle.hq_base.specs.Readers.{checked, seen_by}
-use Rattle.hq_base.specs.declared.failure.Refusal.{Refusal}
-use Rattle.hq_base.specs.declared.failure.Refusal.TheVariants.{BadAction}
-use Rattle.hq_envelope.specs.Addresses.{is_address}
-use Rattle.hq_envelope.specs.Words.{is_text}
+use Rattle.hq_values.specs.Readers.{checked, seen_by}
+use Rattle.hq_values.specs.declared.failure.Refusal.{Refusal}
+use Rattle.hq_values.specs.declared.failure.Refusal.TheVariants.{BadAction}
+use Rattle.hq_values.specs.Addresses.{is_address}
+use Rattle.hq_values.specs.Words.{is_text}
 use Rattle.hq_access.specs.declared.action.Action.{Action}
 use Rattle.hq_access.specs.declared.action.Action.TheVariants.{Okay, Reject, Defer, Dunno, Discard}
 use Rattle.hq_access.specs.declared.action.Action.TheVariants.{Hold, Redirect}

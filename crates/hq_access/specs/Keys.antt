@@ -2,10 +2,12 @@
 -- folded. (access(5), EMAIL ADDRESS PATTERNS and EMAIL ADDRESS EXTENSION, under the delimiter +)
 use Rattle.std.specs.Prelude.{ℕ, Bool, ◌&&◌, ◌==◌, nat_lt, List, [], ◌∷◌, ◌++◌, length, map}
 use Rattle.std.specs.Prelude.{if◌then◌else◌, Option, Some, None}
-use Rattle.std.specs.List.{before_first, cons_option, join_with_byte, position_or_len, slice_split}
-use Rattle.hq_envelope.specs.Addresses.{is_dot, local_of, domain_of, folded}
-use Rattle.hq_envelope.specs.declared.address.Sender.{Sender}
-use Rattle.hq_envelope.specs.declared.address.Sender.TheVariants.{Null, From}
+use Rattle.std.specs.List.{before_first, cons_option, join_with_byte, list_any, position_or_len}
+use Rattle.std.specs.List.{slice_split}
+use Rattle.std.specs.Str.{bytes_eq}
+use Rattle.hq_values.specs.Addresses.{is_dot, local_of, domain_of, folded}
+use Rattle.hq_values.specs.declared.address.Sender.{Sender}
+use Rattle.hq_values.specs.declared.address.Sender.TheVariants.{Null, From}
 
 abbrev pub is_plus : ℕ → Bool
 is_plus b = b == 43
@@ -49,3 +51,7 @@ null_key = 60 ∷ 62 ∷ []
 abbrev pub keys_of : Sender → List (List ℕ)
 keys_of Null = null_key ∷ []
 keys_of (From address) = address_keys (folded (local_of address)) (folded (domain_of address))
+
+-- a text is one of the keys of a sender or a recipient
+abbrev pub is_key_of : List ℕ → Sender → Bool
+is_key_of text who = list_any (bytes_eq text) (keys_of who)

@@ -1,8 +1,8 @@
 -- Lookup in an access table: the first key that has a line. (access(5), EMAIL ADDRESS PATTERNS:
 -- they are tried in order; DUNNO ends the trying.)
 use Rattle.std.specs.Prelude.{◌≡◌, ℕ, List, [], ◌∷◌, Option, Some, None, ◌⊎◌, Result, Ok, Err}
-use Rattle.hq_base.specs.declared.failure.Fault.{Fault}
-use Rattle.hq_base.specs.Refusals.{no_memory}
+use Rattle.hq_values.specs.declared.failure.Fault.{Fault}
+use Rattle.hq_values.specs.Refusals.{no_memory}
 use Rattle.hq_access.specs.declared.action.Action.{Action}
 use Rattle.hq_access.specs.declared.pattern.Class.{Class}
 

@@ -2,11 +2,11 @@
 use Rattle.std.specs.Prelude.{ℕ, Bool, false, ◌&&◌, ◌||◌, ◌==◌, nat_le, List, [], ◌∷◌, codes}
 use Rattle.std.specs.Prelude.{length, if◌then◌else◌, Option, Some, None, Result}
 use Rattle.std.specs.Str.{bytes_eq}
-use Rattle.hq_base.specs.Readers.{checked}
-use Rattle.hq_base.specs.declared.failure.Refusal.{Refusal}
-use Rattle.hq_base.specs.declared.failure.Refusal.TheVariants.{BadPattern}
-use Rattle.hq_envelope.specs.Addresses.{is_dot, is_address, is_domain, is_local, folded, parts_of}
-use Rattle.hq_envelope.specs.Addresses.{most_address_bytes}
+use Rattle.hq_values.specs.Readers.{checked}
+use Rattle.hq_values.specs.declared.failure.Refusal.{Refusal}
+use Rattle.hq_values.specs.declared.failure.Refusal.TheVariants.{BadPattern}
+use Rattle.hq_values.specs.Addresses.{is_dot, is_address, is_domain, is_local, folded, parts_of}
+use Rattle.hq_values.specs.Addresses.{most_address_bytes}
 use Rattle.hq_access.specs.Keys.{null_key}
 use Rattle.hq_access.specs.declared.pattern.Class.{Class}
 use Rattle.hq_access.specs.declared.pattern.Class.TheVariants.{SenderSide, RecipientSide}

@@ -3,9 +3,9 @@
 use Rattle.std.specs.Prelude.{ℕ, Bool, true, false, not, List, [], ◌∷◌, codes, map, filter}
 use Rattle.std.specs.Prelude.{if◌then◌else◌, Option, Some, None, option_map, is_some}
 use Rattle.std.specs.List.{filter_map, last_or, list_any}
-use Rattle.hq_envelope.specs.Words.{table_hold, try_later}
-use Rattle.hq_envelope.specs.declared.address.Sender.{Sender}
-use Rattle.hq_envelope.specs.declared.address.Sender.TheVariants.{From}
+use Rattle.hq_values.specs.Words.{table_hold, try_later}
+use Rattle.hq_values.specs.declared.address.Sender.{Sender}
+use Rattle.hq_values.specs.declared.address.Sender.TheVariants.{From}
 use Rattle.hq_access.specs.declared.action.Action.{Action}
 use Rattle.hq_access.specs.declared.action.Action.TheVariants.{Reject, Defer, Discard, Hold}
 use Rattle.hq_access.specs.declared.action.Action.TheVariants.{Redirect}

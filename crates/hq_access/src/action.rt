@@ -1,10 +1,10 @@
 //! Actions: what a line of an access table does.
 
 ghost use Rattle.std.specs.Prelude.{◌≡◌, IfOk, string_bytes};
-ghost use Rattle.hq_base.specs.Readers.{Reads};
+ghost use Rattle.hq_values.specs.Readers.{Reads};
 ghost use Rattle.hq_access.specs.Actions as rules;
 
-use hq_envelope::{Address, Fail, Refusal, Text, TryCopy};
+use hq_values::{Address, Fail, Refusal, Text, TryCopy};
 use std::alloc::{AllocError, Global};
 
 /// What a line does with the address that it is for.

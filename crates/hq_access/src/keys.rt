@@ -2,10 +2,11 @@
 
 ghost use Rattle.std.specs.Prelude.{◌≡◌, ◌++◌, ◌∷◌, [], IfOk, OnOk, option_map, string_bytes};
 ghost use Rattle.std.specs.List.{slice_split};
-ghost use Rattle.hq_envelope.specs.Addresses.{is_dot};
+ghost use Rattle.hq_values.specs.Addresses.{is_dot};
+ghost use Rattle.hq_values.specs.declared.address.Sender.TheVariants.{From};
 ghost use Rattle.hq_access.specs.Keys as rules;
 
-use hq_envelope::{Address, Sender, TryCopy};
+use hq_values::{Address, Sender, TryCopy};
 use std::alloc::{AllocError, Global};
 use std::marker::Model;
 
@@ -100,9 +101,18 @@ fn address_keys(alloc: Global, local: &str, domain: &str) -> Result<Vec<LookupKe
     Ok(keys)
 }
 
-/// The keys of a sender or a recipient, in the order in which they are tried: the address, its base
-/// at the domain, the domain, `.domain` for each domain above it, `user@`, and its base with `@`.
-/// The null sender has `<>` alone.
+/// The keys of a recipient, or of a sender that has an address, in the order in which they are
+/// tried: the address, its base at the domain, the domain, `.domain` for each domain above it,
+/// `user@`, and its base with `@`.
+pub fn keys_of_address(alloc: Global, address: &Address) -> Result<Vec<LookupKey>, AllocError>
+    ensures { IfOk result (λ keys. keys.items ≡ rules.keys_of (From address.now)) }
+{
+    let local = address.local().to_ascii_lowercase(alloc)?;
+    let domain = address.domain().to_ascii_lowercase(alloc)?;
+    address_keys(alloc, local.as_str(), domain.as_str())
+}
+
+/// The keys of a sender or a recipient: those of its address. The null sender has `<>` alone.
 pub fn keys_of(alloc: Global, who: &Sender) -> Result<Vec<LookupKey>, AllocError>
     ensures { IfOk result (λ keys. keys.items ≡ rules.keys_of who.now) }
 {
@@ -112,10 +122,6 @@ pub fn keys_of(alloc: Global, who: &Sender) -> Result<Vec<LookupKey>, AllocError
             let keys = vec![in alloc; LookupKey::new(text)]?;
             Ok(keys)
         }
-        Sender::From(address) => {
-            let local = address.local().to_ascii_lowercase(alloc)?;
-            let domain = address.domain().to_ascii_lowercase(alloc)?;
-            address_keys(alloc, local.as_str(), domain.as_str())
-        }
+        Sender::From(address) => keys_of_address(alloc, address),
     }
 }

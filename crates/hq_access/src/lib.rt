@@ -9,7 +9,7 @@ mod pattern;
 mod verdicts;
 
 pub use action::Action;
-pub use keys::{LookupKey, keys_of};
+pub use keys::{LookupKey, keys_of, keys_of_address};
 pub use lookups::{Lines, lookup};
 pub use pattern::{Class, Line, Pattern};
 pub use verdicts::{Refused, Verdict, decide};

@@ -1,7 +1,7 @@
 //! The lookup of an address: the first of its keys that has a line.
 
 ghost use Rattle.std.specs.Prelude.{◌≡◌, ℕ, List, Option, Result, IfOk, OnOk};
-ghost use Rattle.hq_base.specs.declared.failure.Fault.{Fault};
+ghost use Rattle.hq_values.specs.declared.failure.Fault.{Fault};
 ghost use Rattle.hq_access.specs.declared.action.Action.{Action};
 ghost use Rattle.hq_access.specs.declared.pattern.Class.{Class};
 ghost use Rattle.hq_access.specs.Keys as rules;
@@ -10,7 +10,7 @@ ghost use Rattle.hq_access.specs.Lookups.{first_match, Looks, TellsLines};
 use crate::action::Action;
 use crate::keys::{LookupKey, keys_of};
 use crate::pattern::Class;
-use hq_envelope::{Fault, Sender};
+use hq_values::{Fault, Sender};
 use std::alloc::Global;
 
 /// The lines of one access table, wherever they are kept.

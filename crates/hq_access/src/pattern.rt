@@ -1,13 +1,14 @@
 //! Patterns: what a line of an access table is for; and lines.
 
-ghost use Rattle.std.specs.Prelude.{◌≡◌, IfOk};
-ghost use Rattle.hq_base.specs.Readers.{Reads};
+ghost use Rattle.std.specs.Prelude.{◌≡◌, IfOk, bytes_eq};
+ghost use Rattle.std.specs.List.{list_any};
+ghost use Rattle.hq_values.specs.Readers.{Reads};
 ghost use Rattle.hq_access.specs.Patterns.{class_name, is_subdomains, is_user, is_null, is_pattern};
 ghost use Rattle.hq_access.specs.Patterns.{class_in, pattern_in};
 
 use crate::action::Action;
 use crate::keys::{LookupKey, NULL_KEY};
-use hq_envelope::{Fail, Refusal, TryCopy, is_address, is_domain, is_local};
+use hq_values::{Fail, Refusal, TryCopy, is_address, is_domain, is_local};
 use std::alloc::{AllocError, Global};
 use std::marker::Model;
 
@@ -97,7 +98,7 @@ pub struct Pattern {
 
 impl Model for Pattern {
     ghost use Rattle.std.specs.Prelude.{◌≡◌, List, ℕ, IsTrue};
-    ghost use Rattle.hq_envelope.specs.Addresses.{folded};
+    ghost use Rattle.hq_values.specs.Addresses.{folded};
     ghost use Rattle.hq_access.specs.declared.pattern.Class.{Class};
     ghost use Rattle.hq_access.specs.Patterns.{is_pattern};
 
@@ -133,6 +134,18 @@ impl Pattern {
         ensures { IfOk result (λ key. key ≡ self.now.1) }
     {
         self.key.copy(alloc)
+    }
+
+    /// Whether it is one of these keys, whichever its side. It takes no memory.
+    pub fn is_among(&self, keys: &[LookupKey]) -> bool
+        ensures { result ≡ list_any (bytes_eq self.now.1) keys.now }
+    {
+        for key in keys {
+            if self.as_str() == key.as_str() {
+                return true;
+            }
+        }
+        false
     }
 
     /// The text, without taking memory.

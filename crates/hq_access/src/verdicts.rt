@@ -5,7 +5,7 @@ ghost use Rattle.std.specs.List.{list_any};
 ghost use Rattle.hq_access.specs.Verdicts as rules;
 
 use crate::action::Action;
-use hq_envelope::{Address, Items, Sender, Text, TryCopy};
+use hq_values::{Address, Items, Sender, Text, TryCopy};
 use std::alloc::{AllocError, Global};
 
 /// The code with which `REJECT` refuses.

@@ -20,7 +20,7 @@ use Rattle.hq_requests.proofs.Entries.{named}
 use Rattle.hq_wire.specs.Exchanges.{Unheard, after_calls}
 use Rattle.hq_wire.specs.Runs.{share, calls_in}
 use Rattle.hq_across.specs.Histories.{Session, SessionShare}
-use Rattle.hq_across.specs.Histories.{of_customer, share_across, calls_across, heard_across}
+use Rattle.hq_across.specs.Histories.{of_customer, share_across, heard_across, state_behind}
 use Rattle.hq_across.specs.Histories.{state_across, told_across, AloneAcross, Passed}
 use Rattle.hq_across.specs.Histories.{InSessions}
 
@@ -69,24 +69,19 @@ module _ (host : List ℕ) (d : Directory) (c : List ℕ) where
 
 -- ---- histories
 
-state_after-append : (host : List ℕ) (e : Entry) (s : State) (xs ys : List (ℕ × Call)) →
-    state_after host e s (xs ++ ys) ≡ state_after host e (state_after host e s xs) ys
-state_after-append host e s [] ys = refl
-state_after-append host e s (x ∷ xs) ys =
-    state_after-append host e (step host e s x.0 x.1).1 xs ys
-
 -- the count of the first session, and those of the rest
 abbrev choose : ℕ → (ℕ → ℕ) → ℕ → ℕ
 choose count rest zero = count
 choose count rest (suc i) = rest i
 
-module _ (host : List ℕ) (d : Directory) (s : Session) (ss : List Session) (t next t' : Tables)
-    (one : Passed host d s t next) (rest : AloneAcross host d ss next t') (c : List ℕ) where
+module _ (host : List ℕ) (s : Session) (ss : List Session) (t next t' : Tables)
+    (one : Passed host s t next) (rest : AloneAcross host ss next t') (c : List ℕ) where
   abbrev entry : Entry
-  entry = entry_of d c
+  entry = entry_of s.directory c
 
   abbrev first : SessionShare
   first = record {
+    entry = entry;
     told = share c s.asked s.replies;
     untold = of_customer c (take one.found.0 s.under_way);
   }
@@ -94,34 +89,29 @@ module _ (host : List ℕ) (d : Directory) (s : Session) (ss : List Session) (t 
   abbrev later : List SessionShare
   later = share_across c rest.done ss
 
-  through : own c next ≡ state_across host entry (own c t) first
+  through : own c next ≡ state_behind host (own c t) first
   through = ap (own c) one.found.1
-      ∙ settled host d c one.last (take one.found.0 s.under_way)
+      ∙ settled host s.directory c one.last (take one.found.0 s.under_way)
       ∙ ap (λ u. state_after host entry u first.untold) (one.alone.state c)
 
-  told : heard_across c (s ∷ ss) ≡ told_across host c entry (own c t) (first ∷ later)
+  told : heard_across c (s ∷ ss) ≡ told_across host c (own c t) (first ∷ later)
   told =
-      let more : heard_across c ss
-      ≡ told_across host c entry (state_across host entry (own c t) first) later =
-      rest.replies c ∙ ap (λ u. told_across host c entry u later) through in
+      let more : heard_across c ss ≡ told_across host c (state_behind host (own c t) first) later =
+      rest.replies c ∙ ap (λ u. told_across host c u later) through in
       λ i. one.alone.replies c i ++ more i
 
-  left : own c t' ≡ state_after host entry (own c t) (calls_across (first ∷ later))
-  left = rest.state c ∙ ap (λ u. state_after host entry u (calls_across later)) through
-      ∙ sym (state_after-append host entry
-      (state_after host entry (own c t) (calls_in first.told)) first.untold (calls_across later))
-      ∙ sym (state_after-append host entry (own c t) (calls_in first.told)
-      (first.untold ++ calls_across later))
+  left : own c t' ≡ state_across host (own c t) (first ∷ later)
+  left = rest.state c ∙ ap (λ u. state_across host u later) through
 
-pub across : (host : List ℕ) (d : Directory) (h : List Session) (t t' : Tables) →
-    InSessions (Passed host d) h t t' → AloneAcross host d h t t'
-across host d [] t t' h = record { done = λ _. 0; replies = λ c. refl; state = λ c. ap (own c) h }
-across host d (s ∷ ss) t t' h =
-    let rest = across host d ss h.0 t' h.2 in
+pub across : (host : List ℕ) (h : List Session) (t t' : Tables) →
+    InSessions (Passed host) h t t' → AloneAcross host h t t'
+across host [] t t' h = record { done = λ _. 0; replies = λ c. refl; state = λ c. ap (own c) h }
+across host (s ∷ ss) t t' h =
+    let rest = across host ss h.0 t' h.2 in
     record {
       done = choose h.1.found.0 rest.done;
-      replies = told host d s ss t h.0 t' h.1 rest;
-      state = left host d s ss t h.0 t' h.1 rest;
+      replies = told host s ss t h.0 t' h.1 rest;
+      state = left host s ss t h.0 t' h.1 rest;
     }
 
 -- ---- soundness
@@ -133,9 +123,9 @@ calls_sound host d t (u ∷ us) sound =
     calls_sound host d (shared host (entry_of d u.customer) t u.at u.call).1 us
     (shared_sound host (entry_of d u.customer) t u.at u.call sound)
 
-pub across_sound : (host : List ℕ) (d : Directory) (h : List Session) (t t' : Tables) →
-    InSessions (Passed host d) h t t' → Sound t → Sound t'
-across_sound host d [] t t' h sound = subst Sound (sym h) sound
-across_sound host d (s ∷ ss) t t' h sound =
-    across_sound host d ss h.0 t' h.2 (subst Sound (sym h.1.found.1)
-    (calls_sound host d h.1.last (take h.1.found.0 s.under_way) (h.1.sound sound)))
+pub across_sound : (host : List ℕ) (h : List Session) (t t' : Tables) →
+    InSessions (Passed host) h t t' → Sound t → Sound t'
+across_sound host [] t t' h sound = subst Sound (sym h) sound
+across_sound host (s ∷ ss) t t' h sound =
+    across_sound host ss h.0 t' h.2 (subst Sound (sym h.1.found.1)
+    (calls_sound host s.directory h.1.last (take h.1.found.0 s.under_way) (h.1.sound sound)))

@@ -3,9 +3,9 @@ use Rattle.std.proofs.Common.{◌≡◌, ◌⊎◌, ⊎_elim, ℕ, List, [], ◌
 use Rattle.std.proofs.Common.{Result, Ok, Err, sym, refl, ap, ◌∙◌}
 use Rattle.std.proofs.Math.Seq.{take-append_seam}
 use Rattle.std.proofs.lemmas.List.{map-append}
-use Rattle.hq_base.specs.Refusals.{no_memory}
-use Rattle.hq_base.specs.declared.failure.Fault.{Fault}
-use Rattle.hq_base.specs.declared.failure.Refusal.{Refusal}
+use Rattle.hq_values.specs.Refusals.{no_memory}
+use Rattle.hq_values.specs.declared.failure.Fault.{Fault}
+use Rattle.hq_values.specs.declared.failure.Refusal.{Refusal}
 use Rattle.hq_store.specs.Sound.{Sound}
 use Rattle.hq_store.specs.Tables.{Tables}
 use Rattle.hq_calls.specs.Machine.{shared}
@@ -73,7 +73,7 @@ module _ (host : List ℕ) (d : Directory) (at : ℕ) where
 pub lost : (may : Fault → Type 0) (host : List ℕ) (d : Directory) (asks : List Ask)
     (rs : List SeenReply) (a : Ask) (r : SeenReply) (t last t' : Tables) →
     AllReplied may host d t asks rs last → (Sound t → Sound last) →
-    MayReply may host d last a r t' → Passed host d (cut_with d asks rs a) t t'
+    MayReply may host d last a r t' → Passed host (cut_with d asks rs a) t t'
 lost may host d asks rs a r t last t' all sound one = record {
   last = last;
   alone = alone may host d t last asks rs all;

@@ -2,10 +2,10 @@
 use Rattle.std.proofs.Common.{◌≡◌, ◌⊎◌, inl, inr, ⊎_elim, ℕ, zero, suc, true, false, length}
 use Rattle.std.proofs.Common.{List, [], ◌∷◌, ◌++◌, map, take, drop, Result, Ok, Err}
 use Rattle.std.proofs.Common.{sym, refl, ap, ◌∙◌, subst}
-use Rattle.hq_base.specs.Refusals.{no_memory}
-use Rattle.hq_base.specs.Turns.{InTurn}
-use Rattle.hq_base.specs.declared.failure.Fault.TheVariants.{Closed}
-use Rattle.hq_base.specs.declared.failure.Refusal.{Refusal}
+use Rattle.hq_values.specs.Refusals.{no_memory}
+use Rattle.hq_values.specs.Turns.{InTurn}
+use Rattle.hq_values.specs.declared.failure.Fault.TheVariants.{Closed}
+use Rattle.hq_values.specs.declared.failure.Refusal.{Refusal}
 use Rattle.hq_store.specs.Shelves.{Sight, StopLeaves, StopLeavesNoMore}
 use Rattle.hq_store.specs.Sound.{Sound}
 use Rattle.hq_store.specs.Tables.{Tables}
@@ -36,29 +36,20 @@ none_next : {A : Type 0} (n : ℕ) (xs : List A) → xs ≡ [] → take 1 (drop 
 none_next zero xs none = ap (take 1) none
 none_next (suc n) xs none = ap (λ ys. take 1 (drop (suc n) ys)) none
 
-nothing_stopped : (d : Directory) (asks : List Ask) (rs : List SeenReply) (under_way : List Unheard)
-    → under_way ≡ [] → StoppedAt d asks rs under_way
-nothing_stopped d [] rs under_way none = none
-nothing_stopped d (a ∷ asks) [] under_way none = none
-nothing_stopped d (a ∷ asks) (r ∷ rs) under_way none =
-    inr (nothing_stopped d asks rs under_way none)
-
--- an exchange behind which the store is closed tells so, or nothing of it is under way
+-- an exchange behind which the store is closed tells so, or the store was closed before it
 told_closed : {S : Type 0} (sight : Sight (Desk S)) (d : Directory) (old new : Desk S) (at : ℕ)
     (called : Result Asked Refusal) (r : SeenReply) → sight.is_closed new ≡ true →
     RepliesAnyway sight d old called r new →
-    (TellsClosed r ⊎ (r ≡ reply_of_fault no_memory)) ⊎ (next_call d at called r ≡ [])
-told_closed sight d old new at (Err e) r closed h = inr refl
-told_closed sight d old new at (Ok (CallOf name call)) r closed h = inl (⊎_elim
+    TellsClosed r ⊎ (sight.is_closed old ≡ true)
+told_closed sight d old new at (Err e) r closed h = inr (ap sight.is_closed (sym h.1) ∙ closed)
+told_closed sight d old new at (Ok (CallOf name call)) r closed h = ⊎_elim
     (λ (is : r ≡ reply_of_fault Closed). inl (inl is))
-    (λ (is : r ≡ reply_of_fault no_memory). inr is) (h closed))
+    (λ (same : (r ≡ reply_of_fault no_memory) × (new ≡ old)).
+    inr (ap sight.is_closed (sym same.1) ∙ closed)) (h closed)
 told_closed sight d old new at (Ok (CallOfAll call)) r closed h = ⊎_elim
-    (λ (is : StopsClosed r.stopped). inl (inl (inr is)))
-    (λ (other : (r ≡ reply_of_fault no_memory) ⊎ (names_of d ≡ [])). ⊎_elim
-    (λ (is : r ≡ reply_of_fault no_memory). inl (inr is))
-    (λ (none : names_of d ≡ []). inr (none_next (length (map (of_part at call) r.parts))
-    (map (unheard_call at call) (names_of d)) (ap (map (unheard_call at call)) none))) other)
-    (h closed)
+    (λ (is : StopsClosed r.stopped). inl (inr is))
+    (λ (same : ((r ≡ reply_of_fault no_memory) ⊎ (names_of d ≡ [])) × (new ≡ old)).
+    inr (ap sight.is_closed (sym same.1) ∙ closed)) (h closed)
 
 -- what a stop in an exchange leaves is found where its next call was under way
 found_next : (host : List ℕ) (d : Directory) (told t' : Tables) (at : ℕ)
@@ -114,15 +105,12 @@ session_of host d asks rs t t' ran = record {
 -- the exchange in which the store was closed, and those behind it
 closing : (host : List ℕ) (d : Directory) (a : Ask) (r : SeenReply) (asks : List Ask)
     (rs : List SeenReply) (t t' : Tables) →
-    (TellsClosed r ⊎ (r ≡ reply_of_fault no_memory)) ⊎ (next_call d a.at a.called r ≡ []) →
-    deeds asks rs ≡ [] → StopMayLeave host d t a.at a.called r t' →
+    TellsClosed r → deeds asks rs ≡ [] →
+    StopMayLeave host d t a.at a.called r t' →
     Ran host d (a ∷ asks) (r ∷ rs) t t'
 closing host d a r asks rs t t' told nothing h = record {
   under_way = next_call d a.at a.called r;
-  stopped_at = ⊎_elim (λ (is : TellsClosed r ⊎ (r ≡ reply_of_fault no_memory)).
-      inl (record { told = is; next = refl; last = nothing }))
-      (λ (none : next_call d a.at a.called r ≡ []).
-      inr (nothing_stopped d asks rs (next_call d a.at a.called r) none)) told;
+  stopped_at = inl (record { told = told; next = refl; last = nothing });
   last = h.0;
   done = subst (λ more. AllDone host d t (deeds_of a.at a.called r ++ more) h.0) (sym nothing)
       (subst (λ ds. AllDone host d t ds h.0)
@@ -185,14 +173,14 @@ module _ {S : Type 0} (sight : Sight S) (d : Directory) where
   goes_on : (old mid : Desk S) (a : Ask) (r : SeenReply) (asks : List Ask) (rs : List SeenReply)
       (t' : Tables) → Exchanged sight d old a r mid →
       AllDone (host_of old) d (tables old) (deeds_of a.at a.called r) (tables mid) →
-      Ran (host_of mid) d asks rs (tables mid) t' →
+      (TellsClosed r → ⊥) → Ran (host_of mid) d asks rs (tables mid) t' →
       Ran (host_of old) d (a ∷ asks) (r ∷ rs) (tables old) t'
-  goes_on old mid a r asks rs t' one did later =
+  goes_on old mid a r asks rs t' one did open_ later =
       let rest : Ran (host_of old) d asks rs (tables mid) t' =
       subst (λ host. Ran host d asks rs (tables mid) t') one.stays.host later in
       record {
         under_way = rest.under_way;
-        stopped_at = inr rest.stopped_at;
+        stopped_at = inr (inl (open_, rest.stopped_at));
         last = rest.last;
         done = all_done_on (host_of old) d (tables old) (tables mid) rest.last
             (deeds_of a.at a.called r) (deeds asks rs) did rest.done;
@@ -203,6 +191,30 @@ module _ {S : Type 0} (sight : Sight S) (d : Directory) where
       InTurn (Exchanged sight d) old asks rs new → (on sight).is_clean new →
       (on sight).is_clean old
   was_clean old new asks rs h clean = (served sight d old new asks rs h).stays.quiet clean
+
+  -- nothing is under way where nothing was done
+  idle : (asks : List Ask) (rs : List SeenReply) → deeds asks rs ≡ [] → StoppedAt d asks rs []
+  idle [] rs none = refl
+  idle (a ∷ asks) [] none = refl
+  idle (a ∷ asks) (r ∷ rs) none = inr (inr (none, refl))
+
+  -- nothing was done over a desk that was closed
+  shut_ran : (old new : Desk S) (asks : List Ask) (rs : List SeenReply) →
+      InTurn (Exchanged sight d) old asks rs new → IsJustOpened sight old →
+      (on sight).is_closed old ≡ true → (on sight).is_clean new →
+      StopLeaves (on sight) new (Ran (host_of old) d asks rs (tables old))
+  shut_ran old new asks rs h opened closed clean =
+      let all = rested old new asks rs h closed clean in (
+        all.leaves.0 opened.rests.0,
+        λ t' leaves. record {
+          under_way = [];
+          stopped_at = idle asks rs all.nothing;
+          last = tables old;
+          done = subst (λ (done : List Deed). AllDone (host_of old) d (tables old) done
+              (tables old)) (sym all.nothing) refl;
+          found = (0, opened.rests.1 t' (all.leaves.1 t' leaves));
+        },
+      )
 
   ran : (old new : Desk S) (asks : List Ask) (rs : List SeenReply) →
       InTurn (Exchanged sight d) old asks rs new → IsJustOpened sight old →
@@ -233,12 +245,14 @@ module _ {S : Type 0} (sight : Sight S) (d : Directory) where
             StopLeaves (on sight) new (Ran (host_of old) d (a ∷ asks) (r ∷ rs) (tables old))) [
               | true ↦ λ closed.
                   let rest = rested mid new asks rs later closed clean in
-                  let left = one.stops rest.clean opened.ours opened.sound opened.rests in (
+                  let left = one.stops rest.clean opened.ours opened.sound opened.rests in
+                  ⊎_elim (λ (told : TellsClosed r). (
                     rest.leaves.0 left.0,
-                    λ t' leaves. closing (host_of old) d a r asks rs (tables old) t'
-                        (told_closed (on sight) d old mid a.at a.called r closed one.anyway)
+                    λ t' leaves. closing (host_of old) d a r asks rs (tables old) t' told
                         rest.nothing (left.1 t' (rest.leaves.1 t' leaves)),
-                  )
+                  )) (λ (was : (on sight).is_closed old ≡ true).
+                  shut_ran old new (a ∷ asks) (r ∷ rs) (mid, one, later) opened was clean)
+                  (told_closed (on sight) d old mid a.at a.called r closed one.anyway)
               | false ↦ λ stays.
                   let before = was_clean mid new asks rs later clean in
                   let did = done_once sight.may_answer (host_of old) d (tables old) (tables mid)
@@ -249,7 +263,8 @@ module _ {S : Type 0} (sight : Sight S) (d : Directory) where
                     rests = one.stays.rests before opened.ours stays opened.rests;
                   }) in (
                     rest.0,
-                    λ t' leaves. goes_on old mid a r asks rs t' one did (rest.1 t' leaves),
+                    λ t' leaves. goes_on old mid a r asks rs t' one did
+                        (λ told. differ (sym (one.closed told) ∙ stays)) (rest.1 t' leaves),
                   )
             ] refl
 
@@ -268,7 +283,7 @@ module _ {S : Type 0} (sight : Sight S) (d : Directory) where
       InTurn (Exchanged sight d) old asks rs new → IsJustOpened sight old →
       (on sight).is_clean new →
       (on sight).is_closed new ≡ false →
-      StopLeaves (on sight) new (Passed (host_of old) d (uncut asks rs) (tables old))
+      StopLeaves (on sight) new (Passed (host_of old) (uncut d asks rs) (tables old))
   is_whole old new asks rs h opened clean open_ =
       let all = served sight d old new asks rs h in
       let left = all.stays.rests clean opened.ours open_ opened.rests in (

@@ -1,5 +1,5 @@
--- Histories: sessions over one store, one after another, each until the store was closed or the
--- machine stopped.
+-- Histories: sessions over one store, one after another, each by its own directory, until the store
+-- was closed or the machine stopped.
 use Rattle.std.specs.Prelude.{◌≡◌, ℕ, suc, List, [], ◌∷◌, ◌++◌, map, filter, take}
 use Rattle.std.specs.Ordering.{eq_by_cmp}
 use Rattle.hq_queue.specs.declared.account.Entry.{Entry}
@@ -13,20 +13,27 @@ use Rattle.hq_wire.specs.Exchanges.{Ask, Told, Unheard, calls_asked, after_calls
 use Rattle.hq_wire.specs.Replies.{SeenReply}
 use Rattle.hq_wire.specs.Runs.{Alone, Shared, share, heard, calls_in, told_in}
 
--- A session: what was asked and replied to, and the calls under way as it stopped, of which no
--- reply tells.
+-- A session: the directory of its start, what was asked and replied to, and the calls under way as
+-- it stopped, of which no reply tells.
 pub record Session : Type 0 where
+  pub directory : Directory
   pub asked : List Ask
   pub replies : List SeenReply
   pub under_way : List Unheard
 
 -- nothing was under way
-abbrev pub uncut : List Ask → List SeenReply → Session
-uncut asked replies = record { asked = asked; replies = replies; under_way = [] }
+abbrev pub uncut : Directory → List Ask → List SeenReply → Session
+uncut d asked replies = record {
+  directory = d;
+  asked = asked;
+  replies = replies;
+  under_way = [];
+}
 
 -- this exchange was under way, whose reply never came
 abbrev pub cut_with : Directory → List Ask → List SeenReply → Ask → Session
 cut_with d asked replies a = record {
+  directory = d;
   asked = asked;
   replies = replies;
   under_way = calls_asked d a.at a.called;
@@ -39,8 +46,10 @@ of_customer c us = map (λ (u : Unheard). (u.at, u.call))
 
 -- ---- one customer's share of a history
 
--- its calls of one session: those that were replied to, and those under way that were done
+-- its entry in the directory of one session, and its calls of that: those that were replied to, and
+-- those under way that were done
 pub record SessionShare : Type 0 where
+  pub entry : Entry
   pub told : List Shared
   pub untold : List (ℕ × Call)
 
@@ -49,43 +58,44 @@ pub record SessionShare : Type 0 where
 abbrev pub share_across : List ℕ → (ℕ → ℕ) → List Session → List SessionShare
 share_across c done [] = []
 share_across c done (s ∷ ss) = record {
+  entry = entry_of s.directory c;
   told = share c s.asked s.replies;
   untold = of_customer c (take (done 0) s.under_way);
 } ∷ share_across c (λ i. done (suc i)) ss
-
--- all of them in order, told or not
-abbrev pub calls_across : List SessionShare → List (ℕ × Call)
-calls_across [] = []
-calls_across (p ∷ ps) = calls_in p.told ++ (p.untold ++ calls_across ps)
 
 -- what it heard
 abbrev pub heard_across : List ℕ → List Session → List Told
 heard_across c [] = []
 heard_across c (s ∷ ss) = heard c s.asked s.replies ++ heard_across c ss
 
--- the state of its machine after one session
-abbrev pub state_across : List ℕ → Entry → State → SessionShare → State
-state_across host e s p = state_after host e (state_after host e s (calls_in p.told)) p.untold
+-- the state of its machine after one session: its calls in order, told or not
+abbrev pub state_behind : List ℕ → State → SessionShare → State
+state_behind host s p =
+    state_after host p.entry (state_after host p.entry s (calls_in p.told)) p.untold
+
+-- and after all of them
+abbrev pub state_across : List ℕ → State → List SessionShare → State
+state_across host s [] = s
+state_across host s (p ∷ ps) = state_across host (state_behind host s p) ps
 
 -- what its machine answers to what is told; the answer to a call under way reaches nobody
-abbrev pub told_across : List ℕ → List ℕ → Entry → State → List SessionShare → List Told
-told_across host c e s [] = []
-told_across host c e s (p ∷ ps) = told_in c p.told (answers host e s (calls_in p.told))
-    ++ told_across host c e (state_across host e s p) ps
+abbrev pub told_across : List ℕ → List ℕ → State → List SessionShare → List Told
+told_across host c s [] = []
+told_across host c s (p ∷ ps) = told_in c p.told (answers host p.entry s (calls_in p.told))
+    ++ told_across host c (state_behind host s p) ps
 
 -- ---- the headline across stops
 
 -- Of each session it is settled how many of the calls under way were done, the same for all
 -- customers. Then for every customer there is its machine, started from its own state and given its
--- share of the calls alone: over all sessions the customer hears what that machine answers, and
--- what is kept of it at the end is the state that the machine is left in.
-pub record AloneAcross (host : List ℕ) (d : Directory) (h : List Session) (t t' : Tables) : Type 0
-  where
-    pub done : ℕ → ℕ
-    pub replies : (c : List ℕ) → heard_across c h
-        ≡ told_across host c (entry_of d c) (own c t) (share_across c done h)
-    pub state : (c : List ℕ) → own c t' ≡ state_after host (entry_of d c) (own c t)
-        (calls_across (share_across c done h))
+-- share of the calls alone, in each session by its entry there. Over all sessions the customer
+-- hears what that machine answers, and what is kept of it at the end is the state that the machine
+-- is left in. Who is not in a directory has no call in that session, and its state stays.
+pub record AloneAcross (host : List ℕ) (h : List Session) (t t' : Tables) : Type 0 where
+  pub done : ℕ → ℕ
+  pub replies : (c : List ℕ) → heard_across c h
+      ≡ told_across host c (own c t) (share_across c done h)
+  pub state : (c : List ℕ) → own c t' ≡ state_across host (own c t) (share_across c done h)
 
 -- ---- what one session gives
 
@@ -95,12 +105,12 @@ MayFind host d t under_way t' = (count : ℕ)
     × (t' ≡ after_calls host d t (take count under_way))
 
 -- A session from the tables t, behind which the next opening finds the tables t'.
-pub record Passed (host : List ℕ) (d : Directory) (s : Session) (t t' : Tables) : Type 0 where
+pub record Passed (host : List ℕ) (s : Session) (t t' : Tables) : Type 0 where
   -- the tables after the last reply
   pub last : Tables
-  pub alone : Alone host d s.asked s.replies t last
+  pub alone : Alone host s.directory s.asked s.replies t last
   pub sound : Sound t → Sound last
-  pub found : MayFind host d last s.under_way t'
+  pub found : MayFind host s.directory last s.under_way t'
 
 -- one session after another, each from the tables that were found behind the one before
 abbrev pub InSessions : (Session → Tables → Tables → Type 0) → List Session → Tables → Tables →

@@ -1,6 +1,5 @@
 -- What was asked of a desk up to a stop, as a session.
 use Rattle.std.specs.Prelude.{◌≡◌, ◌⊎◌, ℕ, List, [], ◌∷◌}
-use Rattle.hq_base.specs.Refusals.{no_memory}
 use Rattle.hq_store.specs.Shelves.{Sight, StopLeavesTables}
 use Rattle.hq_store.specs.Sound.{Sound}
 use Rattle.hq_store.specs.Tables.{Tables}
@@ -8,7 +7,7 @@ use Rattle.hq_desk.specs.Desks.{on}
 use Rattle.hq_desk.specs.declared.desk.Desk.{Desk}
 use Rattle.hq_requests.specs.declared.directory.Directory.{Directory}
 use Rattle.hq_wire.specs.Exchanges.{Ask, TellsClosed, Unheard, next_call}
-use Rattle.hq_wire.specs.Replies.{SeenReply, reply_of_fault}
+use Rattle.hq_wire.specs.Replies.{SeenReply}
 use Rattle.hq_wire.specs.Runs.{deeds}
 use Rattle.hq_across.specs.Histories.{Passed}
 
@@ -19,18 +18,20 @@ pub record IsJustOpened {S : Type 0} (sight : Sight S) (desk : Desk S) : Type 0 
   pub sound : Sound ((on sight).tables desk)
   pub rests : StopLeavesTables (on sight) desk
 
--- The store was closed in this exchange, and 93 told, or 90: under way is its first call that the
--- reply does not tell of, and what was asked behind it did nothing.
+-- The store was closed in this exchange, and 93 told: under way is its first call that the reply
+-- does not tell of, and what was asked behind it did nothing.
 pub record ClosedAt (d : Directory) (a : Ask) (r : SeenReply) (later : List Ask)
     (their_replies : List SeenReply) (under_way : List Unheard) : Type 0 where
-  pub told : TellsClosed r ⊎ (r ≡ reply_of_fault no_memory)
+  pub told : TellsClosed r
   pub next : under_way ≡ next_call d a.at a.called r
   pub last : deeds later their_replies ≡ []
 
--- one of these exchanges did so, or nothing is under way
+-- The first of these exchanges that tells 93 did so; or none tells it, or none of them did anything
+-- from there on, and then nothing is under way.
 abbrev pub StoppedAt : Directory → List Ask → List SeenReply → List Unheard → Type 0
-StoppedAt d (a ∷ asks) (r ∷ rs) under_way =
-    ClosedAt d a r asks rs under_way ⊎ StoppedAt d asks rs under_way
+StoppedAt d (a ∷ asks) (r ∷ rs) under_way = ClosedAt d a r asks rs under_way
+    ⊎ (((TellsClosed r → ⊥) × StoppedAt d asks rs under_way)
+    ⊎ ((deeds (a ∷ asks) (r ∷ rs) ≡ []) × (under_way ≡ [])))
 StoppedAt d _ _ under_way = under_way ≡ []
 
 -- What was asked and replied to is a session from the tables t, behind which the next opening finds
@@ -39,5 +40,5 @@ pub record IsSession (host : List ℕ) (d : Directory) (asks : List Ask) (rs : L
     (t t' : Tables) : Type 0 where
   pub under_way : List Unheard
   pub stopped_at : StoppedAt d asks rs under_way
-  pub passed : Passed host d
-      (record { asked = asks; replies = rs; under_way = under_way }) t t'
+  pub passed : Passed host
+      (record { directory = d; asked = asks; replies = rs; under_way = under_way }) t t'

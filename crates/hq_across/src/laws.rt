@@ -1,7 +1,7 @@
 //! Each law is an empty function whose contract is the law.
 
 ghost use Rattle.std.specs.Prelude.{◌≡◌, ℕ, false, List};
-ghost use Rattle.hq_base.specs.Turns.{InTurn};
+ghost use Rattle.hq_values.specs.Turns.{InTurn};
 ghost use Rattle.hq_store.specs.Shelves.{StopLeaves};
 ghost use Rattle.hq_store.specs.Sound.{Sound};
 ghost use Rattle.hq_store.specs.Tables.{Tables};
@@ -18,14 +18,15 @@ ghost use Rattle.hq_across.specs.Sessions.{IsJustOpened, IsSession};
 use hq_store::Shelf;
 
 /// Whatever the other customers do and whenever the machine stops: to every customer a history of
-/// sessions is its own machine on its own calls. Of the calls under way at the end of each session
+/// sessions is its own machine on its own calls, in each session by its entry in the directory of
+/// that. Of the calls under way at the end of each session
 /// the first are done, or none; so the one call of a customer is done or not, and a call of all is
 /// done of the first customers.
 pub fn alone_across_stops()
-    ensures alone { (host : List ℕ) (d : Directory) (h : List Session) (t t' : Tables)
-        → InSessions (Passed host d) h t t' → AloneAcross host d h t t' }
-    ensures sound { (host : List ℕ) (d : Directory) (h : List Session) (t t' : Tables)
-        → InSessions (Passed host d) h t t' → Sound t → Sound t' }
+    ensures alone { (host : List ℕ) (h : List Session) (t t' : Tables)
+        → InSessions (Passed host) h t t' → AloneAcross host h t t' }
+    ensures sound { (host : List ℕ) (h : List Session) (t t' : Tables)
+        → InSessions (Passed host) h t t' → Sound t → Sound t' }
 {}
 
 /// What was asked of a desk up to a stop is a session, whichever tables the next opening finds. At
@@ -40,7 +41,7 @@ pub fn exchanges_are_a_session<S: Shelf>()
         → InTurn (Exchanged S.sight d) old asks rs new → IsJustOpened S.sight old
         → (on S.sight).is_clean new → (on S.sight).is_closed new ≡ false
         → StopLeaves (on S.sight) new
-        (Passed (host_of old) d (uncut asks rs) ((on S.sight).tables old)) }
+        (Passed (host_of old) (uncut d asks rs) ((on S.sight).tables old)) }
 {}
 
 /// An exchange whose reply never came is under way, also where it was done: a process that dies
@@ -50,5 +51,5 @@ pub fn lost_reply_is_under_way<S: Shelf>()
         (r : SeenReply) (t last t' : Tables)
         → AllReplied S.sight.may_answer host d t asks rs last → (Sound t → Sound last)
         → MayReply S.sight.may_answer host d last a r t'
-        → Passed host d (cut_with d asks rs a) t t' }
+        → Passed host (cut_with d asks rs a) t t' }
 {}

@@ -1,8 +1,8 @@
-//! Histories of two customers, and what they are replied.
+//! A history of customers that come and leave, and what they are replied.
 
-use hq_envelope::{Fail as Failure, Host, Key, Moment, Name};
 use hq_queue::{Customer, Entry, Quota};
-use hq_sql_across::history;
+use hq_sql_across::{Visit, history};
+use hq_values::{Fail as Failure, Host, Key, Moment, Name};
 use hq_wire::{Directory, Exchange, Reply, are_customers};
 use sqlite::{Alter, Connection, FileStore, Files, Options};
 use sqlite_disk::Memory;
@@ -42,21 +42,55 @@ const LISTED_BIRCH: &str =
      \"recipients\":1,\"sender\":\"ann@a.example\",\"size\":900,\"state\":\"incoming\"}],\
      \"more\":false}";
 
-/// What is asked in three sessions, each line with its reply. The first opens a store in which
-/// nothing was made.
-const SESSIONS: [&[(&str, &str)]; 3] = [
-    &[(SUBMIT_ACME, QUEUED_FIRST), (SUBMIT_BIRCH, QUEUED_FIRST)],
-    &[
-        (HOLD_ACME, "200 {\"changed\":1}"),
-        (LIST_BIRCH, LISTED_BIRCH),
-        (DELETE_ACME, "200 {\"changed\":1}"),
-    ],
-    &[
-        (HOLD_ACME, "404 {\"error\":10,\"name\":\"NoMessage\"}"),
-        (LIST_ACME, LISTED_NONE),
-        (LIST_BIRCH, LISTED_BIRCH),
-    ],
+const LIST_CEDAR: &str = "GET /v1/messages cedarkey00000001";
+
+const NO_KEY: &str = "401 {\"error\":2,\"name\":\"NoKey\"}";
+
+/// What each customer's key is.
+const KEYS: [(&str, &str); 3] = [
+    ("acme", "acmekey000000001"),
+    ("birch", "birchkey00000001"),
+    ("cedar", "cedarkey00000001"),
 ];
+
+/// The customers of a session, and its lines, each with its reply.
+#[derive(Drop)]
+struct Session {
+    customers: &'static [(&'static str, &'static str)],
+    rows: &'static [(&'static str, &'static str)],
+}
+
+/// Three sessions: birch has left in the second and is back in the third, in which cedar is new.
+/// The first opens a store in which nothing was made.
+fn sessions() -> [Session; 3] {
+    [
+        Session {
+            customers: &KEYS[..2],
+            rows: &[
+                (SUBMIT_ACME, QUEUED_FIRST),
+                (SUBMIT_BIRCH, QUEUED_FIRST),
+                (LIST_CEDAR, NO_KEY),
+            ],
+        },
+        Session {
+            customers: &KEYS[..1],
+            rows: &[
+                (HOLD_ACME, "200 {\"changed\":1}"),
+                (LIST_BIRCH, NO_KEY),
+                (DELETE_ACME, "200 {\"changed\":1}"),
+            ],
+        },
+        Session {
+            customers: &KEYS,
+            rows: &[
+                (HOLD_ACME, "404 {\"error\":10,\"name\":\"NoMessage\"}"),
+                (LIST_ACME, LISTED_NONE),
+                (LIST_BIRCH, LISTED_BIRCH),
+                (LIST_CEDAR, LISTED_NONE),
+            ],
+        },
+    ]
+}
 
 fn customer(alloc: Global, name: &str, key: &str) -> Result<Customer, Failure> {
     let quota = Quota {
@@ -69,16 +103,20 @@ fn customer(alloc: Global, name: &str, key: &str) -> Result<Customer, Failure> {
         name: Name::parse(alloc, name)?,
         quota,
         delay: 3600,
+        history: 0,
     };
     let key = Key::parse(alloc, key)?;
     Ok(Customer { entry, key })
 }
 
-/// The directory of both customers.
-fn directory(rt: &(impl Abort + AllocGlobal)) -> Result<Directory, Failure> {
+/// The directory of these customers, with their keys.
+fn directory(
+    rt: &(impl Abort + AllocGlobal),
+    named: &[(&str, &str)],
+) -> Result<Directory, Failure> {
     let alloc = rt.alloc();
     let mut customers = Vec::new(alloc);
-    for (name, key) in [("acme", "acmekey000000001"), ("birch", "birchkey00000001")] {
+    for (name, key) in named {
         customers.push(customer(alloc, name, key)?)?;
     }
     assert!(rt; are_customers(customers.as_slice()));
@@ -108,17 +146,21 @@ fn line_of(alloc: Global, reply: &Reply) -> Result<String, Fail> {
     Ok(format!(in alloc; "{} {body}", reply.status)?)
 }
 
-/// The exchanges of each session.
-fn sessions(alloc: Global) -> Result<Vec<Vec<Exchange>>, Fail> {
-    let mut sessions = Vec::new(alloc);
-    for rows in SESSIONS {
+/// What is asked in each session, by its directory.
+fn visits(rt: &(impl Abort + AllocGlobal)) -> Result<Vec<Visit>, Fail> {
+    let alloc = rt.alloc();
+    let mut visits = Vec::new(alloc);
+    for session in sessions() {
         let mut exchanges = Vec::new(alloc);
-        for (line, _) in rows {
+        for (line, _) in session.rows {
             exchanges.push(asked(alloc, line)?)?;
         }
-        sessions.push(exchanges)?;
+        visits.push(Visit {
+            directory: directory(rt, session.customers)?,
+            exchanges,
+        })?;
     }
-    Ok(sessions)
+    Ok(visits)
 }
 
 /// A connection to two new files in memory.
@@ -138,27 +180,26 @@ fn connected(alloc: Global) -> Result<Connection<FileStore<Memory>>, Fail> {
 fn replied<S: Alter + Reopen + Drop>(
     alloc: Global,
     conn: Connection<S>,
-    directory: &Directory,
-    sessions: &[Vec<Exchange>],
+    visits: &[Visit],
 ) -> Result<(Vec<Vec<Reply>>, bool), Fail> {
     let host = Host::parse(alloc, "relay.example")?;
-    let served = history(alloc, conn, &host, directory, sessions)?;
+    let served = history(alloc, conn, &host, visits)?;
     Ok((served.replies, served.in_doubt))
 }
 
-/// What was replied before a stop is there behind it, and each customer is told of its own alone.
+/// A stop loses nothing that was replied before it, each customer is told of its own alone, and
+/// one that left finds its records when it is back.
 #[test]
-fn sessions_of_two_customers(rt: HostRuntime) -> Result<(), Fail> {
+fn sessions_of_customers_that_come_and_leave(rt: HostRuntime) -> Result<(), Fail> {
     let alloc = rt.alloc();
-    let directory = directory(&rt)?;
-    let sessions = sessions(alloc)?;
+    let visits = visits(&rt)?;
     let conn = connected(alloc)?;
-    let (replies, in_doubt) = replied(alloc, conn, &directory, sessions.as_slice())?;
+    let (replies, in_doubt) = replied(alloc, conn, visits.as_slice())?;
     assert!(rt; !in_doubt);
-    assert_eq!(rt; replies.len(), SESSIONS.len());
-    for (told, rows) in replies.iter().zip(SESSIONS) {
-        assert_eq!(rt; told.len(), rows.len());
-        for (reply, (_, want)) in told.iter().zip(rows) {
+    assert_eq!(rt; replies.len(), 3);
+    for (told, session) in replies.iter().zip(sessions()) {
+        assert_eq!(rt; told.len(), session.rows.len());
+        for (reply, (_, want)) in told.iter().zip(session.rows) {
             assert_eq!(rt; line_of(alloc, reply)?.as_str(), *want);
         }
     }

@@ -1,13 +1,11 @@
 -- The calls of customers, one after the other.
 use Rattle.std.proofs.Common.{◌≡◌, ℕ, zero, suc, ◌<◌, false, true, List, [], ◌∷◌, ◌++◌, map, take}
-use Rattle.std.proofs.Common.{drop, length, get_or, Ok, Err, refl, sym, ap, ◌∙◌}
+use Rattle.std.proofs.Common.{drop, length, get_or, Ok, refl, sym, ap, ◌∙◌}
 use Rattle.std.proofs.Common.{subst, arith, length-append}
-use Rattle.hq_base.specs.Turns.{InTurn}
-use Rattle.hq_base.proofs.Turns.{turns_on, one_turn}
-use Rattle.hq_base.specs.declared.failure.Fault.{Fault}
-use Rattle.hq_base.specs.declared.failure.Fault.TheVariants.{WantOfMemory, Disk, BadSchema, Closed}
+use Rattle.hq_values.specs.Turns.{InTurn}
+use Rattle.hq_values.proofs.Turns.{turns_on, one_turn}
 use Rattle.hq_queue.specs.declared.account.Entry.{Entry}
-use Rattle.hq_store.specs.Shelves.{Sight, IsTallied, KeepsOnErr, OnSound, OnOpenSound}
+use Rattle.hq_store.specs.Shelves.{Sight, KeepsOnErr, OnSound, OnOpenSound}
 use Rattle.hq_store.specs.Sound.{Sound}
 use Rattle.hq_store.specs.Tables.{Tables}
 use Rattle.hq_calls.specs.declared.call.Call.{Call}
@@ -21,13 +19,6 @@ differ e = absurd (not_so e) where
   not_so : false ≡ true → ⊥
   not_so e = cc
 
-was_open : (fault : Fault) (was is : _) (m n : ℕ) → IsTallied {X = Rendered} was is m n (Err fault)
-    → is ≡ false → was ≡ false
-was_open WantOfMemory was is m n h open_ = h.0
-was_open Disk was is m n h open_ = h.0
-was_open BadSchema was is m n h open_ = absurd h
-was_open Closed was is m n h open_ = differ (sym open_ ∙ h.0)
-
 module _ {S : Type 0} (sight : Sight S) (at : ℕ) (asked : Call) where
   abbrev tables : Desk S → Tables
   tables = (on sight).tables
@@ -40,6 +31,8 @@ module _ {S : Type 0} (sight : Sight S) (at : ℕ) (asked : Call) where
         (InTurn (IsCalled (host_of old) at asked) (tables old) called told (tables new))
     pub sound : OnOpenSound (on sight) old new (Sound (tables new))
     pub stays : Stays (on sight) old new
+    pub standing : (on sight).is_closed new ≡ (on sight).is_closed old
+    pub untold : (on sight).fault_count new ≡ (on sight).fault_count old
 
   pub none_yet : (old : Desk S) → SoFar old [] [] old
   none_yet old = record {
@@ -54,6 +47,8 @@ module _ {S : Type 0} (sight : Sight S) (at : ℕ) (asked : Call) where
       rests = λ clean ours open_ rest. rest;
       shut = λ clean closed. (λ desk. desk, λ t leaves. leaves);
     };
+    standing = refl;
+    untold = refl;
   }
 
   -- what is closed stays so
@@ -124,20 +119,9 @@ module _ {S : Type 0} (sight : Sight S) (at : ℕ) (asked : Call) where
               rests = kept.rests;
               shut = kept.shut;
             });
+        standing = kept.tally.1 ∙ sym was ∙ before.standing;
+        untold = kept.tally.2 ∙ before.untold;
       }
-
-  -- a fault leaves what was done
-  pub stopped : (old mid new : Desk S) (called : List Entry) (told : List Rendered)
-      (fault : Fault) →
-      SoFar old called told mid → KeepsOnErr {X = Rendered} (on sight) mid new (Err fault) →
-      OnOpenSound (on sight) old new (InTurn (IsCalled (host_of old) at asked) (tables old) called
-      told (tables new))
-  stopped old mid new called told fault before kept = λ clean ours open_ fit.
-      let then = kept.quiet clean in
-      let was = was_open fault _ _ _ _ kept.tally open_ in
-      subst (λ t. InTurn (IsCalled (host_of old) at asked) (tables old) called told t)
-      (sym (kept.none clean (before.stays.ours then ours was) open_)) (before.each then
-      ours was fit)
 
 -- a list at a place of it
 pub split_at : {A B : Type 0} (f : A → B) (xs : List A) (i : ℕ) (x : A) → i < length xs →

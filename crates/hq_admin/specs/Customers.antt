@@ -1,9 +1,9 @@
 -- The customer that an administrator names.
 use Rattle.std.specs.Prelude.{ℕ, List, Option, Some, None, Result, Ok, Err}
 use Rattle.std.specs.List.{find}
-use Rattle.hq_base.specs.Readers.{◌>>=◌}
-use Rattle.hq_base.specs.declared.failure.Refusal.{Refusal}
-use Rattle.hq_base.specs.declared.failure.Refusal.TheVariants.{NoCustomer}
+use Rattle.hq_values.specs.Readers.{◌>>=◌}
+use Rattle.hq_values.specs.declared.failure.Refusal.{Refusal}
+use Rattle.hq_values.specs.declared.failure.Refusal.TheVariants.{NoCustomer}
 use Rattle.hq_import.specs.Directories.{customers_in}
 use Rattle.hq_queue.specs.Customers.{has_name}
 use Rattle.hq_queue.specs.declared.account.Customer.{Customer}

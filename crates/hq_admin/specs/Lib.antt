@@ -1,4 +1,5 @@
 pub mod Customers
+pub mod Lines
 pub mod Performs
 pub mod Printed
 pub mod Rounds

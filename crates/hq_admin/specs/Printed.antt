@@ -1,14 +1,16 @@
 -- What an administrator reads of an answer.
 use Rattle.std.specs.Prelude.{ℕ, ◌++◌, List, [], codes, decimal}
-use Rattle.hq_base.specs.Refusals.{refusal_shown}
+use Rattle.hq_values.specs.Refusals.{refusal_shown}
 use Rattle.hq_calls.specs.declared.answer.Answer.{Answer}
 use Rattle.hq_calls.specs.declared.answer.Answer.TheVariants.{Refused, Reported, Imported, Swept}
-use Rattle.hq_calls.specs.declared.answer.Answer.TheVariants.{Used}
+use Rattle.hq_calls.specs.declared.answer.Answer.TheVariants.{Used, Changed, HistoryListed}
+use Rattle.hq_calls.specs.declared.answer.Answer.TheVariants.{HistoryFound}
 use Rattle.hq_calls.specs.declared.answer.ImportCounts.{ImportCounts}
 use Rattle.hq_calls.specs.declared.answer.SweepCounts.{SweepCounts}
 use Rattle.hq_calls.specs.declared.answer.Usage.{Usage}
 use Rattle.hq_queue.specs.declared.account.Counts.{Counts}
 use Rattle.hq_queue.specs.declared.account.Tally.{Tally}
+use Rattle.hq_admin.specs.Lines.{history_lines, more_from}
 
 -- what an import set, on a line
 unfoldable pub import_line : ImportCounts → List ℕ
@@ -42,12 +44,19 @@ usage_line usage = kept_text usage.counts ++ left_text usage.tally.accepted usag
     ++ gone_text usage.tally
     ++ codes "\n"
 
--- the queue report as it is, the counts of an import, of a sweep and of a usage, a refusal as it is
--- shown, and nothing of all else
+-- how many messages were changed, on a line
+unfoldable pub changed_line : ℕ → List ℕ
+changed_line count = codes "changed " ++ decimal count ++ codes "\n"
+
+-- the queue report as it is, the counts of a move, of an import, of a sweep and of a usage, the
+-- lines of a history, a refusal as it is shown, and nothing of all else
 abbrev pub printed : Answer → List ℕ
 printed (Refused refusal) = refusal_shown refusal
 printed (Reported report) = report
 printed (Imported counts) = import_line counts
 printed (Swept counts) = sweep_line counts
 printed (Used usage) = usage_line usage
+printed (Changed count) = changed_line count
+printed (HistoryListed es more) = history_lines es (more_from es more)
+printed (HistoryFound es next) = history_lines es next
 printed _ = []

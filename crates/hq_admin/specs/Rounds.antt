@@ -1,11 +1,12 @@
 -- A round: one call of each customer of a directory, over a shelf.
 use Rattle.std.specs.Prelude.{ℕ, ◌≡◌, List, [], ◌∷◌, ◌++◌, length, map, codes, Option, None, Some}
-use Rattle.hq_base.specs.Refusals.{refusal_shown}
-use Rattle.hq_base.specs.Turns.{InTurn}
-use Rattle.hq_base.specs.declared.failure.Fault.{Fault}
+use Rattle.std.specs.Prelude.{Err}
+use Rattle.hq_values.specs.Refusals.{refusal_shown}
+use Rattle.hq_values.specs.Turns.{InTurn}
+use Rattle.hq_values.specs.declared.failure.Fault.{Fault}
 use Rattle.hq_queue.specs.declared.account.Customer.{Customer}
 use Rattle.hq_queue.specs.declared.account.Entry.{Entry}
-use Rattle.hq_store.specs.Shelves.{Sight, OnOpenSound}
+use Rattle.hq_store.specs.Shelves.{Sight, KeepsOnErr, OnSound, OnOpenSound, StopLeavesWhole}
 use Rattle.hq_store.specs.Tables.{Tables}
 use Rattle.hq_calls.specs.Each.{each_call}
 use Rattle.hq_calls.specs.Machine.{shared}
@@ -13,7 +14,7 @@ use Rattle.hq_calls.specs.declared.answer.Answer.{Answer}
 use Rattle.hq_calls.specs.declared.answer.Answer.TheVariants.{Refused}
 use Rattle.hq_calls.specs.declared.call.Call.{Call}
 use Rattle.hq_calls.specs.declared.each.EachCall.{EachCall}
-use Rattle.hq_desk.specs.Desks.{IsRendered, host_of, on, shelf_of}
+use Rattle.hq_desk.specs.Desks.{IsRendered, Stays, host_of, on, stepped}
 use Rattle.hq_desk.specs.declared.desk.Desk.{Desk}
 use Rattle.hq_desk.specs.declared.desk.Rendered.{Rendered}
 use Rattle.hq_admin.specs.Printed.{printed}
@@ -33,25 +34,37 @@ IsCalled host at asked t entry rendered t' =
 abbrev pub customer_entry : Customer → Entry
 customer_entry customer = customer.entry
 
--- the calls of all are done; or of the first of them, and the next one stopped the round by a fault
-abbrev pub StopsAt : (Fault → Type 0) → List Entry → Option Fault → Type 0
-StopsAt may left None = left ≡ []
-StopsAt may left (Some fault) = may fault × ((next : Entry) × (more : List Entry)
-    × (left ≡ next ∷ more))
+-- The call of the next customer ended in a fault, and a stop there leaves it whole or not done.
+pub record EndsInFault {S : Type 0} (sight : Sight (Desk S)) (mid new : Desk S) (at : ℕ)
+    (asked : Call) (left : List Entry) (fault : Fault) : Type 0 where
+  pub next : Entry
+  pub more : List Entry
+  pub is : left ≡ next ∷ more
+  pub kept : KeepsOnErr {X = Rendered} sight mid new (Err fault)
+  pub host : host_of new ≡ host_of mid
+  pub stops : OnSound sight mid new
+      (StopLeavesWhole sight mid new (stepped sight mid next at asked).1)
 
--- The calls of the customers are done in their order by a desk over this shelf, until a fault; each
--- that is done is told of, whatever becomes of the store.
-pub record CallsEach {S : Type 0} (sight : Sight S) (shelf : S) (host : List ℕ) (at : ℕ)
+-- the calls of all are done; or of the first of them, and that of the next one ended in this fault
+abbrev pub StopsAt : {S : Type 0} → Sight (Desk S) → Desk S → Desk S → ℕ → Call → List Entry →
+    Option Fault → Type 0
+StopsAt sight mid new at asked left None = (left ≡ []) × (new ≡ mid)
+StopsAt sight mid new at asked left (Some fault) = EndsInFault sight mid new at asked left fault
+
+-- A desk makes the calls of the customers in their order, until a fault, and each that is done is
+-- told of, whatever becomes of the store. `mid` is the desk behind those that are done.
+pub record CallsEach {S : Type 0} (sight : Sight S) (old new : Desk S) (at : ℕ)
     (each_is : EachCall) (customers : List Customer) (done : ToldAll) : Type 0 where
-  pub old : Desk S
-  pub host_is : host_of old ≡ host
-  pub shelf_is : shelf_of old ≡ shelf
-  pub new : Desk S
+  pub mid : Desk S
   pub called : List Entry
   pub left : List Entry
   pub order : map customer_entry customers ≡ called ++ left
   pub counted : length done.told.items ≡ length called
-  pub each : OnOpenSound (on sight) old new
-      (InTurn (IsCalled host at (each_call each_is)) ((on sight).tables old) called done.told.items
-      ((on sight).tables new))
-  pub ends : StopsAt (on sight).may_answer left done.stopped
+  pub each : OnOpenSound (on sight) old mid
+      (InTurn (IsCalled (host_of old) at (each_call each_is)) ((on sight).tables old) called
+      done.told.items ((on sight).tables mid))
+  pub stays : Stays (on sight) old mid
+  -- calls that are done close no store, and count no fault
+  pub standing : (on sight).is_closed mid ≡ (on sight).is_closed old
+  pub untold : (on sight).fault_count mid ≡ (on sight).fault_count old
+  pub ends : StopsAt (on sight) mid new at (each_call each_is) left done.stopped

@@ -4,6 +4,7 @@
 #![tactic(auto)]
 
 mod customer;
+mod history;
 mod performing;
 mod printed;
 mod rounds;

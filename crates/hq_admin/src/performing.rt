@@ -4,9 +4,9 @@ ghost use Rattle.hq_admin.specs.Performs.{Performs};
 
 use crate::printed::Printed;
 use hq_desk::{Call, Desk, Rendered};
-use hq_envelope::{Fault, Host, Moment};
 use hq_queue::Entry;
 use hq_store::Shelf;
+use hq_values::{Fault, Host, Moment};
 use std::alloc::Global;
 
 /// A call that an administrator asks for.
@@ -22,15 +22,15 @@ pub struct Request {
     pub call: Call,
 }
 
-/// Does the call that is asked for, over a shelf that is dropped when it is done. It answers 0 and
-/// what is printed, or a refusal's number and its text; after a fault nothing was changed, unless
-/// the store is closed then.
+/// Does the call that is asked for, over a shelf that it gives back. It answers 0 and what is
+/// printed, or a refusal's number and its text; after a fault nothing was changed, unless the store
+/// is closed then.
 pub fn perform<S: Shelf + Drop>(
     alloc: Global,
     shelf: S,
     request: Request,
-) -> Result<Rendered, Fault>
-    ensures { Performs S.sight shelf request result }
+) -> (S, Result<Rendered, Fault>)
+    ensures { Performs S.sight shelf result.0 request result.1 }
 {
     let Request {
         host,
@@ -39,5 +39,6 @@ pub fn perform<S: Shelf + Drop>(
         call,
     } = request;
     let mut desk = Desk::new(shelf, host);
-    desk.act(alloc, at, &entry, call, &Printed)
+    let done = desk.act(alloc, at, &entry, call, &Printed);
+    (desk.into_shelf(), done)
 }

@@ -3,6 +3,7 @@
 ghost use Rattle.std.specs.Prelude.{◌≡◌, ◌++◌, OnOk, string_bytes};
 ghost use Rattle.hq_admin.specs.Printed as texts;
 
+use crate::history::{more_from, put_history};
 use hq_desk::{Answer, ImportCounts, Render, SweepCounts, Usage};
 use hq_queue::{Counts, Tally};
 use std::alloc::{AllocError, Global};
@@ -92,8 +93,21 @@ fn put_used(text: &mut String, usage: &Usage) -> Result<(), AllocError>
     text.push_str("\n")
 }
 
+/// Adds how many messages were changed.
+#[tactic(auto, unfolding(crate::specs::Printed::changed_line))]
+fn put_changed(text: &mut String, count: u64) -> Result<(), AllocError>
+    ensures { OnOk result (string_bytes text.new
+        ≡ string_bytes text.old ++ texts.changed_line count) }
+{
+    write!(text, "changed {count}\n")
+}
+
 /// Adds what is printed of an answer.
-pub(crate) fn put_answer(text: &mut String, answer: &Answer) -> Result<(), AllocError>
+pub(crate) fn put_answer(
+    alloc: Global,
+    text: &mut String,
+    answer: &Answer,
+) -> Result<(), AllocError>
     ensures { OnOk result (string_bytes text.new
         ≡ string_bytes text.old ++ texts.printed answer.now) }
 {
@@ -103,13 +117,19 @@ pub(crate) fn put_answer(text: &mut String, answer: &Answer) -> Result<(), Alloc
         Answer::Imported(counts) => put_imported(text, *counts),
         Answer::Swept(counts) => put_swept(text, *counts),
         Answer::Used(usage) => put_used(text, usage),
+        Answer::Changed(count) => put_changed(text, *count),
+        Answer::HistoryListed(ends, more) => {
+            let next = more_from(ends.as_slice(), *more);
+            put_history(alloc, text, ends.as_slice(), next)
+        }
+        Answer::HistoryFound(ends, next) => put_history(alloc, text, ends.as_slice(), *next),
         _ => Ok(()),
     }
 }
 
-/// Prints the queue report, what an import set, what a sweep did, what a customer uses, and
-/// refusals as they are shown: `52 LabelUsed`. Nothing is printed of other answers, for which there
-/// is no word.
+/// Prints the queue report, how many messages were changed, a history, what an import set, what a
+/// sweep did, what a customer uses, and refusals as they are shown: `52 LabelUsed`. Nothing is
+/// printed of other answers, for which there is no word.
 #[derive(Clone, Copy, Debug)]
 pub struct Printed;
 
@@ -123,7 +143,7 @@ impl Render for Printed {
 
     fn render(&self, alloc: Global, answer: &Answer) -> Result<Vec<u8>, AllocError> {
         let mut text = String::new(alloc);
-        put_answer(&mut text, answer)?;
+        put_answer(alloc, &mut text, answer)?;
         Ok(text.into_bytes())
     }
 }

@@ -1,14 +1,14 @@
 //! A round over a shelf: one call of each customer of a directory.
 
-ghost use Rattle.std.specs.Prelude.{◌≡◌, string_bytes, IfOk};
+ghost use Rattle.std.specs.Prelude.{◌≡◌, string_bytes, IfOk, OnErr};
 ghost use Rattle.hq_admin.specs.Rounds.{CallsEach, printed_of};
 
 use crate::printed::put_answer;
 use hq_calls::EachCall;
 use hq_desk::{Answer, Desk, Render, Rendered};
-use hq_envelope::{Fault, Host, Moment, Name};
 use hq_queue::Customer;
 use hq_store::Shelf;
+use hq_values::{Fault, Moment, Name};
 use std::alloc::{AllocError, Global};
 use std::fmt::Write;
 
@@ -31,7 +31,7 @@ fn text_of(alloc: Global, name: &Name, answer: &Answer) -> Result<String, AllocE
         Answer::Refused(refusal) => write!(text, "{refusal} customer {}", name.as_str())?,
         _ => {
             write!(text, "{}: ", name.as_str())?;
-            put_answer(&mut text, answer)?;
+            put_answer(alloc, &mut text, answer)?;
         }
     }
     Ok(text)
@@ -57,21 +57,20 @@ impl Render for PrintedOf<'_> {
     }
 }
 
-/// Makes this call of the customers of a directory at a moment, in their order, over a shelf that
-/// is dropped when it is done; and stops at the first fault. A refusal does not stop it. Room for
-/// what is told of all is taken first; where it is refused, nothing is done.
+/// Makes this call of the customers of a directory at a moment, in their order, and stops at the
+/// first fault. A refusal does not stop it. It takes the room for all answers first; where that is
+/// refused, the desk stays as it is.
 pub fn call_each<S: Shelf + Drop>(
     alloc: Global,
-    shelf: S,
-    host: Host,
+    desk: &mut Desk<S>,
     at: Moment,
     each: EachCall,
     customers: &[Customer],
 ) -> Result<ToldAll, AllocError>
-    ensures { IfOk result (CallsEach S.sight shelf host at each customers.now) }
+    ensures done { IfOk result (CallsEach S.sight desk.old desk.new at each customers.now) }
+    ensures none { OnErr result (desk.new ≡ desk.old) }
 {
     let mut told = Vec::with_capacity(alloc, customers.len())?;
-    let mut desk = Desk::new(shelf, host);
     for customer in customers {
         let by = PrintedOf {
             name: &customer.entry.name,

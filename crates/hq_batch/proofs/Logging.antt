@@ -1,6 +1,9 @@
 -- The line of the log for a line of a batch.
 use Rattle.std.specs.Io.KnownBytes.{Appends}
 use Rattle.std.proofs.Common.{◌≡◌, ◌∙◌, ℕ, Bool, List, Option, None, Some, refl, sym, subst}
+use Rattle.std.proofs.Common.{inl, inr}
+use Rattle.hq_desk.specs.declared.desk.Desk.{Desk}
+use Rattle.hq_store.specs.Shelves.{Sight}
 use Rattle.hq_lines.specs.Fields.{LineRequest}
 use Rattle.hq_log.specs.Entries as entries
 use Rattle.hq_log.specs.Entries.{IsTold, customer_named}
@@ -8,24 +11,19 @@ use Rattle.hq_log.specs.Lines.{LogEntry, log_line_behind}
 use Rattle.hq_log.specs.declared.keeping.Answered.{Answered}
 use Rattle.hq_requests.specs.declared.directory.Directory.{Directory}
 use Rattle.hq_requests.specs.declared.exchanges.Exchange.{Exchange}
-use Rattle.hq_wire.specs.Replies.{SeenReply, IsSent}
-use Rattle.hq_batch.specs.Steps.{HoldsLine, IsLineLogged, IsOfReplied, IsLineToLog, moment_of}
+use Rattle.hq_wire.specs.Replies.{SeenReply}
+use Rattle.hq_batch.specs.Steps.{HoldsLine, IsLineLogged, IsLineToLog, SendsLine, moment_of}
 use Rattle.hq_batch.specs.declared.front.Replied.{Replied}
 
-none_is_some : (q : LineRequest) (known : Option LineRequest) → known ≡ None → known ≡ Some q → ⊥
-none_is_some q known none some =
-    let clash : None ≡ Some q = sym none ∙ some in
-    cc
-
-module _ (d : Directory) (request : Option LineRequest) (r : SeenReply) (lost : Bool)
-    (old new : Option (List ℕ)) (milliseconds : Option ℕ) where
-  of_line : (asked : Option Exchange) → HoldsLine request asked →
+module _ {S : Type 0} (d : Directory) (request : Option LineRequest) (before after : Desk S)
+    (r : SeenReply) (lost : Bool) (old new : Option (List ℕ)) (milliseconds : Option ℕ) where
+  of_line : (asked : Option Exchange) → HoldsLine request before r after asked →
       Appends old new (log_line_behind lost
       (entries.exchange_entry d (moment_of request) asked r.status r.body milliseconds)) →
-      IsLineLogged d request r lost old new
+      IsLineLogged d request before after r lost old new
   of_line (Some x) (q, is_request, is) told = record {
     known = Some q;
-    is_known = λ other same. is_request ∙ same;
+    known_as = inl (sym is_request);
     milliseconds = milliseconds;
     told = subst (λ (t : LogEntry). Appends old new (log_line_behind lost t)) (λ i. record {
       at = moment_of request;
@@ -37,24 +35,32 @@ module _ (d : Directory) (request : Option LineRequest) (r : SeenReply) (lost : 
       milliseconds = milliseconds;
     }) told;
   }
-  of_line None holds told = record {
+  of_line None (inl unread) told = record {
     known = None;
-    is_known = λ q is. absurd (none_is_some q None refl is);
+    known_as = inl (sym unread);
+    milliseconds = milliseconds;
+    told = told;
+  }
+  of_line None (inr no_room) told = record {
+    known = None;
+    known_as = inr (refl, no_room.0, no_room.1);
     milliseconds = milliseconds;
     told = told;
   }
 
 -- what the log was told of, once it was begun, is what the line asks for, and its reply
-pub logged_as : (d : Directory) (request : Option LineRequest) (r : SeenReply)
-    (lost begun_lost : Bool) (old begun new : Option (List ℕ)) (told : Answered)
-    (replied : Replied) → begun_lost ≡ lost → begun ≡ old → IsLineToLog told replied →
-    IsOfReplied request replied → IsSent replied.reply r → IsTold d told begun_lost begun new →
-    IsLineLogged d request r lost old new
-logged_as d request r lost begun_lost old begun new told replied same_lost same is holds sent line =
-    let at = is.0 ∙ holds.0 in
-    let status = is.2 ∙ sym sent.0 in
-    let body = is.3 ∙ sym sent.1 in
-    of_line d request r lost old new line.0 replied.asked holds.1
+pub logged_as : {S : Type 0} (sight : Sight S) (d : Directory) (request : Option LineRequest)
+    (before after : Desk S) (lost begun_lost : Bool) (old begun new : Option (List ℕ))
+    (told : Answered) (replied : Replied) → begun_lost ≡ lost → begun ≡ old →
+    IsLineToLog told replied → (sends : SendsLine sight d before request replied after) →
+    IsTold d told begun_lost begun new →
+    IsLineLogged d request before after sends.told lost old new
+logged_as sight d request before after lost begun_lost old begun new told replied same_lost same is
+    sends line =
+    let at = is.0 ∙ sends.moment in
+    let status = is.2 ∙ sym sends.sent.0 in
+    let body = is.3 ∙ sym sends.sent.1 in
+    of_line d request before after sends.told lost old new line.0 replied.asked sends.holds
     (subst (λ (t : Bool × Option (List ℕ) × LogEntry). Appends t.1 new (log_line_behind t.0 t.2))
     (λ i. (
       same_lost i,

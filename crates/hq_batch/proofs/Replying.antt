@@ -2,7 +2,7 @@
 use Rattle.std.proofs.Common.{◌≡◌, ℕ, Bool, List, [], ◌∷◌, map, Option, Result, Ok, Err, refl, ap}
 use Rattle.std.proofs.Common.{◌∙◌, subst}
 use Rattle.std.specs.Bool.{⊤}
-use Rattle.hq_base.specs.Turns.{InTurn}
+use Rattle.hq_values.specs.Turns.{InTurn}
 use Rattle.hq_store.specs.Shelves.{Sight}
 use Rattle.hq_desk.specs.declared.desk.Desk.{Desk}
 use Rattle.hq_wire.specs.Exchanges.{Exchanged}
@@ -12,9 +12,9 @@ use Rattle.hq_wire.proofs.Serving.{served}
 use Rattle.hq_lines.specs.Ends.{InputEnds}
 use Rattle.hq_lines.specs.Fields.{LineRequest}
 use Rattle.hq_lines.specs.Lines.{Streams}
-use Rattle.hq_base.specs.declared.engine.EngineFault.TheVariants.{Read, Write, TooManyReads}
-use Rattle.hq_base.specs.declared.engine.EngineFault.TheVariants.{WantOfMemory}
-use Rattle.hq_base.specs.declared.engine.EngineFault.{EngineFault}
+use Rattle.hq_values.specs.declared.engine.EngineFault.TheVariants.{Read, Write, TooManyReads}
+use Rattle.hq_values.specs.declared.engine.EngineFault.TheVariants.{WantOfMemory}
+use Rattle.hq_values.specs.declared.engine.EngineFault.{EngineFault}
 use Rattle.hq_batch.specs.Batches.{ask_in, reply_line, Replied}
 use Rattle.hq_batch.specs.Steps.{LineStep}
 use Rattle.hq_batch.specs.declared.front.Front.{Front}

@@ -1,7 +1,7 @@
 -- A batch: each line is replied to as an exchange, in order.
 use Rattle.std.specs.Prelude.{◌≡◌, ℕ, ◌+◌, ◌/◌, ◌%◌, List, [], ◌∷◌, ◌++◌, map, Option, None, Some}
 use Rattle.std.specs.Prelude.{Err}
-use Rattle.hq_base.specs.declared.failure.Refusal.TheVariants.{BadRequest}
+use Rattle.hq_values.specs.declared.failure.Refusal.TheVariants.{BadRequest}
 use Rattle.hq_store.specs.Shelves.{Sight}
 use Rattle.hq_desk.specs.declared.desk.Desk.{Desk}
 use Rattle.hq_requests.specs.Calls.{call_from}

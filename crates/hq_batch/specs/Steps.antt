@@ -1,7 +1,7 @@
--- The step of one line, as the loop over lines sees it: words of the crate's own functions. No
--- claim rests on them.
+-- The step of one line, as the loop over lines sees it: words of the crate's own functions. The
+-- claim on the log rests on them.
 -- Inner: it serves proofs alone, and no promise rests on it.
-use Rattle.std.specs.Prelude.{◌≡◌, ⊤, ℕ, Bool, false, List, Option, Some, None, string_bytes}
+use Rattle.std.specs.Prelude.{◌≡◌, ◌⊎◌, ℕ, Bool, false, List, Option, Some, None, string_bytes}
 use Rattle.std.specs.Prelude.{option_map, option_and_then}
 use Rattle.std.specs.Io.KnownBytes.{Appends}
 use Rattle.hq_log.specs.Entries.{customer_named}
@@ -10,7 +10,9 @@ use Rattle.hq_log.specs.declared.keeping.Answered.{Answered}
 use Rattle.hq_requests.specs.declared.directory.Directory.{Directory}
 use Rattle.hq_store.specs.Shelves.{Sight}
 use Rattle.hq_wire.specs.Exchanges.{Exchanged}
-use Rattle.hq_wire.specs.Replies.{SeenReply, body_bytes}
+use Rattle.hq_values.specs.Refusals.{no_memory}
+use Rattle.hq_desk.specs.declared.desk.Desk.{Desk}
+use Rattle.hq_wire.specs.Replies.{SeenReply, IsSent, body_bytes, reply_of_fault}
 use Rattle.hq_requests.specs.declared.exchanges.Exchange.{Exchange}
 use Rattle.hq_lines.specs.Fields.{LineRequest}
 use Rattle.hq_batch.specs.Batches.{ask_in, reply_line}
@@ -25,13 +27,26 @@ IsOfLine x q = (x.at ≡ q.at) × (string_bytes x.method ≡ q.method) × (strin
 abbrev pub moment_of : Option LineRequest → Option ℕ
 moment_of request = option_map (λ (q : LineRequest). q.at) request
 
--- the exchange that is there is what the line asks for
-abbrev pub HoldsLine : Option LineRequest → Option Exchange → Type 0
-HoldsLine request None = ⊤
-HoldsLine request (Some x) = (q : LineRequest) × (request ≡ Some q) × IsOfLine x q
+-- no exchange was made of a line: it cannot be read; or there was no room for one, which is told,
+-- and nothing was done
+abbrev pub HasNoExchange : {S : Type 0} → Option LineRequest → Desk S → SeenReply → Desk S → Type 0
+HasNoExchange request old r new = (request ≡ None)
+    ⊎ ((r ≡ reply_of_fault no_memory) × (new ≡ old))
 
-abbrev pub IsOfReplied : Option LineRequest → Replied → Type 0
-IsOfReplied request replied = (replied.at ≡ moment_of request) × HoldsLine request replied.asked
+-- the exchange that is there is what the line asks for
+abbrev pub HoldsLine : {S : Type 0} → Option LineRequest → Desk S → SeenReply → Desk S →
+    Option Exchange → Type 0
+HoldsLine request old r new None = HasNoExchange request old r new
+HoldsLine request old r new (Some x) = (q : LineRequest) × (request ≡ Some q) × IsOfLine x q
+
+-- a line is replied to, as it is sent, and its moment and its exchange are at hand
+pub record SendsLine {S : Type 0} (sight : Sight S) (d : Directory) (old : Desk S)
+    (request : Option LineRequest) (replied : Replied) (new : Desk S) : Type 0 where
+  pub told : SeenReply
+  pub sent : IsSent replied.reply told
+  pub done : Exchanged sight d old (ask_in d request) told new
+  pub moment : replied.at ≡ moment_of request
+  pub holds : HoldsLine request old told new replied.asked
 
 -- what the log is told of
 abbrev pub IsLineToLog : Answered → Replied → Type 0
@@ -39,8 +54,8 @@ IsLineToLog told replied = (told.at ≡ replied.at)
     × (option_map (λ x. x.now) told.asked ≡ replied.asked) × (told.status ≡ replied.reply.status)
     × (told.body.now ≡ body_bytes replied.reply.body)
 
--- what is told of a line; where it cannot be read, or there was no room for its exchange, there is
--- neither customer nor method nor path
+-- what is told of a line, by what is known of it; where that is nothing, there is neither customer
+-- nor method nor path
 abbrev pub batch_entry : Directory → Option ℕ → Option LineRequest → SeenReply → Option ℕ → LogEntry
 batch_entry d at known r milliseconds = record {
   at = at;
@@ -52,11 +67,13 @@ batch_entry d at known r milliseconds = record {
   milliseconds = milliseconds;
 }
 
--- its line is in the log; lines were lost before, or not
-pub record IsLineLogged (d : Directory) (request : Option LineRequest) (r : SeenReply) (lost : Bool)
-    (old new : Option (List ℕ)) : Type 0 where
+-- Its line is in the log; lines were lost before, or not. What the line asks for is known, unless
+-- there was no room for its exchange, which is told, and nothing was done.
+pub record IsLineLogged {S : Type 0} (d : Directory) (request : Option LineRequest)
+    (before after : Desk S) (r : SeenReply) (lost : Bool) (old new : Option (List ℕ)) : Type 0 where
   pub known : Option LineRequest
-  pub is_known : (q : LineRequest) → known ≡ Some q → request ≡ Some q
+  pub known_as : (known ≡ request)
+      ⊎ ((known ≡ None) × (r ≡ reply_of_fault no_memory) × (after ≡ before))
   pub milliseconds : Option ℕ
   pub told : Appends old new
       (log_line_behind lost (batch_entry d (moment_of request) known r milliseconds))
@@ -74,5 +91,5 @@ pub record LineStep {S L : Type 0} (sight : Sight S) (is_losing : L → Bool)
       new.desk.now
   -- unless the log loses lines, it has one of this step
   pub logged : is_losing new.log.now ≡ false →
-      IsLineLogged old.directory.now request reply (is_losing old.log.now) (contents old.log.now)
-      (contents new.log.now)
+      IsLineLogged old.directory.now request old.desk.now new.desk.now reply
+      (is_losing old.log.now) (contents old.log.now) (contents new.log.now)

@@ -1,17 +1,15 @@
 //! The desk as what answers the lines of a batch.
 
 ghost use Rattle.std.specs.Prelude.{◌≡◌, Some, IfOk, string_bytes, option_map};
-ghost use Rattle.hq_wire.specs.Runs.{RepliesSo};
 ghost use Rattle.hq_lines.specs.Fields.{request_in, line_request};
-ghost use Rattle.hq_batch.specs.Batches.{ask_in};
-ghost use Rattle.hq_batch.specs.Steps.{IsOfLine, IsOfReplied, IsLineToLog, LineStep};
+ghost use Rattle.hq_batch.specs.Steps.{IsOfLine, IsLineToLog, LineStep, SendsLine};
 
 use crate::writing::write_reply;
 use hq_desk::Desk;
-use hq_envelope::{Fault, Moment, Refusal};
 use hq_lines::{Answers, RequestLine, read_line};
 use hq_log::{Answered, Log};
 use hq_store::Shelf;
+use hq_values::{Fault, Moment, Refusal};
 use hq_wire::{Directory, Exchange, Reply, exchange, fault_reply, refusal_reply};
 use std::alloc::{AllocError, Global};
 use std::io::{self, Write};
@@ -68,9 +66,8 @@ fn request_reply<S: Shelf + Drop>(
     directory: &Directory,
     line: &RequestLine<'_>,
 ) -> Replied
-    ensures replies { RepliesSo S.sight directory.now desk.old
-        (ask_in directory.now (Some (line_request line.now))) result.reply desk.new }
-    ensures line { IsOfReplied (Some (line_request line.now)) result }
+    ensures { SendsLine S.sight directory.now desk.old (Some (line_request line.now)) result
+        desk.new }
 {
     match exchange_of(alloc, line) {
         Ok(asked) => {
@@ -96,9 +93,7 @@ fn line_reply<S: Shelf + Drop>(
     directory: &Directory,
     line: &[u8],
 ) -> Replied
-    ensures replies { RepliesSo S.sight directory.now desk.old
-        (ask_in directory.now (request_in line.now)) result.reply desk.new }
-    ensures line { IsOfReplied (request_in line.now) result }
+    ensures { SendsLine S.sight directory.now desk.old (request_in line.now) result desk.new }
 {
     match read_line(line) {
         Some(line) => request_reply(alloc, desk, directory, &line),

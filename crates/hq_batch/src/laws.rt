@@ -3,7 +3,7 @@
 
 ghost use Rattle.std.specs.Prelude.{◌≡◌, ◌∷◌, ◌++◌, [], ℕ, true, List};
 ghost use Rattle.std.specs.List.{list_all};
-ghost use Rattle.hq_envelope.specs.Words.{is_name};
+ghost use Rattle.hq_values.specs.Words.{is_name};
 ghost use Rattle.hq_store.specs.Tables.{Tables};
 ghost use Rattle.hq_json.specs.OneLine.{is_one_line};
 ghost use Rattle.hq_requests.specs.Directories.{names_of};

@@ -1,10 +1,30 @@
-//! Batches: the lines of an input, each replied to as an exchange with the desk.
+//! Batches: each line of an input is replied to as an exchange with the desk.
+//!
+//! `run_batch` runs a batch over any shelf, for the customers of some settings, and `check` tells
+//! whether a desk would start with them. The rest is what the program shares with other commands:
+//! its words, its built-in customers, and how answers and faults are printed.
+//!
+//! ```
+//! let status = check(rt, given, output, errors); // 0 and `3 customers`, or 1 and why
+//! ```
 #![tactic(auto)]
 
+mod arguments;
+mod builtin;
+mod checking;
 mod front;
 pub mod laws;
+mod printing;
+mod running;
 mod serving;
+mod telling;
 mod writing;
 
-pub use hq_base::EngineFault;
+pub use arguments::words;
+pub use builtin::settings as builtin_settings;
+pub use checking::check;
+pub use hq_values::EngineFault;
+pub use printing::{print, print_all, put, show};
+pub use running::run_batch;
 pub use serving::batch;
+pub use telling::{BAD_WORDS, not_begun, refuse, tell};

@@ -5,11 +5,11 @@ ghost use Rattle.hq_lines.specs.Ends.{InputEnds};
 ghost use Rattle.hq_batch.specs.Batches.{Replied};
 
 use crate::front::Front;
-use hq_base::EngineFault;
 use hq_desk::Desk;
 use hq_lines::serve_lines;
 use hq_log::Log;
 use hq_store::Shelf;
+use hq_values::EngineFault;
 use hq_wire::Directory;
 use std::alloc::Global;
 use std::io::{Read, Write};
@@ -49,7 +49,9 @@ fn serve_front<R: Read, W: Write, S: Shelf + Drop, L: Log>(
 ///
 /// Room for a line is taken before the first read; where it is refused, nothing is read. At most
 /// 67,108,864 reads are made, an interrupted one counted. After a fault of reading the whole lines
-/// before it are replied to; after a fault of writing the exchanges of the first lines are done.
+/// before it are replied to. After a fault of writing the exchanges of the first lines are done, up
+/// to that whose reply could not be written, and no other; the replies before went out whole, and
+/// of this one a beginning.
 pub fn batch<R: Read, W: Write, S: Shelf + Drop, L: Log>(
     alloc: Global,
     reader: &mut R,

@@ -1,10 +1,11 @@
 //! Replies as lines.
 
-ghost use Rattle.std.specs.Prelude.{◌≡◌, ◌+◌, ◌%◌, OnOk};
-ghost use Rattle.std.specs.Io.KnownBytes.{Appends};
+ghost use Rattle.std.specs.Prelude.{◌≡◌, ◌+◌, ◌%◌};
 ghost use Rattle.hq_batch.specs.Batches.{three_digits, reply_line};
+ghost use Rattle.hq_lines.specs.Written.{GoesOut};
 ghost use Rattle.hq_wire.specs.Replies.{seen};
 
+use hq_lines::write_whole;
 use hq_wire::Reply;
 use std::io::{self, Write};
 
@@ -27,14 +28,15 @@ fn three_digits(status: u16) -> [u8; 3]
     ]
 }
 
-/// Writes a reply as a line: its status, a space, its body and a line feed; and flushes.
+/// Writes a reply as a line: its status, a space, its body and a line feed; and flushes. At an
+/// error a beginning of the line went out.
 pub(crate) fn write_reply<W: Write>(reply: &Reply, writer: &mut W) -> io::Result<()>
-    ensures { OnOk result (Appends (W.contents writer.old) (W.contents writer.new)
-        (reply_line (seen reply.now))) }
+    ensures { GoesOut (W.contents writer.old) (W.contents writer.new)
+        (reply_line (seen reply.now)) result }
 {
-    writer.write_all(&three_digits(reply.status))?;
-    writer.write_all(b" ")?;
-    writer.write_all(reply.body.as_bytes())?;
-    writer.write_all(b"\n")?;
+    write_whole(writer, &three_digits(reply.status))?;
+    write_whole(writer, b" ")?;
+    write_whole(writer, reply.body.as_bytes())?;
+    write_whole(writer, b"\n")?;
     writer.flush()
 }

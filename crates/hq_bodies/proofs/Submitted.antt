@@ -2,14 +2,14 @@
 use Rattle.std.proofs.Common.{◌≡◌, ℕ, Bool, true, false, List, [], ◌∷◌, length, IsTrue, codes}
 use Rattle.std.proofs.Common.{Result, Ok, Err, refl, sym, ap, ◌∙◌, subst}
 use Rattle.serde_json.specs.Data.{Data}
-use Rattle.hq_base.proofs.Truths.{one_proof}
-use Rattle.hq_base.specs.Readers.{◌>>=◌, checked, or_refuse, passes}
-use Rattle.hq_base.specs.declared.failure.Refusal.{Refusal}
-use Rattle.hq_base.specs.declared.failure.Refusal.TheVariants.{BadAddress, BadField}
-use Rattle.hq_envelope.specs.Addresses.{is_address}
-use Rattle.hq_envelope.specs.Senders.{sender_in}
-use Rattle.hq_envelope.specs.Words.{spool_in}
-use Rattle.hq_envelope.specs.declared.address.Sender.{Sender}
+use Rattle.hq_values.proofs.Truths.{one_proof}
+use Rattle.hq_values.specs.Readers.{◌>>=◌, checked, or_refuse, passes}
+use Rattle.hq_values.specs.declared.failure.Refusal.{Refusal}
+use Rattle.hq_values.specs.declared.failure.Refusal.TheVariants.{BadAddress, BadField}
+use Rattle.hq_values.specs.Addresses.{is_address}
+use Rattle.hq_values.specs.Senders.{sender_in}
+use Rattle.hq_values.specs.Words.{spool_in}
+use Rattle.hq_values.specs.declared.address.Sender.{Sender}
 use Rattle.hq_calls.specs.Limits.{is_recipient_count, is_size}
 use Rattle.hq_calls.specs.declared.call.Submission.{Submission}
 use Rattle.hq_bodies.specs.Reading.{texts_at}

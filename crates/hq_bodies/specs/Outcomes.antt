@@ -2,15 +2,16 @@
 -- {"recipient", "result", "status", "text"}. Every member of every outcome is looked at before any
 -- value is read.
 use Rattle.std.specs.Prelude.{ℕ, ◌==◌, nat_le, List, [], ◌∷◌, length, codes, bytes_eq, Option}
-use Rattle.std.specs.Prelude.{option_and_then, Result, Ok, Err, if◌then◌else◌}
+use Rattle.std.specs.Prelude.{Some, None, option_and_then, Result, Ok, Err, if◌then◌else◌}
+use Rattle.std.specs.Result.{result_ok, result_unwrap_or}
 use Rattle.serde_json.specs.Data.{Data, Items, no_items, item}
 use Rattle.serde_json.specs.Find.{get, as_array, as_object}
-use Rattle.hq_base.specs.Readers.{◌>>=◌, guard, or_refuse, seen_by}
-use Rattle.hq_base.specs.Serials.{serial_in}
-use Rattle.hq_base.specs.declared.failure.Refusal.{Refusal}
-use Rattle.hq_base.specs.declared.failure.Refusal.TheVariants.{BadJson, BadField, BadStatus}
-use Rattle.hq_envelope.specs.Addresses.{address_in}
-use Rattle.hq_envelope.specs.Words.{text_in}
+use Rattle.hq_values.specs.Readers.{◌>>=◌, guard, or_refuse, seen_by}
+use Rattle.hq_values.specs.Serials.{serial_in}
+use Rattle.hq_values.specs.declared.failure.Refusal.{Refusal}
+use Rattle.hq_values.specs.declared.failure.Refusal.TheVariants.{BadJson, BadField, BadStatus}
+use Rattle.hq_values.specs.Addresses.{address_in}
+use Rattle.hq_values.specs.Words.{text_in}
 use Rattle.hq_queue.specs.Statuses.{status_in, first_digit}
 use Rattle.hq_queue.specs.declared.outcome.Delivery.{Delivery}
 use Rattle.hq_queue.specs.declared.outcome.Delivery.TheVariants as delivery
@@ -39,10 +40,10 @@ reason_at d = do
   text ← or_refuse BadField (text_at (codes "text") d)
   Ok (record { status = status; text = text })
 
--- what became of a recipient, by its word; one that was delivered needs no reason
+-- what became of a recipient, by its word; one that was delivered needs no status and no text
 unfoldable pub delivery_at : List ℕ → Data → Result DeliveryTexts Refusal
 delivery_at word d =
-    if bytes_eq word (codes "delivered") then Ok Delivered else
+    if bytes_eq word (codes "delivered") then Ok (Delivered (result_ok (reason_at d))) else
     (if bytes_eq word (codes "deferred") then seen_by Deferred (reason_at d) else
     (if bytes_eq word (codes "failed") then seen_by Failed (reason_at d) else
     Err BadField))
@@ -86,16 +87,28 @@ report_of d = do
 
 -- ---- their values
 
--- a status of this class: 4 for a failure that may pass, 5 for one for good (RFC 3463, 3.1)
+-- a status of this class: 2 for a success, 4 for a failure that may pass, 5 for one for good
+-- (RFC 3463, 3.1)
 unfoldable pub status_of_class : ℕ → List ℕ → Result (List ℕ) Refusal
 status_of_class class text = do
   status ← status_in text
   right ← guard (first_digit status == class) BadStatus
   Ok status
 
+unfoldable pub success_in : ReasonTexts → Result Delivery Refusal
+success_in reason = do
+  status ← status_of_class 2 reason.status
+  text ← text_in reason.text
+  Ok (delivery.Delivered (Some status) text)
+
+-- what was told of one that was delivered, where both are of their form; else nothing was
+abbrev pub delivered_in : Option ReasonTexts → Delivery
+delivered_in None = delivery.Delivered None []
+delivered_in (Some reason) = result_unwrap_or (success_in reason) (delivery.Delivered None [])
+
 -- what became of a recipient
 unfoldable pub delivery_in : DeliveryTexts → Result Delivery Refusal
-delivery_in Delivered = Ok delivery.Delivered
+delivery_in (Delivered reason) = Ok (delivered_in reason)
 delivery_in (Deferred reason) = do
   status ← status_of_class 4 reason.status
   text ← text_in reason.text

@@ -1,13 +1,13 @@
--- The bodies of the relay's calls that read: {"after"}, from where on a list goes, null for the
--- start; {"id"} and {"number"}, what is shown.
+-- The bodies of the relay's calls that read: {"after"} and {"before"}, from where on a list goes,
+-- null for the start; {"id"} and {"number"}, what is shown.
 use Rattle.std.specs.Prelude.{ℕ, List, [], ◌∷◌, codes, Option, Some, None, Bool, true, false}
-use Rattle.std.specs.Prelude.{option_and_then, Result, Ok, Err, if◌then◌else◌}
+use Rattle.std.specs.Prelude.{option_and_then, Result, Ok, if◌then◌else◌}
 use Rattle.serde_json.specs.Data.{Data, null, boolean, number, string, array, object}
 use Rattle.serde_json.specs.Find.{get, as_object}
-use Rattle.hq_base.specs.Readers.{◌>>=◌, guard, or_refuse, seen_by}
-use Rattle.hq_base.specs.Serials.{serial_in}
-use Rattle.hq_base.specs.declared.failure.Refusal.{Refusal}
-use Rattle.hq_base.specs.declared.failure.Refusal.TheVariants.{BadJson, BadField}
+use Rattle.hq_values.specs.Readers.{◌>>=◌, guard, or_refuse, seen_by}
+use Rattle.hq_values.specs.Serials.{serial_in}
+use Rattle.hq_values.specs.declared.failure.Refusal.{Refusal}
+use Rattle.hq_values.specs.declared.failure.Refusal.TheVariants.{BadJson, BadField}
 use Rattle.hq_bodies.specs.Reading.{json_of, has_only_members, text_at, number_at}
 
 -- the greatest number of a notice that a call names: 13 digits
@@ -47,6 +47,11 @@ abbrev pub after_in : (List ℕ → Data → Result ℕ Refusal) → Data → Re
 after_in read d = if is_null_at (codes "after") d then Ok None else
     seen_by Some (read (codes "after") d)
 
+-- the member `before`: null, or a number
+abbrev pub before_at : Data → Result (Option ℕ) Refusal
+before_at d = if is_null_at (codes "before") d then Ok None else
+    seen_by Some (notice_at (codes "before") d)
+
 -- the serial after which to go on, or none for the start
 unfoldable pub read_message_after : List ℕ → Result (Option ℕ) Refusal
 read_message_after bytes = do
@@ -64,6 +69,12 @@ unfoldable pub read_notice_after : List ℕ → Result (Option ℕ) Refusal
 read_notice_after bytes = do
   d ← value_with (codes "after") bytes
   after_in notice_at d
+
+-- the number before which to go on, or none for the newest
+unfoldable pub read_history_before : List ℕ → Result (Option ℕ) Refusal
+read_history_before bytes = do
+  d ← value_with (codes "before") bytes
+  before_at d
 
 -- the number of the notice
 unfoldable pub read_notice_number : List ℕ → Result ℕ Refusal

@@ -3,12 +3,12 @@ use Rattle.std.specs.Prelude.{ℕ, List, [], ◌∷◌, IsTrue, Result, Ok, code
 use Rattle.std.specs.Prelude.{string_bytes}
 use Rattle.serde_json.specs.Data.{Data}
 use Rattle.serde_json.specs.Find.{as_object}
-use Rattle.hq_base.specs.Readers.{◌>>=◌, guard, or_refuse, passes}
-use Rattle.hq_base.specs.declared.failure.Refusal.{Refusal}
-use Rattle.hq_base.specs.declared.failure.Refusal.TheVariants.{BadJson, BadField}
-use Rattle.hq_envelope.specs.Addresses.{address_in}
-use Rattle.hq_envelope.specs.Senders.{sender_in}
-use Rattle.hq_envelope.specs.Words.{spool_in}
+use Rattle.hq_values.specs.Readers.{◌>>=◌, guard, or_refuse, passes}
+use Rattle.hq_values.specs.declared.failure.Refusal.{Refusal}
+use Rattle.hq_values.specs.declared.failure.Refusal.TheVariants.{BadJson, BadField}
+use Rattle.hq_values.specs.Addresses.{address_in}
+use Rattle.hq_values.specs.Senders.{sender_in}
+use Rattle.hq_values.specs.Words.{spool_in}
 use Rattle.hq_calls.specs.Limits.{is_recipient_count, is_size}
 use Rattle.hq_calls.specs.declared.call.Submission.{Submission}
 use Rattle.hq_bodies.specs.Reading.{json_of, has_only_members, text_at, number_at, texts_at}

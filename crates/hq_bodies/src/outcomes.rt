@@ -1,22 +1,25 @@
 //! The body of the report of an attempt: its members first, all of them, and then their values.
 
-ghost use Rattle.std.specs.Prelude.{◌≡◌};
+ghost use Rattle.std.specs.Prelude.{◌≡◌, Ok};
 ghost use Rattle.serde_json.specs.View.{view, items_view};
-ghost use Rattle.hq_base.specs.Readers.{Reads, seen_by, or_refuse};
-ghost use Rattle.hq_base.specs.declared.failure.Refusal.TheVariants.{BadField};
+ghost use Rattle.hq_values.specs.Readers.{Reads, seen_by, or_refuse};
+ghost use Rattle.hq_values.specs.declared.failure.Refusal.TheVariants.{BadField};
 ghost use Rattle.hq_bodies.specs.Reading.{within, text_at};
 ghost use Rattle.hq_bodies.specs.Outcomes as bodies;
 
 use crate::reading::{has_only_members, json_value, text_member};
 use hq_calls::AttemptReport;
-use hq_envelope::{Address, Fail, Items, Refusal, Serial, Text};
 use hq_queue::{Attempt, Delivery, Outcome, Status};
+use hq_values::{Address, Fail, Items, Refusal, Serial, Text};
 use serde_json::Value;
 use std::alloc::Global;
 use std::marker::Model;
 
 /// The most outcomes of a report.
 const MOST_OUTCOMES: usize = 100;
+
+/// The class of a success (RFC 3463, 3.1).
+const DONE: u8 = 2;
 
 /// The class of a failure that may pass (RFC 3463, 3.1).
 const MAY_PASS: u8 = 4;
@@ -38,7 +41,7 @@ impl<'v> Model for BodyText<'v> {
     ghost view = { λ w. w.text.now };
 }
 
-/// Why a recipient was not delivered, as it stands in the body.
+/// What the other side said of a recipient, as it stands in the body.
 #[derive(Drop)]
 pub(crate) struct ReasonTexts<'v> {
     status: BodyText<'v>,
@@ -48,8 +51,8 @@ pub(crate) struct ReasonTexts<'v> {
 /// What became of a recipient, as it stands in the body.
 #[derive(Drop)]
 pub(crate) enum DeliveryTexts<'v> {
-    /// What else is said is not looked at.
-    Delivered,
+    /// With what was said, where both are texts.
+    Delivered(Option<ReasonTexts<'v>>),
     Deferred(ReasonTexts<'v>),
     Failed(ReasonTexts<'v>),
 }
@@ -122,7 +125,7 @@ fn delivery_member<'v>(word: &str, value: &'v Value) -> Result<DeliveryTexts<'v>
     ensures { result ≡ bodies.delivery_at word.now (view value.now) }
 {
     match word {
-        "delivered" => Ok(DeliveryTexts::Delivered),
+        "delivered" => Ok(DeliveryTexts::Delivered(reason_member(value).ok())),
         "deferred" => Ok(DeliveryTexts::Deferred(reason_member(value)?)),
         "failed" => Ok(DeliveryTexts::Failed(reason_member(value)?)),
         _ => Err(Refusal::BadField),
@@ -204,13 +207,37 @@ fn status_of_class(class: u8, text: &str) -> Result<Status, Refusal>
     Ok(status)
 }
 
+/// A success, with its status and its text; or 26 for the status, then 28 for the text.
+#[tactic(auto, unfolding(crate::specs::Outcomes::success_in))]
+fn read_success(alloc: Global, reason: &ReasonTexts<'_>) -> Result<Delivery, Fail>
+    ensures { Reads result (bodies.success_in reason.now) }
+{
+    let status = status_of_class(DONE, reason.status.text)?;
+    let text = Text::parse(alloc, reason.text.text)?;
+    Ok(Delivery::Delivered(Some(status), text))
+}
+
+/// The delivery of a recipient: without status and text, where one of these is not of its form.
+fn read_delivered(alloc: Global, told: &Option<ReasonTexts<'_>>) -> Result<Delivery, Fail>
+    ensures { Reads result (Ok (bodies.delivered_in told.now)) }
+{
+    let Some(reason) = told else {
+        return Ok(Delivery::Delivered(None, Text::empty(alloc)));
+    };
+    match read_success(alloc, reason) {
+        Ok(delivery) => Ok(delivery),
+        Err(Fail::Refused(_)) => Ok(Delivery::Delivered(None, Text::empty(alloc))),
+        Err(Fail::Fault(fault)) => Err(Fail::Fault(fault)),
+    }
+}
+
 /// What became of a recipient; or 26 for the status, then 28 for the text.
 #[tactic(auto, unfolding(crate::specs::Outcomes::delivery_in))]
 fn read_delivery(alloc: Global, texts: &DeliveryTexts<'_>) -> Result<Delivery, Fail>
     ensures { Reads result (bodies.delivery_in texts.now) }
 {
     match texts {
-        DeliveryTexts::Delivered => Ok(Delivery::Delivered),
+        DeliveryTexts::Delivered(told) => read_delivered(alloc, told),
         DeliveryTexts::Deferred(reason) => {
             let status = status_of_class(MAY_PASS, reason.status.text)?;
             let text = Text::parse(alloc, reason.text.text)?;
@@ -253,7 +280,8 @@ fn outcomes_from(alloc: Global, entries: &[OutcomeTexts<'_>]) -> Result<Vec<Outc
 /// 7 `BadJson` where it is not JSON, 8 `BadField` where any member, of any outcome, is missing,
 /// unknown, of the wrong kind or out of range; then, outcome by outcome, 20 for the recipient, 26
 /// for the status, which is of the class 4 where the recipient is deferred and 5 where it failed,
-/// and 28 for the text. Of a recipient that was delivered neither status nor text is looked at.
+/// and 28 for the text. A delivered recipient needs neither: the report keeps both where they
+/// are of their form and the status is of the class 2, and else none.
 #[tactic(auto, unfolding(crate::specs::Outcomes::read_report))]
 pub fn read_report(alloc: Global, body: &[u8]) -> Result<AttemptReport, Fail>
     ensures { Reads result (bodies.read_report body.now) }

@@ -2,12 +2,12 @@
 
 ghost use Rattle.std.specs.Prelude.{◌≡◌, option_map};
 ghost use Rattle.serde_json.specs.View.{view};
-ghost use Rattle.hq_base.specs.Readers.{Reads, seen_by, or_refuse};
-ghost use Rattle.hq_base.specs.declared.failure.Refusal.TheVariants.{BadField};
+ghost use Rattle.hq_values.specs.Readers.{Reads, seen_by, or_refuse};
+ghost use Rattle.hq_values.specs.declared.failure.Refusal.TheVariants.{BadField};
 ghost use Rattle.hq_bodies.specs.Queries as queries;
 
 use crate::reading::{has_only_members, json_value, number_member, text_member};
-use hq_envelope::{Fail, Refusal, Serial};
+use hq_values::{Fail, Refusal, Serial};
 use serde_json::Value;
 use std::alloc::Global;
 
@@ -49,6 +49,26 @@ fn notice_member(value: &Value, name: &str) -> Result<u64, Refusal>
     number_member(value, name, 1, LAST_NOTICE).ok_or(Refusal::BadField)
 }
 
+/// The member `after`: a queue ID, or null for the start; or 8 `BadField`.
+pub(crate) fn message_after(value: &Value) -> Result<Option<Serial>, Refusal>
+    ensures { result ≡ queries.after_in queries.id_at (view value.now) }
+{
+    if is_null_member(value, "after") {
+        return Ok(None);
+    }
+    Ok(Some(id_member(value, "after")?))
+}
+
+/// The member `before`: none where it is null, else a number, or 8 `BadField`.
+pub(crate) fn before_member(value: &Value) -> Result<Option<u64>, Refusal>
+    ensures { result ≡ queries.before_at (view value.now) }
+{
+    if is_null_member(value, "before") {
+        return Ok(None);
+    }
+    Ok(Some(notice_member(value, "before")?))
+}
+
 /// Reads a body that asks for the messages after one, or from the start: 7 `BadJson` where it is
 /// not JSON, 8 `BadField` where it is not an object of the member `after` alone, or that is neither
 /// a queue ID nor null.
@@ -57,10 +77,7 @@ pub fn read_message_after(alloc: Global, body: &[u8]) -> Result<Option<Serial>, 
     ensures { Reads result (queries.read_message_after body.now) }
 {
     let value = value_with(alloc, "after", body)?;
-    if is_null_member(&value, "after") {
-        return Ok(None);
-    }
-    Ok(Some(id_member(&value, "after")?))
+    Ok(message_after(&value)?)
 }
 
 /// Reads a body that names a message: 7 `BadJson` where it is not JSON, 8 `BadField` where it is
@@ -85,6 +102,17 @@ pub fn read_notice_after(alloc: Global, body: &[u8]) -> Result<Option<u64>, Fail
         return Ok(None);
     }
     Ok(Some(notice_member(&value, "after")?))
+}
+
+/// Reads a body that asks for the ends of a history before a number, or the newest: 7 `BadJson`
+/// where it is not JSON, 8 `BadField` where it is not an object of the member `before` alone, or
+/// that is neither a number of 1 to 9,999,999,999,999 nor null.
+#[tactic(auto, unfolding(crate::specs::Queries::read_history_before))]
+pub fn read_history_before(alloc: Global, body: &[u8]) -> Result<Option<u64>, Fail>
+    ensures { Reads result (queries.read_history_before body.now) }
+{
+    let value = value_with(alloc, "before", body)?;
+    Ok(before_member(&value)?)
 }
 
 /// Reads a body that names a notice: 7 `BadJson` where it is not JSON, 8 `BadField` where it is not

@@ -5,12 +5,12 @@ ghost use Rattle.std.specs.Prelude.{option_and_then, map as map_list, string_byt
 ghost use Rattle.std.specs.List.{list_any};
 ghost use Rattle.serde_json.specs.Find.{as_object};
 ghost use Rattle.serde_json.specs.View.{view, members_view, items_view};
-ghost use Rattle.hq_base.specs.declared.failure.Refusal.TheVariants.{BadJson, BadField};
-ghost use Rattle.hq_base.specs.Readers.{Reads, seen_by, or_refuse};
+ghost use Rattle.hq_values.specs.declared.failure.Refusal.TheVariants.{BadJson, BadField};
+ghost use Rattle.hq_values.specs.Readers.{Reads, seen_by, or_refuse};
 ghost use Rattle.hq_bodies.specs.Reading.{json_of, has_only, has_only_members, text_at, number_at};
 ghost use Rattle.hq_bodies.specs.Reading.{texts_of, texts_at};
 
-use hq_envelope::{Fail, Fault, Refusal};
+use hq_values::{Fail, Fault, Refusal};
 use serde_json::{Map, Value};
 use std::alloc::Global;
 

@@ -2,7 +2,7 @@
 
 ghost use Rattle.std.specs.Prelude.{map as map_list, string_bytes};
 ghost use Rattle.serde_json.specs.View.{view};
-ghost use Rattle.hq_base.specs.Readers.{Reads, seen_by};
+ghost use Rattle.hq_values.specs.Readers.{Reads, seen_by};
 ghost use Rattle.hq_bodies.specs.Submissions.{recipients_in, size_of, fields_of, addresses_in};
 ghost use Rattle.hq_bodies.specs.Submissions.{submission_of, read_submission, shown_recipients};
 ghost use Rattle.hq_bodies.specs.Submissions.{shown_size, texts_shown};
@@ -10,7 +10,7 @@ ghost use Rattle.hq_bodies.specs.Submissions.{shown_size, texts_shown};
 use crate::members::{MessageSize, RecipientTexts, SubmissionTexts};
 use crate::reading::{has_only, json_value, number_member, text_member, texts_member};
 use hq_calls::Submission;
-use hq_envelope::{Address, Fail, Items, Refusal, Sender, Spool};
+use hq_values::{Address, Fail, Items, Refusal, Sender, Spool};
 use serde_json::Value;
 use std::alloc::Global;
 

@@ -2,14 +2,16 @@
 
 ghost use Rattle.std.specs.Prelude.{◌≡◌, IfOk};
 ghost use Rattle.serde_json.specs.View.{view};
-ghost use Rattle.hq_base.specs.Readers.{Reads, or_refuse};
-ghost use Rattle.hq_base.specs.declared.failure.Refusal.TheVariants.{BadField};
+ghost use Rattle.hq_values.specs.Readers.{Reads, or_refuse};
+ghost use Rattle.hq_values.specs.declared.failure.Refusal.TheVariants.{BadField};
 ghost use Rattle.hq_bodies.specs.Tables.{class_at, party_in, read_pattern, read_line};
-ghost use Rattle.hq_bodies.specs.Tables.{read_check, read_import};
+ghost use Rattle.hq_bodies.specs.Tables.{read_check, read_find, read_import};
+ghost use Rattle.hq_bodies.specs.Tables.{read_search};
 
+use crate::queries::{before_member, message_after};
 use crate::reading::{has_only_members, json_value, text_member};
 use hq_access::{Action, Class, Line, Pattern};
-use hq_envelope::{Address, Fail, Items, Label, Refusal, Sender};
+use hq_values::{Address, Fail, Items, Label, Refusal, Sender, Serial};
 use serde_json::Value;
 use std::alloc::{AllocError, Global};
 
@@ -43,6 +45,41 @@ pub fn read_pattern(alloc: Global, body: &[u8]) -> Result<Pattern, Fail>
     let class = class_member(&value).ok_or(Refusal::BadField)?;
     let pattern = text_member(&value, "pattern").ok_or(Refusal::BadField)?;
     Pattern::parse(alloc, class, pattern)
+}
+
+/// Reads a body that asks for messages that a pattern is for, after one or from the start: 7
+/// `BadJson` where it is not JSON, 8 `BadField` where a member is missing, unknown or of the wrong
+/// kind, or the class is none, or `after` is neither a queue ID nor null; then 24 for the pattern.
+#[tactic(auto, unfolding(crate::specs::Tables::read_find))]
+pub fn read_find(alloc: Global, body: &[u8]) -> Result<(Option<Serial>, Pattern), Fail>
+    ensures { Reads result (read_find body.now) }
+{
+    let value = json_value(alloc, body)?;
+    if !has_only_members(&value, &["class", "pattern", "after"]) {
+        return Err(Fail::Refused(Refusal::BadField));
+    }
+    let class = class_member(&value).ok_or(Refusal::BadField)?;
+    let pattern = text_member(&value, "pattern").ok_or(Refusal::BadField)?;
+    let after = message_after(&value)?;
+    let which = Pattern::parse(alloc, class, pattern)?;
+    Ok((after, which))
+}
+
+/// Reads a body that asks for a search in the history: 7 and 8 as for a pattern, then 24 for the
+/// pattern.
+#[tactic(auto, unfolding(crate::specs::Tables::read_search))]
+pub fn read_search(alloc: Global, body: &[u8]) -> Result<(Pattern, Option<u64>), Fail>
+    ensures { Reads result (read_search body.now) }
+{
+    let value = json_value(alloc, body)?;
+    if !has_only_members(&value, &["class", "pattern", "before"]) {
+        return Err(Fail::Refused(Refusal::BadField));
+    }
+    let class = class_member(&value).ok_or(Refusal::BadField)?;
+    let pattern = text_member(&value, "pattern").ok_or(Refusal::BadField)?;
+    let before = before_member(&value)?;
+    let key = Pattern::parse(alloc, class, pattern)?;
+    Ok((key, before))
 }
 
 /// Reads a body that sets a line: 7 and 8 as for a pattern, then 24 for the pattern and 25 for the

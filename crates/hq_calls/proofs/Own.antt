@@ -1,7 +1,7 @@
 -- A change of one customer's rows is that change of the customer's state, and changes no other.
 use Rattle.std.proofs.Common.{◌≡◌, ◌≢◌, ℕ, Bool, true, false, cond, List, [], ◌∷◌, sym, refl, ap}
 use Rattle.std.proofs.Common.{◌∙◌, Some, None}
-use Rattle.std.specs.Prelude.{Option, option_map, nat_le}
+use Rattle.std.specs.Prelude.{Option, option_map, nat_le, nat_lt, length, ◌-◌}
 use Rattle.std.specs.Ordering.{nat_cmp, eq_by_cmp}
 use Rattle.std.specs.Cmp.{nat_cmp_total}
 use Rattle.std.specs.Cmp.Lexicographic.{nat_list_cmp_total}
@@ -12,19 +12,21 @@ use Rattle.std.proofs.lemmas.Bool.{both_ways}
 use Rattle.hq_store.specs.declared.change.Change.{Change}
 use Rattle.hq_store.specs.declared.change.Change.TheVariants.{PutHead, PutMessage, DropMessage}
 use Rattle.hq_store.specs.declared.change.Change.TheVariants.{PutLine, DropLine, PutMark, AddNotice}
-use Rattle.hq_store.specs.declared.change.Change.TheVariants.{DropNoticesBelow}
+use Rattle.hq_store.specs.declared.change.Change.TheVariants.{DropNoticesBelow, PutEnds, DropEndsTo}
 use Rattle.hq_queue.specs.declared.message.Message.{Message}
 use Rattle.hq_queue.specs.declared.message.Pending.{Pending}
 use Rattle.hq_owned.specs.Owned.{part_of, map_values}
 use Rattle.hq_store.specs.Tables.{text_cmp, message_cmp, Tables, Row, with_line, without_line}
 use Rattle.hq_store.specs.Tables.{change, change_all, write, write_all, row_of, message_of}
 use Rattle.hq_store.specs.Tables.{reason_of, give_reason, pending_of, joined, deal, own, noted_of}
+use Rattle.hq_store.specs.Tables.{Past, end_cmp, add_ends, add_rows, last_before}
+use Rattle.hq_queue.specs.declared.outcome.Ended.{Ended}
 use Rattle.hq_owned.proofs.Parts.{part_insert, part_remove, tied_true, get-map_values}
 use Rattle.hq_store.proofs.Customers.{put_own, put_other, drop_own, drop_other, sweep_own}
 use Rattle.hq_store.proofs.Customers.{sweep_other}
 use Rattle.hq_store.proofs.Accounts.{headed_own, message_head, uncounted_head, line_head}
 use Rattle.hq_store.proofs.Accounts.{no_line_head, account_other}
-use Rattle.hq_store.proofs.Orders.{line_total, line_exact}
+use Rattle.hq_store.proofs.Orders.{line_total, line_exact, newest_total, newest_exact}
 use Rattle.hq_calls.proofs.Reasons.{Holds, reason_same, reason_other_message, reason_other_owner}
 use Rattle.hq_store.proofs.Dealt.{Recipients, pending_same, pending_other_message}
 use Rattle.hq_store.proofs.Dealt.{pending_other_owner}
@@ -107,6 +109,19 @@ queue_other c d ms new rs hs serial ps reason apart e =
     λ i. map_values (λ k r. message_of k r (reason_other_owner c d serial k reason hs apart i)
     (pending_other_owner c d serial k ps rs apart i)) (e i)
 
+-- ends that are added, of the customer, and of another
+ends_own : (c : List ℕ) (at last : ℕ) (es : List Ended) (m : FinMap end_cmp Past) →
+    part_of text_cmp c (add_rows c at last es m) ≡ add_ends at last es (part_of text_cmp c m)
+ends_own c at last [] m = refl
+ends_own c at last (e ∷ es) m = ends_own c at last es _
+    ∙ ap (add_ends at last es) (put_own newest_total newest_exact c m (last - length es) _)
+
+ends_other : (c d : List ℕ) (at last : ℕ) (es : List Ended) (m : FinMap end_cmp Past) → d ≢ c →
+    part_of text_cmp d (add_rows c at last es m) ≡ part_of text_cmp d m
+ends_other c d at last [] m apart = refl
+ends_other c d at last (e ∷ es) m apart = ends_other c d at last es _ apart
+    ∙ put_other newest_total newest_exact c d m (last - length es) _ apart
+
 -- each change, for the customer who makes it
 pub own_write : (c : List ℕ) (ch : Change) (t : Tables) → own c (write c ch t) ≡ change ch (own c t)
 own_write c (PutHead head) t = λ i. record (own c t) { head = (headed_own c head t.heads i).head }
@@ -131,6 +146,14 @@ own_write c (AddNotice n) t = λ i. record (own c t) {
 own_write c (DropNoticesBelow number) t = λ i. record (own c t) {
   notices = sweep_own nat_cmp_total exact_unsigned c t.notices (nat_le number) i;
 }
+own_write c (PutEnds ends) t = λ i. record (own c t) {
+  ends = (ends_own c ends.at ends.last ends.ended _
+      ∙ ap (add_ends ends.at ends.last ends.ended) (sweep_own newest_total newest_exact c t.ends
+      (λ n. nat_le n (last_before ends)))) i;
+}
+own_write c (DropEndsTo number) t = λ i. record (own c t) {
+  ends = sweep_own newest_total newest_exact c t.ends (nat_lt number) i;
+}
 own_write c (DropLine pattern) t = λ i. record (own c t) {
   head = no_line_head c without_line t (get t.lines (c, pattern)) i;
   lines = drop_own line_total line_exact c t.lines pattern i;
@@ -143,6 +166,7 @@ other_rows : (c d : List ℕ) (ch : Change) (t : Tables) → d ≢ c →
       lines = (own d (write c ch t)).lines;
       marks = (own d (write c ch t)).marks;
       notices = (own d (write c ch t)).notices;
+      ends = (own d (write c ch t)).ends;
     } ≡ own d t
 other_rows c d (PutHead head) t apart = refl
 other_rows c d (PutMessage m) t apart = λ i. record (own d t) {
@@ -166,6 +190,14 @@ other_rows c d (AddNotice n) t apart = λ i. record (own d t) {
 }
 other_rows c d (DropNoticesBelow number) t apart = λ i. record (own d t) {
   notices = sweep_other nat_cmp_total exact_unsigned c d t.notices (nat_le number) apart i;
+}
+other_rows c d (PutEnds ends) t apart = λ i. record (own d t) {
+  ends = (ends_other c d ends.at ends.last ends.ended _ apart
+      ∙ sweep_other newest_total newest_exact c d t.ends (λ n. nat_le n (last_before ends)) apart)
+      i;
+}
+other_rows c d (DropEndsTo number) t apart = λ i. record (own d t) {
+  ends = sweep_other newest_total newest_exact c d t.ends (nat_lt number) apart i;
 }
 other_rows c d (DropLine pattern) t apart = λ i. record (own d t) {
   lines = drop_other line_total line_exact c d t.lines pattern apart i;

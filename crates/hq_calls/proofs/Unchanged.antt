@@ -1,21 +1,21 @@
 -- What tells of no change has no changes, for each kind of call; nor has a call that only reads,
 -- nor an import under a label that was used.
-use Rattle.std.proofs.Common.{◌≡◌, ℕ, suc, ◌+◌, ◌++◌, Bool, true, false, List, [], ◌∷◌, map, length}
+use Rattle.std.proofs.Common.{◌≡◌, ℕ, suc, ◌+◌, Bool, true, false, List, [], ◌∷◌, map, length}
 use Rattle.std.proofs.Common.{refl, ap, ◌∙◌, Option, Some, None, Result, Ok, Err, arith}
-use Rattle.std.specs.Prelude.{if◌then◌else◌, ◌==◌, nat_le, nat_lt}
+use Rattle.std.specs.Prelude.{if◌then◌else◌, ◌==◌, nat_le, nat_lt, filter}
 use Rattle.std.proofs.lemmas.Bool.Decides.{nat_tests}
 use Rattle.std.specs.Str.{bytes_eq}
 use Rattle.sha2.specs.Sha256.{sha256}
 use Rattle.hq_import.specs.Tables.{table_lines}
-use Rattle.hq_base.specs.declared.failure.Refusal.{Refusal}
-use Rattle.hq_base.specs.declared.failure.Refusal.TheVariants.{LabelUsed}
+use Rattle.hq_values.specs.declared.failure.Refusal.{Refusal}
+use Rattle.hq_values.specs.declared.failure.Refusal.TheVariants.{LabelUsed}
 use Rattle.hq_access.specs.declared.action.Action.{Action}
 use Rattle.hq_access.specs.declared.pattern.Class.{Class}
 use Rattle.hq_access.specs.declared.pattern.Line.{Line}
 use Rattle.hq_access.specs.declared.verdicts.Refused.{Refused}
 use Rattle.hq_access.specs.declared.verdicts.Verdict.{Verdict}
 use Rattle.hq_access.specs.declared.verdicts.Verdict.TheVariants as verdict
-use Rattle.hq_envelope.specs.Words.{customer_hold}
+use Rattle.hq_values.specs.Words.{customer_hold}
 use Rattle.hq_queue.specs.Admission.{admitted, spent}
 use Rattle.hq_queue.specs.Attempts.{reported}
 use Rattle.hq_queue.specs.Moves.{held, released}
@@ -29,7 +29,6 @@ use Rattle.hq_queue.specs.declared.sweep.Swept.TheVariants.{Expired, Warned}
 use Rattle.hq_store.specs.Readings.{Readings}
 use Rattle.hq_store.specs.Sound.{pending_count}
 use Rattle.hq_store.specs.declared.change.Change.{Change}
-use Rattle.hq_store.specs.declared.change.Change.TheVariants.{PutHead}
 use Rattle.hq_store.specs.declared.mark.Mark.{Mark}
 use Rattle.hq_store.specs.declared.notice.Notice.{Notice}
 use Rattle.hq_calls.specs.AccessLines.{same_action, set, put_line, drop_line}
@@ -39,7 +38,8 @@ use Rattle.hq_calls.specs.Imports.{rows_that, line_met, first_import, import, re
 use Rattle.hq_calls.specs.Messages.{moved, show, hold, release, requeue, delete, with_deleted}
 use Rattle.hq_calls.specs.Notices.{carried_out, show_notice}
 use Rattle.hq_calls.specs.Outcomes.{attempted, outcome, outcome_with}
-use Rattle.hq_calls.specs.Queues.{moves_of, move_all, drop, delete_all}
+use Rattle.hq_calls.specs.Queues.{moves_of, move_all, all_deleted, delete_all}
+use Rattle.hq_calls.specs.Selections.{is_selected}
 use Rattle.hq_calls.specs.Submissions.{admit, settled, submit, judged, distinct, receivers}
 use Rattle.hq_calls.specs.Sweeps.{message_met as met_by, messages_that as made, swept_all}
 use Rattle.hq_calls.specs.Sweeps.{is_none_changed}
@@ -88,9 +88,10 @@ requeue_honest : (head : Head) (at : ℕ) (m : Option Message) → Honest (reque
 requeue_honest head at None = λ h. refl
 requeue_honest head at (Some m) = refused_or (head.next_serial == spent) _ _ (told false _ refl)
 
-delete_honest : (head : Head) (m : Option Message) → Honest (delete head m)
-delete_honest head None = λ h. refl
-delete_honest head (Some m) = told false _ refl
+delete_honest : (entry : Entry) (at : ℕ) (head : Head) (m : Option Message) →
+    Honest (delete entry at head m)
+delete_honest entry at head None = λ h. refl
+delete_honest entry at head (Some m) = told false _ refl
 
 -- ---- all messages
 
@@ -106,15 +107,12 @@ none_of (c ∷ cs) h = absurd (some_is_not_none (length cs) h)
 move_all_honest : (move : Move) (ms : List Message) → Honest (move_all move ms)
 move_all_honest move ms = none_of (moves_of move ms)
 
-delete_all_honest : (head : Head) (ms : List Message) → Honest (delete_all head ms)
-delete_all_honest head ms = cases (length ms == 0) refl where
+delete_all_honest : (entry : Entry) (at : ℕ) (head : Head) (ms : List Message) →
+    Honest (delete_all entry at head ms)
+delete_all_honest entry at head ms = cases (length ms == 0) refl where
   cases : (b : Bool) → (length ms == 0) ≡ b →
       Honest (if b then tell (answer.Changed 0) else
-      record {
-        answer = answer.Changed (length ms);
-        changes = map drop ms
-            ++ PutHead (with_deleted (pending_count ms) head) ∷ [];
-      })
+      all_deleted entry at (with_deleted (pending_count ms) head) ms)
   cases true e = λ h. refl
   cases false e = told (length ms == 0) _ e
 
@@ -197,8 +195,8 @@ outcome_with_honest : (host : List ℕ) (entry : Entry) (at : ℕ) (head : Head)
     (done : Result (Reported × Message) Refusal) → Honest (outcome_with host entry at head m done)
 outcome_with_honest host entry at head m (Err refusal) = λ h. refl
 outcome_with_honest host entry at head m (Ok (Repeat, after)) = λ h. refl
-outcome_with_honest host entry at head m (Ok (Done delivered deferred failed, after)) =
-    carried_out_honest host entry at (attempted head after delivered deferred failed) refl
+outcome_with_honest host entry at head m (Ok (Done delivered deferred failed ended, after)) =
+    carried_out_honest host entry at (attempted head after delivered deferred failed ended) refl
 
 outcome_honest : (host : List ℕ) (entry : Entry) (at : ℕ) (head : Head) (report : AttemptReport)
     (m : Option Message) → Honest (outcome host entry at head report m)
@@ -245,7 +243,7 @@ pub no_changes : (host : List ℕ) (entry : Entry) (readings : Readings) (at : �
 unfolding decide
 no_changes host entry readings at (call.Submit sub) =
     submit_honest entry readings at sub (readings.by_spool sub.spool)
-no_changes host entry readings at (call.List after) = λ h. refl
+no_changes host entry readings at (call.List after which) = λ h. refl
 no_changes host entry readings at (call.Show serial) = λ h. show_reads (readings.message serial)
 no_changes host entry readings at (call.Hold serial) = hold_honest (readings.message serial)
 no_changes host entry readings at (call.Release serial) =
@@ -253,11 +251,13 @@ no_changes host entry readings at (call.Release serial) =
 no_changes host entry readings at (call.Requeue serial) =
     requeue_honest readings.head at (readings.message serial)
 no_changes host entry readings at (call.Delete serial) =
-    delete_honest readings.head (readings.message serial)
-no_changes host entry readings at call.HoldAll = move_all_honest move.Hold readings.messages
-no_changes host entry readings at call.ReleaseAll =
-    move_all_honest (move.Release at) readings.messages
-no_changes host entry readings at call.DeleteAll = delete_all_honest readings.head readings.messages
+    delete_honest entry at readings.head (readings.message serial)
+no_changes host entry readings at (call.HoldAll which) =
+    move_all_honest move.Hold (filter (is_selected which) readings.messages)
+no_changes host entry readings at (call.ReleaseAll which) =
+    move_all_honest (move.Release at) (filter (is_selected which) readings.messages)
+no_changes host entry readings at (call.DeleteAll which) =
+    delete_all_honest entry at readings.head (filter (is_selected which) readings.messages)
 no_changes host entry readings at (call.Lines after) = λ h. refl
 no_changes host entry readings at (call.PutLine line) =
     put_line_honest entry.quota.lines readings.counts.lines line
@@ -275,13 +275,16 @@ no_changes host entry readings at call.Sweep =
 no_changes host entry readings at (call.Notices after) = λ h. refl
 no_changes host entry readings at (call.Notice number) =
     λ h. show_notice_reads (readings.notice number)
+no_changes host entry readings at (call.History before) = λ h. refl
+no_changes host entry readings at (call.FindHistory pattern before) = λ h. refl
 no_changes host entry readings at call.Usage = λ h. refl
-no_changes host entry readings at call.Report = λ h. refl
+no_changes host entry readings at call.Limits = λ h. refl
+no_changes host entry readings at (call.Report which) = λ h. refl
 
 pub reading_has_none : (host : List ℕ) (entry : Entry) (readings : Readings) (at : ℕ) (asked : Call)
     → only_reads asked ≡ true → (decide host entry readings at asked).changes ≡ []
 unfolding decide
-reading_has_none host entry readings at (call.List after) h = refl
+reading_has_none host entry readings at (call.List after which) h = refl
 reading_has_none host entry readings at (call.Show serial) h = show_reads (readings.message serial)
 reading_has_none host entry readings at (call.Lines after) h = refl
 reading_has_none host entry readings at (call.Check class who) h = refl
@@ -289,8 +292,11 @@ reading_has_none host entry readings at (call.Due after) h = refl
 reading_has_none host entry readings at (call.Notices after) h = refl
 reading_has_none host entry readings at (call.Notice number) h =
     show_notice_reads (readings.notice number)
+reading_has_none host entry readings at (call.History before) h = refl
+reading_has_none host entry readings at (call.FindHistory pattern before) h = refl
 reading_has_none host entry readings at call.Usage h = refl
-reading_has_none host entry readings at call.Report h = refl
+reading_has_none host entry readings at call.Limits h = refl
+reading_has_none host entry readings at (call.Report which) h = refl
 reading_has_none host entry readings at asked h = told false _ refl h
 
 pub used_label_has_none : (host : List ℕ) (entry : Entry) (readings : Readings) (at : ℕ)

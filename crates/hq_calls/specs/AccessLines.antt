@@ -3,8 +3,8 @@
 use Rattle.std.specs.Prelude.{ℕ, Bool, nat_le, nat_lt, List, [], ◌∷◌, length, take, if◌then◌else◌}
 use Rattle.std.specs.Prelude.{Option, None, Some, option_map}
 use Rattle.std.specs.Str.{bytes_eq}
-use Rattle.hq_base.specs.declared.failure.Refusal.TheVariants.{NoLine, QuotaLines}
-use Rattle.hq_envelope.specs.declared.address.Sender.{Sender}
+use Rattle.hq_values.specs.declared.failure.Refusal.TheVariants.{NoLine, QuotaLines}
+use Rattle.hq_values.specs.declared.address.Sender.{Sender}
 use Rattle.hq_access.specs.Actions.{action_text}
 use Rattle.hq_access.specs.Keys.{keys_of}
 use Rattle.hq_access.specs.Lookups.{Found, first_match}

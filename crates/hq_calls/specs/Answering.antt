@@ -1,6 +1,6 @@
 -- Decisions that change nothing.
 use Rattle.std.specs.Prelude.{[]}
-use Rattle.hq_base.specs.declared.failure.Refusal.{Refusal}
+use Rattle.hq_values.specs.declared.failure.Refusal.{Refusal}
 use Rattle.hq_calls.specs.declared.answer.Answer.{Answer}
 use Rattle.hq_calls.specs.declared.answer.Answer.TheVariants as answer
 use Rattle.hq_calls.specs.declared.decision.Decision.{Decision}

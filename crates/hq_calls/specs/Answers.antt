@@ -1,6 +1,6 @@
 -- The number that an answer is told by.
 use Rattle.std.specs.Prelude.{ℕ}
-use Rattle.hq_base.specs.Refusals.{refusal_number}
+use Rattle.hq_values.specs.Refusals.{refusal_number}
 use Rattle.hq_calls.specs.declared.answer.Answer.{Answer}
 use Rattle.hq_calls.specs.declared.answer.Answer.TheVariants.{Refused}
 

@@ -4,13 +4,15 @@
 use Rattle.std.specs.Prelude.{ℕ, List, filter}
 use Rattle.hq_queue.specs.Moves.{is_due}
 use Rattle.hq_queue.specs.declared.account.Entry.{Entry}
-use Rattle.hq_store.specs.Readings.{Readings, after_pattern, after_serial, after_number}
+use Rattle.hq_store.specs.Readings.{Readings, after_pattern, after_serial, after_number, before_end}
 use Rattle.hq_calls.specs.AccessLines.{line_page, put_line, drop_line, check}
+use Rattle.hq_calls.specs.Histories.{history_page, find_history}
 use Rattle.hq_calls.specs.Imports.{import}
 use Rattle.hq_calls.specs.Messages.{page, show, hold, release, requeue, delete}
 use Rattle.hq_calls.specs.Notices.{show_notice, notice_page}
 use Rattle.hq_calls.specs.Outcomes.{outcome, due_page}
-use Rattle.hq_calls.specs.Queues.{move_all, delete_all, usage, report}
+use Rattle.hq_calls.specs.Queues.{move_all, delete_all, usage, limits, report}
+use Rattle.hq_calls.specs.Selections.{is_selected}
 use Rattle.hq_calls.specs.Submissions.{submit}
 use Rattle.hq_calls.specs.Sweeps.{sweep}
 use Rattle.hq_calls.specs.declared.call.Call.{Call}
@@ -21,16 +23,21 @@ use Rattle.hq_calls.specs.declared.call.Move.TheVariants as move
 unfoldable pub decide : List ℕ → Entry → Readings → ℕ → Call → Decision
 decide host entry readings at (call.Submit sub) =
     submit entry readings at sub (readings.by_spool sub.spool)
-decide host entry readings at (call.List after) = page (after_serial after readings.messages)
+decide host entry readings at (call.List after which) =
+    page (filter (is_selected which) (after_serial after readings.messages))
 decide host entry readings at (call.Show serial) = show (readings.message serial)
 decide host entry readings at (call.Hold serial) = hold (readings.message serial)
 decide host entry readings at (call.Release serial) = release at (readings.message serial)
 decide host entry readings at (call.Requeue serial) =
     requeue readings.head at (readings.message serial)
-decide host entry readings at (call.Delete serial) = delete readings.head (readings.message serial)
-decide host entry readings at call.HoldAll = move_all move.Hold readings.messages
-decide host entry readings at call.ReleaseAll = move_all (move.Release at) readings.messages
-decide host entry readings at call.DeleteAll = delete_all readings.head readings.messages
+decide host entry readings at (call.Delete serial) =
+    delete entry at readings.head (readings.message serial)
+decide host entry readings at (call.HoldAll which) =
+    move_all move.Hold (filter (is_selected which) readings.messages)
+decide host entry readings at (call.ReleaseAll which) =
+    move_all (move.Release at) (filter (is_selected which) readings.messages)
+decide host entry readings at (call.DeleteAll which) =
+    delete_all entry at readings.head (filter (is_selected which) readings.messages)
 decide host entry readings at (call.Lines after) = line_page (after_pattern after readings.lines)
 decide host entry readings at (call.PutLine line) =
     put_line entry.quota.lines readings.counts.lines line
@@ -48,5 +55,11 @@ decide host entry readings at call.Sweep = sweep host entry at readings.head rea
 decide host entry readings at (call.Notices after) =
     notice_page (after_number after readings.notices)
 decide host entry readings at (call.Notice number) = show_notice (readings.notice number)
+decide host entry readings at (call.History before) =
+    history_page (before_end before readings.ends)
+decide host entry readings at (call.FindHistory pattern before) =
+    find_history pattern (before_end before readings.ends)
+decide host entry readings at call.Limits = limits entry
 decide host entry readings at call.Usage = usage readings.head readings.counts readings.messages
-decide host entry readings at call.Report = report readings.messages
+decide host entry readings at (call.Report which) =
+    report (filter (is_selected which) readings.messages)

@@ -5,8 +5,8 @@ use Rattle.std.specs.Prelude.{if◌then◌else◌, Option, None, Some, Result, O
 use Rattle.std.specs.List.{count_by, flat_map}
 use Rattle.std.specs.Str.{bytes_eq}
 use Rattle.sha2.specs.Sha256.{sha256}
-use Rattle.hq_base.specs.declared.failure.Refusal.{Refusal}
-use Rattle.hq_base.specs.declared.failure.Refusal.TheVariants.{LabelUsed, QuotaLines}
+use Rattle.hq_values.specs.declared.failure.Refusal.{Refusal}
+use Rattle.hq_values.specs.declared.failure.Refusal.TheVariants.{LabelUsed, QuotaLines}
 use Rattle.hq_access.specs.declared.action.Action.{Action}
 use Rattle.hq_access.specs.declared.pattern.Line.{Line}
 use Rattle.hq_import.specs.Tables.{table_lines}

@@ -3,6 +3,7 @@ pub mod Answering
 pub mod Answers
 pub mod Decision
 pub mod Each
+pub mod Histories
 pub mod Imports
 pub mod Limits
 pub mod Machine
@@ -10,6 +11,7 @@ pub mod Messages
 pub mod Notices
 pub mod Outcomes
 pub mod Queues
+pub mod Selections
 pub mod Submissions
 pub mod Sweeps
 pub mod Unchanged

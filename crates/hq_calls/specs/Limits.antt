@@ -10,6 +10,10 @@ is_recipient_count n = is_within 1 most_recipients n
 abbrev pub is_size : ℕ → Bool
 is_size n = nat_le n 2147483647
 
--- the most rows of one page: messages, lines, notices, or messages that are due
+-- the most rows of one page: messages, lines, notices, ends, or messages that are due
 abbrev pub page_rows : ℕ
 page_rows = 100
+
+-- the most ends that one search looks at
+abbrev pub search_rows : ℕ
+search_rows = 1000

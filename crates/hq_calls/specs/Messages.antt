@@ -2,15 +2,19 @@
 -- of messages.
 use Rattle.std.specs.Prelude.{ℕ, ◌+◌, ◌==◌, if◌then◌else◌, nat_lt, List, [], ◌∷◌, length, take}
 use Rattle.std.specs.Prelude.{Option, None, Some}
-use Rattle.hq_base.specs.declared.failure.Refusal.TheVariants.{NoMessage, SerialsSpent}
-use Rattle.hq_envelope.specs.Words.{customer_hold}
+use Rattle.hq_values.specs.declared.failure.Refusal.TheVariants.{NoMessage, SerialsSpent}
+use Rattle.hq_values.specs.Words.{customer_hold}
 use Rattle.hq_queue.specs.Admission.{spent}
+use Rattle.hq_queue.specs.Ends.{all_ended}
 use Rattle.hq_queue.specs.Moves.{held, released, requeued}
+use Rattle.hq_queue.specs.declared.account.Entry.{Entry}
 use Rattle.hq_queue.specs.declared.account.Head.{Head}
 use Rattle.hq_queue.specs.declared.message.Message.{Message}
+use Rattle.hq_queue.specs.declared.outcome.Fate.TheVariants as fate
 use Rattle.hq_store.specs.Readings.{saturated}
 use Rattle.hq_store.specs.declared.change.Change.TheVariants.{PutHead, PutMessage, DropMessage}
 use Rattle.hq_calls.specs.Answering.{tell, refuse}
+use Rattle.hq_calls.specs.Histories.{kept_history}
 use Rattle.hq_calls.specs.declared.answer.Answer.TheVariants as answer
 use Rattle.hq_calls.specs.declared.decision.Decision.{Decision}
 use Rattle.hq_calls.specs.Limits.{page_rows}
@@ -54,13 +58,17 @@ with_deleted count head = record head {
   tally = record head.tally { deleted = saturated (head.tally.deleted + count) };
 }
 
-abbrev pub delete : Head → Option Message → Decision
-delete head None = refuse NoMessage
-delete head (Some m) = record {
+-- its recipients are told of in the history
+abbrev pub deleted : Entry → ℕ → Head → Message → Decision
+deleted entry at after m = record {
   answer = answer.Changed 1;
-  changes = DropMessage m.serial
-      ∷ PutHead (with_deleted (length m.pending) head) ∷ [];
+  changes = DropMessage m.serial ∷ PutHead after
+      ∷ kept_history entry at after (all_ended fate.Deleted m);
 }
+
+abbrev pub delete : Entry → ℕ → Head → Option Message → Decision
+delete entry at head None = refuse NoMessage
+delete entry at head (Some m) = deleted entry at (with_deleted (length m.pending) head) m
 
 -- the first hundred, and whether there are more
 abbrev pub page : List Message → Decision

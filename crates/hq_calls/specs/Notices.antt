@@ -2,9 +2,9 @@
 -- kept. And notices told.
 use Rattle.std.specs.Prelude.{ℕ, suc, ◌+◌, ◌-◌, nat_lt, List, [], ◌∷◌, ◌++◌, length, take}
 use Rattle.std.specs.Prelude.{if◌then◌else◌, Option, None, Some}
-use Rattle.hq_base.specs.declared.failure.Refusal.TheVariants.{NoNotice, NoticesSpent}
-use Rattle.hq_envelope.specs.declared.address.Sender.{Sender}
-use Rattle.hq_envelope.specs.declared.address.Sender.TheVariants.{Null, From}
+use Rattle.hq_values.specs.declared.failure.Refusal.TheVariants.{NoNotice, NoticesSpent}
+use Rattle.hq_values.specs.declared.address.Sender.{Sender}
+use Rattle.hq_values.specs.declared.address.Sender.TheVariants.{Null, From}
 use Rattle.hq_queue.specs.Admission.{spent}
 use Rattle.hq_queue.specs.declared.account.Entry.{Entry}
 use Rattle.hq_queue.specs.declared.account.Head.{Head}
@@ -16,6 +16,7 @@ use Rattle.hq_store.specs.declared.change.Change.{Change}
 use Rattle.hq_store.specs.declared.change.Change.TheVariants.{PutHead, AddNotice, DropNoticesBelow}
 use Rattle.hq_store.specs.declared.notice.Notice.{Notice}
 use Rattle.hq_calls.specs.Answering.{tell, refuse}
+use Rattle.hq_calls.specs.Histories.{kept_history}
 use Rattle.hq_calls.specs.declared.answer.Answer.TheVariants as answer
 use Rattle.hq_calls.specs.declared.decision.Decision.{Decision}
 use Rattle.hq_calls.specs.declared.plan.Draft.{Draft}
@@ -62,13 +63,14 @@ kept_below quota next (d ∷ ds) = DropNoticesBelow (next - quota) ∷ []
 abbrev pub with_notices : ℕ → Head → Head
 with_notices count head = record head { next_notice = head.next_notice + count }
 
--- ---- a call that makes notices: all of it, or nothing where too few numbers are left
+-- ---- a call that makes notices or ends: all of it, or nothing where too few numbers are left
 
 abbrev pub planned : List ℕ → Entry → ℕ → Plan → List Change
 planned host entry at plan =
     let head = with_notices (length plan.drafts) plan.head in
     plan.changes ++ PutHead head ∷ (added_from host at plan.head.next_notice plan.drafts
-    ++ kept_below entry.quota.notices head.next_notice plan.drafts)
+    ++ (kept_below entry.quota.notices head.next_notice plan.drafts
+    ++ kept_history entry at head plan.ended))
 
 abbrev pub carried_out : List ℕ → Entry → ℕ → Plan → Decision
 carried_out host entry at plan = if nat_lt spent (plan.head.next_notice + length plan.drafts) then

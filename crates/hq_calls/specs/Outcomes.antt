@@ -2,13 +2,14 @@
 -- tried (qmgr(8)).
 use Rattle.std.specs.Prelude.{ℕ, ◌+◌, nat_lt, List, [], ◌∷◌, length, take, Option, None, Some}
 use Rattle.std.specs.Prelude.{Result, Ok, Err}
-use Rattle.hq_base.specs.declared.failure.Refusal.{Refusal}
-use Rattle.hq_base.specs.declared.failure.Refusal.TheVariants.{NoMessage}
+use Rattle.hq_values.specs.declared.failure.Refusal.{Refusal}
+use Rattle.hq_values.specs.declared.failure.Refusal.TheVariants.{NoMessage}
 use Rattle.hq_queue.specs.Attempts.{reported}
 use Rattle.hq_queue.specs.declared.account.Entry.{Entry}
 use Rattle.hq_queue.specs.declared.account.Head.{Head}
 use Rattle.hq_queue.specs.declared.message.Message.{Message}
 use Rattle.hq_queue.specs.declared.message.Pending.{Pending}
+use Rattle.hq_queue.specs.declared.outcome.Ended.{Ended}
 use Rattle.hq_queue.specs.declared.outcome.Reported.{Reported}
 use Rattle.hq_queue.specs.declared.outcome.Reported.TheVariants.{Repeat, Done}
 use Rattle.hq_queue.specs.declared.outcome.Told.{Told}
@@ -42,9 +43,9 @@ with_attempted delivered failed head = record head {
 }
 
 -- what is answered and changed where the message is `m` after the attempt; the sender is told of
--- those who failed
-abbrev pub attempted : Head → Message → ℕ → ℕ → List Told → Plan
-attempted head m delivered deferred failed = record {
+-- those who failed, and the history of all who left the queue
+abbrev pub attempted : Head → Message → ℕ → ℕ → List Told → List Ended → Plan
+attempted head m delivered deferred failed ended = record {
   answer = answer.Attempted (record {
     deferred = deferred;
     delivered = delivered;
@@ -54,6 +55,7 @@ attempted head m delivered deferred failed = record {
   changes = put_or_dropped m m.pending ∷ [];
   head = with_attempted delivered (length failed) head;
   drafts = drafted m Failure failed;
+  ended = ended;
 }
 
 -- `m` is the message before the attempt
@@ -61,8 +63,8 @@ abbrev pub outcome_with : List ℕ → Entry → ℕ → Head → Message →
     Result (Reported × Message) Refusal → Decision
 outcome_with host entry at head m (Err refusal) = refuse refusal
 outcome_with host entry at head m (Ok (Repeat, after)) = tell (answer.AttemptRepeated m.attempts)
-outcome_with host entry at head m (Ok (Done delivered deferred failed, after)) =
-    carried_out host entry at (attempted head after delivered deferred failed)
+outcome_with host entry at head m (Ok (Done delivered deferred failed ended, after)) =
+    carried_out host entry at (attempted head after delivered deferred failed ended)
 
 abbrev pub outcome : List ℕ → Entry → ℕ → Head → AttemptReport → Option Message → Decision
 outcome host entry at head report None = refuse NoMessage

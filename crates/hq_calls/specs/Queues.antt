@@ -1,18 +1,22 @@
 -- What the desk answers and changes on all messages of a customer (postsuper(1), `ALL`), what it
 -- tells of its use, and the queue report (postqueue(1), -p).
-use Rattle.std.specs.Prelude.{◌≡◌, ◌+◌, ◌==◌, List, [], ◌∷◌, ◌++◌, map, length, if◌then◌else◌}
+use Rattle.std.specs.Prelude.{ℕ, ◌≡◌, ◌+◌, ◌==◌, List, [], ◌∷◌, ◌++◌, map, length, if◌then◌else◌}
 use Rattle.std.specs.Prelude.{Option, None, Some}
 use Rattle.std.specs.List.{flat_map}
-use Rattle.hq_envelope.specs.Words.{customer_hold}
+use Rattle.hq_values.specs.Words.{customer_hold}
+use Rattle.hq_queue.specs.Ends.{all_ended}
 use Rattle.hq_queue.specs.Moves.{held, released}
 use Rattle.hq_queue.specs.declared.account.Counts.{Counts}
+use Rattle.hq_queue.specs.declared.account.Entry.{Entry}
 use Rattle.hq_queue.specs.declared.account.Head.{Head}
 use Rattle.hq_queue.specs.declared.message.Message.{Message}
+use Rattle.hq_queue.specs.declared.outcome.Fate.TheVariants as fate
 use Rattle.hq_text.specs.Reports.{report_text}
 use Rattle.hq_store.specs.Sound.{pending_count}
 use Rattle.hq_store.specs.declared.change.Change.{Change}
 use Rattle.hq_store.specs.declared.change.Change.TheVariants.{PutHead, PutMessage, DropMessage}
 use Rattle.hq_calls.specs.Answering.{tell}
+use Rattle.hq_calls.specs.Histories.{kept_history}
 use Rattle.hq_calls.specs.Messages.{with_deleted}
 use Rattle.hq_calls.specs.declared.answer.Answer.TheVariants as answer
 use Rattle.hq_calls.specs.declared.decision.Decision.{Decision}
@@ -47,14 +51,17 @@ move_all move ms = record {
 abbrev pub drop : Message → Change
 drop m = DropMessage m.serial
 
+abbrev pub all_deleted : Entry → ℕ → Head → List Message → Decision
+all_deleted entry at after ms = record {
+  answer = answer.Changed (length ms);
+  changes = map drop ms ++ PutHead after
+      ∷ kept_history entry at after (flat_map (all_ended fate.Deleted) ms);
+}
+
 -- where there is no message, nothing is changed
-abbrev pub delete_all : Head → List Message → Decision
-delete_all head ms = if length ms == 0 then tell (answer.Changed 0) else
-    record {
-      answer = answer.Changed (length ms);
-      changes = map drop ms
-          ++ PutHead (with_deleted (pending_count ms) head) ∷ [];
-    }
+abbrev pub delete_all : Entry → ℕ → Head → List Message → Decision
+delete_all entry at head ms = if length ms == 0 then tell (answer.Changed 0) else
+    all_deleted entry at (with_deleted (pending_count ms) head) ms
 
 -- ---- what a customer has on the desk
 
@@ -63,6 +70,17 @@ usage head counts ms = tell (answer.Used (record {
   counts = counts;
   pending = pending_count ms;
   tally = head.tally;
+}))
+
+-- how much it may keep
+abbrev pub limits : Entry → Decision
+limits entry = tell (answer.Allowed (record {
+  bytes = entry.quota.bytes;
+  delay = entry.delay;
+  history = entry.history;
+  lines = entry.quota.lines;
+  messages = entry.quota.messages;
+  notices = entry.quota.notices;
 }))
 
 -- each accepted recipient is pending, or what became of it is tallied

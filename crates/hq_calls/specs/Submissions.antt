@@ -1,9 +1,9 @@
 -- What the desk answers and changes on a submission.
 use Rattle.std.specs.Prelude.{ℕ, ◌+◌, false, not, List, [], ◌∷◌, length, map, filter, Option, None}
 use Rattle.std.specs.Prelude.{Some, Result, Ok, Err}
-use Rattle.hq_base.specs.declared.failure.Refusal.{Refusal}
-use Rattle.hq_envelope.specs.declared.address.Sender.{Sender}
-use Rattle.hq_envelope.specs.declared.address.Sender.TheVariants.{From}
+use Rattle.hq_values.specs.declared.failure.Refusal.{Refusal}
+use Rattle.hq_values.specs.declared.address.Sender.{Sender}
+use Rattle.hq_values.specs.declared.address.Sender.TheVariants.{From}
 use Rattle.hq_access.specs.Verdicts.{verdict}
 use Rattle.hq_access.specs.declared.action.Action.{Action}
 use Rattle.hq_access.specs.declared.pattern.Class.TheVariants.{SenderSide, RecipientSide}

@@ -3,12 +3,15 @@
 use Rattle.std.specs.Prelude.{ℕ, ◌+◌, ◌==◌, Bool, true, false, List, [], ◌∷◌, map, length}
 use Rattle.std.specs.Prelude.{if◌then◌else◌, ◌&&◌, Option, unwrap_or}
 use Rattle.std.specs.List.{sum_by, count_by, flat_map}
+use Rattle.hq_queue.specs.Ends.{all_ended}
 use Rattle.hq_queue.specs.Statuses.{unknown_status, expired_status}
 use Rattle.hq_queue.specs.Sweeps.{swept, after_sweep}
 use Rattle.hq_queue.specs.declared.account.Entry.{Entry}
 use Rattle.hq_queue.specs.declared.account.Head.{Head}
 use Rattle.hq_queue.specs.declared.message.Message.{Message}
 use Rattle.hq_queue.specs.declared.message.Pending.{Pending}
+use Rattle.hq_queue.specs.declared.outcome.Ended.{Ended}
+use Rattle.hq_queue.specs.declared.outcome.Fate.TheVariants as fate
 use Rattle.hq_queue.specs.declared.outcome.Told.{Told}
 use Rattle.hq_queue.specs.declared.sweep.Swept.{Swept}
 use Rattle.hq_queue.specs.declared.sweep.Swept.TheVariants.{Expired, Warned, Untouched}
@@ -55,6 +58,11 @@ abbrev pub given_up : Message × Swept → ℕ
 given_up (m, Expired) = length m.pending
 given_up (m, _) = 0
 
+-- and who they are
+abbrev pub ended_in : Message × Swept → List Ended
+ended_in (m, Expired) = all_ended fate.Expired m
+ended_in (m, _) = []
+
 abbrev pub is_made : Swept → Swept → Bool
 is_made Expired Expired = true
 is_made Warned Warned = true
@@ -83,6 +91,7 @@ swept_all head rows expired warned = record {
   changes = flat_map changed_by rows;
   head = with_expired (sum_by given_up rows) head;
   drafts = flat_map drafts_of rows;
+  ended = flat_map ended_in rows;
 }
 
 abbrev pub is_none_changed : ℕ → ℕ → Bool

@@ -8,15 +8,18 @@ use Rattle.hq_calls.specs.declared.call.Call.TheVariants as call
 
 -- asks for what is kept
 abbrev pub only_reads : Call → Bool
-only_reads (call.List after) = true
+only_reads (call.List after which) = true
 only_reads (call.Show serial) = true
 only_reads (call.Lines after) = true
 only_reads (call.Check class who) = true
 only_reads (call.Due after) = true
 only_reads (call.Notices after) = true
 only_reads (call.Notice number) = true
+only_reads (call.History before) = true
+only_reads (call.FindHistory pattern before) = true
 only_reads call.Usage = true
-only_reads call.Report = true
+only_reads call.Limits = true
+only_reads (call.Report which) = true
 only_reads _ = false
 
 -- tells that nothing was changed

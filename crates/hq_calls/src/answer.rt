@@ -4,9 +4,9 @@ ghost use Rattle.std.specs.Prelude.{◌≡◌};
 ghost use Rattle.hq_calls.specs.Answers.{answer_number};
 
 use hq_access::{Action, Line, LookupKey, Refused};
-use hq_envelope::{Items, Refusal, Serial, WrittenText};
 use hq_queue::{Counts, Message, Tally};
-use hq_store::Notice;
+use hq_store::{End, Notice};
+use hq_values::{Items, Refusal, Serial, WrittenText};
 
 /// What putting a line did.
 #[derive(Clone, Copy, Debug, PartialEq, Eq, Drop)]
@@ -65,6 +65,23 @@ pub struct Usage {
     pub tally: Tally,
 }
 
+/// How much a customer may keep.
+#[derive(Clone, Copy, Debug, PartialEq, Eq, Drop)]
+pub struct Allowance {
+    /// Bytes of the queued messages together.
+    pub bytes: u64,
+    /// After how many seconds a sender is warned; 0 is never.
+    pub delay: u64,
+    /// Recipients that left the queue, of which its history tells; 0 is none.
+    pub history: u64,
+    /// Lines of the access tables.
+    pub lines: u64,
+    /// Queued messages.
+    pub messages: u64,
+    /// Notices.
+    pub notices: u64,
+}
+
 /// The answer to a call.
 #[derive(Drop)]
 pub enum Answer {
@@ -109,8 +126,15 @@ pub enum Answer {
     NoticesListed(Items<Notice>, bool),
     /// The notice whole.
     NoticeShown(Notice),
+    /// The newest ends of the history, the newest first, and whether more follow.
+    HistoryListed(Items<End>, bool),
+    /// The ends that were found, the newest first, and the number before which the search goes on;
+    /// none where all were looked at.
+    HistoryFound(Items<End>, Option<u64>),
     /// What the customer has on the desk.
     Used(Usage),
+    /// How much the customer may keep.
+    Allowed(Allowance),
     /// The queue report.
     Reported(WrittenText),
 }

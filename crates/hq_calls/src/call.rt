@@ -4,8 +4,8 @@ ghost use Rattle.std.specs.Prelude.{IsTrue, length};
 ghost use Rattle.hq_calls.specs.Limits.{is_recipient_count, is_size};
 
 use hq_access::{Class, Line, Pattern};
-use hq_envelope::{Address, Items, Label, Moment, Sender, Serial, Spool};
 use hq_queue::{Attempt, Outcome};
+use hq_values::{Address, Items, Label, Moment, Sender, Serial, Spool};
 
 /// A message that a relay worker hands in.
 #[derive(Drop)]
@@ -39,8 +39,9 @@ pub struct AttemptReport {
 pub enum Call {
     /// Takes a message into the queue, as the customer's access tables judge it.
     Submit(Submission),
-    /// Lists the first 100 messages after a serial, or from the start.
-    List(Option<Serial>),
+    /// Lists the first 100 messages after a serial, or from the start: of those that a pattern is
+    /// for, or of all.
+    List(Option<Serial>, Option<Pattern>),
     /// Shows a message whole.
     Show(Serial),
     /// Puts a message on hold.
@@ -51,12 +52,12 @@ pub enum Call {
     Requeue(Serial),
     /// Deletes a message.
     Delete(Serial),
-    /// Puts every message on hold.
-    HoldAll,
-    /// Releases every message that is on hold.
-    ReleaseAll,
-    /// Deletes every message.
-    DeleteAll,
+    /// Puts every message on hold that a pattern is for, or every one.
+    HoldAll(Option<Pattern>),
+    /// Releases every message on hold that a pattern is for, or every one.
+    ReleaseAll(Option<Pattern>),
+    /// Deletes every message that a pattern is for, or every one.
+    DeleteAll(Option<Pattern>),
     /// Lists the first 100 lines of the access tables after a pattern, or from the start.
     Lines(Option<Pattern>),
     /// Sets the line of its pattern.
@@ -78,10 +79,16 @@ pub enum Call {
     Notices(Option<u64>),
     /// Shows a notice whole.
     Notice(u64),
+    /// Lists the newest 100 ends of the history, or those before a number.
+    History(Option<u64>),
+    /// Finds ends of the history that a pattern is for, among the newest, or those before a number.
+    FindHistory(Pattern, Option<u64>),
     /// Tells what the customer has on the desk, and what became of its recipients.
     Usage,
-    /// Writes the queue report.
-    Report,
+    /// Tells how much the customer may keep.
+    Limits,
+    /// Writes the queue report: of the messages that a pattern is for, or of all.
+    Report(Option<Pattern>),
 }
 
 /// A move of every message (postsuper(1), `-h` and `-H`).

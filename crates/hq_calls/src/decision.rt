@@ -4,12 +4,15 @@ ghost use Rattle.std.specs.Prelude.{◌≡◌};
 ghost use Rattle.hq_calls.specs.Answering as answering;
 
 use crate::answer::Answer;
-use hq_envelope::{Items, Refusal};
 use hq_store::Change;
+use hq_values::{Items, Refusal};
 use std::alloc::Global;
 
-/// How many messages, lines or notices a page has at most.
+/// How many messages, lines, notices or ends a page has at most.
 pub const PAGE: usize = 100;
+
+/// How many ends of a history one search looks at.
+pub const SEARCH: usize = 1_000;
 
 /// An answer, and the changes that are made with it.
 #[derive(Drop)]

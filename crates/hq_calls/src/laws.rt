@@ -2,7 +2,7 @@
 //! program in them. Each is an empty function whose contract is the law.
 
 ghost use Rattle.std.specs.Prelude.{◌≡◌, ◌≢◌, ℕ, true, List, Some};
-ghost use Rattle.hq_base.specs.declared.failure.Refusal.{Refusal};
+ghost use Rattle.hq_values.specs.declared.failure.Refusal.{Refusal};
 ghost use Rattle.hq_queue.specs.declared.account.Entry.{Entry};
 ghost use Rattle.hq_store.specs.Readings.{read_state, read_tables};
 ghost use Rattle.hq_store.specs.Tables.{State, Tables, own, change_all, write_all};

@@ -7,11 +7,12 @@ mod answer;
 mod call;
 pub mod decision;
 mod each;
+pub mod histories;
 pub mod laws;
 mod plan;
 mod render;
 
-pub use answer::{Answer, AttemptCounts, ImportCounts, LinePut, SweepCounts, Usage};
+pub use answer::{Allowance, Answer, AttemptCounts, ImportCounts, LinePut, SweepCounts, Usage};
 pub use call::{AttemptReport, Call, Move, Submission};
 pub use decision::Decision;
 pub use each::EachCall;

@@ -1,9 +1,9 @@
-//! What a call that may make notices answers and changes, before they are numbered and written.
+//! What a call that may make notices or ends answers and changes, before they are numbered.
 
 use crate::answer::Answer;
-use hq_envelope::{Address, Items};
-use hq_queue::{Head, Kind, Message, Told};
+use hq_queue::{Ended, Head, Kind, Message, Told};
 use hq_store::Change;
+use hq_values::{Address, Items};
 
 /// A notice to be made.
 #[derive(Drop)]
@@ -18,15 +18,17 @@ pub struct Draft {
     pub told: Items<Told>,
 }
 
-/// What a call answers and changes, before its notices are numbered and written.
+/// What a call answers and changes, before its notices and ends are numbered.
 #[derive(Drop)]
 pub struct Plan {
     /// What is answered.
     pub answer: Answer,
     /// The changes of the customer's messages, in order.
     pub changes: Items<Change>,
-    /// The head after them, but for the numbers of the notices.
+    /// The head after them, but for the numbers of the notices: the numbers of ends follow from it.
     pub head: Head,
     /// The notices, in order.
     pub drafts: Items<Draft>,
+    /// The recipients that left the queue, in order.
+    pub ended: Items<Ended>,
 }

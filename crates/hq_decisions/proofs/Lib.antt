@@ -1,1 +1,3 @@
+pub mod Last
+pub mod Numbers
 pub mod SameAddresses

@@ -7,7 +7,7 @@ use Rattle.std.specs.Ordering.{eq_by_cmp}
 use Rattle.std.proofs.lemmas.List.Elements.{filter-append}
 use Rattle.std.proofs.lemmas.Map.Lookups.{exact_bytes}
 use Rattle.std.proofs.lemmas.Map.Views.{tells_apart, any-filter_same}
-use Rattle.hq_envelope.specs.Addresses.{folded}
+use Rattle.hq_values.specs.Addresses.{folded}
 use Rattle.hq_store.specs.Tables.{text_cmp}
 use Rattle.hq_store.specs.Sound.{same_address}
 use Rattle.hq_calls.specs.Submissions.{distinct}

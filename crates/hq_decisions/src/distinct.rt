@@ -5,7 +5,7 @@ ghost use Rattle.std.specs.List.{list_any};
 ghost use Rattle.hq_store.specs.Sound.{same_address};
 ghost use Rattle.hq_calls.specs.Submissions as rules;
 
-use hq_envelope::Address;
+use hq_values::Address;
 use std::alloc::{AllocError, Global};
 
 /// Whether two addresses are the same.

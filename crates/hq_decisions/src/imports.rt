@@ -11,8 +11,8 @@ use crate::lines::same_action;
 use hq_access::{Action, Line};
 use hq_calls::decision::{Decision, refuse, tell};
 use hq_calls::{Answer, ImportCounts, LinePut};
-use hq_envelope::{Items, Label, Refusal};
 use hq_store::{Change, Mark};
+use hq_values::{Items, Label, Refusal};
 use sha2::{Digest, Sha256};
 use std::alloc::{AllocError, Global};
 
@@ -116,7 +116,7 @@ pub fn take_rows(
     })
 }
 
-/// What a file is answered under a label that was used.
+/// The answer to a file under a label that was used.
 pub fn repeat(alloc: Global, digest: [u8; 32], mark: &Mark) -> Decision
     ensures { result ≡ rules.repeated digest mark.now }
 {

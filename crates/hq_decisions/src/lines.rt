@@ -7,8 +7,8 @@ ghost use Rattle.hq_calls.specs.AccessLines as rules;
 use hq_access::{Action, Line, Pattern};
 use hq_calls::decision::{Decision, PAGE, refuse, tell};
 use hq_calls::{Answer, LinePut};
-use hq_envelope::{Items, Refusal};
 use hq_store::Change;
+use hq_values::{Items, Refusal};
 use std::alloc::{AllocError, Global};
 
 /// The first hundred of the lines, of which one more than that was asked for.

@@ -6,9 +6,10 @@ ghost use Rattle.hq_calls.specs.Messages as rules;
 
 use hq_calls::Answer;
 use hq_calls::decision::{Decision, PAGE, refuse, tell};
-use hq_envelope::{Items, Moment, Refusal, Serial, Text};
-use hq_queue::{Head, Message, hold, release, requeue};
+use hq_calls::histories::keep_history;
+use hq_queue::{Entry, Fate, Head, Message, end_all, hold, release, requeue};
 use hq_store::Change;
+use hq_values::{Items, Moment, Refusal, Serial, Text};
 use std::alloc::{AllocError, Global};
 
 /// One message is changed to this.
@@ -91,13 +92,23 @@ pub fn requeue_with(
     })
 }
 
-/// Deletes a message, and counts its recipients.
-pub fn delete(alloc: Global, mut head: Head, message: &Message) -> Result<Decision, AllocError>
-    ensures { IfOk result (λ decision. decision ≡ rules.delete head (Some message.now)) }
+/// Deletes a message, and counts its recipients, of whom the history tells.
+pub fn delete(
+    alloc: Global,
+    entry: &Entry,
+    at: Moment,
+    mut head: Head,
+    message: &Message,
+) -> Result<Decision, AllocError>
+    ensures { IfOk result (λ decision. decision
+        ≡ rules.delete entry.now at head (Some message.now)) }
 {
     let recipients = message.pending.len() as u64;
     head.tally.deleted = head.tally.deleted.saturating_add(recipients);
-    let changes = vec![in alloc; Change::DropMessage(message.serial), Change::PutHead(head)]?;
+    let mut ended = Vec::new(alloc);
+    end_all(alloc, &mut ended, Fate::Deleted, message)?;
+    let mut changes = vec![in alloc; Change::DropMessage(message.serial), Change::PutHead(head)]?;
+    keep_history(alloc, &mut changes, entry, at, &head, ended.as_slice())?;
     Ok(Decision {
         answer: Answer::Changed(1),
         changes: Items::from_vec(changes),

@@ -2,17 +2,21 @@
 //! use of the desk. Nothing is read or written here.
 
 ghost use Rattle.std.specs.Prelude.{◌≡◌, ◌++◌, IfOk, OnOk, List, map};
+ghost use Rattle.std.specs.List.{flat_map};
+ghost use Rattle.hq_queue.specs.Ends.{all_ended};
 ghost use Rattle.hq_queue.specs.Moves.{MovesBy};
+ghost use Rattle.hq_queue.specs.declared.outcome.Fate.TheVariants.{Deleted};
 ghost use Rattle.hq_queue.specs.declared.message.Message.{Message};
 ghost use Rattle.hq_store.specs.Readings.{saturated};
 ghost use Rattle.hq_store.specs.Sound.{pending_count};
 ghost use Rattle.hq_calls.specs.Queues as rules;
 
 use hq_calls::decision::{Decision, tell};
-use hq_calls::{Answer, Move, Usage};
-use hq_envelope::{Items, Moment, Text};
-use hq_queue::{Counts, Head, Message, hold, release};
+use hq_calls::histories::keep_history;
+use hq_calls::{Allowance, Answer, Move, Usage};
+use hq_queue::{Counts, Ended, Entry, Fate, Head, Message, end_all, hold, release};
 use hq_store::Change;
+use hq_values::{Items, Moment, Text};
 use std::alloc::{AllocError, Global};
 
 /// Moves a message, and tells whether the move applies to it; else it stays as it is.
@@ -89,13 +93,28 @@ fn drops_of(alloc: Global, messages: &[Message]) -> Result<Vec<Change>, AllocErr
     Ok(changes)
 }
 
-/// Deletes all messages, and counts their recipients.
+/// The recipients of all messages, as they are deleted.
+fn ended_of(alloc: Global, messages: &[Message]) -> Result<Vec<Ended>, AllocError>
+    ensures { IfOk result (λ ended. ended.items
+        ≡ flat_map (all_ended Deleted) messages.now) }
+{
+    let mut ended = Vec::new(alloc);
+    for message in messages {
+        end_all(alloc, &mut ended, Fate::Deleted, message)?;
+    }
+    Ok(ended)
+}
+
+/// Deletes all messages, and counts their recipients, of whom the history tells.
 pub fn delete_all(
     alloc: Global,
+    entry: &Entry,
+    at: Moment,
     mut head: Head,
     messages: &[Message],
 ) -> Result<Decision, AllocError>
-    ensures { IfOk result (λ decision. decision ≡ rules.delete_all head messages.now) }
+    ensures { IfOk result (λ decision. decision
+        ≡ rules.delete_all entry.now at head messages.now) }
 {
     if messages.is_empty() {
         return Ok(tell(alloc, Answer::Changed(0)));
@@ -103,6 +122,8 @@ pub fn delete_all(
     head.tally.deleted = head.tally.deleted.saturating_add(all_pending(messages));
     let mut changes = drops_of(alloc, messages)?;
     changes.push(Change::PutHead(head))?;
+    let ended = ended_of(alloc, messages)?;
+    keep_history(alloc, &mut changes, entry, at, &head, ended.as_slice())?;
     Ok(Decision {
         answer: Answer::Changed(messages.len() as u64),
         changes: Items::from_vec(changes),
@@ -128,6 +149,24 @@ pub fn usage(alloc: Global, head: &Head, counts: Counts) -> Decision
             counts,
             pending,
             tally,
+        }),
+    )
+}
+
+/// How much a customer may keep, by its row of the directory.
+pub fn limits(alloc: Global, entry: &Entry) -> Decision
+    ensures { result ≡ rules.limits entry.now }
+{
+    let quota = entry.quota;
+    tell(
+        alloc,
+        Answer::Allowed(Allowance {
+            bytes: quota.bytes,
+            delay: entry.delay,
+            history: entry.history,
+            lines: quota.lines,
+            messages: quota.messages,
+            notices: quota.notices,
         }),
     )
 }

@@ -6,9 +6,9 @@ ghost use Rattle.hq_calls.specs.Submissions as rules;
 use hq_access::{Refused, Verdict};
 use hq_calls::decision::{Decision, refuse, tell};
 use hq_calls::{Answer, Submission};
-use hq_envelope::{Address, Items, Moment, Refusal, Serial, Text, TryCopy};
 use hq_queue::{Head, Message, Pending, QueueState};
 use hq_store::Change;
+use hq_values::{Address, Items, Moment, Refusal, Serial, Text, TryCopy};
 use std::alloc::{AllocError, Global};
 
 /// What the verdict makes of a submission that it queues.

@@ -1,6 +1,6 @@
 -- What is said of a desk.
 use Rattle.std.specs.Prelude.{ℕ, ◌≡◌, ◌⊎◌, true, false, List}
-use Rattle.hq_base.specs.Refusals.{no_memory}
+use Rattle.hq_values.specs.Refusals.{no_memory}
 use Rattle.hq_queue.specs.declared.account.Entry.{Entry}
 use Rattle.hq_store.specs.Shelves.{Sight, StopLeavesTables, StopLeavesNoMore}
 use Rattle.hq_store.specs.Tables.{Tables}
@@ -18,13 +18,6 @@ shelf_of desk = desk.shelf
 -- the name of its relay
 abbrev pub host_of : {S : Type 0} → Desk S → List ℕ
 host_of desk = desk.host
-
--- what is seen of a shelf, by a call that may want memory whichever the shelf
-abbrev pub with_memory : {S : Type 0} → Sight S → Sight S
-with_memory sight = record sight {
-  may_answer = λ fault. (fault ≡ no_memory)
-      ⊎ sight.may_answer fault;
-}
 
 -- What is seen of a desk: what is seen of its shelf; but its calls may want memory, whichever the
 -- shelf.
@@ -64,3 +57,7 @@ stepped sight desk entry at call = shared (host_of desk) entry (sight.tables des
 abbrev pub IsRendered : (Answer → List ℕ) → Answer → Rendered → Type 0
 IsRendered text answer rendered = (rendered.number ≡ answer_number answer)
     × (rendered.bytes.items ≡ text answer)
+
+-- some answer with its number and its one text
+abbrev pub IsSomeAnswer : (Answer → List ℕ) → Rendered → Type 0
+IsSomeAnswer text rendered = (answer : Answer) × IsRendered text answer rendered

@@ -1,3 +1,1 @@
 pub mod Desks
-pub mod Reports
-pub mod ShelfLines

@@ -3,13 +3,7 @@
 //! outside.
 #![tactic(auto)]
 
-mod customer_lines;
 mod desk;
-mod imports;
-mod queues;
-mod relay;
-mod report;
-mod submit;
 
 pub use desk::{Desk, Rendered};
 pub use hq_calls::{

@@ -5,18 +5,15 @@
 //! there were.
 #![tactic(auto)]
 
-use hq_batch::{EngineFault, batch};
+use hq_batch::{EngineFault, batch, words};
 use hq_desk::Desk;
-use hq_envelope::Fault;
 use hq_lists::ListShelf;
 use hq_log::NoLog;
-use hq_program::words;
-use hq_set_up::set_up;
-use hq_settings::Settings;
+use hq_settings::{Settings, Trouble, set_up};
 use hq_sql_shelf::SqlShelf;
 use hq_store::Shelf;
 use hq_trial::{FailingShelf, Failure};
-use hq_trouble::Trouble;
+use hq_values::Fault;
 use hq_words::RelayKey;
 use std::io::{self, BufWriter, Write};
 

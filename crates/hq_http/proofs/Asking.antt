@@ -19,7 +19,7 @@ use Rattle.std.proofs.lemmas.List.Elements.{All-weaker}
 use Rattle.std.proofs.lemmas.List.{take-append-drop, length-take, length-map}
 use Rattle.std.proofs.Math.Seq.{take-append_seam}
 use Rattle.hq_http.specs.Ends.{HasEnd}
-use Rattle.hq_base.specs.declared.failure.Refusal.TheVariants.{BadRequest, BodyTooLong}
+use Rattle.hq_values.specs.declared.failure.Refusal.TheVariants.{BadRequest, BodyTooLong}
 use Rattle.hq_http.specs.Fields.{Framing, framing}
 use Rattle.hq_http.proofs.HeadEnds.{has_end, ends_some, no_more}
 use Rattle.hq_http.specs.Requests.{Request, Wanted, nothing, refused, request, ReadsHead, asked_by}

@@ -13,7 +13,7 @@ use Rattle.hq_http.specs.declared.stages.Stage.{Stage}
 use Rattle.hq_http.specs.declared.stages.Stage.TheVariants.{Head, Body}
 use Rattle.hq_http.specs.declared.reading.Input.{Input}
 use Rattle.hq_http.specs.declared.reading.Input.TheVariants as input
-use Rattle.hq_base.specs.declared.failure.Refusal.TheVariants.{BadRequest}
+use Rattle.hq_values.specs.declared.failure.Refusal.TheVariants.{BadRequest}
 use Rattle.hq_http.specs.Requests.{Wanted, nothing, refused, request, RequestOf, Determines, IsOpen}
 use Rattle.hq_http.specs.Requests.{Received, HasNoRoom}
 use Rattle.hq_http.specs.Ends.{place_of}

@@ -6,8 +6,8 @@ use Rattle.std.specs.Char.{to_ascii_lowercase}
 use Rattle.std.specs.List.{All, list_all}
 use Rattle.httparse.specs.Spans.{IsHeaderWithin, header_bytes}
 use Rattle.httparse.specs.declared.spans.HeaderSpan.{HeaderSpan}
-use Rattle.hq_base.specs.Decimals.{number_in}
-use Rattle.hq_base.specs.Options.{◌>>=◌}
+use Rattle.hq_values.specs.Decimals.{number_in}
+use Rattle.hq_values.specs.Options.{◌>>=◌}
 use Rattle.hq_http.specs.declared.fields.Framed.{Framed}
 
 -- the fields of a head, each with its name and its value, by where they stand in its bytes

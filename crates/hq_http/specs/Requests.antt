@@ -4,11 +4,11 @@ use Rattle.std.specs.Prelude.{nat_le, if◌then◌else◌, Option, Some, IfSome}
 use Rattle.std.specs.Io.KnownBytes.{Consumes}
 use Rattle.httparse.specs.Grammar.{RequestHead, print_request, ReadsRequest, HasNoRequest}
 use Rattle.httparse.specs.Spans.{name_and_value}
-use Rattle.hq_base.specs.declared.failure.Refusal.{Refusal}
-use Rattle.hq_base.specs.declared.failure.Refusal.TheVariants.{BadRequest, BodyTooLong}
+use Rattle.hq_values.specs.declared.failure.Refusal.{Refusal}
+use Rattle.hq_values.specs.declared.failure.Refusal.TheVariants.{BadRequest, BodyTooLong}
 use Rattle.hq_http.specs.Ends.{HasEnd}
 use Rattle.hq_http.specs.Fields.{Framing, framing}
-use Rattle.hq_base.specs.Limits.{most_bytes}
+use Rattle.hq_values.specs.Limits.{most_bytes}
 
 -- a method and a path with a key or none, and the bytes of a body
 pub record Request : Type 0 where

@@ -3,8 +3,8 @@ use Rattle.std.specs.Prelude.{◌≡◌, ◌≢◌, ◌⊎◌, ◌≤◌, ◌<�
 use Rattle.std.specs.Prelude.{string_bytes}
 use Rattle.std.specs.Io.KnownBytes.{Consumes}
 use Rattle.httparse.specs.Grammar.{RequestHead}
-use Rattle.hq_base.specs.declared.engine.EngineFault.{EngineFault}
-use Rattle.hq_base.specs.declared.engine.EngineFault.TheVariants as fault
+use Rattle.hq_values.specs.declared.engine.EngineFault.{EngineFault}
+use Rattle.hq_values.specs.declared.engine.EngineFault.TheVariants as fault
 use Rattle.hq_http.specs.Requests as requests
 use Rattle.hq_http.specs.Requests.{IsOpen, ReadsHead, Determines, RequestOf, Received, HasNoRoom}
 use Rattle.hq_http.specs.Requests.{nothing, refused, request, most_head_bytes}
@@ -19,7 +19,7 @@ use Rattle.hq_http.specs.declared.reading.Input.{Input}
 use Rattle.hq_http.specs.declared.reading.Input.TheVariants as input
 use Rattle.hq_http.specs.declared.reading.Turn.{Turn}
 use Rattle.hq_http.specs.declared.reading.Turn.TheVariants.{Again, Done}
-use Rattle.hq_base.specs.Limits.{most_bytes}
+use Rattle.hq_values.specs.Limits.{most_bytes}
 
 -- a request as the code holds it
 abbrev pub request_seen : Request → requests.Request

@@ -5,7 +5,7 @@ ghost use Rattle.hq_http.specs.Fields.{AreWithin, header_fields, values, at_most
 ghost use Rattle.hq_http.specs.Fields.{framing_view, length_of, key_of, is_plain, is_ascii};
 ghost use Rattle.std.specs.Str.{IsUtf8};
 
-use hq_base::read_number;
+use hq_values::read_number;
 use httparse::spans::HeaderSpan;
 
 /// The value of the first field of a name, and how many fields stand up to it.

@@ -7,7 +7,7 @@ ghost use Rattle.hq_http.specs.Ends.{HasEnd};
 ghost use Rattle.hq_http.specs.Heads.{HeadIs};
 
 use crate::fields::{framing_of, text};
-use hq_base::Refusal;
+use hq_values::Refusal;
 use httparse::Status;
 use httparse::spans::{EMPTY_HEADER_SPAN, HeaderSpan, RequestSpans, parse_request};
 

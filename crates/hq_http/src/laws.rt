@@ -2,7 +2,7 @@
 //! contract is the law.
 
 ghost use Rattle.std.specs.Prelude.{◌≡◌, ◌++◌, ℕ, List};
-ghost use Rattle.hq_base.specs.declared.failure.Refusal.TheVariants.{BodyTooLong};
+ghost use Rattle.hq_values.specs.declared.failure.Refusal.TheVariants.{BodyTooLong};
 ghost use Rattle.hq_http.specs.Requests.{Wanted, Request, refused, request, RequestOf, Determines};
 
 /// Bytes ask for one thing; and what a whole request, or one with too long a body, asks for stays

@@ -7,10 +7,12 @@ mod fields;
 mod head;
 mod laws;
 mod reading;
+mod reads;
 mod stages;
 mod writing;
 
 pub use laws::one_request;
 pub use reading::{Input, read_request};
+pub use reads::Reads;
 pub use stages::Request;
 pub use writing::write_response;

@@ -1,20 +1,18 @@
 //! One request from any reader, however its bytes are cut.
 
-ghost use Rattle.std.specs.Prelude.{◌≡◌, ◌<◌, ◌≤◌, List, ℕ, Option, length, IfOk, IfErr};
+ghost use Rattle.std.specs.Prelude.{◌≡◌, ◌<◌, ◌≤◌, List, ℕ, Option, length, IfOk, IfErr, OnOk};
 ghost use Rattle.std.specs.Io.KnownBytes.{Consumes};
-ghost use Rattle.hq_http.specs.Stages.{StageIs, IsAtStage, InputIs, LeavesOpen, TurnIs, EndIs};
+ghost use Rattle.hq_http.specs.Reads.{StopsAtLast, FailsOpen, last_given};
+ghost use Rattle.hq_http.specs.Stages.{StageIs, IsAtStage, InputIs, TurnIs, EndIs};
+ghost use Rattle.hq_http.specs.Turns.{IsUnderWay, MoreIs};
+ghost use Rattle.hq_http.specs.declared.reads.Reads.{Reads};
 
 use crate::begun::Begun;
+use crate::reads::{Reads, Told};
 use crate::stages::{Request, Stage, Step, advance};
-use hq_base::{EngineFault, Refusal};
+use hq_values::{EngineFault, Refusal};
 use std::alloc::Global;
-use std::io::{ErrorKind, Read};
-
-/// The most reads of a request. An interrupted read counts.
-const MOST_READS: u32 = 300_000;
-
-/// The bytes that one read may give.
-const CHUNK_BYTES: usize = 4096;
+use std::io::Read;
 
 /// What a connection asks for.
 #[derive(Drop)]
@@ -67,49 +65,29 @@ fn take_chunk(alloc: Global, stage: Stage, chunk: &[u8]) -> Turn
 /// One read, and what it makes of the request.
 fn read_more<R: Read>(
     alloc: Global,
-    reader: &mut R,
-    room: &mut [u8; CHUNK_BYTES],
+    reads: &mut Reads<'_, R>,
     stage: Stage,
 ) -> Result<Turn, EngineFault>
-    ensures turn { (read_old : Option (List ℕ)) → IsAtStage read_old (R.remaining reader.old) stage
-        → IfOk result (TurnIs read_old (R.remaining reader.new)) }
-    ensures fault { (read_old : Option (List ℕ)) → IsAtStage read_old (R.remaining reader.old) stage
-        → IfErr result (λ e. (e ≡ EngineFault.Read)
-        × IsAtStage read_old (R.remaining reader.new) stage) }
+    ensures same_reference { reads.new.reader.ghost_name ≡ reads.old.reader.ghost_name }
+    ensures turn { (first : Reads R) → IsUnderWay R.remaining first reads.old stage
+        → IfOk result (MoreIs R.remaining first reads.new) }
+    ensures fault { (first : Reads R) → IsUnderWay R.remaining first reads.old stage
+        → IfErr result (FailsOpen R.remaining first reads.new) }
+    ensures counted { OnOk result (reads.new.left < reads.old.left) }
 {
-    match reader.read(room) {
-        Ok(0) => Ok(Turn::Done(at_end(&stage))),
-        Ok(count) => Ok(take_chunk(alloc, stage, &room[..count])),
-        Err(error) if error.kind() == ErrorKind::Interrupted => Ok(Turn::Again(stage)),
-        Err(_) => Err(EngineFault::Read),
+    match reads.read() {
+        Ok(Told::Bytes) => Ok(take_chunk(alloc, stage, reads.given())),
+        Ok(Told::Interruption) => Ok(Turn::Again(stage)),
+        Ok(Told::End) => Ok(Turn::Done(at_end(&stage))),
+        Err(fault) => Err(fault),
     }
-}
-
-/// Reads one request, with at most so many reads.
-pub(crate) fn read_within<R: Read>(
-    most_reads: u32,
-    alloc: Global,
-    reader: &mut R,
-) -> Result<Input, EngineFault>
-    ensures told { IfOk result (InputIs (R.remaining reader.old) (R.remaining reader.new)) }
-    ensures fault { IfErr result (LeavesOpen (R.remaining reader.old) (R.remaining reader.new)) }
-{
-    let mut stage = Stage::Head(Begun::new(alloc));
-    let mut room = [0; CHUNK_BYTES];
-    for _ in 0..most_reads {
-        match read_more(alloc, reader, &mut room, stage) {
-            Ok(Turn::Again(next)) => stage = next,
-            Ok(Turn::Done(input)) => return Ok(input),
-            Err(fault) => return Err(fault),
-        }
-    }
-    Err(EngineFault::TooManyReads)
 }
 
 /// Reads one request: what it asks for is what the whole input asks for, however it is cut. A read
 /// gives 4,096 bytes at most, and another one is made only where fewer than 16,384 bytes came and
 /// none of them ended a head, or the body of a head is not whole. An interrupted read is tried
-/// again and counts as a read, and at most 300,000 are made.
+/// again and counts as a read, and at most 300,000 are made. None is made behind one that failed
+/// or told the end.
 ///
 /// A head has at most 16,384 bytes, empty lines before it counted, and 64 fields; a body 262,144
 /// bytes. The key is the field `X-Desk-Key`. All that is no request is refused as 1 `BadRequest`,
@@ -117,9 +95,20 @@ pub(crate) fn read_within<R: Read>(
 /// told by a head with no other fault, as 6 `BodyTooLong`. An error is a read that failed or one
 /// too many: up to it no head had ended, or the body of one was not whole. Bytes that can be no
 /// head are refused where an empty line ends them, and not before.
-pub fn read_request<R: Read>(alloc: Global, reader: &mut R) -> Result<Input, EngineFault>
-    ensures told { IfOk result (InputIs (R.remaining reader.old) (R.remaining reader.new)) }
-    ensures fault { IfErr result (LeavesOpen (R.remaining reader.old) (R.remaining reader.new)) }
+pub fn read_request<R: Read>(alloc: Global, reads: &mut Reads<'_, R>) -> Result<Input, EngineFault>
+    ensures same_reference { reads.new.reader.ghost_name ≡ reads.old.reader.ghost_name }
+    ensures told { IfOk result (InputIs (R.remaining reads.old.reader.now)
+        (R.remaining reads.new.reader.now)) }
+    ensures last { OnOk result (StopsAtLast R.remaining reads.old reads.new) }
+    ensures room { IfOk result (λ input. input ≡ Input.NoRoom → 0 < length (last_given reads.new)) }
+    ensures fault { IfErr result (FailsOpen R.remaining reads.old reads.new) }
 {
-    read_within(MOST_READS, alloc, reader)
+    let mut stage = Stage::Head(Begun::new(alloc));
+    loop {
+        match read_more(alloc, reads, stage) {
+            Ok(Turn::Again(next)) => stage = next,
+            Ok(Turn::Done(input)) => return Ok(input),
+            Err(fault) => return Err(fault),
+        }
+    }
 }

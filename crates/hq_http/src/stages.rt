@@ -8,7 +8,7 @@ ghost use Rattle.hq_http.specs.Stages.{BodyBegun, StageIs, StepIs, IsOf};
 use crate::begun::Begun;
 use crate::ends::Place;
 use crate::head::{HEAD_BYTES, Head, WholeHead, head_of};
-use hq_base::Refusal;
+use hq_values::Refusal;
 use std::alloc::{AllocError, Global};
 
 /// A request as it came.

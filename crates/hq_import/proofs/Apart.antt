@@ -4,9 +4,9 @@ use Rattle.std.proofs.Common.{Err, IfOk, IsTrue, Vec, Global, refl, sym, subst}
 use Rattle.std.specs.List.{list_any}
 use Rattle.std.proofs.lemmas.Bool.{and_parts, or_parts}
 use Rattle.std.proofs.lemmas.List.Recursion.{or_push}
-use Rattle.hq_base.specs.Readers.{◌>>=◌, guard, Reads, seen_by}
-use Rattle.hq_base.specs.declared.failure.Fail.{Fail}
-use Rattle.hq_base.specs.declared.failure.Refusal.{Refusal}
+use Rattle.hq_values.specs.Readers.{◌>>=◌, guard, Reads, seen_by}
+use Rattle.hq_values.specs.declared.failure.Fail.{Fail}
+use Rattle.hq_values.specs.declared.failure.Refusal.{Refusal}
 use Rattle.hq_queue.specs.declared.account.Customer.{Customer}
 use Rattle.hq_queue.specs.Customers.{is_same_text, names_apart, keys_apart, are_customers}
 use Rattle.hq_import.specs.Directories.{is_name_taken, is_taken, next_customer, customers_under}
@@ -85,32 +85,36 @@ accepted earlier true one two three (Ok customer) c h =
       subst (λ x. is_taken earlier x.key ≡ false) told.2 told.1,
     )
 
-new_customer : (earlier : List Customer) (row : List (List ℕ)) (c : Customer) →
-    next_customer earlier row ≡ Ok c → (is_name_taken earlier c.entry.name ≡ false)
+new_customer : (columns : ℕ) (earlier : List Customer) (row : List (List ℕ)) (c : Customer) →
+    next_customer columns earlier row ≡ Ok c → (is_name_taken earlier c.entry.name ≡ false)
     × (is_taken earlier c.key ≡ false)
 unfolding next_customer
-new_customer earlier row c h = accepted earlier _ _ _ _ _ c h
+new_customer columns earlier row c h = accepted earlier _ _ _ _ _ c h
 
 -- what the rows of a directory hold
-pub under_apart : (rows : List (List (List ℕ))) (earlier cs : List Customer) →
-    are_customers earlier ≡ true → customers_under earlier rows ≡ Ok cs → are_customers cs ≡ true
+pub under_apart : (columns : ℕ) (rows : List (List (List ℕ))) (earlier cs : List Customer) →
+    are_customers earlier ≡ true → customers_under columns earlier rows ≡ Ok cs →
+    are_customers cs ≡ true
 unfolding customers_under
-under_apart [] earlier cs h read = subst (λ xs. are_customers xs ≡ true) (same_ok earlier cs read) h
-under_apart (row ∷ rows) earlier cs h read = by (λ c. under_apart rows (earlier ++ c ∷ []) cs)
-    (next_customer earlier row) refl read where
+under_apart columns [] earlier cs h read =
+    subst (λ xs. are_customers xs ≡ true) (same_ok earlier cs read) h
+under_apart columns (row ∷ rows) earlier cs h read =
+    by (λ c. under_apart columns rows (earlier ++ c ∷ []) cs)
+    (next_customer columns earlier row) refl read where
       by : ((c : Customer) → are_customers (earlier ++ c ∷ []) ≡ true →
-          customers_under (earlier ++ c ∷ []) rows ≡ Ok cs → are_customers cs ≡ true)
-          → (o : Result Customer Refusal) → next_customer earlier row ≡ o →
-          (o >>= (λ customer. customers_under (earlier ++ customer ∷ []) rows)) ≡ Ok cs →
+          customers_under columns (earlier ++ c ∷ []) rows ≡ Ok cs → are_customers cs ≡ true)
+          → (o : Result Customer Refusal) → next_customer columns earlier row ≡ o →
+          (o >>= (λ customer. customers_under columns (earlier ++ customer ∷ []) rows)) ≡ Ok cs →
           are_customers cs ≡ true
       by further (Err e) f g = absurd (err_ok e cs g)
       by further (Ok c) f g =
-          let new = new_customer earlier row c f in
+          let new = new_customer columns earlier row c f in
           further c (customers_push earlier c h new.0 new.1) g
 
 -- what was read of them
-pub read_apart : (result : Result (Vec Customer Global) Fail) (rows : List (List (List ℕ))) →
-    Reads (seen_by (λ v. v.items) result) (customers_under [] rows) →
+pub read_apart : (columns : ℕ) (result : Result (Vec Customer Global) Fail)
+    (rows : List (List (List ℕ))) →
+    Reads (seen_by (λ v. v.items) result) (customers_under columns [] rows) →
     IfOk result (λ v. IsTrue (are_customers v.items))
-read_apart (Ok v) rows read = under_apart rows [] v.items refl read
-read_apart (Err e) rows read = tt
+read_apart columns (Ok v) rows read = under_apart columns rows [] v.items refl read
+read_apart columns (Err e) rows read = tt

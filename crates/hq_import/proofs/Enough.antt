@@ -6,12 +6,12 @@ use Rattle.std.proofs.Common.{◌∙◌, arith}
 use Rattle.std.specs.Bool.{⊤}
 use Rattle.std.proofs.lemmas.List.{length-append}
 use Rattle.std.proofs.lemmas.Bool.Decides.{nat_tests}
-use Rattle.hq_base.specs.Readers.{◌>>=◌, checked, guard}
-use Rattle.hq_base.specs.declared.failure.Refusal.{Refusal}
-use Rattle.hq_base.specs.declared.failure.Refusal.TheVariants.{BadCsv, BadDirectory}
+use Rattle.hq_values.specs.Readers.{◌>>=◌, checked, guard}
+use Rattle.hq_values.specs.declared.failure.Refusal.{Refusal}
+use Rattle.hq_values.specs.declared.failure.Refusal.TheVariants.{BadCsv, BadDirectory}
 use Rattle.hq_queue.specs.declared.account.Customer.{Customer}
 use Rattle.hq_import.specs.Directories.{next_customer, customers_under, customers_in}
-use Rattle.hq_import.specs.Directories.{directory_header}
+use Rattle.hq_import.specs.Directories.{listed_customers, is_directory_header}
 use Rattle.hq_import.specs.First.{first_lines, first_customers}
 use Rattle.hq_import.specs.Records.{records_in, is_header, under_header}
 use Rattle.hq_import.specs.Tables.{next_line, lines_under, table_lines, table_header}
@@ -75,9 +75,9 @@ lines_stop earlier row many = (
       (one_too_many (length earlier) many),
 )
 
-customers_stop : Stops next_customer
+customers_stop : (columns : ℕ) → Stops (next_customer columns)
 unfolding next_customer
-customers_stop earlier row many = (
+customers_stop columns earlier row many = (
   BadDirectory (length earlier + 1),
   refused_first (nat_le (length earlier + 1) 1000) (BadDirectory (length earlier + 1)) _
       (one_too_many (length earlier) many),
@@ -104,25 +104,43 @@ lines_enough file = rows_then table_header (BadCsv 0) (nat_le (length file) 2621
     (records_in file) (lines_under []) (λ rows. enough next_line lines_stop rows 1001 [] refl
     (lit≤ tt))
 
--- the rows of a directory, of which there is at least one
-abbrev some_under : List Row → Result (List Customer) Refusal
-some_under rows = guard (nat_lt 0 (length rows)) (BadDirectory 0) >>=
-    (λ some. customers_under [] rows)
-
 positive : (n : ℕ) → nat_lt 0 (suc n) ≡ true
 positive n = grind (arith, nat_tests)
 
-some_enough : (rows : List Row) → some_under (take 1001 rows) ≡ some_under rows
+-- the rows of a directory, of which there is at least one
+abbrev some_under : ℕ → List Row → Result (List Customer) Refusal
+some_under columns rows = guard (nat_lt 0 (length rows)) (BadDirectory 0) >>=
+    (λ some. customers_under columns [] rows)
+
+some_enough : (columns : ℕ) (rows : List Row) →
+    some_under columns (take 1001 rows) ≡ some_under columns rows
 unfolding customers_under
-some_enough [] = refl
-some_enough (row ∷ rows) =
-    ap (λ b. guard b (BadDirectory 0) >>= (λ some. customers_under [] (take 1001 (row ∷ rows))))
-    (positive (length (take 1000 rows)))
-    ∙ enough next_customer customers_stop (row ∷ rows) 1001 [] refl (lit≤ tt)
-    ∙ ap (λ b. guard b (BadDirectory 0) >>= (λ some. customers_under [] (row ∷ rows)))
+some_enough columns [] = refl
+some_enough columns (row ∷ rows) =
+    ap (λ b. guard b (BadDirectory 0) >>= (λ some. customers_under columns []
+    (take 1001 (row ∷ rows)))) (positive (length (take 1000 rows)))
+    ∙ enough (next_customer columns) (customers_stop columns) (row ∷ rows) 1001 [] refl (lit≤ tt)
+    ∙ ap (λ b. guard b (BadDirectory 0) >>= (λ some. customers_under columns [] (row ∷ rows)))
     (sym (positive (length rows)))
+
+records_enough : (records : List Row) →
+    listed_customers (take 1002 records) ≡ listed_customers records
+unfolding listed_customers
+records_enough [] = refl
+records_enough (header ∷ rows) = chosen (is_directory_header header)
+  where
+    chosen : (b : Bool) →
+        (guard b (BadDirectory 0) >>= (λ known. some_under (length header) (take 1001 rows))) ≡
+        (guard b (BadDirectory 0) >>= (λ known. some_under (length header) rows))
+    chosen true = some_enough (length header) rows
+    chosen false = refl
 
 pub customers_enough : (file : List ℕ) → first_customers file ≡ customers_in file
 unfolding first_customers customers_in
-customers_enough file = rows_then directory_header (BadDirectory 0) (nat_le (length file) 262144)
-    (records_in file) some_under some_enough
+customers_enough file = fitting (nat_le (length file) 262144)
+  where
+    fitting : (b : Bool) →
+        (checked (take 1002 (records_in file)) b (BadDirectory 0) >>= listed_customers) ≡
+        (checked (records_in file) b (BadDirectory 0) >>= listed_customers)
+    fitting true = records_enough (records_in file)
+    fitting false = refl

@@ -1,9 +1,10 @@
 -- Values that carry the proof of their limits.
 use Rattle.std.proofs.Common.{◌≡◌, ℕ, Bool, true, false, IsTrue, List, Result, Ok, Err, refl, ap}
-use Rattle.hq_base.proofs.Truths.{one_proof}
-use Rattle.hq_base.specs.Readers.{◌>>=◌, passes}
-use Rattle.hq_base.specs.declared.failure.Refusal.{Refusal}
-use Rattle.hq_queue.specs.Limits.{is_quota, is_delay}
+use Rattle.std.proofs.Common.{◌∙◌}
+use Rattle.hq_values.proofs.Truths.{one_proof}
+use Rattle.hq_values.specs.Readers.{◌>>=◌, passes}
+use Rattle.hq_values.specs.declared.failure.Refusal.{Refusal}
+use Rattle.hq_queue.specs.Limits.{is_quota, is_delay, is_history}
 use Rattle.hq_queue.specs.declared.account.Entry.{Entry}
 use Rattle.hq_queue.specs.declared.account.Quota.{Quota}
 use Rattle.hq_import.specs.Directories.{quota_of, limited_entry}
@@ -41,17 +42,58 @@ quota_refused bad m b l n h =
     λ k. Ok (record { messages = m; bytes = b; lines = l; notices = n; limits = k }) in
     ap (λ r. r >>= made) (failed (is_quota m b l n) bad h)
 
-pub entry_taken : (bad : Refusal) (name : List ℕ) (quota : Quota) (delay : ℕ)
-    (h : IsTrue (is_delay delay)) → limited_entry bad name quota delay ≡ Ok
-    (record { name = name; quota = quota; delay = delay; limit = h })
-entry_taken bad name quota delay h =
-    let made : IsTrue (is_delay delay) → Result Entry Refusal =
-    λ k. Ok (record { name = name; quota = quota; delay = delay; limit = k }) in
-    ap (λ r. r >>= made) (passed (is_delay delay) bad h)
+pub entry_taken : (bad : Refusal) (name : List ℕ) (quota : Quota) (delay history : ℕ)
+    (h : IsTrue (is_delay delay)) (k : IsTrue (is_history history)) →
+    limited_entry bad name quota delay history ≡ Ok (record {
+      name = name;
+      quota = quota;
+      delay = delay;
+      history = history;
+      limit = h;
+      span = k;
+    })
+entry_taken bad name quota delay history h k =
+    let made : IsTrue (is_delay delay) → IsTrue (is_history history) → Result Entry Refusal =
+    λ x y. Ok (record {
+      name = name;
+      quota = quota;
+      delay = delay;
+      history = history;
+      limit = x;
+      span = y;
+    }) in
+    ap (λ r. r >>= (λ x. passes (is_history history) bad >>= (λ y. made x y)))
+    (passed (is_delay delay) bad h)
+    ∙ ap (λ r. r >>= (λ y. made h y)) (passed (is_history history) bad k)
 
-pub entry_refused : (bad : Refusal) (name : List ℕ) (quota : Quota) (delay : ℕ) →
-    is_delay delay ≡ false → limited_entry bad name quota delay ≡ Err bad
-entry_refused bad name quota delay h =
-    let made : IsTrue (is_delay delay) → Result Entry Refusal =
-    λ k. Ok (record { name = name; quota = quota; delay = delay; limit = k }) in
-    ap (λ r. r >>= made) (failed (is_delay delay) bad h)
+pub entry_refused : (bad : Refusal) (name : List ℕ) (quota : Quota) (delay history : ℕ) →
+    is_delay delay ≡ false → limited_entry bad name quota delay history ≡ Err bad
+entry_refused bad name quota delay history h =
+    let made : IsTrue (is_delay delay) → IsTrue (is_history history) → Result Entry Refusal =
+    λ x y. Ok (record {
+      name = name;
+      quota = quota;
+      delay = delay;
+      history = history;
+      limit = x;
+      span = y;
+    }) in
+    ap (λ r. r >>= (λ x. passes (is_history history) bad >>= (λ y. made x y)))
+    (failed (is_delay delay) bad h)
+
+pub span_refused : (bad : Refusal) (name : List ℕ) (quota : Quota) (delay history : ℕ) →
+    IsTrue (is_delay delay) → is_history history ≡ false →
+    limited_entry bad name quota delay history ≡ Err bad
+span_refused bad name quota delay history h past =
+    let made : IsTrue (is_delay delay) → IsTrue (is_history history) → Result Entry Refusal =
+    λ x y. Ok (record {
+      name = name;
+      quota = quota;
+      delay = delay;
+      history = history;
+      limit = x;
+      span = y;
+    }) in
+    ap (λ r. r >>= (λ x. passes (is_history history) bad >>= (λ y. made x y)))
+    (passed (is_delay delay) bad h)
+    ∙ ap (λ r. r >>= (λ y. made h y)) (failed (is_history history) bad past)

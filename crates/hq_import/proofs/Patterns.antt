@@ -1,9 +1,9 @@
 -- The lines of an access table have patterns of their own.
 use Rattle.std.proofs.Common.{◌≡◌, ℕ, Bool, true, false, not, List, [], ◌∷◌, ◌++◌, Result, Ok, Err}
 use Rattle.std.proofs.Common.{IfOk, IsTrue, Vec, Global, refl, subst}
-use Rattle.hq_base.specs.Readers.{◌>>=◌, guard, Reads, seen_by}
-use Rattle.hq_base.specs.declared.failure.Fail.{Fail}
-use Rattle.hq_base.specs.declared.failure.Refusal.{Refusal}
+use Rattle.hq_values.specs.Readers.{◌>>=◌, guard, Reads, seen_by}
+use Rattle.hq_values.specs.declared.failure.Fail.{Fail}
+use Rattle.hq_values.specs.declared.failure.Refusal.{Refusal}
 use Rattle.hq_access.specs.declared.pattern.Class.{Class}
 use Rattle.hq_access.specs.declared.pattern.Class.TheVariants.{SenderSide, RecipientSide}
 use Rattle.hq_access.specs.declared.pattern.Line.{Line}

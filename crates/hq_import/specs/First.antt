@@ -1,16 +1,16 @@
 -- What the first 1,002 records of a file say: words of the crate's own functions. No claim rests on
 -- them.
 -- Inner: it serves proofs alone, and no promise rests on it.
-use Rattle.std.specs.Prelude.{ℕ, nat_lt, nat_le, List, [], length, take, Result}
-use Rattle.hq_base.specs.Readers.{◌>>=◌, checked, guard}
-use Rattle.hq_base.specs.declared.failure.Refusal.{Refusal}
-use Rattle.hq_base.specs.declared.failure.Refusal.TheVariants.{BadCsv, BadDirectory}
+use Rattle.std.specs.Prelude.{ℕ, nat_le, List, [], length, take, Result}
+use Rattle.hq_values.specs.Readers.{◌>>=◌, checked}
+use Rattle.hq_values.specs.declared.failure.Refusal.{Refusal}
+use Rattle.hq_values.specs.declared.failure.Refusal.TheVariants.{BadCsv, BadDirectory}
 use Rattle.hq_access.specs.declared.pattern.Line.{Line}
 use Rattle.hq_queue.specs.declared.account.Customer.{Customer}
-use Rattle.hq_import.specs.Directories.{customers_under, directory_header}
+use Rattle.hq_import.specs.Directories.{listed_customers}
 use Rattle.hq_import.specs.Records.{Record, records_in, under_header}
 use Rattle.hq_import.specs.Tables.{lines_under, table_header}
-use Rattle.hq_base.specs.Limits.{most_bytes}
+use Rattle.hq_values.specs.Limits.{most_bytes}
 
 abbrev pub first_records : Refusal → List ℕ → Result (List Record) Refusal
 first_records bad file = checked (take 1002 (records_in file)) (nat_le (length file) most_bytes) bad
@@ -22,7 +22,4 @@ unfoldable pub first_lines : List ℕ → Result (List Line) Refusal
 first_lines file = first_rows table_header (BadCsv 0) file >>= lines_under []
 
 unfoldable pub first_customers : List ℕ → Result (List Customer) Refusal
-first_customers file = do
-  rows ← first_rows directory_header (BadDirectory 0) file
-  some ← guard (nat_lt 0 (length rows)) (BadDirectory 0)
-  customers_under [] rows
+first_customers file = first_records (BadDirectory 0) file >>= listed_customers

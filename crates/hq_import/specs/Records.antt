@@ -8,9 +8,9 @@ use Rattle.csv.specs.Machine.{step, is_end, ends_at_end, fields_after, field_aft
 use Rattle.csv.specs.Reading.{default_config, strip_bom}
 use Rattle.csv.specs.declared.parser.State.{State}
 use Rattle.csv.specs.declared.parser.State.TheVariants.{StartRecord}
-use Rattle.hq_base.specs.Readers.{◌>>=◌, checked}
-use Rattle.hq_base.specs.declared.failure.Refusal.{Refusal}
-use Rattle.hq_base.specs.Limits.{most_bytes}
+use Rattle.hq_values.specs.Readers.{◌>>=◌, checked}
+use Rattle.hq_values.specs.declared.failure.Refusal.{Refusal}
+use Rattle.hq_values.specs.Limits.{most_bytes}
 
 -- a record is its fields, and a field its bytes
 abbrev pub Record : Type 0

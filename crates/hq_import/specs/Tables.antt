@@ -5,9 +5,9 @@ use Rattle.std.specs.Prelude.{ℕ, ◌+◌, Bool, true, false, ◌&&◌, not, �
 use Rattle.std.specs.Prelude.{◌++◌, length, codes}
 use Rattle.std.specs.Prelude.{option_and_then, Result, Ok}
 use Rattle.std.specs.List.{list_any}
-use Rattle.hq_base.specs.Readers.{◌>>=◌, guard, or_refuse}
-use Rattle.hq_base.specs.declared.failure.Refusal.{Refusal}
-use Rattle.hq_base.specs.declared.failure.Refusal.TheVariants.{BadCsv, DoubledPattern}
+use Rattle.hq_values.specs.Readers.{◌>>=◌, guard, or_refuse}
+use Rattle.hq_values.specs.declared.failure.Refusal.{Refusal}
+use Rattle.hq_values.specs.declared.failure.Refusal.TheVariants.{BadCsv, DoubledPattern}
 use Rattle.hq_access.specs.Actions.{action_in}
 use Rattle.hq_access.specs.Patterns.{class_in, pattern_in}
 use Rattle.hq_access.specs.declared.pattern.Class.{Class}

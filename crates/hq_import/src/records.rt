@@ -2,12 +2,12 @@
 
 ghost use Rattle.std.specs.Prelude.{◌≡◌, IfOk, bytes_eq, map as map_list, take};
 ghost use Rattle.csv.specs.Records.{fields_of};
-ghost use Rattle.hq_base.specs.Readers.{Reads, seen_by};
+ghost use Rattle.hq_values.specs.Readers.{Reads, seen_by};
 ghost use Rattle.hq_import.specs.First.{first_records};
 ghost use Rattle.hq_import.specs.Records.{records_in, is_header, under_header};
 
 use csv::{ByteRecord, ReaderBuilder};
-use hq_envelope::{Fail, Refusal};
+use hq_values::{Fail, Refusal};
 use std::alloc::{AllocError, Global};
 
 /// The most bytes of a file, a byte order mark among them.
@@ -60,7 +60,7 @@ pub(crate) fn file_records(
 
 /// Whether a record has these fields.
 #[tactic(auto, using(crate::proofs::Headers::lengths_differ))]
-fn is_header(names: &[&str], header: &ByteRecord) -> bool
+pub(crate) fn is_header(names: &[&str], header: &ByteRecord) -> bool
     ensures { result ≡ is_header (map_list (λ n. n.now) names.now) (fields_of header.now) }
 {
     if header.len() != names.len() {

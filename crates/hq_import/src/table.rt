@@ -3,7 +3,7 @@
 ghost use Rattle.std.specs.Prelude.{◌≡◌, ◌<◌, ◌≤◌, [], ◌∷◌, ◌++◌, length, IfOk, IsTrue, OnOk};
 ghost use Rattle.std.specs.Prelude.{map as map_list};
 ghost use Rattle.csv.specs.Records.{fields_of};
-ghost use Rattle.hq_base.specs.Readers.{Reads, seen_by};
+ghost use Rattle.hq_values.specs.Readers.{Reads, seen_by};
 ghost use Rattle.hq_import.specs.First.{first_lines};
 ghost use Rattle.hq_import.specs.Seen.{KnowsPatterns};
 ghost use Rattle.hq_import.specs.Tables.{line_in, next_line, lines_under, table_lines};
@@ -14,7 +14,7 @@ use crate::records::{MOST_ROWS, file_records, under_header};
 use crate::seen::SeenPatterns;
 use csv::ByteRecord;
 use hq_access::{Action, Class, Line, Pattern};
-use hq_envelope::{Fail, Refusal};
+use hq_values::{Fail, Refusal};
 use std::alloc::Global;
 
 /// The fields of the header.

@@ -3,16 +3,19 @@ use Rattle.std.proofs.Common.{◌≡◌, ℕ, List, [], ◌∷◌, map, false, S
 use Rattle.serde_json.specs.Data.{Data, string}
 use Rattle.serde_json.specs.View.{items_of}
 use Rattle.serde_json.specs.Written.{has_float, items_have_float}
-use Rattle.hq_base.specs.declared.failure.Refusal.{Refusal}
-use Rattle.hq_base.specs.declared.failure.Refusal.TheVariants.{AttemptAhead, BadCsv, DoubledPattern}
-use Rattle.hq_base.specs.declared.failure.Refusal.TheVariants.{BadDirectory, DoubledName}
-use Rattle.hq_base.specs.declared.failure.Refusal.TheVariants.{DoubledKey}
+use Rattle.hq_values.specs.declared.failure.Refusal.{Refusal}
+use Rattle.hq_values.specs.declared.failure.Refusal.TheVariants.{AttemptAhead, BadCsv}
+use Rattle.hq_values.specs.declared.failure.Refusal.TheVariants.{DoubledPattern}
+use Rattle.hq_values.specs.declared.failure.Refusal.TheVariants.{BadDirectory, DoubledName}
+use Rattle.hq_values.specs.declared.failure.Refusal.TheVariants.{DoubledKey}
 use Rattle.hq_queue.specs.declared.message.Message.{Message}
 use Rattle.hq_queue.specs.declared.message.Pending.{Pending}
+use Rattle.hq_store.specs.declared.end.End.{End}
 use Rattle.hq_store.specs.declared.notice.Notice.{Notice}
 use Rattle.hq_calls.specs.declared.answer.Answer.{Answer}
 use Rattle.hq_calls.specs.declared.answer.Answer.TheVariants as answer
 use Rattle.hq_json.specs.AttemptReplies.{due_entry, due_listed}
+use Rattle.hq_json.specs.HistoryReplies.{end_entry, history_listed, history_found}
 use Rattle.hq_json.specs.NoticeReplies.{notice_entry, notices_listed, notice_json}
 use Rattle.hq_json.specs.Replies.{entry, pending_entry, message_json, listed, queued, refusal_data}
 use Rattle.hq_json.specs.Replies.{answer_data}
@@ -35,6 +38,10 @@ notice_no_float : (n : Notice) → has_float (notice_entry n) ≡ false
 unfolding notice_entry
 notice_no_float n = refl
 
+end_no_float : (e : End) → has_float (end_entry e) ≡ false
+unfolding end_entry
+end_no_float e = refl
+
 refusal_no_float : (r : Refusal) → has_float (refusal_data r) ≡ false
 refusal_no_float (AttemptAhead attempts) = refl
 refusal_no_float (BadCsv row) = refl
@@ -46,6 +53,7 @@ refusal_no_float _ = refl
 
 pub answer_has_no_float : (a : Answer) → has_float (answer_data a) ≡ false
 unfolding listed message_json queued lines_listed check_json due_listed notices_listed notice_json
+    history_listed history_found
 answer_has_no_float (answer.Refused r) = refusal_no_float r
 answer_has_no_float (answer.Queued m refused) = rw
     (list_no_float (λ (p : Pending). string p.address) (λ _. refl) m.pending)
@@ -75,5 +83,12 @@ answer_has_no_float (answer.Swept counts) = refl
 answer_has_no_float (answer.NoticesListed ns more) =
     rw (list_no_float notice_entry notice_no_float ns) refl
 answer_has_no_float (answer.NoticeShown n) = refl
+answer_has_no_float (answer.HistoryListed es more) =
+    rw (list_no_float end_entry end_no_float es) refl
+answer_has_no_float (answer.HistoryFound es None) =
+    rw (list_no_float end_entry end_no_float es) refl
+answer_has_no_float (answer.HistoryFound es (Some n)) =
+    rw (list_no_float end_entry end_no_float es) refl
 answer_has_no_float (answer.Used usage) = refl
+answer_has_no_float (answer.Allowed most) = refl
 answer_has_no_float (answer.Reported text) = refl

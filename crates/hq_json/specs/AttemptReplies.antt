@@ -3,7 +3,7 @@
 use Rattle.std.specs.Prelude.{ℕ, ◌+◌, Bool, List, [], ◌∷◌, map, codes}
 use Rattle.serde_json.specs.Data.{Data, boolean, string, array}
 use Rattle.serde_json.specs.View.{items_of}
-use Rattle.hq_envelope.specs.Senders.{sender_text}
+use Rattle.hq_values.specs.Senders.{sender_text}
 use Rattle.hq_queue.specs.declared.message.Message.{Message}
 use Rattle.hq_calls.specs.declared.answer.AttemptCounts.{AttemptCounts}
 use Rattle.hq_calls.specs.declared.answer.SweepCounts.{SweepCounts}

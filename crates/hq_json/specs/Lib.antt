@@ -1,4 +1,5 @@
 pub mod AttemptReplies
+pub mod HistoryReplies
 pub mod NoticeReplies
 pub mod Objects
 pub mod OneLine

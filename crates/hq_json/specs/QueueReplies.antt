@@ -2,6 +2,7 @@
 -- their names.
 use Rattle.std.specs.Prelude.{ℕ, List, [], ◌∷◌, codes}
 use Rattle.serde_json.specs.Data.{Data, string}
+use Rattle.hq_calls.specs.declared.answer.Allowance.{Allowance}
 use Rattle.hq_calls.specs.declared.answer.Usage.{Usage}
 use Rattle.hq_json.specs.Objects.{having, count}
 
@@ -17,6 +18,17 @@ used u = having (
     (codes "lines", count u.counts.lines) ∷
     (codes "messages", count u.counts.messages) ∷
     (codes "pending", count u.pending) ∷
+    [])
+
+-- how much it may keep
+abbrev pub allowed : Allowance → Data
+allowed most = having (
+    (codes "bytes", count most.bytes) ∷
+    (codes "delay", count most.delay) ∷
+    (codes "history", count most.history) ∷
+    (codes "lines", count most.lines) ∷
+    (codes "messages", count most.messages) ∷
+    (codes "notices", count most.notices) ∷
     [])
 
 -- the queue report as one text

@@ -4,12 +4,13 @@ use Rattle.std.specs.Prelude.{ℕ, Bool, List, [], ◌∷◌, map, length, codes
 use Rattle.serde_json.specs.Data.{Data, boolean, string, array}
 use Rattle.serde_json.specs.View.{items_of}
 use Rattle.serde_json.specs.Written.{compact_text}
-use Rattle.hq_base.specs.Refusals.{refusal_number, refusal_name}
-use Rattle.hq_envelope.specs.Senders.{sender_text}
-use Rattle.hq_base.specs.declared.failure.Refusal.{Refusal}
-use Rattle.hq_base.specs.declared.failure.Refusal.TheVariants.{AttemptAhead, BadCsv, DoubledPattern}
-use Rattle.hq_base.specs.declared.failure.Refusal.TheVariants.{BadDirectory, DoubledName}
-use Rattle.hq_base.specs.declared.failure.Refusal.TheVariants.{DoubledKey}
+use Rattle.hq_values.specs.Refusals.{refusal_number, refusal_name}
+use Rattle.hq_values.specs.Senders.{sender_text}
+use Rattle.hq_values.specs.declared.failure.Refusal.{Refusal}
+use Rattle.hq_values.specs.declared.failure.Refusal.TheVariants.{AttemptAhead, BadCsv}
+use Rattle.hq_values.specs.declared.failure.Refusal.TheVariants.{DoubledPattern}
+use Rattle.hq_values.specs.declared.failure.Refusal.TheVariants.{BadDirectory, DoubledName}
+use Rattle.hq_values.specs.declared.failure.Refusal.TheVariants.{DoubledKey}
 use Rattle.hq_access.specs.declared.verdicts.Refused.{Refused}
 use Rattle.hq_queue.specs.declared.message.Message.{Message}
 use Rattle.hq_queue.specs.declared.message.Pending.{Pending}
@@ -18,9 +19,10 @@ use Rattle.hq_queue.specs.declared.message.QueueState.TheVariants.{Incoming, Def
 use Rattle.hq_calls.specs.declared.answer.Answer.{Answer}
 use Rattle.hq_calls.specs.declared.answer.Answer.TheVariants as answer
 use Rattle.hq_json.specs.AttemptReplies.{attempt_json, attempt_repeated, due_listed, sweep_json}
+use Rattle.hq_json.specs.HistoryReplies.{history_listed, history_found}
 use Rattle.hq_json.specs.NoticeReplies.{notices_listed, notice_json}
 use Rattle.hq_json.specs.Objects.{having, count, id, addresses}
-use Rattle.hq_json.specs.QueueReplies.{used, report_json}
+use Rattle.hq_json.specs.QueueReplies.{used, allowed, report_json}
 use Rattle.hq_json.specs.TableReplies.{refused_list, lines_listed, line_put, line_dropped}
 use Rattle.hq_json.specs.TableReplies.{check_json, import_json}
 
@@ -167,7 +169,10 @@ answer_data (answer.DueListed ms more) = due_listed ms more
 answer_data (answer.Swept counts) = sweep_json counts
 answer_data (answer.NoticesListed ns more) = notices_listed ns more
 answer_data (answer.NoticeShown n) = notice_json n
+answer_data (answer.HistoryListed es more) = history_listed es more
+answer_data (answer.HistoryFound es next) = history_found es next
 answer_data (answer.Used usage) = used usage
+answer_data (answer.Allowed most) = allowed most
 answer_data (answer.Reported text) = report_json text
 
 -- the bytes of an answer

@@ -2,6 +2,7 @@
 #![tactic(auto)]
 
 mod attempt_replies;
+mod history_replies;
 pub mod laws;
 mod notice_replies;
 mod objects;

@@ -4,7 +4,7 @@ ghost use Rattle.std.specs.Prelude.{◌≡◌, IfOk};
 ghost use Rattle.serde_json.specs.View.{view};
 ghost use Rattle.hq_json.specs.QueueReplies as replies;
 
-use hq_calls::Usage;
+use hq_calls::{Allowance, Usage};
 use serde_json::{Value, json};
 use std::alloc::{AllocError, Global};
 
@@ -18,6 +18,16 @@ pub(crate) fn used_value(alloc: Global, usage: Usage) -> Result<Value, AllocErro
         "accepted": tally.accepted, "bytes": counts.bytes, "deleted": tally.deleted,
         "delivered": tally.delivered, "expired": tally.expired, "failed": tally.failed,
         "lines": counts.lines, "messages": counts.messages, "pending": usage.pending
+    })
+}
+
+/// How much a customer may keep.
+pub(crate) fn allowed_value(alloc: Global, most: Allowance) -> Result<Value, AllocError>
+    ensures { IfOk result (λ v. view v ≡ replies.allowed most) }
+{
+    json!(in alloc; {
+        "bytes": most.bytes, "delay": most.delay, "history": most.history, "lines": most.lines,
+        "messages": most.messages, "notices": most.notices
     })
 }
 

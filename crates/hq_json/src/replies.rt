@@ -9,16 +9,17 @@ ghost use Rattle.hq_json.specs.Replies as replies;
 ghost use Rattle.hq_json.specs.Objects as objects;
 
 use crate::attempt_replies::{attempted_value, due_value, repeated_attempt_value, swept_value};
+use crate::history_replies::{found_value, history_value};
 use crate::notice_replies::{notice_value, notices_value};
 use crate::objects::{address_list, id_value};
-use crate::queue_replies::{reported_value, used_value};
+use crate::queue_replies::{allowed_value, reported_value, used_value};
 use crate::table_replies::{
     checked_value, imported_value, line_dropped_value, line_put_value, lines_value, refused_list,
 };
 use hq_access::Refused;
 use hq_calls::{Answer, Render};
-use hq_envelope::{Refusal, Serial};
 use hq_queue::{Message, Pending, QueueState, Status};
+use hq_values::{Refusal, Serial};
 use serde_json::{Value, json};
 use std::alloc::{AllocError, Global};
 
@@ -221,7 +222,10 @@ fn answer_value(alloc: Global, answer: &Answer) -> Result<Value, AllocError>
         Answer::Swept(counts) => swept_value(alloc, *counts),
         Answer::NoticesListed(notices, more) => notices_value(alloc, notices.as_slice(), *more),
         Answer::NoticeShown(notice) => notice_value(alloc, notice),
+        Answer::HistoryListed(ends, more) => history_value(alloc, ends.as_slice(), *more),
+        Answer::HistoryFound(ends, next) => found_value(alloc, ends.as_slice(), *next),
         Answer::Used(usage) => used_value(alloc, *usage),
+        Answer::Allowed(most) => allowed_value(alloc, *most),
         Answer::Reported(report) => reported_value(alloc, report.as_str()),
     }
 }

@@ -1,7 +1,7 @@
 -- Steps in order, and how far they bring the loop.
 use Rattle.std.proofs.Common.{◌≡◌, ℕ, arith, Bool, true, false, List, [], ◌∷◌, ◌++◌, length, Option}
-use Rattle.std.proofs.Common.{Result, Ok, Err, OnOk, IfErr, inl, inr, refl, sym, ap, ◌∙◌, subst}
-use Rattle.std.proofs.Common.{cond, eqb, ltb, append-nil}
+use Rattle.std.proofs.Common.{Result, Ok, Err, MatchResult, IfErr, inl, inr, refl, sym, ap, ◌∙◌}
+use Rattle.std.proofs.Common.{subst, cond, eqb, ltb, take, append-nil, append_assoc}
 use Rattle.std.specs.Bool.{⊤}
 use Rattle.std.specs.List.{filter, concat}
 use Rattle.std.specs.Io.KnownBytes.{Consumes, Appends, Keeps, IsAtEnd}
@@ -10,16 +10,17 @@ use Rattle.std.proofs.KnownBytes.{Appends-nil}
 use Rattle.std.proofs.lemmas.Bool.{lt-ltb, eqb-false}
 use Rattle.std.proofs.lemmas.List.{map-append}
 use Rattle.std.proofs.lemmas.List.Folds.{concat-append}
-use Rattle.hq_base.specs.declared.engine.EngineFault.{EngineFault}
-use Rattle.hq_base.specs.declared.engine.EngineFault.TheVariants.{Read, Write, TooManyReads}
-use Rattle.hq_base.specs.declared.engine.EngineFault.TheVariants.{WantOfMemory}
+use Rattle.hq_values.specs.declared.engine.EngineFault.{EngineFault}
+use Rattle.hq_values.specs.declared.engine.EngineFault.TheVariants.{Read, Write, TooManyReads}
+use Rattle.hq_values.specs.declared.engine.EngineFault.TheVariants.{WantOfMemory}
 use Rattle.hq_lines.specs.Fields.{LineRequest, request_in}
-use Rattle.hq_base.specs.Turns.{InTurn}
-use Rattle.hq_base.proofs.Turns.{turns_on}
+use Rattle.hq_values.specs.Turns.{InTurn}
+use Rattle.hq_values.proofs.Turns.{turns_on}
 use Rattle.hq_lines.specs.Ends.{InputEnds}
 use Rattle.hq_lines.specs.Lines.{parted, without_return, is_filled, whole_lines, lines_in, requests}
-use Rattle.hq_lines.specs.Lines.{Streams, AnsweredLines, Broken}
+use Rattle.hq_lines.specs.Lines.{Streams, AnsweredLines, Broken, BrokenOff}
 use Rattle.hq_lines.specs.Progress.{kept, Progress, Cut, Going}
+use Rattle.hq_lines.specs.Written.{AppendsPart}
 use Rattle.hq_lines.proofs.Lines.{whole_more, first_lines, kept_more, kept_none, asks_kept}
 use Rattle.hq_lines.proofs.Lines.{asks_ended}
 
@@ -28,6 +29,31 @@ pub filled_told : (line : List ℕ) (empty : Bool) → empty ≡ eqb (length lin
     is_filled line ≡ true
 filled_told line empty h k = lt-ltb 0 (length line)
     (omega (arith, eqb-false (length line) 0 (sym h ∙ k)))
+
+-- one reply is broken off
+broken_one : (w v : Option (List ℕ)) (reply : List ℕ) → AppendsPart w v reply →
+    BrokenOff w v (reply ∷ [])
+broken_one w v reply p = record {
+  whole = [];
+  last = reply;
+  size = p.0;
+  all = refl;
+  written = p.1;
+}
+
+-- behind whole replies, further ones are broken off
+pub broken_behind : (w v u : Option (List ℕ)) (told others : List (List ℕ)) →
+    Appends w v (concat told) → BrokenOff v u others → BrokenOff w u (told ++ others)
+broken_behind w v u told others p q = record {
+  whole = told ++ q.whole;
+  last = q.last;
+  size = q.size;
+  all = ap (λ l. told ++ l) q.all ∙ sym (append_assoc told q.whole (q.last ∷ []));
+  written = subst (Appends w u)
+      (sym (append_assoc (concat told) (concat q.whole) (take q.size q.last))
+      ∙ ap (λ l. l ++ take q.size q.last) (sym (concat-append told q.whole)))
+      (Appends-trans w v u _ _ p q.written);
+}
 
 module _ {S : Type 0} (steps : S → Option LineRequest → List ℕ → S → Type 0) where
   -- steps for some lines, and then for further ones
@@ -57,10 +83,15 @@ module _ {S : Type 0} (steps : S → Option LineRequest → List ℕ → S → T
     subst (Appends w v) (sym (append-nil p.0)) p.2,
   )
 
-  pub step_done : {X : Type 0} (old new : S) (line : List ℕ) → X → is_filled line ≡ true →
-      (reply : List ℕ) × steps old (request_in line) reply new × X → (replies : List (List ℕ))
-      × InTurn steps old (requests (filter is_filled (line ∷ []))) replies new × X
-  step_done old new line x h p = (p.0 ∷ [], step_run old new line p.0 h p.1, x)
+  pub step_broken : (old new : S) (w v : Option (List ℕ)) (line : List ℕ) → is_filled line ≡ true →
+      (reply : List ℕ) × steps old (request_in line) reply new × AppendsPart w v reply →
+      (replies : List (List ℕ)) × InTurn steps old (requests (filter is_filled (line ∷ []))) replies
+      new × BrokenOff w v replies
+  step_broken old new w v line h p = (
+    p.0 ∷ [],
+    step_run old new line p.0 h p.1,
+    broken_one w v p.0 p.2,
+  )
 
   -- before the first byte
   pub going_none : (ro wo : Option (List ℕ)) (s : S) (line : List ℕ) → line ≡ [] →
@@ -106,16 +137,17 @@ module _ {S : Type 0} (steps : S → Option LineRequest → List ℕ → S → T
   }
 
   -- a reply could not be written
-  pub cut_here : {X : Type 0} (xs ys : List ℕ) (b : ℕ) (wo w : Option (List ℕ)) (s t u : S)
+  pub cut_here : (xs ys : List ℕ) (b : ℕ) (wo w v : Option (List ℕ)) (s t u : S)
       (old : List ℕ) → Progress steps xs wo w s t old → (replies : List (List ℕ))
       × InTurn steps t (requests (cond (eqb b 10) (filter is_filled (without_return old ∷ [])) []))
-      replies u × X → Cut steps ((xs ++ b ∷ []) ++ ys) s u
-  cut_here xs ys b wo w s t u old p q =
+      replies u × BrokenOff w v replies → Cut steps ((xs ++ b ∷ []) ++ ys) wo v s u
+  cut_here xs ys b wo w v s t u old p q =
       let first = first_lines ys (xs ++ b ∷ []) in
       record {
         first = whole_lines (xs ++ b ∷ []);
         missed = first.0;
         replies = p.replies ++ q.0;
+        written = broken_behind wo w v p.replies q.0 p.written q.2;
         lines = first.1;
         run = run_byte xs b wo w s t u old p q.0 q.1;
       }
@@ -154,7 +186,8 @@ module _ {S : Type 0} (steps : S → Option LineRequest → List ℕ → S → T
     Done t asked replies = InTurn steps s asked replies t
 
     broken_chunk : (r n w v : Option (List ℕ)) (t u : S) (old chunk : List ℕ)
-        (p : Going steps ro r wo w s t old) → Consumes r n chunk → Cut steps (p.bytes ++ chunk) s u
+        (p : Going steps ro r wo w s t old) → Consumes r n chunk →
+        Cut steps (p.bytes ++ chunk) wo v s u
         → Broken (Done u) (record { input = ro; output = wo }) (record { input = n; output = v })
     broken_chunk r n w v t u old chunk p got q =
         record {
@@ -163,6 +196,7 @@ module _ {S : Type 0} (steps : S → Option LineRequest → List ℕ → S → T
           missed = q.missed;
           replies = q.replies;
           read = Consumes-trans ro r n p.bytes chunk p.read got;
+          written = q.written;
           lines = inl q.lines;
           done_first = q.run;
         }
@@ -170,7 +204,7 @@ module _ {S : Type 0} (steps : S → Option LineRequest → List ℕ → S → T
     -- a reply in the middle of a chunk could not be written
     pub cut_ends : (e : EngineFault) (r n w v : Option (List ℕ)) (t u : S) (old chunk : List ℕ)
         (p : Going steps ro r wo w s t old) → Consumes r n chunk → (e ≡ Write)
-        × Cut steps (p.bytes ++ chunk) s u → InputEnds (Done u) ⊥
+        × Cut steps (p.bytes ++ chunk) wo v s u → InputEnds (Done u) ⊥
         (record { input = ro; output = wo })
         (record { input = n; output = v }) (Err e)
     cut_ends e r n w v t u old chunk p got cut =
@@ -207,7 +241,8 @@ module _ {S : Type 0} (steps : S → Option LineRequest → List ℕ → S → T
     pub ends : (result : Result ⊤ EngineFault) (n w v : Option (List ℕ)) (t u : S)
         (line last : List ℕ) → last ≡ line → IsAtEnd n → Going steps ro n wo w s t line
         → (replies : List (List ℕ)) × InTurn steps t (requests (filter is_filled (last ∷ [])))
-        replies u × OnOk result (Appends w v (concat replies)) → IfErr result (λ e. e ≡ Write)
+        replies u × MatchResult result (λ _. Appends w v (concat replies))
+        (λ _. BrokenOff w v replies) → IfErr result (λ e. e ≡ Write)
         → InputEnds (Done u) ⊥ (record { input = ro; output = wo })
         (record { input = n; output = v })
         result
@@ -230,6 +265,7 @@ module _ {S : Type 0} (steps : S → Option LineRequest → List ℕ → S → T
           missed = [];
           replies = p.progress.replies ++ q.0;
           read = p.read;
+          written = broken_behind wo w v p.progress.replies q.0 p.progress.written q.2;
           lines = inr (end, sym (append-nil (lines_in p.bytes)));
           done_first = run_end n w t u line last h p q.0 q.1;
         })
@@ -261,6 +297,7 @@ module _ (done other : List (Option LineRequest) → List (List ℕ) → Type 0)
     missed = p.missed;
     replies = p.replies;
     read = p.read;
+    written = p.written;
     lines = p.lines;
     done_first = so _ _ p.done_first;
   }

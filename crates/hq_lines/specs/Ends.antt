@@ -3,14 +3,15 @@ use Rattle.std.specs.Prelude.{⊤, ℕ, List, Option, Result, Ok, Err}
 use Rattle.std.specs.Io.KnownBytes.{IsAtEnd}
 use Rattle.hq_lines.specs.Fields.{LineRequest}
 use Rattle.hq_lines.specs.Lines.{whole_lines, lines_in, Streams, AnsweredLines, Broken}
-use Rattle.hq_base.specs.declared.engine.EngineFault.{EngineFault}
-use Rattle.hq_base.specs.declared.engine.EngineFault.TheVariants.{Read, Write, TooManyReads}
-use Rattle.hq_base.specs.declared.engine.EngineFault.TheVariants.{WantOfMemory}
+use Rattle.hq_values.specs.declared.engine.EngineFault.{EngineFault}
+use Rattle.hq_values.specs.declared.engine.EngineFault.TheVariants.{Read, Write, TooManyReads}
+use Rattle.hq_values.specs.declared.engine.EngineFault.TheVariants.{WantOfMemory}
 
 -- Where it ends well, the input was read to its end and all its lines are answered; after a failed
 -- read or the last that is allowed, the whole lines among the bytes read are; after a failed write
--- the first lines are done; and where the room for a line was refused, nothing was touched. `done`
--- says what requests and their replies did.
+-- the lines up to the one whose reply could not be written are done, and no other; and where the
+-- room for a line was refused, nothing was touched. `done` says what requests and their replies
+-- did.
 abbrev pub InputEnds : (List (Option LineRequest) → List (List ℕ) → Type 0) → Type 0 → Streams →
     Streams → Result ⊤ EngineFault → Type 0
 InputEnds done untouched old new (Ok _) = AnsweredLines done lines_in old new × IsAtEnd new.input

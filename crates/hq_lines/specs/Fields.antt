@@ -3,10 +3,10 @@ use Rattle.std.specs.Prelude.{ℕ, ◌+◌, ◌==◌, ◌&&◌, nat_lt, nat_le, 
 use Rattle.std.specs.Prelude.{length, take, drop, position, bytes_eq, codes, Option, Some, None}
 use Rattle.std.specs.Prelude.{option_map}
 use Rattle.std.specs.Str.{is_utf8}
-use Rattle.hq_base.specs.Decimals.{number_in}
-use Rattle.hq_base.specs.Options.{◌>>=◌}
+use Rattle.hq_values.specs.Decimals.{number_in}
+use Rattle.hq_values.specs.Options.{◌>>=◌}
 use Rattle.hq_lines.specs.declared.fields.RequestLine.{RequestLine}
-use Rattle.hq_base.specs.Moments.{last_moment}
+use Rattle.hq_values.specs.Moments.{last_moment}
 
 -- What a batch line asks for: at a moment, a method and a path with a key or none, and the bytes of
 -- a body.

@@ -2,3 +2,4 @@ pub mod Fields
 pub mod Ends
 pub mod Lines
 pub mod Progress
+pub mod Written

@@ -1,6 +1,6 @@
 -- The lines of an input, and what it is to answer them in order.
 use Rattle.std.specs.Prelude.{◌≡◌, ◌⊎◌, ℕ, nat_lt, nat_le, ◌==◌, Bool, if◌then◌else◌, List, [], ◌∷◌}
-use Rattle.std.specs.Prelude.{◌++◌, length, map, Option}
+use Rattle.std.specs.Prelude.{◌++◌, length, map, take, Option}
 use Rattle.std.specs.List.{filter, concat}
 use Rattle.std.specs.Io.BufRead.{strip_last}
 use Rattle.std.specs.Io.KnownBytes.{Consumes, Appends, IsAtEnd}
@@ -59,8 +59,17 @@ pub record AnsweredLines (done : List (Option LineRequest) → List (List ℕ) �
 abbrev pub AreRead : Option (List ℕ) → List ℕ → List (List ℕ) → Type 0
 AreRead rest bytes lines = (whole_lines bytes ≡ lines) ⊎ (IsAtEnd rest × (lines_in bytes ≡ lines))
 
--- Some bytes were read, and the first of those lines were done; of what was written nothing is
--- said.
+-- All replies but the last were written whole, and of the last a beginning: none of it, some or
+-- all.
+pub record BrokenOff (old new : Option (List ℕ)) (replies : List (List ℕ)) : Type 0 where
+  pub whole : List (List ℕ)
+  pub last : List ℕ
+  pub size : ℕ
+  pub all : replies ≡ whole ++ last ∷ []
+  pub written : Appends old new (concat whole ++ take size last)
+
+-- Some bytes were read, and the first of those lines were done, up to the one whose reply could not
+-- be written: the replies to those before it were written whole, and of its own a beginning.
 pub record Broken (done : List (Option LineRequest) → List (List ℕ) → Type 0) (old new : Streams) :
     Type 0 where
   pub bytes : List ℕ
@@ -68,5 +77,6 @@ pub record Broken (done : List (Option LineRequest) → List (List ℕ) → Type
   pub missed : List (List ℕ)
   pub replies : List (List ℕ)
   pub read : Consumes old.input new.input bytes
+  pub written : BrokenOff old.output new.output replies
   pub lines : AreRead new.input bytes (first ++ missed)
   pub done_first : done (requests first) replies

@@ -4,8 +4,8 @@ use Rattle.std.specs.Prelude.{◌≡◌, ℕ, ◌+◌, List, ◌++◌, take, Opt
 use Rattle.std.specs.List.{concat}
 use Rattle.std.specs.Io.KnownBytes.{Consumes, Appends}
 use Rattle.hq_lines.specs.Fields.{LineRequest, most_line_bytes}
-use Rattle.hq_base.specs.Turns.{InTurn}
-use Rattle.hq_lines.specs.Lines.{parted, whole_lines, requests}
+use Rattle.hq_values.specs.Turns.{InTurn}
+use Rattle.hq_lines.specs.Lines.{parted, whole_lines, requests, BrokenOff}
 
 -- what is kept of a line that is begun: enough to see that it is too long
 unfoldable pub kept : List ℕ → List ℕ
@@ -21,12 +21,14 @@ pub record Progress {S : Type 0} (steps : S → Option LineRequest → List ℕ 
   pub run : InTurn steps old (requests (whole_lines bytes)) replies new
   pub line : begun ≡ kept (parted bytes).1
 
--- The steps of the first whole lines of these bytes are done.
+-- The steps of the first whole lines of these bytes are done, and the last reply is not told to be
+-- whole.
 pub record Cut {S : Type 0} (steps : S → Option LineRequest → List ℕ → S → Type 0) (bytes : List ℕ)
-    (old new : S) : Type 0 where
+    (write_old write_new : Option (List ℕ)) (old new : S) : Type 0 where
   pub first : List (List ℕ)
   pub missed : List (List ℕ)
   pub replies : List (List ℕ)
+  pub written : BrokenOff write_old write_new replies
   pub lines : whole_lines bytes ≡ first ++ missed
   pub run : InTurn steps old (requests first) replies new
 

@@ -1,17 +1,19 @@
 //! The loop over the lines of an input: each line that is not empty is answered, in order.
 
 ghost use Rattle.std.specs.Prelude.{◌≡◌, ◌<◌, ◌==◌, ◌++◌, ◌∷◌, [], List, ℕ, Option, Err, false};
-ghost use Rattle.std.specs.Prelude.{length, nat_lt, IfOk, OnOk, IfErr, if◌then◌else◌};
+ghost use Rattle.std.specs.Prelude.{length, nat_lt, IfOk, OnOk, IfErr, MatchResult};
+ghost use Rattle.std.specs.Prelude.{if◌then◌else◌};
 ghost use Rattle.std.specs.List.{filter, concat};
 ghost use Rattle.std.specs.Io.KnownBytes.{Appends, IsAtEnd};
 ghost use Rattle.hq_lines.specs.Fields.{LineRequest, request_in};
-ghost use Rattle.hq_base.specs.Turns.{InTurn};
-ghost use Rattle.hq_lines.specs.Lines.{is_filled, without_return, requests};
+ghost use Rattle.hq_values.specs.Turns.{InTurn};
+ghost use Rattle.hq_lines.specs.Lines.{is_filled, without_return, requests, BrokenOff};
 ghost use Rattle.hq_lines.specs.Ends.{InputEnds};
 ghost use Rattle.hq_lines.specs.Progress.{Progress, Cut, Going};
+ghost use Rattle.hq_lines.specs.Written.{GoesOut};
 
 use crate::buffer::LineBuffer;
-use hq_base::EngineFault;
+use hq_values::EngineFault;
 use std::alloc::Global;
 use std::io::{self, ErrorKind, Read, Write};
 
@@ -28,11 +30,11 @@ pub trait Answers {
     ghost steps: { Self → Option LineRequest → List ℕ → Self → Type 0 };
 
     /// Does the step of one line that is not empty, and writes its reply, whole and with its line
-    /// feed. The step goes by what the line asks for, as `read_line` tells. An error says that the
-    /// reply was not written; the step is done all the same.
+    /// feed. The step goes by what the line asks for, as `read_line` tells. An error says that only
+    /// a beginning of the reply was written; the step is done all the same.
     fn answer<W: Write>(&mut self, line: &[u8], writer: &mut W) -> io::Result<()>
         ensures { (reply : List ℕ) × steps self.old (request_in line.now) reply self.new
-            × OnOk result (Appends (W.contents writer.old) (W.contents writer.new) reply) };
+            × GoesOut (W.contents writer.old) (W.contents writer.new) reply result };
 }
 
 /// Answers the lines of an input in order. Room for a line is taken before the first read.
@@ -125,7 +127,8 @@ fn take_chunk<W: Write, A: Answers>(
     ensures cut { (before : List ℕ) (write_old : Option (List ℕ)) (old : A)
         → Progress A.steps before write_old
         (W.contents writer.old) old answers.old line.old.bytes.items → IfErr result
-        (λ e. (e ≡ EngineFault.Write) × Cut A.steps (before ++ chunk.now) old answers.new) }
+        (λ e. (e ≡ EngineFault.Write) × Cut A.steps (before ++ chunk.now) write_old
+        (W.contents writer.new) old answers.new) }
 {
     for byte in chunk {
         take_byte(line, *byte, writer, answers)?;
@@ -147,8 +150,9 @@ fn take_byte<W: Write, A: Answers>(
         else line.old.bytes.items))) }
     ensures answered { (replies : List (List ℕ)) × InTurn A.steps answers.old
         (requests (if byte == 10 then filter is_filled (without_return line.old.bytes.items ∷ [])
-        else [])) replies answers.new × OnOk result
-        (Appends (W.contents writer.old) (W.contents writer.new) (concat replies)) }
+        else [])) replies answers.new × MatchResult result
+        (λ _. Appends (W.contents writer.old) (W.contents writer.new) (concat replies))
+        (λ _. BrokenOff (W.contents writer.old) (W.contents writer.new) replies) }
     ensures fault { IfErr result (λ e. e ≡ EngineFault.Write) }
 {
     if byte != b'\n' {
@@ -167,8 +171,9 @@ fn answer_line<W: Write, A: Answers>(
     answers: &mut A,
 ) -> Result<(), EngineFault>
     ensures answered { (replies : List (List ℕ)) × InTurn A.steps answers.old
-        (requests (filter is_filled (line.now ∷ []))) replies answers.new × OnOk result
-        (Appends (W.contents writer.old) (W.contents writer.new) (concat replies)) }
+        (requests (filter is_filled (line.now ∷ []))) replies answers.new × MatchResult result
+        (λ _. Appends (W.contents writer.old) (W.contents writer.new) (concat replies))
+        (λ _. BrokenOff (W.contents writer.old) (W.contents writer.new) replies) }
     ensures fault { IfErr result (λ e. e ≡ EngineFault.Write) }
 {
     if line.is_empty() {

@@ -5,7 +5,7 @@ ghost use Rattle.std.specs.Prelude.{◌≡◌, ◌<◌, ◌==◌, length, positi
 ghost use Rattle.hq_lines.specs.Fields.{cut, moment_in, word_in, key_word, line_fields, request_in};
 ghost use Rattle.hq_lines.specs.Fields.{line_request};
 
-use hq_base::{Moment, read_number};
+use hq_values::{Moment, read_number};
 
 /// The most bytes of a line that is read, a carriage return before its line feed among them.
 pub(crate) const MOST_LINE_BYTES: usize = 300_000;

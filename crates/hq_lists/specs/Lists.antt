@@ -2,8 +2,9 @@
 use Rattle.hq_lists.specs.declared.list_rows.ListRows.{ListRows}
 use Rattle.hq_store.specs.Tables.{Tables}
 use Rattle.hq_rows.specs.Listed.{heads_of, messages_of, recipients_of, holds_of, lines_of, marks_of}
-use Rattle.hq_rows.specs.Listed.{notices_of}
+use Rattle.hq_rows.specs.Listed.{notices_of, ends_of}
 use Rattle.hq_rows.specs.Lookups.{AreUnique, AreDealt, AreUniqueLines, AreUniqueNotices}
+use Rattle.hq_rows.specs.Lookups.{AreUniqueEnds}
 
 abbrev pub tables_of : ListRows → Tables
 tables_of s = record {
@@ -14,9 +15,11 @@ tables_of s = record {
   lines = lines_of s.lines.items;
   marks = marks_of s.marks.items;
   notices = notices_of s.notices.items;
+  ends = ends_of s.ends.items;
 }
 
 -- no row stands twice, and recipients lie in the order of their places
 abbrev pub AreInOrder : ListRows → Type 0
 AreInOrder s = AreUnique s.messages.items × AreDealt s.recipients.items
     × AreUniqueLines s.lines.items × AreUniqueNotices s.notices.items
+    × AreUniqueEnds s.ends.items

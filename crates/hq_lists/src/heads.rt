@@ -9,13 +9,13 @@ ghost use Rattle.hq_store.specs.Tables.{without_message, with_line, without_line
 ghost use Rattle.hq_rows.specs.Listed.{heads_of, messages_of, lines_of};
 ghost use Rattle.hq_rows.specs.Lookups.{is_head};
 
+use crate::lines::has_line;
+use crate::messages::size_in;
 use hq_access::Pattern;
-use hq_envelope::{Name, Serial, TryCopy};
-use hq_list_tables::lines::has_line;
-use hq_list_tables::messages::size_in;
 use hq_queue::Head;
 use hq_rows::{HeadRow, LineRow, MessageRow};
 use hq_store::Account;
+use hq_values::{Name, Serial, TryCopy};
 use std::alloc::{AllocError, Global};
 
 fn find_head<'a>(rows: &'a [HeadRow], customer: &Name) -> Option<&'a HeadRow>

@@ -7,13 +7,12 @@ ghost use Rattle.hq_lists.specs.Lists.{AreInOrder};
 ghost use Rattle.hq_store.specs.declared.change.Change.TheVariants.{PutMessage, DropMessage};
 ghost use Rattle.hq_store.specs.declared.change.Change.TheVariants.{PutLine, DropLine};
 
-use crate::heads;
+use crate::{ends, heads, holds, lines, marks, messages, notices, recipients};
 use hq_access::{Line, Pattern};
-use hq_envelope::{Name, Serial, TryCopy, copy_all};
-use hq_list_tables::{holds, lines, marks, messages, notices, recipients};
 use hq_queue::Message;
-use hq_rows::{HeadRow, HoldRow, LineRow, MarkRow, MessageRow, NoticeRow, RecipientRow};
+use hq_rows::{EndRow, HeadRow, HoldRow, LineRow, MarkRow, MessageRow, NoticeRow, RecipientRow};
 use hq_store::Change;
+use hq_values::{Name, Serial, TryCopy, copy_all};
 use std::alloc::{AllocError, Global};
 
 /// The rows of all tables.
@@ -26,6 +25,7 @@ pub struct ListRows {
     pub lines: Vec<LineRow>,
     pub marks: Vec<MarkRow>,
     pub notices: Vec<NoticeRow>,
+    pub ends: Vec<EndRow>,
 }
 
 impl ListRows {
@@ -41,6 +41,7 @@ impl ListRows {
         let lines = copy_all(alloc, self.lines.as_slice())?;
         let marks = copy_all(alloc, self.marks.as_slice())?;
         let notices = copy_all(alloc, self.notices.as_slice())?;
+        let ends = copy_all(alloc, self.ends.as_slice())?;
         Ok(ListRows {
             heads,
             messages,
@@ -49,6 +50,7 @@ impl ListRows {
             lines,
             marks,
             notices,
+            ends,
         })
     }
 
@@ -163,6 +165,11 @@ impl ListRows {
             }
             Change::DropNoticesBelow(number) => {
                 notices::drop_below(&mut self.notices, customer, *number);
+                Ok(())
+            }
+            Change::PutEnds(ends) => ends::put_ends(alloc, &mut self.ends, customer, ends),
+            Change::DropEndsTo(number) => {
+                ends::drop_to(&mut self.ends, customer, *number);
                 Ok(())
             }
         }

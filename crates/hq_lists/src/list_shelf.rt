@@ -4,13 +4,12 @@ ghost use Rattle.std.specs.Prelude.{◌≡◌};
 ghost use Rattle.hq_store.specs.Tables.{no_tables};
 ghost use Rattle.hq_lists.specs.Lists.{tables_of};
 
-use crate::heads;
 use crate::list_rows::ListRows;
+use crate::{ends, heads, lines, marks, messages, notices};
 use hq_access::{Action, Class, Line, LookupKey, Pattern};
-use hq_envelope::{Fault, Items, Label, Name, Serial, Spool};
-use hq_list_tables::{lines, marks, messages, notices};
 use hq_queue::{Counts, Head, Message};
-use hq_store::{Change, Mark, Notice, Shelf};
+use hq_store::{Change, End, Mark, Notice, Shelf};
+use hq_values::{Fault, Items, Label, Name, Serial, Spool};
 use std::alloc::Global;
 use std::marker::Model;
 
@@ -50,6 +49,7 @@ impl ListShelf {
             lines: Vec::new(alloc),
             marks: Vec::new(alloc),
             notices: Vec::new(alloc),
+            ends: Vec::new(alloc),
         };
         ListShelf { alloc, rows }
     }
@@ -57,7 +57,7 @@ impl ListShelf {
 
 impl Shelf for ListShelf {
     ghost use Rattle.std.specs.Prelude.{◌≡◌, ⊤, false};
-    ghost use Rattle.hq_base.specs.declared.failure.Fault.TheVariants.{WantOfMemory};
+    ghost use Rattle.hq_values.specs.declared.failure.Fault.TheVariants.{WantOfMemory};
     ghost use Rattle.hq_lists.specs.Lists.{tables_of};
 
     /// It is always clean and open. It is in memory, and nothing opens it again: no opening finds
@@ -163,6 +163,21 @@ impl Shelf for ListShelf {
             self.rows.notices.as_slice(),
             customer,
             after,
+            limit,
+        )?)
+    }
+
+    fn ends(
+        &mut self,
+        customer: &Name,
+        before: Option<u64>,
+        limit: usize,
+    ) -> Result<Items<End>, Fault> {
+        Ok(ends::page_in(
+            self.alloc,
+            self.rows.ends.as_slice(),
+            customer,
+            before,
             limit,
         )?)
     }

@@ -52,7 +52,11 @@ is_long (Some text) = nat_lt most_shown (length text)
 
 abbrev pub text_or_null : Option (List ℕ) → Data
 text_or_null None = null
-text_or_null (Some text) = string (shown text)
+text_or_null (Some text) = string text
+
+abbrev pub shown_or_null : Option (List ℕ) → Data
+shown_or_null None = null
+shown_or_null (Some text) = string (shown text)
 
 -- the number of the refusal or the fault that a body tells
 abbrev pub error_in : List ℕ → Option ℕ
@@ -69,9 +73,9 @@ log_members e = having (
     (codes "at", number_or_null e.at) ∷
     (codes "customer", text_or_null e.customer) ∷
     (codes "error", number_or_null (error_told e.status e.body)) ∷
-    (codes "method", text_or_null e.method) ∷
+    (codes "method", shown_or_null e.method) ∷
     (codes "milliseconds", number_or_null e.milliseconds) ∷
-    (codes "path", text_or_null e.path) ∷
+    (codes "path", shown_or_null e.path) ∷
     (codes "status", count e.status) ∷
     [])
 

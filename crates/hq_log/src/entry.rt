@@ -6,7 +6,7 @@ ghost use Rattle.serde_json.specs.Written.{compact_text};
 ghost use Rattle.hq_bodies.specs.Reading.{json_of};
 ghost use Rattle.hq_log.specs.Lines as lines;
 
-use hq_envelope::Moment;
+use hq_values::Moment;
 use serde_json::{Value, json};
 use std::alloc::{AllocError, Global};
 
@@ -66,9 +66,19 @@ fn add_last(object: &mut Vec<u8>, start: &str, value: &[u8]) -> Result<(), Alloc
     Ok(())
 }
 
-/// What is shown of a text, or null.
+/// A text, or null.
 fn text_value(alloc: Global, text: Option<&str>) -> Result<Value, AllocError>
     ensures { IfOk result (λ v. view v ≡ lines.text_or_null (option_map (λ t. t.now) text.entry)) }
+{
+    match text {
+        None => Ok(Value::Null),
+        Some(text) => Value::try_from_str(alloc, text),
+    }
+}
+
+/// What is shown of a text, or null.
+fn shown_value(alloc: Global, text: Option<&str>) -> Result<Value, AllocError>
+    ensures { IfOk result (λ v. view v ≡ lines.shown_or_null (option_map (λ t. t.now) text.entry)) }
 {
     match text {
         None => Ok(Value::Null),
@@ -140,9 +150,9 @@ impl Entry<'_> {
         let at = number_value(self.at.map(|at| at.get()));
         let customer = text_value(alloc, self.customer)?;
         let error = number_value(error_told(alloc, self.status, self.body)?);
-        let method = text_value(alloc, self.method)?;
+        let method = shown_value(alloc, self.method)?;
         let milliseconds = number_value(self.milliseconds);
-        let path = text_value(alloc, self.path)?;
+        let path = shown_value(alloc, self.path)?;
         json!(in alloc; {
             "at": at, "customer": customer, "error": error, "method": method,
             "milliseconds": milliseconds, "path": path, "status": self.status

@@ -1,13 +1,14 @@
 //! What keeps a log.
 
 ghost use Rattle.std.specs.Prelude.{◌≡◌, option_map};
+ghost use Rattle.hq_values.specs.Readers.{seen_by};
 ghost use Rattle.hq_log.specs.Entries as entries;
 ghost use Rattle.hq_log.specs.Lines as lines;
 
 use crate::entry::Entry;
-use hq_envelope::Moment;
-use hq_requests::{Directory, Exchange};
-use hq_routes::{Role, last_segment};
+use hq_queue::Entry as CustomerEntry;
+use hq_requests::{Directory, Exchange, Role, last_segment};
+use hq_values::{Moment, Refusal};
 
 /// An exchange that was replied to.
 #[derive(Clone, Copy, Drop)]
@@ -91,16 +92,32 @@ fn key_of(asked: &Exchange) -> Option<&str>
     }
 }
 
-/// The customer whose key is shown, or whom the relay names at the end of the path.
+/// The customer that the relay names at the end of a path, where the path takes its key for one.
+fn named_at<'d>(
+    directory: &'d Directory,
+    key: Option<&str>,
+    path: &str,
+) -> Result<&'d CustomerEntry, Refusal>
+    ensures { seen_by (λ entry. entry.now.name) result
+        ≡ entries.named_at directory.now (option_map (λ k. k.now) key.entry) path.now }
+{
+    let methods = directory.methods(path).ok_or(Refusal::NoRoute)?;
+    match methods.role() {
+        Role::Relay => directory.customer(Role::Relay, key, last_segment(path)),
+        Role::Customer | Role::RelayForAll => Err(Refusal::NoRoute),
+    }
+}
+
+/// The customer whose key is shown, or whom the relay names.
 fn customer_named<'d>(directory: &'d Directory, asked: &Exchange) -> Option<&'d str>
     ensures { option_map (λ c. c.now) result
         ≡ entries.customer_of_exchange directory.now asked.now }
 {
-    let (key, segment) = (key_of(asked), last_segment(asked.path.as_str()));
-    if let Ok(own) = directory.customer(Role::Customer, key, segment) {
+    let (key, path) = (key_of(asked), asked.path.as_str());
+    if let Ok(own) = directory.customer(Role::Customer, key, last_segment(path)) {
         return Some(own.name.as_str());
     }
-    match directory.customer(Role::Relay, key, segment) {
+    match named_at(directory, key, path) {
         Ok(named) => Some(named.name.as_str()),
         Err(_) => None,
     }

@@ -2,8 +2,8 @@
 use Rattle.std.proofs.Common.{◌≡◌, ℕ, false, List, Option, sym, ap, ◌∙◌, subst, refl, arith, lit<}
 use Rattle.std.proofs.Common.{map}
 use Rattle.std.specs.Bool.{⊤}
-use Rattle.hq_base.specs.Refusals.{no_memory}
-use Rattle.hq_base.specs.declared.failure.Fault.TheVariants.{WantOfMemory}
+use Rattle.hq_values.specs.Refusals.{no_memory}
+use Rattle.hq_values.specs.declared.failure.Fault.TheVariants.{WantOfMemory}
 use Rattle.hq_lists.specs.Lists.{tables_of}
 use Rattle.hq_store.specs.Shelves.{Sight}
 use Rattle.hq_store.specs.Sound.{Sound}
@@ -17,8 +17,8 @@ use Rattle.hq_lines.specs.Fields.{LineRequest}
 use Rattle.hq_batch.specs.Batches.{ask_in}
 use Rattle.hq_settings.specs.Seen.{settings_seen}
 use Rattle.hq_settings.specs.declared.settings.Settings.{Settings}
-use Rattle.hq_program.specs.Builtin.{settings}
-use Rattle.hq_program.specs.Runs.{ServesOver}
+use Rattle.hq_batch.specs.Builtin.{settings}
+use Rattle.hq_batch.specs.Runs.{ServesOver}
 use Rattle.hq_main.specs.Runs.{ServesBuiltin}
 
 -- what is seen of the shelf of plain lists

@@ -4,7 +4,7 @@ use Rattle.std.specs.Prelude.{◌≡◌, ◌≤◌, ⊤, ℕ, [], List, map, Opt
 use Rattle.std.specs.Prelude.{IfOk, string_bytes}
 use Rattle.std.specs.Io.KnownBytes.{Appends}
 use Rattle.std.specs.declared.alloc.AllocError.{AllocError}
-use Rattle.hq_base.specs.Refusals.{no_memory}
+use Rattle.hq_values.specs.Refusals.{no_memory}
 use Rattle.hq_store.specs.Shelves.{Sight}
 use Rattle.hq_store.specs.Tables.{Tables, no_tables}
 use Rattle.hq_wire.specs.Replies.{SeenReply, store_faults}
@@ -15,23 +15,25 @@ use Rattle.hq_desk.specs.declared.desk.Rendered.{Rendered}
 use Rattle.hq_lines.specs.Fields.{LineRequest}
 use Rattle.hq_lines.specs.Lines.{Streams}
 use Rattle.hq_batch.specs.Batches.{ask_in, reply_line}
-use Rattle.hq_program.specs.Builtin.{settings}
-use Rattle.hq_program.specs.Runs.{RunEnds, Exits}
-use Rattle.hq_set_up.specs.SettingUp.{SetsUp}
-use Rattle.hq_check.specs.Checks.{CheckEnds, Checks}
+use Rattle.hq_batch.specs.Builtin.{settings}
+use Rattle.hq_batch.specs.Runs.{RunEnds, Exits}
+use Rattle.hq_settings.specs.SettingUp.{SetsUp}
+use Rattle.hq_batch.specs.Checks.{CheckEnds, Checks}
 use Rattle.hq_admin.specs.declared.rounds.ToldAll.{ToldAll}
-use Rattle.hq_trouble.specs.declared.trouble.Trouble.{Trouble}
-use Rattle.hq_sql_program.specs.Runs.{StoreEnds}
-use Rattle.hq_program.specs.Printing.{IsPrinted}
+use Rattle.hq_settings.specs.declared.trouble.Trouble.{Trouble}
+use Rattle.hq_sql_server.specs.Stored.{StoreEnds}
+use Rattle.hq_batch.specs.Printing.{IsPrinted}
 use Rattle.hq_sql_server.specs.Runs.{ServeEnds}
 use Rattle.hq_sql_admin.specs.Migrations.{MigrateEnds}
 use Rattle.hq_sql_admin.specs.Rounds.{UsageEnds}
-use Rattle.hq_sql_admin.specs.Words.{QueueEnds, ImportEnds}
+use Rattle.hq_sql_admin.specs.Words.{QueueEnds, HistoryEnds, HoldEnds, ReleaseEnds, DeleteEnds}
+use Rattle.hq_sql_admin.specs.Words.{ImportEnds}
 use Rattle.hq_words.specs.Asked.{Says, check_of, given_of}
 use Rattle.hq_words.specs.Given.{BatchGiven}
 use Rattle.hq_words.specs.declared.words.Word.{Word}
 use Rattle.hq_words.specs.declared.words.Word.TheVariants.{Serve, Batch, Queue, Import, Sweep}
-use Rattle.hq_words.specs.declared.words.Word.TheVariants.{Migrate, Check, Usage}
+use Rattle.hq_words.specs.declared.words.Word.TheVariants.{Migrate, Check, Usage, History, Hold}
+use Rattle.hq_words.specs.declared.words.Word.TheVariants.{Release, Delete}
 use Rattle.hq_words.specs.declared.words.Words.{Words}
 use Rattle.hq_words.specs.declared.words.Words.TheVariants.{Builtin, Word as OfWord, Shown, Refused}
 use Rattle.hq_main.specs.Rounds.{DoesSweep, IsRoundPrinted}
@@ -85,6 +87,14 @@ DoesWord sight (Usage given) unread unwritten old new status =
     × IsRoundPrinted done unwritten old.output new.output status)
 DoesWord sight (Queue given) unread unwritten old new status =
     Prints (QueueEnds sight given) unread unwritten old new status
+DoesWord sight (History given) unread unwritten old new status =
+    Prints (HistoryEnds sight given) unread unwritten old new status
+DoesWord sight (Hold given) unread unwritten old new status =
+    Prints (HoldEnds sight given) unread unwritten old new status
+DoesWord sight (Release given) unread unwritten old new status =
+    Prints (ReleaseEnds sight given) unread unwritten old new status
+DoesWord sight (Delete given) unread unwritten old new status =
+    Prints (DeleteEnds sight given) unread unwritten old new status
 DoesWord sight (Import given) unread unwritten old new status =
     Prints (ImportEnds sight given) unread unwritten old new status
 DoesWord sight (Sweep given) unread unwritten old new status =

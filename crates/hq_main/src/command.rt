@@ -1,28 +1,25 @@
 //! What the program does, over any input and outputs, and what it tells of its end.
 
 ghost use Rattle.std.specs.Prelude.{◌≡◌, [], map as map_list, string_bytes};
-ghost use Rattle.hq_program.specs.Runs.{RunEnds, Exits};
+ghost use Rattle.hq_batch.specs.Runs.{RunEnds, Exits};
 ghost use Rattle.hq_words.specs.Asked.{given_of};
 ghost use Rattle.hq_main.specs.Runs.{ServesBuiltin, BatchEnds, DoesWord, Commands};
 
 use crate::rounds::{do_sweep, print_round};
-use hq_check::check;
-use hq_envelope::Fault;
+use hq_batch::{builtin_settings, check, print, refuse, run_batch, show, tell};
 use hq_lists::ListShelf;
 use hq_log::{NoLog, log_of};
-use hq_program::{builtin_settings, print, refuse, serve, show, tell};
-use hq_set_up::set_up;
-use hq_sql_admin::{import, migrate, queue, usage};
-use hq_sql_file::FileShelf;
-use hq_sql_program::serve_stored;
-use hq_sql_server::serve_http;
+use hq_settings::{Trouble, set_up};
+use hq_sql_admin::{delete, history, hold, import, migrate, queue, release, usage};
+use hq_sql_server::{run_stored, serve_http};
+use hq_sql_shelf::FileShelf;
 use hq_store::Shelf;
-use hq_trouble::Trouble;
+use hq_values::Fault;
 use hq_words::{Batch, Word, Words, read_words};
 use std::io::{Read, Write};
 
 /// Serves the built-in customers from an empty desk in memory, over plain lists.
-fn serve_lists<R: Read, W: Write>(
+fn run_builtin<R: Read, W: Write>(
     rt: &HostRuntime,
     input: &mut R,
     output: &mut W,
@@ -33,11 +30,11 @@ fn serve_lists<R: Read, W: Write>(
 {
     let settings = builtin_settings(rt.alloc())?;
     let shelf = ListShelf::new(rt.alloc());
-    serve(rt.alloc(), shelf, settings, input, output, &mut NoLog)
+    run_batch(rt.alloc(), shelf, settings, input, output, &mut NoLog)
 }
 
 /// Serves the customers of a directory, over a store in memory or in a file.
-fn serve_batch<R: Read, W: Write>(
+fn run_given<R: Read, W: Write>(
     rt: &HostRuntime,
     batch: &Batch,
     input: &mut R,
@@ -50,7 +47,7 @@ fn serve_batch<R: Read, W: Write>(
 {
     let settings = set_up(rt, batch.host, batch.relay_key, batch.directory)?;
     let mut log = log_of(rt, batch.log);
-    serve_stored(rt, batch.store, settings, input, output, &mut log)
+    run_stored(rt, batch.store, settings, input, output, &mut log)
 }
 
 /// Does what a word of the program asks for, and answers the exit status.
@@ -71,9 +68,13 @@ fn do_word<R: Read, W: Write, E: Write>(
             let served = serve_http(rt, given, output, errors);
             tell(served, errors)
         }
-        Word::Batch(batch) => tell(serve_batch(rt, batch, input, output), errors),
+        Word::Batch(batch) => tell(run_given(rt, batch, input, output), errors),
         Word::Check(given) => check(rt, given, output, errors),
         Word::Queue(given) => print(queue(rt, given), output, errors),
+        Word::History(given) => print(history(rt, given), output, errors),
+        Word::Hold(given) => print(hold(rt, given), output, errors),
+        Word::Release(given) => print(release(rt, given), output, errors),
+        Word::Delete(given) => print(delete(rt, given), output, errors),
         Word::Usage(given) => print_round(usage(rt, given), output, errors),
         Word::Import(given) => print(import(rt, given), output, errors),
         Word::Sweep(given) => do_sweep(rt, given, output, errors),
@@ -107,7 +108,7 @@ pub fn command<R: Read, W: Write, E: Write>(
 {
     match read_words(rt.alloc(), words) {
         Ok(Words::Builtin) => {
-            let ended = serve_lists(rt, input, output);
+            let ended = run_builtin(rt, input, output);
             tell(ended, errors)
         }
         Ok(Words::Word(asked)) => do_word(rt, &asked, input, output, errors),

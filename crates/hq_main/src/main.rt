@@ -11,7 +11,7 @@ mod command;
 mod rounds;
 
 use command::command;
-use hq_program::{not_begun, words};
+use hq_batch::{not_begun, words};
 use std::io::{self, BufWriter};
 use std::process::ExitCode;
 

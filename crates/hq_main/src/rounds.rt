@@ -4,11 +4,11 @@ ghost use Rattle.std.specs.Prelude.{◌≡◌, option_map};
 ghost use Rattle.hq_main.specs.Rounds.{DoesSweep, IsRoundPrinted};
 
 use hq_admin::ToldAll;
-use hq_program::{print, print_all, tell};
+use hq_batch::{print, print_all, tell};
+use hq_settings::Trouble;
 use hq_sql_admin::{sweep, sweep_all};
-use hq_sql_file::FileShelf;
+use hq_sql_shelf::FileShelf;
 use hq_store::Shelf;
-use hq_trouble::Trouble;
 use hq_words::Sweep;
 use std::io::Write;
 

@@ -14,7 +14,7 @@ use Rattle.std.proofs.lemmas.List.Sums.{fails_before_first}
 use Rattle.std.proofs.lemmas.Str.{IsAscii-append, IsUtf8-from_ascii}
 use Rattle.std.proofs.lemmas.Str.Pattern.{IsSplitOnceResult, split_once_first}
 use Rattle.std.proofs.lemmas.Str.Ascii.{IsAscii-cons, IsAscii-from_all}
-use Rattle.hq_envelope.specs.Addresses.{is_dot}
+use Rattle.hq_values.specs.Addresses.{is_dot}
 use Rattle.hq_queue.specs.Statuses.{is_digit, is_leading_digit, is_class, is_number}
 use Rattle.hq_queue.specs.Statuses.{are_status_parts, is_status}
 

@@ -1,9 +1,9 @@
 -- When a customer's new message is admitted to the queue. The rule and its order are this product's
 -- own.
 use Rattle.std.specs.Prelude.{ℕ, ◌+◌, ◌^◌, ◌==◌, nat_le, nat_lt, if◌then◌else◌, Result, Ok, Err}
-use Rattle.hq_base.specs.declared.failure.Refusal.{Refusal}
-use Rattle.hq_base.specs.declared.failure.Refusal.TheVariants.{QuotaMessages, QuotaBytes}
-use Rattle.hq_base.specs.declared.failure.Refusal.TheVariants.{SerialsSpent}
+use Rattle.hq_values.specs.declared.failure.Refusal.{Refusal}
+use Rattle.hq_values.specs.declared.failure.Refusal.TheVariants.{QuotaMessages, QuotaBytes}
+use Rattle.hq_values.specs.declared.failure.Refusal.TheVariants.{SerialsSpent}
 use Rattle.hq_queue.specs.declared.account.Counts.{Counts}
 use Rattle.hq_queue.specs.declared.account.Head.{Head}
 use Rattle.hq_queue.specs.declared.account.Quota.{Quota}

@@ -4,20 +4,23 @@ use Rattle.std.specs.Prelude.{ℕ, ◌≡◌, ◌+◌, ◌==◌, Bool, true, fal
 use Rattle.std.specs.Prelude.{if◌then◌else◌, List, [], ◌∷◌, length, Option, None, Some, Result, Ok}
 use Rattle.std.specs.Prelude.{Err}
 use Rattle.std.specs.List.{find, filter_map, count_by, list_any}
-use Rattle.hq_base.specs.Refusals.{no_memory}
-use Rattle.hq_base.specs.declared.failure.Fail.{Fail}
-use Rattle.hq_base.specs.declared.failure.Fail.TheVariants as fail
-use Rattle.hq_base.specs.declared.failure.Refusal.{Refusal}
-use Rattle.hq_base.specs.declared.failure.Refusal.TheVariants.{AttemptAhead, NoOutcome}
-use Rattle.hq_base.specs.declared.failure.Refusal.TheVariants.{DoubledRecipient, UnknownRecipient}
-use Rattle.hq_envelope.specs.Addresses.{same_address}
+use Rattle.hq_values.specs.Refusals.{no_memory}
+use Rattle.hq_values.specs.declared.failure.Fail.{Fail}
+use Rattle.hq_values.specs.declared.failure.Fail.TheVariants as fail
+use Rattle.hq_values.specs.declared.failure.Refusal.{Refusal}
+use Rattle.hq_values.specs.declared.failure.Refusal.TheVariants.{AttemptAhead, NoOutcome}
+use Rattle.hq_values.specs.declared.failure.Refusal.TheVariants.{DoubledRecipient, UnknownRecipient}
+use Rattle.hq_values.specs.Addresses.{same_address}
 use Rattle.hq_queue.specs.Backoff.{next_try}
+use Rattle.hq_queue.specs.Ends.{ended_as}
 use Rattle.hq_queue.specs.declared.message.Message.{Message}
 use Rattle.hq_queue.specs.declared.message.Pending.{Pending}
 use Rattle.hq_queue.specs.declared.message.QueueState.{QueueState}
 use Rattle.hq_queue.specs.declared.message.QueueState.TheVariants.{Incoming, Deferred, Hold}
 use Rattle.hq_queue.specs.declared.outcome.Delivery.{Delivery}
 use Rattle.hq_queue.specs.declared.outcome.Delivery.TheVariants as delivery
+use Rattle.hq_queue.specs.declared.outcome.Ended.{Ended}
+use Rattle.hq_queue.specs.declared.outcome.Fate.TheVariants as fate
 use Rattle.hq_queue.specs.declared.outcome.Outcome.{Outcome}
 use Rattle.hq_queue.specs.declared.outcome.Told.{Told}
 use Rattle.hq_queue.specs.declared.outcome.Reported.{Reported}
@@ -29,7 +32,7 @@ abbrev pub outcome_of : List Outcome → Pending → Option Outcome
 outcome_of outcomes p = find (λ (o : Outcome). same_address o.address p.address) outcomes
 
 abbrev pub left_by : Pending → Delivery → Option Pending
-left_by p delivery.Delivered = None
+left_by p (delivery.Delivered status text) = None
 left_by p (delivery.Deferred status text) = Some (record p { status = Some status; text = text })
 left_by p (delivery.Failed status text) = None
 
@@ -39,7 +42,7 @@ left_with p None = Some p
 left_with p (Some o) = left_by p o.result
 
 abbrev pub told_by : Pending → Delivery → Option Told
-told_by p delivery.Delivered = None
+told_by p (delivery.Delivered status text) = None
 told_by p (delivery.Deferred status text) = None
 told_by p (delivery.Failed status text) = Some (record {
   address = p.address;
@@ -52,8 +55,20 @@ abbrev pub told_with : Pending → Option Outcome → Option Told
 told_with p None = None
 told_with p (Some o) = told_by p o.result
 
+abbrev pub ended_by : Message → Pending → Delivery → Option Ended
+ended_by m p (delivery.Delivered status text) =
+    Some (record (ended_as fate.Delivered m p) { status = status; text = text })
+ended_by m p (delivery.Deferred status text) = None
+ended_by m p (delivery.Failed status text) =
+    Some (record (ended_as fate.Failed m p) { status = Some status; text = text })
+
+-- what is kept of a recipient of a message that left the queue
+abbrev pub ended_with : Message → Pending → Option Outcome → Option Ended
+ended_with m p None = None
+ended_with m p (Some o) = ended_by m p o.result
+
 abbrev pub is_delivered : Delivery → Bool
-is_delivered delivery.Delivered = true
+is_delivered (delivery.Delivered status text) = true
 is_delivered (delivery.Deferred status text) = false
 is_delivered (delivery.Failed status text) = false
 
@@ -62,7 +77,7 @@ delivered_with None = false
 delivered_with (Some o) = is_delivered o.result
 
 abbrev pub is_deferred : Delivery → Bool
-is_deferred delivery.Delivered = false
+is_deferred (delivery.Delivered status text) = false
 is_deferred (delivery.Deferred status text) = true
 is_deferred (delivery.Failed status text) = false
 
@@ -79,6 +94,10 @@ left outcomes ps = filter_map (λ (p : Pending). left_with p (outcome_of outcome
 -- who failed
 abbrev pub failed : List Outcome → List Pending → List Told
 failed outcomes ps = filter_map (λ (p : Pending). told_with p (outcome_of outcomes p)) ps
+
+-- who left the queue
+abbrev pub ended : Message → List Outcome → List Pending → List Ended
+ended m outcomes ps = filter_map (λ (p : Pending). ended_with m p (outcome_of outcomes p)) ps
 
 -- how many were delivered
 abbrev pub delivered : List Outcome → List Pending → ℕ
@@ -116,7 +135,7 @@ after_attempt m at attempt outcomes = record m {
 
 abbrev pub done : Message → List Outcome → Reported
 done m outcomes = Done (delivered outcomes m.pending) (deferred outcomes m.pending)
-    (failed outcomes m.pending)
+    (failed outcomes m.pending) (ended m outcomes m.pending)
 
 -- what is answered to the report of an attempt, with the message after it; or why it is refused
 abbrev pub reported : Message → ℕ → ℕ → List Outcome → Result (Reported × Message) Refusal

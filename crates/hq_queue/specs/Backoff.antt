@@ -1,7 +1,7 @@
 -- When a message is tried next: qmgr(8) waits as long as a message is old, from
 -- minimal_backoff_time up to maximal_backoff_time.
 use Rattle.std.specs.Prelude.{ℕ, ◌+◌, ◌-◌, min, max}
-use Rattle.hq_base.specs.Moments.{no_later}
+use Rattle.hq_values.specs.Moments.{no_later}
 
 -- seconds since the arrival; 0 at a moment before it
 abbrev pub age : ℕ → ℕ → ℕ

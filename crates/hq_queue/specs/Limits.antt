@@ -16,6 +16,14 @@ most_lines = 5000
 abbrev pub most_notices : ℕ
 most_notices = 1000
 
+-- the most recipients that a customer's history is kept of
+abbrev pub most_history : ℕ
+most_history = 1000000
+
+-- of so many recipients the history is kept; 0 is of none
+abbrev pub is_history : ℕ → Bool
+is_history n = nat_le n most_history
+
 -- the most recipients of a message
 abbrev pub most_recipients : ℕ
 most_recipients = 100

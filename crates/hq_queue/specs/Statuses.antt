@@ -2,10 +2,10 @@
 -- dots).
 use Rattle.std.specs.Prelude.{ℕ, Bool, false, ◌&&◌, ◌-◌, nat_le, List, [], ◌∷◌, Result, codes}
 use Rattle.std.specs.List.{slice_split}
-use Rattle.hq_envelope.specs.Addresses.{is_dot}
-use Rattle.hq_base.specs.Readers.{checked}
-use Rattle.hq_base.specs.declared.failure.Refusal.{Refusal}
-use Rattle.hq_base.specs.declared.failure.Refusal.TheVariants.{BadStatus}
+use Rattle.hq_values.specs.Addresses.{is_dot}
+use Rattle.hq_values.specs.Readers.{checked}
+use Rattle.hq_values.specs.declared.failure.Refusal.{Refusal}
+use Rattle.hq_values.specs.declared.failure.Refusal.TheVariants.{BadStatus}
 
 -- '0' to '9'
 abbrev pub is_digit : ℕ → Bool

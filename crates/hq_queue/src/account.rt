@@ -1,9 +1,9 @@
 //! What is kept and allowed of one customer beside its messages: quota, head and tally.
 
 ghost use Rattle.std.specs.Prelude.{◌≡◌, IsTrue};
-ghost use Rattle.hq_queue.specs.Limits.{is_quota, is_delay};
+ghost use Rattle.hq_queue.specs.Limits.{is_quota, is_delay, is_history};
 
-use hq_envelope::{Key, Name, TryCopy};
+use hq_values::{Key, Name, TryCopy};
 use std::alloc::{AllocError, Global};
 
 /// How much a customer may keep: each number is within its limits.
@@ -29,7 +29,10 @@ pub struct Entry {
     pub quota: Quota,
     /// After how many seconds a sender is warned, 0 to 431,999; 0 is never.
     pub delay: u64,
+    /// Of how many recipients that left the queue the history is kept, 0 to 1,000,000.
+    pub history: u64,
     pub ghost limit: { IsTrue (is_delay delay) },
+    pub ghost span: { IsTrue (is_history history) },
 }
 
 impl TryCopy for Entry {
@@ -39,6 +42,7 @@ impl TryCopy for Entry {
             name,
             quota: self.quota,
             delay: self.delay,
+            history: self.history,
         })
     }
 }

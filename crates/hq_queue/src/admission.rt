@@ -4,7 +4,7 @@ ghost use Rattle.std.specs.Prelude.{◌≡◌, ◌<◌, ◌≤◌, ◌^◌, IfOk
 ghost use Rattle.hq_queue.specs.Admission.{admitted};
 
 use crate::account::{Counts, Head, Quota};
-use hq_envelope::{Refusal, Serial};
+use hq_values::{Refusal, Serial};
 
 /// The serial of a new message of `size` bytes, which is the head's next serial, or why it is
 /// refused.

@@ -3,7 +3,7 @@
 ghost use Rattle.std.specs.Prelude.{◌≡◌};
 ghost use Rattle.hq_queue.specs.Backoff as rules;
 
-use hq_envelope::Moment;
+use hq_values::Moment;
 
 /// How many seconds a message waits at least after an attempt.
 const SHORTEST_WAIT_SECONDS: u64 = 300;

@@ -3,7 +3,7 @@
 ghost use Rattle.std.specs.Prelude.{◌≡◌};
 
 use crate::status::Status;
-use hq_envelope::{Address, Items, Moment, Sender, Serial, Spool, Text, TryCopy};
+use hq_values::{Address, Items, Moment, Sender, Serial, Spool, Text, TryCopy};
 use std::alloc::{AllocError, Global};
 
 /// Where a message stands (postsuper(1)).

@@ -5,7 +5,7 @@ ghost use Rattle.std.specs.Prelude.{◌≡◌};
 ghost use Rattle.hq_queue.specs.Moves.{held, released, is_due, MovesBy};
 
 use crate::message::{Message, QueueState};
-use hq_envelope::{Moment, Text};
+use hq_values::{Moment, Text};
 
 /// Puts a message on hold (postsuper(1), `-h`), so that it is not tried until it is released.
 ///

@@ -1,14 +1,14 @@
 //! What a delivery attempt came to, recipient by recipient, and what is answered to its report.
 
 use crate::status::Status;
-use hq_envelope::{Address, Items, Text, TryCopy};
+use hq_values::{Address, Items, Sender, Serial, Text, TryCopy};
 use std::alloc::{AllocError, Global};
 
 /// What became of one recipient in an attempt.
 #[derive(Drop)]
 pub enum Delivery {
-    /// It was delivered.
-    Delivered,
+    /// It was delivered: the status and what the remote server said, where the worker tells it.
+    Delivered(Option<Status>, Text),
     /// It is to be tried again: the status, and what the remote server said.
     Deferred(Status, Text),
     /// It failed for good: the status, and what the remote server said.
@@ -18,7 +18,13 @@ pub enum Delivery {
 impl TryCopy for Delivery {
     fn copy(&self, alloc: Global) -> Result<Delivery, AllocError> {
         match self {
-            Delivery::Delivered => Ok(Delivery::Delivered),
+            Delivery::Delivered(status, text) => {
+                let status = match status {
+                    None => None,
+                    Some(status) => Some(status.copy()),
+                };
+                Ok(Delivery::Delivered(status, text.copy(alloc)?))
+            }
             Delivery::Deferred(status, text) => {
                 Ok(Delivery::Deferred(status.copy(), text.copy(alloc)?))
             }
@@ -69,6 +75,56 @@ impl TryCopy for Told {
     }
 }
 
+/// What became of a recipient that left the queue.
+#[derive(Clone, Copy, Debug, PartialEq, Eq, Drop)]
+pub enum Fate {
+    /// It was delivered.
+    Delivered,
+    /// It failed for good.
+    Failed,
+    /// It was deleted with its message.
+    Deleted,
+    /// It was given up for age.
+    Expired,
+}
+
+/// A recipient that left the queue.
+#[derive(Drop)]
+pub struct Ended {
+    /// The serial of its message.
+    pub serial: Serial,
+    /// The sender of its message.
+    pub sender: Sender,
+    /// As it was submitted.
+    pub recipient: Address,
+    /// What became of it.
+    pub fate: Fate,
+    /// The status that was told of it last.
+    pub status: Option<Status>,
+    /// What the remote server said; it may be empty.
+    pub text: Text,
+}
+
+impl TryCopy for Ended {
+    fn copy(&self, alloc: Global) -> Result<Ended, AllocError> {
+        let sender = self.sender.copy(alloc)?;
+        let recipient = self.recipient.copy(alloc)?;
+        let status = match &self.status {
+            None => None,
+            Some(status) => Some(status.copy()),
+        };
+        let text = self.text.copy(alloc)?;
+        Ok(Ended {
+            serial: self.serial,
+            sender,
+            recipient,
+            fate: self.fate,
+            status,
+            text,
+        })
+    }
+}
+
 /// What the report of an attempt came to.
 #[derive(Drop)]
 pub enum Reported {
@@ -82,5 +138,7 @@ pub enum Reported {
         deferred: u64,
         /// Those that failed for good, in the order of the message.
         failed: Items<Told>,
+        /// Those that were delivered or failed, in the order of the message.
+        ended: Items<Ended>,
     },
 }

@@ -3,15 +3,15 @@
 
 ghost use Rattle.std.specs.Prelude.{◌≡◌, IfOk, option_map, not};
 ghost use Rattle.std.specs.List.{find, list_any};
-ghost use Rattle.hq_envelope.specs.Addresses.{same_address};
+ghost use Rattle.hq_values.specs.Addresses.{same_address};
 ghost use Rattle.hq_queue.specs.Attempts as rules;
 ghost use Rattle.hq_queue.specs.Attempts.{Reports};
 
 use crate::attempt::Attempt;
 use crate::backoff::next_try;
 use crate::message::{Message, Pending, QueueState};
-use crate::outcome::{Delivery, Outcome, Reported, Told};
-use hq_envelope::{Fail, Items, Moment, Refusal, TryCopy};
+use crate::outcome::{Delivery, Ended, Fate, Outcome, Reported, Told};
+use hq_values::{Fail, Items, Moment, Refusal, TryCopy};
 use std::alloc::{AllocError, Global};
 
 /// The first outcome that names a recipient.
@@ -89,7 +89,7 @@ fn left_one(
                 text,
             }))
         }
-        Delivery::Delivered | Delivery::Failed(_, _) => Ok(None),
+        Delivery::Delivered(_, _) | Delivery::Failed(_, _) => Ok(None),
     }
 }
 
@@ -132,7 +132,7 @@ fn failed_one(
                 text,
             }))
         }
-        Delivery::Delivered | Delivery::Deferred(_, _) => Ok(None),
+        Delivery::Delivered(_, _) | Delivery::Deferred(_, _) => Ok(None),
     }
 }
 
@@ -153,12 +153,58 @@ fn failed(
     Ok(failed)
 }
 
+/// What is kept of a recipient, where it left the queue.
+fn ended_one(
+    alloc: Global,
+    message: &Message,
+    recipient: &Pending,
+    outcomes: &[Outcome],
+) -> Result<Option<Ended>, AllocError>
+    ensures { IfOk result (λ ended. ended ≡ rules.ended_with message.now recipient.now
+        (rules.outcome_of outcomes.now recipient.now)) }
+{
+    let Some(outcome) = outcome_of(outcomes, recipient) else {
+        return Ok(None);
+    };
+    let (fate, status, text) = match &outcome.result {
+        Delivery::Delivered(None, text) => (Fate::Delivered, None, text),
+        Delivery::Delivered(Some(status), text) => (Fate::Delivered, Some(status.copy()), text),
+        Delivery::Failed(status, text) => (Fate::Failed, Some(status.copy()), text),
+        Delivery::Deferred(_, _) => return Ok(None),
+    };
+    let sender = message.sender.copy(alloc)?;
+    let address = recipient.address.copy(alloc)?;
+    let text = text.copy(alloc)?;
+    Ok(Some(Ended {
+        serial: message.serial,
+        sender,
+        recipient: address,
+        fate,
+        status,
+        text,
+    }))
+}
+
+/// Who left the queue in the attempt.
+fn ended(alloc: Global, message: &Message, outcomes: &[Outcome]) -> Result<Vec<Ended>, AllocError>
+    ensures { IfOk result (λ ended. ended.items
+        ≡ rules.ended message.now outcomes.now message.now.pending) }
+{
+    let mut ended = Vec::new(alloc);
+    for recipient in message.pending.as_slice() {
+        if let Some(one) = ended_one(alloc, message, recipient, outcomes)? {
+            ended.push(one)?;
+        }
+    }
+    Ok(ended)
+}
+
 /// Whether a recipient was delivered.
 fn is_delivered(recipient: &Pending, outcomes: &[Outcome]) -> bool
     ensures { result ≡ rules.delivered_with (rules.outcome_of outcomes.now recipient.now) }
 {
     match outcome_of(outcomes, recipient) {
-        Some(outcome) => matches!(&outcome.result, Delivery::Delivered),
+        Some(outcome) => matches!(&outcome.result, Delivery::Delivered(_, _)),
         None => false,
     }
 }
@@ -233,6 +279,7 @@ pub fn report(
     let delivered = delivered(message.pending.as_slice(), outcomes);
     let deferred = deferred(message.pending.as_slice(), outcomes);
     let failed = failed(alloc, message.pending.as_slice(), outcomes)?;
+    let ended = ended(alloc, message, outcomes)?;
     let left = left(alloc, message.pending.as_slice(), outcomes)?;
     message.pending = Items::from_vec(left);
     message.attempts = number;
@@ -244,5 +291,6 @@ pub fn report(
         delivered,
         deferred,
         failed: Items::from_vec(failed),
+        ended: Items::from_vec(ended),
     })
 }

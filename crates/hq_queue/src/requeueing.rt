@@ -4,7 +4,7 @@ ghost use Rattle.std.specs.Prelude.{◌≡◌, map};
 ghost use Rattle.hq_queue.specs.Moves.{requeued, cleared};
 
 use crate::message::{Message, Pending, QueueState};
-use hq_envelope::{Items, Moment, Serial};
+use hq_values::{Items, Moment, Serial};
 
 /// Clears what the last attempt left at a recipient.
 fn clear(recipient: &mut Pending)

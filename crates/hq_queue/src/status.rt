@@ -2,11 +2,11 @@
 
 ghost use Rattle.std.specs.Prelude.{◌≡◌, ◌≤◌, [], ◌∷◌, IfOk, MatchOption, Ok, string_bytes};
 ghost use Rattle.std.specs.List.{slice_split};
-ghost use Rattle.hq_envelope.specs.Addresses.{is_dot};
+ghost use Rattle.hq_values.specs.Addresses.{is_dot};
 ghost use Rattle.hq_queue.specs.Statuses.{is_class, is_number, is_status, status_in, first_digit};
 ghost use Rattle.hq_queue.specs.Statuses.{unknown_status, expired_status};
 
-use hq_envelope::Refusal;
+use hq_values::Refusal;
 use std::alloc::{AllocError, Global};
 use std::marker::Model;
 use std::str;

@@ -6,7 +6,7 @@ ghost use Rattle.hq_queue.specs.Sweeps.{swept, after_sweep};
 
 use crate::backoff::age;
 use crate::message::{Message, QueueState};
-use hq_envelope::Moment;
+use hq_values::Moment;
 
 /// At how many seconds after its arrival a message expires: five days.
 pub const EXPIRY_SECONDS: u64 = 432_000;

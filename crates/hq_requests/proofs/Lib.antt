@@ -1,1 +1,4 @@
+pub mod Seek
+pub mod Entered
+pub mod Segment
 pub mod Entries

@@ -1,25 +1,26 @@
 -- From an exchange to a call: the refusals in the order of the steps here.
 use Rattle.std.specs.Prelude.{ℕ, ⊤, ◌≡◌, nat_le, List, length}
 use Rattle.std.specs.Prelude.{string_bytes, Option, None, Some, option_map, Result, Ok, Err}
-use Rattle.hq_base.specs.Limits.{most_bytes}
-use Rattle.hq_base.specs.Readers.{◌>>=◌, guard, or_refuse}
-use Rattle.hq_base.specs.Serials.{serial_in}
-use Rattle.hq_base.specs.declared.failure.Refusal.{Refusal}
-use Rattle.hq_base.specs.declared.failure.Refusal.TheVariants.{BodyTooLong, NoRoute, WrongMethod}
-use Rattle.hq_base.specs.declared.failure.Refusal.TheVariants.{BadField}
+use Rattle.hq_values.specs.Limits.{most_bytes}
+use Rattle.hq_values.specs.Readers.{◌>>=◌, guard, or_refuse}
+use Rattle.hq_values.specs.Serials.{serial_in}
+use Rattle.hq_values.specs.declared.failure.Refusal.{Refusal}
+use Rattle.hq_values.specs.declared.failure.Refusal.TheVariants.{BodyTooLong, NoRoute, WrongMethod}
+use Rattle.hq_values.specs.declared.failure.Refusal.TheVariants.{BadField}
 use Rattle.hq_calls.specs.Each.{each_call}
 use Rattle.hq_calls.specs.declared.call.Call.{Call}
 use Rattle.hq_calls.specs.declared.call.Call.TheVariants as call
 use Rattle.hq_bodies.specs.Outcomes.{read_report}
 use Rattle.hq_bodies.specs.Queries.{read_message_after, read_message_id}
-use Rattle.hq_bodies.specs.Queries.{read_notice_after, read_notice_number}
-use Rattle.hq_bodies.specs.Tables.{read_pattern, read_line, read_check, read_import}
+use Rattle.hq_bodies.specs.Queries.{read_history_before, read_notice_after, read_notice_number}
+use Rattle.hq_bodies.specs.Tables.{read_pattern, read_find, read_search, read_line, read_check}
+use Rattle.hq_bodies.specs.Tables.{read_import}
 use Rattle.hq_bodies.specs.Submissions.{read_submission}
-use Rattle.hq_routes.specs.Routes.{methods_at, route_of, last_segment}
-use Rattle.hq_routes.specs.declared.table.Role.{Role}
-use Rattle.hq_routes.specs.declared.table.Role.TheVariants as role
-use Rattle.hq_routes.specs.declared.table.Route.{Route}
-use Rattle.hq_routes.specs.declared.table.Route.TheVariants as route
+use Rattle.hq_requests.specs.Routes.{methods_at, route_of, last_segment}
+use Rattle.hq_requests.specs.declared.table.Role.{Role}
+use Rattle.hq_requests.specs.declared.table.Role.TheVariants as role
+use Rattle.hq_requests.specs.declared.table.Route.{Route}
+use Rattle.hq_requests.specs.declared.table.Route.TheVariants as route
 use Rattle.hq_requests.specs.Directories.{customer_of, relay_alone, entry_of}
 use Rattle.hq_requests.specs.Numbers.{notice_number}
 use Rattle.hq_requests.specs.declared.directory.Directory.{Directory}
@@ -57,10 +58,10 @@ number_of segment = or_refuse BadField (notice_number segment)
 
 -- what a route asks, of its parameter or its body
 unfoldable pub asked_of : Route → List ℕ → List ℕ → Result Call Refusal
-asked_of route.Messages segment body = Ok (call.List None)
+asked_of route.Messages segment body = Ok (call.List None None)
 asked_of route.MessagesAfter segment body = do
   serial ← serial_of segment
-  Ok (call.List (Some serial))
+  Ok (call.List (Some serial) None)
 asked_of route.Show segment body = do
   serial ← serial_of segment
   Ok (call.Show serial)
@@ -76,9 +77,21 @@ asked_of route.Requeue segment body = do
 asked_of route.Delete segment body = do
   serial ← serial_of segment
   Ok (call.Delete serial)
-asked_of route.HoldAll segment body = Ok call.HoldAll
-asked_of route.ReleaseAll segment body = Ok call.ReleaseAll
-asked_of route.DeleteAll segment body = Ok call.DeleteAll
+asked_of route.HoldAll segment body = Ok (call.HoldAll None)
+asked_of route.ReleaseAll segment body = Ok (call.ReleaseAll None)
+asked_of route.DeleteAll segment body = Ok (call.DeleteAll None)
+asked_of route.Find segment body = do
+  asked ← read_find body
+  Ok (call.List asked.0 (Some asked.1))
+asked_of route.HoldMatching segment body = do
+  pattern ← read_pattern body
+  Ok (call.HoldAll (Some pattern))
+asked_of route.ReleaseMatching segment body = do
+  pattern ← read_pattern body
+  Ok (call.ReleaseAll (Some pattern))
+asked_of route.DeleteMatching segment body = do
+  pattern ← read_pattern body
+  Ok (call.DeleteAll (Some pattern))
 asked_of route.Lines segment body = Ok (call.Lines None)
 asked_of route.LinesAfter segment body = do
   pattern ← read_pattern body
@@ -102,8 +115,16 @@ asked_of route.NoticesAfter segment body = do
 asked_of route.Notice segment body = do
   number ← number_of segment
   Ok (call.Notice number)
+asked_of route.History segment body = Ok (call.History None)
+asked_of route.HistoryBefore segment body = do
+  number ← number_of segment
+  Ok (call.History (Some number))
+asked_of route.FindHistory segment body = do
+  asked ← read_search body
+  Ok (call.FindHistory asked.0 asked.1)
 asked_of route.Usage segment body = Ok call.Usage
-asked_of route.Report segment body = Ok call.Report
+asked_of route.Limits segment body = Ok call.Limits
+asked_of route.Report segment body = Ok (call.Report None)
 asked_of route.Submit segment body = do
   submission ← read_submission body
   Ok (call.Submit submission)
@@ -116,7 +137,7 @@ asked_of route.Due segment body = do
 asked_of route.Sweep segment body = Ok call.Sweep
 asked_of route.MessagesByBody segment body = do
   after ← read_message_after body
-  Ok (call.List after)
+  Ok (call.List after None)
 asked_of route.ShowByBody segment body = do
   serial ← read_message_id body
   Ok (call.Show serial)
@@ -126,6 +147,9 @@ asked_of route.NoticesByBody segment body = do
 asked_of route.NoticeByBody segment body = do
   number ← read_notice_number body
   Ok (call.Notice number)
+asked_of route.HistoryByBody segment body = do
+  before ← read_history_before body
+  Ok (call.History before)
 
 -- the call of one customer: the key and whom it serves, the parameter, the body
 abbrev pub asked_of_one : Directory → Role → Route → Option (List ℕ) → (segment body : List ℕ) →

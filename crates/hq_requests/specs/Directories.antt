@@ -3,12 +3,12 @@ use Rattle.std.specs.Prelude.{ℕ, ⊤, true, List, [], ◌∷◌, map, Option, 
 use Rattle.std.specs.Prelude.{Result, Ok, Err, if◌then◌else◌}
 use Rattle.std.specs.List.{find}
 use Rattle.std.specs.Ordering.{eq_by_cmp}
-use Rattle.hq_base.specs.declared.failure.Refusal.{Refusal}
-use Rattle.hq_base.specs.declared.failure.Refusal.TheVariants.{NoKey, WrongRole, NoCustomer}
+use Rattle.hq_values.specs.declared.failure.Refusal.{Refusal}
+use Rattle.hq_values.specs.declared.failure.Refusal.TheVariants.{NoKey, WrongRole, NoCustomer}
 use Rattle.hq_queue.specs.declared.account.Customer.{Customer}
 use Rattle.hq_queue.specs.declared.account.Entry.{Entry}
-use Rattle.hq_routes.specs.declared.table.Role.{Role}
-use Rattle.hq_routes.specs.declared.table.Role.TheVariants as role
+use Rattle.hq_requests.specs.declared.table.Role.{Role}
+use Rattle.hq_requests.specs.declared.table.Role.TheVariants as role
 use Rattle.hq_store.specs.Tables.{text_cmp}
 use Rattle.hq_requests.specs.Customers.{has_key, has_name}
 use Rattle.hq_requests.specs.declared.directory.Directory.{Directory}
@@ -38,7 +38,9 @@ nobody name = record {
     limits = λ _. true;
   };
   delay = 0;
+  history = 0;
   limit = λ _. true;
+  span = λ _. true;
 }
 
 abbrev pub entry_in : List Customer → List ℕ → Entry

@@ -1,3 +1,5 @@
+pub mod Adding
+pub mod Routes
 pub mod Calls
 pub mod Customers
 pub mod Directories

@@ -2,13 +2,13 @@
 
 ghost use Rattle.std.specs.Prelude.{◌≡◌, ◌⊎◌, IsTrue, IfOk, MatchResult, option_map, true, false};
 ghost use Rattle.std.specs.List.{find, list_any};
-ghost use Rattle.hq_base.specs.Refusals.{no_memory_fail, refused};
+ghost use Rattle.hq_values.specs.Refusals.{no_memory_fail, refused};
 ghost use Rattle.hq_requests.specs.Customers.{are_customers, names_apart, keys_apart, has_key};
 ghost use Rattle.hq_requests.specs.Customers.{has_name};
 
-use hq_envelope::{Fail, Fault, Items, Key, Refusal};
+use crate::{Methods, Role, Routes};
 use hq_queue::{Customer, Entry};
-use hq_routes::{Methods, Role, Routes};
+use hq_values::{Fail, Fault, Items, Key, Refusal};
 use std::alloc::Global;
 
 /// Whether a customer shows this key.
@@ -91,8 +91,8 @@ impl Directory {
     ghost use Rattle.hq_requests.specs.Directories.{by_customer, customer_of, relay_alone};
     ghost use Rattle.std.specs.Ordering.{eq_by_cmp};
     ghost use Rattle.hq_store.specs.Tables.{text_cmp};
-    ghost use Rattle.hq_routes.specs.Routes.{methods_at};
-    ghost use Rattle.hq_base.specs.Readers.{seen_by};
+    ghost use Rattle.hq_requests.specs.Routes.{methods_at};
+    ghost use Rattle.hq_values.specs.Readers.{seen_by};
 
     /// A directory of customers whose names and keys are pairwise different. Refused as 57
     /// `BadRelayKey` exactly where the relay's key is a customer's.

@@ -1,6 +1,6 @@
 //! What is asked of the desk from outside, as it came.
 
-use hq_envelope::Moment;
+use hq_values::Moment;
 
 /// What was asked at a moment, as it came.
 #[derive(Drop)]

@@ -1,12 +1,18 @@
-//! From an exchange to the call that it asks for, or the refusal that comes before any call: whose
-//! key it shows, which path and method it names, what its body says. No shelf is asked here.
+//! From an exchange to the call that it asks for, or to the refusal that comes before any call:
+//! whose key it shows, which route it takes, what its body says. No shelf is asked here.
+//!
+//! Paths are matched as they stand: no escape, no query, no case.
 #![tactic(auto)]
 
 mod directory;
 mod exchanges;
 mod number;
 mod request;
+mod routes;
+mod table;
 
 pub use directory::{Directory, are_customers};
 pub use exchanges::Exchange;
 pub use request::{Asking, call_of};
+pub use routes::{Routes, last_segment};
+pub use table::{Methods, Role, Route};

@@ -3,7 +3,7 @@
 ghost use Rattle.std.specs.Prelude.{◌≡◌};
 ghost use Rattle.hq_requests.specs.Numbers.{notice_number};
 
-use hq_base::read_number;
+use hq_values::read_number;
 
 /// The most digits of a number.
 const MOST_DIGITS: usize = 13;

@@ -1,24 +1,25 @@
 //! From an exchange to a call: the path, the method, the key, the parameter and the body.
 
 ghost use Rattle.std.specs.Prelude.{◌≡◌, IfOk, option_map, string_bytes};
-ghost use Rattle.hq_base.specs.Readers.{Reads, seen_by, or_refuse};
-ghost use Rattle.hq_base.specs.Serials.{serial_in};
-ghost use Rattle.hq_base.specs.declared.failure.Refusal.TheVariants.{BadField};
+ghost use Rattle.hq_values.specs.Readers.{Reads, seen_by, or_refuse};
+ghost use Rattle.hq_values.specs.Serials.{serial_in};
+ghost use Rattle.hq_values.specs.declared.failure.Refusal.TheVariants.{BadField};
 ghost use Rattle.hq_calls.specs.Each.{each_call};
-ghost use Rattle.hq_routes.specs.Routes.{last_segment};
+ghost use Rattle.hq_requests.specs.Routes.{last_segment};
 ghost use Rattle.hq_requests.specs.Calls as calls;
 
 use crate::directory::Directory;
 use crate::exchanges::Exchange;
 use crate::number::notice_number;
+use crate::{Role, Route, last_segment};
 use hq_bodies::{
-    read_check, read_import, read_line, read_message_after, read_message_id, read_notice_after,
-    read_notice_number, read_pattern, read_report, read_submission,
+    read_check, read_find, read_history_before, read_import, read_line, read_message_after,
+    read_message_id, read_notice_after, read_notice_number, read_pattern, read_report, read_search,
+    read_submission,
 };
 use hq_calls::{Call, EachCall};
-use hq_envelope::{Fail, Refusal, Serial};
 use hq_queue::Entry;
-use hq_routes::{Role, Route, last_segment};
+use hq_values::{Fail, Refusal, Serial};
 use std::alloc::Global;
 
 /// The most bytes of a body.
@@ -53,16 +54,23 @@ fn asked_of(alloc: Global, route: Route, segment: &str, body: &[u8]) -> Result<C
     ensures { Reads result (calls.asked_of route segment.now body.now) }
 {
     match route {
-        Route::Messages => Ok(Call::List(None)),
-        Route::MessagesAfter => Ok(Call::List(Some(serial_of(segment)?))),
+        Route::Messages => Ok(Call::List(None, None)),
+        Route::MessagesAfter => Ok(Call::List(Some(serial_of(segment)?), None)),
         Route::Show => Ok(Call::Show(serial_of(segment)?)),
         Route::Hold => Ok(Call::Hold(serial_of(segment)?)),
         Route::Release => Ok(Call::Release(serial_of(segment)?)),
         Route::Requeue => Ok(Call::Requeue(serial_of(segment)?)),
         Route::Delete => Ok(Call::Delete(serial_of(segment)?)),
-        Route::HoldAll => Ok(Call::HoldAll),
-        Route::ReleaseAll => Ok(Call::ReleaseAll),
-        Route::DeleteAll => Ok(Call::DeleteAll),
+        Route::HoldAll => Ok(Call::HoldAll(None)),
+        Route::ReleaseAll => Ok(Call::ReleaseAll(None)),
+        Route::DeleteAll => Ok(Call::DeleteAll(None)),
+        Route::Find => {
+            let (after, pattern) = read_find(alloc, body)?;
+            Ok(Call::List(after, Some(pattern)))
+        }
+        Route::HoldMatching => Ok(Call::HoldAll(Some(read_pattern(alloc, body)?))),
+        Route::ReleaseMatching => Ok(Call::ReleaseAll(Some(read_pattern(alloc, body)?))),
+        Route::DeleteMatching => Ok(Call::DeleteAll(Some(read_pattern(alloc, body)?))),
         Route::Lines => Ok(Call::Lines(None)),
         Route::LinesAfter => Ok(Call::Lines(Some(read_pattern(alloc, body)?))),
         Route::PutLine => Ok(Call::PutLine(read_line(alloc, body)?)),
@@ -78,16 +86,24 @@ fn asked_of(alloc: Global, route: Route, segment: &str, body: &[u8]) -> Result<C
         Route::Notices => Ok(Call::Notices(None)),
         Route::NoticesAfter => Ok(Call::Notices(Some(number_of(segment)?))),
         Route::Notice => Ok(Call::Notice(number_of(segment)?)),
+        Route::History => Ok(Call::History(None)),
+        Route::HistoryBefore => Ok(Call::History(Some(number_of(segment)?))),
+        Route::FindHistory => {
+            let (pattern, before) = read_search(alloc, body)?;
+            Ok(Call::FindHistory(pattern, before))
+        }
         Route::Usage => Ok(Call::Usage),
-        Route::Report => Ok(Call::Report),
+        Route::Limits => Ok(Call::Limits),
+        Route::Report => Ok(Call::Report(None)),
         Route::Submit => Ok(Call::Submit(read_submission(alloc, body)?)),
         Route::Outcome => Ok(Call::Outcome(read_report(alloc, body)?)),
         Route::Due => Ok(Call::Due(read_message_after(alloc, body)?)),
         Route::Sweep => Ok(Call::Sweep),
-        Route::MessagesByBody => Ok(Call::List(read_message_after(alloc, body)?)),
+        Route::MessagesByBody => Ok(Call::List(read_message_after(alloc, body)?, None)),
         Route::ShowByBody => Ok(Call::Show(read_message_id(alloc, body)?)),
         Route::NoticesByBody => Ok(Call::Notices(read_notice_after(alloc, body)?)),
         Route::NoticeByBody => Ok(Call::Notice(read_notice_number(alloc, body)?)),
+        Route::HistoryByBody => Ok(Call::History(read_history_before(alloc, body)?)),
     }
 }
 

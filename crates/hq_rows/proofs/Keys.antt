@@ -1,7 +1,7 @@
 -- Heads and messages in rows: the general lemmas at their keys.
 use Rattle.std.proofs.Common.{◌≡◌, ℕ, Bool, true, false, not, cond, List, [], ◌∷◌, ◌++◌, filter}
 use Rattle.std.proofs.Common.{refl, sym, ap, ◌∙◌, Some, None, Option}
-use Rattle.std.specs.Prelude.{option_map, nat_le}
+use Rattle.std.specs.Prelude.{option_map, is_some, nat_le, nat_lt}
 use Rattle.std.specs.List as list
 use Rattle.std.specs.Cmp.Lexicographic.{nat_list_cmp_total}
 use Rattle.std.proofs.lemmas.Map.Views.{tells_apart}
@@ -9,10 +9,11 @@ use Rattle.std.specs.Ordering.{eq_by_cmp}
 use Rattle.std.proofs.lemmas.Map.Lookups.{exact_bytes}
 use Rattle.std.specs.FinMap.{get, insert, remove, retain_keys}
 use Rattle.hq_store.specs.Tables.{message_cmp, lines_cmp, notice_cmp, Noted, left_of, noted_of}
-use Rattle.hq_store.specs.Tables.{notice_of}
-use Rattle.hq_owned.proofs.Lists.{get_table, table_drop, table_keep, table_put}
-use Rattle.hq_owned.proofs.Unique.{unique_filter, unique_put}
+use Rattle.hq_store.specs.Tables.{notice_of, end_cmp, past_of}
+use Rattle.hq_owned.proofs.Lists.{get_table, table_drop, table_keep, table_push, table_put}
+use Rattle.hq_owned.proofs.Unique.{is_some-table, unique_filter, unique_push, unique_put}
 use Rattle.hq_access.specs.declared.pattern.Class.{Class}
+use Rattle.hq_rows.specs.declared.rows.EndRow.{EndRow}
 use Rattle.hq_rows.specs.declared.rows.HeadRow.{HeadRow}
 use Rattle.hq_rows.specs.declared.rows.HoldRow.{HoldRow}
 use Rattle.hq_rows.specs.declared.rows.LineRow.{LineRow}
@@ -22,11 +23,12 @@ use Rattle.hq_rows.specs.declared.rows.NoticeRow.{NoticeRow}
 use Rattle.hq_rows.specs.Listed.{head_key, head_value, message_key, message_value, heads_of}
 use Rattle.hq_rows.specs.Listed.{messages_of, hold_key, hold_value, holds_of, line_row_key}
 use Rattle.hq_rows.specs.Listed.{line_row_value, lines_of, mark_key, mark_value, marks_of}
-use Rattle.hq_rows.specs.Listed.{notice_key, notice_value, notices_of}
+use Rattle.hq_rows.specs.Listed.{notice_key, notice_value, notices_of, end_key, end_value, ends_of}
 use Rattle.hq_rows.specs.Lookups.{is_head, is_message, is_hold, AreUnique, is_line, AreUniqueLines}
 use Rattle.hq_rows.specs.Lookups.{is_mark, is_notice, is_kept_notice, AreUniqueNotices}
+use Rattle.hq_rows.specs.Lookups.{is_kept_end, is_earlier_end, AreUniqueEnds}
 use Rattle.hq_store.proofs.Orders.{message_total, lines_total, mark_total, message_exact}
-use Rattle.hq_store.proofs.Orders.{lines_exact, mark_exact}
+use Rattle.hq_store.proofs.Orders.{lines_exact, mark_exact, end_total, end_exact}
 
 pub head_found : (rows : List HeadRow) (c : List ℕ) →
     option_map head_value (list.find (is_head c) rows) ≡ get (heads_of rows) c
@@ -160,6 +162,41 @@ pub unique_notices_kept : (rows : List NoticeRow) (c : List ℕ) (number : ℕ) 
     → AreUniqueNotices (filter (is_kept_notice c number) rows)
 unfolding AreUniqueNotices
 unique_notices_kept rows c number u = unique_filter message_cmp notice_key _ rows u
+
+pub end_pushed : (rows : List EndRow) (r : EndRow) →
+    get (ends_of rows) (r.customer, r.end.number) ≡ None → ends_of (rows ++ r ∷ []) ≡ insert
+    (ends_of rows) (r.customer, r.end.number) (past_of r.end)
+end_pushed rows r none = table_push end_total end_exact end_key end_value rows r none
+
+pub ends_kept : (rows : List EndRow) (c : List ℕ) (number : ℕ) →
+    ends_of (filter (is_kept_end c number) rows) ≡ retain_keys (ends_of rows)
+    (left_of c (nat_lt number))
+unfolding is_kept_end
+ends_kept rows c number =
+    table_keep end_total end_exact end_key end_value (left_of c (nat_lt number)) rows
+
+pub ends_earlier : (rows : List EndRow) (c : List ℕ) (number : ℕ) →
+    ends_of (filter (is_earlier_end c number) rows) ≡ retain_keys (ends_of rows)
+    (left_of c (λ n. nat_le n number))
+unfolding is_earlier_end
+ends_earlier rows c number =
+    table_keep end_total end_exact end_key end_value (left_of c (λ n. nat_le n number)) rows
+
+pub unique_end_pushed : (rows : List EndRow) (r : EndRow) → AreUniqueEnds rows →
+    get (ends_of rows) (r.customer, r.end.number) ≡ None → AreUniqueEnds (rows ++ r ∷ [])
+unfolding AreUniqueEnds
+unique_end_pushed rows r u none = unique_push end_total end_key rows r u
+    (sym (is_some-table end_total end_exact end_key end_value rows (end_key r)) ∙ ap is_some none)
+
+pub unique_ends_earlier : (rows : List EndRow) (c : List ℕ) (number : ℕ) → AreUniqueEnds rows
+    → AreUniqueEnds (filter (is_earlier_end c number) rows)
+unfolding AreUniqueEnds
+unique_ends_earlier rows c number u = unique_filter end_cmp end_key _ rows u
+
+pub unique_ends_kept : (rows : List EndRow) (c : List ℕ) (number : ℕ) → AreUniqueEnds rows
+    → AreUniqueEnds (filter (is_kept_end c number) rows)
+unfolding AreUniqueEnds
+unique_ends_kept rows c number u = unique_filter end_cmp end_key _ rows u
 
 -- a row that is found has that number
 whole_notice : (c : List ℕ) (number : ℕ) (rows : List NoticeRow) →

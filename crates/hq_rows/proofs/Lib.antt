@@ -1,3 +1,4 @@
+pub mod EndPages
 pub mod Keys
 pub mod LinePages
 pub mod NoRows

@@ -5,6 +5,7 @@ use Rattle.hq_queue.specs.declared.message.Pending.{Pending}
 use Rattle.hq_access.specs.declared.action.Action.{Action}
 use Rattle.hq_access.specs.declared.pattern.Class.{Class}
 use Rattle.hq_store.specs.declared.account.Account.{Account}
+use Rattle.hq_rows.specs.declared.rows.EndRow.{EndRow}
 use Rattle.hq_rows.specs.declared.rows.HeadRow.{HeadRow}
 use Rattle.hq_rows.specs.declared.rows.HoldRow.{HoldRow}
 use Rattle.hq_rows.specs.declared.rows.LineRow.{LineRow}
@@ -13,8 +14,8 @@ use Rattle.hq_rows.specs.declared.rows.MarkRow.{MarkRow}
 use Rattle.hq_rows.specs.declared.rows.MessageRow.{MessageRow}
 use Rattle.hq_rows.specs.declared.rows.NoticeRow.{NoticeRow}
 use Rattle.hq_rows.specs.declared.rows.RecipientRow.{RecipientRow}
-use Rattle.hq_store.specs.Tables.{Row, Noted, text_cmp, message_cmp, recipient_cmp, lines_cmp}
-use Rattle.hq_store.specs.Tables.{mark_cmp, notice_cmp, noted_of}
+use Rattle.hq_store.specs.Tables.{Row, Noted, Past, text_cmp, message_cmp, recipient_cmp, lines_cmp}
+use Rattle.hq_store.specs.Tables.{mark_cmp, notice_cmp, end_cmp, noted_of, past_of}
 use Rattle.hq_owned.specs.Rows.{map_of}
 
 -- ---- keys and values of rows
@@ -70,6 +71,12 @@ notice_key r = (r.customer, r.notice.number)
 abbrev pub notice_value : NoticeRow → Noted
 notice_value r = noted_of r.notice
 
+abbrev pub end_key : EndRow → List ℕ × ℕ
+end_key r = (r.customer, r.end.number)
+
+abbrev pub end_value : EndRow → Past
+end_value r = past_of r.end
+
 -- ---- the tables that rows stand for: of rows with one key the first counts
 
 abbrev pub heads_of : List HeadRow → FinMap text_cmp Account
@@ -92,3 +99,6 @@ marks_of rows = map_of mark_cmp mark_key mark_value rows
 
 abbrev pub notices_of : List NoticeRow → FinMap notice_cmp Noted
 notices_of rows = map_of notice_cmp notice_key notice_value rows
+
+abbrev pub ends_of : List EndRow → FinMap end_cmp Past
+ends_of rows = map_of end_cmp end_key end_value rows

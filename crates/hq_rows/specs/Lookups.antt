@@ -9,6 +9,7 @@ use Rattle.hq_queue.specs.declared.message.Message.{Message}
 use Rattle.hq_queue.specs.declared.message.Pending.{Pending}
 use Rattle.hq_access.specs.declared.action.Action.{Action}
 use Rattle.hq_access.specs.declared.pattern.Class.{Class}
+use Rattle.hq_rows.specs.declared.rows.EndRow.{EndRow}
 use Rattle.hq_rows.specs.declared.rows.HeadRow.{HeadRow}
 use Rattle.hq_rows.specs.declared.rows.HoldRow.{HoldRow}
 use Rattle.hq_rows.specs.declared.rows.LineRow.{LineRow}
@@ -17,11 +18,12 @@ use Rattle.hq_rows.specs.declared.rows.MessageRow.{MessageRow}
 use Rattle.hq_rows.specs.declared.rows.NoticeRow.{NoticeRow}
 use Rattle.hq_rows.specs.declared.rows.RecipientRow.{RecipientRow}
 use Rattle.hq_store.specs.Tables.{Row, text_cmp, message_cmp, line_cmp, lines_cmp, mark_cmp}
-use Rattle.hq_store.specs.Tables.{notice_cmp, Noted, left_of, joined, pending_of}
+use Rattle.hq_store.specs.Tables.{notice_cmp, end_cmp, Noted, Past, left_of, joined, pending_of}
 use Rattle.hq_owned.specs.Owned.{rows_of}
 use Rattle.hq_owned.specs.Rows.{HasUniqueKeys}
-use Rattle.hq_rows.specs.Listed.{message_key, recipient_value, line_row_key, notice_key}
+use Rattle.hq_rows.specs.Listed.{message_key, recipient_value, line_row_key, notice_key, end_key}
 use Rattle.hq_rows.specs.Listed.{messages_of, recipients_of, holds_of, lines_of, notices_of}
+use Rattle.hq_rows.specs.Listed.{ends_of}
 
 -- ---- tests of rows
 
@@ -82,6 +84,24 @@ is_notice_past customer after r = eq_by_cmp text_cmp customer r.customer
 unfoldable pub is_kept_notice : List ℕ → ℕ → NoticeRow → Bool
 is_kept_notice customer number r = left_of customer (nat_le number) (r.customer, r.notice.number)
 
+abbrev pub is_before : Option ℕ → ℕ → Bool
+is_before None number = true
+is_before (Some n) number = nat_lt number n
+
+-- an end of the customer before a number, or any of its ends
+unfoldable pub is_end_before : List ℕ → Option ℕ → EndRow → Bool
+is_end_before customer before r = eq_by_cmp text_cmp customer r.customer
+    && is_before before r.end.number
+
+-- another customer's end, or one of a number above this one
+unfoldable pub is_kept_end : List ℕ → ℕ → EndRow → Bool
+is_kept_end customer number r = left_of customer (nat_lt number) (r.customer, r.end.number)
+
+-- another customer's end, or one of a number up to this one
+unfoldable pub is_earlier_end : List ℕ → ℕ → EndRow → Bool
+is_earlier_end customer number r =
+    left_of customer (λ n. nat_le n number) (r.customer, r.end.number)
+
 -- ---- rows made
 
 abbrev pub message_row : List ℕ → Message → MessageRow
@@ -131,6 +151,10 @@ AreUniqueLines rows = HasUniqueKeys lines_cmp line_row_key rows
 unfoldable pub AreUniqueNotices : List NoticeRow → Type 0
 AreUniqueNotices rows = HasUniqueKeys notice_cmp notice_key rows
 
+-- no end stands twice
+unfoldable pub AreUniqueEnds : List EndRow → Type 0
+AreUniqueEnds rows = HasUniqueKeys end_cmp end_key rows
+
 -- ---- pages
 
 -- the customer's rows of messages, by serial
@@ -158,6 +182,10 @@ line_rows_with customer rows = rows_of text_cmp customer (entries (lines_of rows
 -- the customer's rows of notices, by number
 abbrev pub notice_rows_with : List ℕ → List NoticeRow → List (ℕ × Noted)
 notice_rows_with customer rows = rows_of text_cmp customer (entries (notices_of rows))
+
+-- the customer's rows of its history, the newest first
+abbrev pub end_rows_with : List ℕ → List EndRow → List (ℕ × Past)
+end_rows_with customer rows = rows_of text_cmp customer (entries (ends_of rows))
 
 abbrev pub message_at : List ℕ → List MessageRow → List RecipientRow → List HoldRow → ℕ →
     Option Message

@@ -2,6 +2,9 @@
 //! rows stand for, whichever store keeps them.
 #![tactic(auto)]
 
+mod copies;
 mod rows;
 
-pub use rows::{HeadRow, HoldRow, LineRow, MarkRow, MessageRow, NoticeRow, RecipientRow, order};
+pub use rows::{
+    EndRow, HeadRow, HoldRow, LineRow, MarkRow, MessageRow, NoticeRow, RecipientRow, order,
+};

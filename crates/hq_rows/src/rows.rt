@@ -5,13 +5,13 @@ ghost use Rattle.std.specs.Ordering.{nat_cmp, eq_by_cmp};
 ghost use Rattle.hq_store.specs.Tables.{text_cmp, line_cmp};
 ghost use Rattle.hq_rows.specs.Lookups.{is_head, is_message, is_recipient, is_hold, is_past};
 ghost use Rattle.hq_rows.specs.Lookups.{has_spool, is_line, is_line_past, is_mark, is_notice};
-ghost use Rattle.hq_rows.specs.Lookups.{is_notice_past, is_kept_notice};
+ghost use Rattle.hq_rows.specs.Lookups.{is_notice_past, is_kept_notice, is_end_before};
+ghost use Rattle.hq_rows.specs.Lookups.{is_kept_end, is_earlier_end};
 
 use hq_access::{Class, Line, Pattern};
-use hq_envelope::{Label, Moment, Name, Sender, Serial, Spool, Text, TryCopy};
 use hq_queue::{Pending, QueueState};
-use hq_store::{Account, Mark, Notice};
-use std::alloc::{AllocError, Global};
+use hq_store::{Account, End, Mark, Notice};
+use hq_values::{Label, Moment, Name, Sender, Serial, Spool, Text};
 use std::cmp::Ordering;
 
 /// A row of heads.
@@ -97,6 +97,15 @@ pub struct NoticeRow {
     pub customer: Name,
     /// The notice with its number.
     pub notice: Notice,
+}
+
+/// A row of the histories.
+#[derive(Drop)]
+pub struct EndRow {
+    /// The customer's name.
+    pub customer: Name,
+    /// The end with its number.
+    pub end: End,
 }
 
 /// Whether two names are the same.
@@ -320,81 +329,33 @@ impl NoticeRow {
     }
 }
 
-impl TryCopy for HeadRow {
-    fn copy(&self, alloc: Global) -> Result<HeadRow, AllocError> {
-        let customer = self.customer.copy(alloc)?;
-        Ok(HeadRow {
-            customer,
-            account: self.account,
-        })
+impl EndRow {
+    /// Whether it is an end of the customer before a number, or any of its ends where there is
+    /// none.
+    #[tactic(auto, unfolding(crate::specs::Lookups::is_end_before))]
+    pub fn is_before(&self, customer: &Name, before: Option<u64>) -> bool
+        ensures { result ≡ is_end_before customer.now before self.now }
+    {
+        is_name(customer, &self.customer)
+            && match before {
+                None => true,
+                Some(number) => self.end.number < number,
+            }
     }
-}
 
-impl TryCopy for MessageRow {
-    fn copy(&self, alloc: Global) -> Result<MessageRow, AllocError> {
-        let customer = self.customer.copy(alloc)?;
-        let sender = self.sender.copy(alloc)?;
-        let spool = self.spool.copy(alloc)?;
-        Ok(MessageRow {
-            customer,
-            serial: self.serial,
-            sender,
-            spool,
-            size: self.size,
-            arrival: self.arrival,
-            state: self.state,
-            next_try: self.next_try,
-            attempts: self.attempts,
-            warned: self.warned,
-        })
+    /// Whether it is another customer's, or of a number above this one.
+    #[tactic(auto, unfolding(crate::specs::Lookups::is_kept_end))]
+    pub fn is_kept(&self, customer: &Name, number: u64) -> bool
+        ensures { result ≡ is_kept_end customer.now number self.now }
+    {
+        !(is_name(customer, &self.customer) && !(number < self.end.number))
     }
-}
 
-impl TryCopy for RecipientRow {
-    fn copy(&self, alloc: Global) -> Result<RecipientRow, AllocError> {
-        let customer = self.customer.copy(alloc)?;
-        let pending = self.pending.copy(alloc)?;
-        Ok(RecipientRow {
-            customer,
-            serial: self.serial,
-            place: self.place,
-            pending,
-        })
-    }
-}
-
-impl TryCopy for HoldRow {
-    fn copy(&self, alloc: Global) -> Result<HoldRow, AllocError> {
-        let customer = self.customer.copy(alloc)?;
-        let reason = self.reason.copy(alloc)?;
-        Ok(HoldRow {
-            customer,
-            serial: self.serial,
-            reason,
-        })
-    }
-}
-
-impl TryCopy for LineRow {
-    fn copy(&self, alloc: Global) -> Result<LineRow, AllocError> {
-        let customer = self.customer.copy(alloc)?;
-        let line = self.line.copy(alloc)?;
-        Ok(LineRow { customer, line })
-    }
-}
-
-impl TryCopy for MarkRow {
-    fn copy(&self, alloc: Global) -> Result<MarkRow, AllocError> {
-        let customer = self.customer.copy(alloc)?;
-        let mark = self.mark.copy(alloc)?;
-        Ok(MarkRow { customer, mark })
-    }
-}
-
-impl TryCopy for NoticeRow {
-    fn copy(&self, alloc: Global) -> Result<NoticeRow, AllocError> {
-        let customer = self.customer.copy(alloc)?;
-        let notice = self.notice.copy(alloc)?;
-        Ok(NoticeRow { customer, notice })
+    /// Whether it is another customer's, or of a number up to this one.
+    #[tactic(auto, unfolding(crate::specs::Lookups::is_earlier_end))]
+    pub fn is_earlier(&self, customer: &Name, number: u64) -> bool
+        ensures { result ≡ is_earlier_end customer.now number self.now }
+    {
+        !(is_name(customer, &self.customer) && !(self.end.number <= number))
     }
 }

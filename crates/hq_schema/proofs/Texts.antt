@@ -7,6 +7,7 @@ use Rattle.std.specs.List.{AllZip}
 use Rattle.sqlite_tied.specs.Compute.{everything}
 use Rattle.hq_schema.specs.Made.{Defines, desk_tables, desk_texts}
 use Rattle.hq_schema.specs.Schema.{no_schema, version_alone, first_schema, desk_schema}
+use Rattle.hq_schema.specs.Schema.{second_schema, ends_text, ends}
 use Rattle.hq_schema.specs.Schema.{version_text, heads_text, messages_text, recipients_text}
 use Rattle.hq_schema.specs.Schema.{lines_text, notices_text, marks_text, holds_text}
 use Rattle.hq_schema.specs.Schema.{version, heads, messages, recipients, lines, notices, marks}
@@ -44,6 +45,10 @@ pub holds_defined : table_defined_by holds_text ≡ Ok holds
 unfolding understood everything
 holds_defined = refl
 
+pub ends_defined : table_defined_by ends_text ≡ Ok ends
+unfolding understood everything
+ends_defined = refl
+
 pub version_is_alone : created no_schema version ≡ version_alone
 unfolding understood everything
 version_is_alone = refl
@@ -54,14 +59,23 @@ pub first_is_made : created (created (created
 unfolding understood everything
 first_is_made = refl
 
-pub holds_made_last : created first_schema holds ≡ desk_schema
+pub holds_made_last : created first_schema holds ≡ second_schema
 unfolding understood everything
 holds_made_last = refl
 
-pub desk_is_made : created (created (created
+pub ends_made_last : created second_schema ends ≡ desk_schema
+unfolding understood everything
+ends_made_last = refl
+
+pub second_is_made : created (created (created
     (created (created (created (created (created no_schema version) heads) messages) recipients)
-    lines) notices) marks) holds ≡ desk_schema
-desk_is_made = ap (λ s. created s holds) first_is_made ∙ holds_made_last
+    lines) notices) marks) holds ≡ second_schema
+second_is_made = ap (λ s. created s holds) first_is_made ∙ holds_made_last
+
+pub desk_is_made : created (created (created (created
+    (created (created (created (created (created no_schema version) heads) messages) recipients)
+    lines) notices) marks) holds) ends ≡ desk_schema
+desk_is_made = ap (λ s. created s ends) second_is_made ∙ ends_made_last
 
 pub texts_defined : AllZip Defines desk_texts desk_tables
 texts_defined = (
@@ -74,7 +88,7 @@ texts_defined = (
         recipients_defined,
         (
           lines_defined,
-          (notices_defined, (marks_defined, (holds_defined, tt))),
+          (notices_defined, (marks_defined, (holds_defined, (ends_defined, tt)))),
         ),
       ),
     ),

@@ -1,9 +1,10 @@
-//! Schema 2: the tables of a desk's store as `sqlite` has them, and whether a store has exactly
-//! these, or exactly those of the first schema. It knows no row and no customer.
+//! Schema 3: the tables of a desk's store as `sqlite` has them, and whether a store has exactly
+//! these, or exactly those of an earlier schema. It knows no row and no customer.
 #![tactic(auto)]
 
 ghost use Rattle.std.specs.Prelude.{◌≡◌, ◌↔◌, map, IsTrue};
 ghost use Rattle.hq_schema.specs.Schema.{no_schema, version_alone, first_schema, desk_schema};
+ghost use Rattle.hq_schema.specs.Schema.{second_schema};
 ghost use Rattle.hq_schema.specs.Shapes.{table_of, index_of};
 
 mod desk;
@@ -31,7 +32,7 @@ pub fn is_version_alone(schema: &Schema) -> bool
         && are_tables(schema.tables.as_slice(), &[VERSION])
 }
 
-/// Whether the schema is a desk's: each table and each index is there as schema 2 has it, at its
+/// Whether the schema is a desk's: each table and each index is there as schema 3 has it, at its
 /// tree, and nothing beside them. A table more, a column that may be NULL, or the same tables made
 /// in another order are no desk's.
 pub fn is_desk(schema: &Schema) -> bool
@@ -40,6 +41,16 @@ pub fn is_desk(schema: &Schema) -> bool
     schema.views.is_empty()
         && are_tables(schema.tables.as_slice(), &TABLES)
         && are_indexes(schema.indexes.as_slice(), &INDEXES)
+}
+
+/// Whether the schema is that of a desk of version 2: schema 3 without the table of ends and the
+/// index of its key.
+pub fn is_second_desk(schema: &Schema) -> bool
+    ensures { IsTrue result ↔ (schema.now ≡ second_schema) }
+{
+    schema.views.is_empty()
+        && are_tables(schema.tables.as_slice(), &TABLES[..8])
+        && are_indexes(schema.indexes.as_slice(), &INDEXES[..8])
 }
 
 /// Whether the schema is that of a desk of version 1: schema 2 without the table of holds and the

@@ -1,65 +1,74 @@
 -- The line of what was read and replied.
 use Rattle.std.specs.Io.KnownBytes.{Appends}
-use Rattle.std.proofs.Common.{◌≡◌, ℕ, Bool, List, Option, None, Some, inl, inr, refl, subst}
-use Rattle.hq_http.specs.Requests.{nothing, refused, request}
-use Rattle.hq_log.specs.Entries as entries
-use Rattle.hq_log.specs.Entries.{IsTold, customer_named}
+use Rattle.std.proofs.Common.{◌≡◌, ℕ, Bool, List, Option, None, Some, refl, sym, ◌∙◌, subst}
+use Rattle.hq_desk.specs.declared.desk.Desk.{Desk}
+use Rattle.hq_http.specs.Requests.{Wanted, nothing, refused, request}
+use Rattle.hq_log.specs.Entries.{IsTold, customer_named, exchange_entry}
 use Rattle.hq_log.specs.Lines.{LogEntry, log_line_behind}
 use Rattle.hq_log.specs.declared.keeping.Answered.{Answered}
 use Rattle.hq_requests.specs.declared.directory.Directory.{Directory}
 use Rattle.hq_requests.specs.declared.exchanges.Exchange.{Exchange}
-use Rattle.hq_wire.specs.Replies.{SeenReply, seen}
-use Rattle.hq_serve.specs.Logged.{IsLogged}
-use Rattle.hq_serve.specs.Steps.{HoldsRequest, IsToLog}
+use Rattle.hq_store.specs.Shelves.{Sight}
+use Rattle.hq_wire.specs.Replies.{IsSent, SeenReply}
+use Rattle.hq_serve.specs.Connections.{AnsweredAs}
+use Rattle.hq_serve.specs.Logged.{IsLogged, connection_entry}
+use Rattle.hq_serve.specs.Steps.{AreSent, HoldsRequest, IsToLog}
 use Rattle.hq_serve.specs.declared.serving.Replied.{Replied}
 
-module _ (d : Directory) (at : ℕ) (a b : Option (List ℕ)) (lost : Bool) (old new : Option (List ℕ))
-    (r : SeenReply) (milliseconds : Option ℕ) where
+module _ (d : Directory) (at : ℕ) (r : SeenReply) (milliseconds : Option ℕ) where
   -- what is told of an exchange that was read, or of what could not be read as one
-  of_read : (asked : Option Exchange) → HoldsRequest a b at asked →
-      Appends old new
-      (log_line_behind lost
-      (entries.exchange_entry d (Some at) asked r.status r.body milliseconds)) →
-      IsLogged d at a b lost old new r
-  of_read (Some x) (q, received, is) told = record {
-    asked = request q;
-    read = inl received;
+  entry_is : (asked : Wanted) (x : Option Exchange) → HoldsRequest at asked x →
+      exchange_entry d (Some at) x r.status r.body milliseconds
+      ≡ connection_entry d at asked r milliseconds
+  entry_is (request q) (Some x) is = λ i. record {
+    at = Some at;
+    customer = customer_named d (is.3 i) (is.2 i);
+    method = Some (is.1 i);
+    path = Some (is.2 i);
+    status = r.status;
+    body = r.body;
     milliseconds = milliseconds;
-    told = subst (λ (t : LogEntry). Appends old new (log_line_behind lost t)) (λ i. record {
-      at = Some at;
-      customer = customer_named d (is.3 i) (is.2 i);
-      method = Some (is.1 i);
-      path = Some (is.2 i);
-      status = r.status;
-      body = r.body;
-      milliseconds = milliseconds;
-    }) told;
   }
-  of_read None (inl (why, received)) told = record {
-    asked = refused why;
-    read = inl received;
-    milliseconds = milliseconds;
-    told = told;
-  }
-  of_read None (inr no_room) told = record {
-    asked = nothing;
-    read = inr (no_room, refl);
-    milliseconds = milliseconds;
-    told = told;
-  }
+  entry_is (request q) None none = absurd none
+  entry_is nothing (Some x) none = absurd none
+  entry_is (refused why) (Some x) none = absurd none
+  entry_is nothing None _ = refl
+  entry_is (refused why) None _ = refl
 
--- what the log was told of, once it was begun, is what was read
-pub logged_as : (d : Directory) (at : ℕ) (a b : Option (List ℕ)) (lost begun_lost : Bool)
-    (old begun new : Option (List ℕ)) (told : Answered) (replied : Replied) →
-    begun_lost ≡ lost → begun ≡ old → IsToLog told at replied →
-    HoldsRequest a b at replied.asked → IsTold d told begun_lost begun new →
-    IsLogged d at a b lost old new (seen replied.reply)
-logged_as d at a b lost begun_lost old begun new told replied same_lost same is holds line =
-    of_read d at a b lost old new (seen replied.reply) line.0 replied.asked holds
-    (subst (λ (t : Bool × Option (List ℕ) × LogEntry). Appends t.1 new (log_line_behind t.0 t.2))
-    (λ i. (
-      same_lost i,
-      same i,
-      entries.exchange_entry d (is.0 i) (is.1 i) (is.2 i) (is.3 i) line.0,
-    ))
-    line.1)
+-- what the log was told of, once it was begun, is what was read and what was replied
+module _ {S : Type 0} (sight : Sight S) (d : Directory) (at : ℕ) (a b : Option (List ℕ))
+    (old new : Desk S) (lost : Bool) (log_old log_new : Option (List ℕ)) where
+  abbrev pub IsLoggedAs : Replied → Type 0
+  IsLoggedAs replied = (r : SeenReply) × IsSent replied.reply r
+      × IsLogged sight d at a b old new lost log_old log_new r
+
+  pub logged_as : (asked : Wanted) (replied : Replied) (told : Answered) (r : Option SeenReply)
+      (begun_lost : Bool) (begun : Option (List ℕ)) → AreSent (Some replied.reply) r →
+      AnsweredAs sight d at a b old asked r new → HoldsRequest at asked replied.asked →
+      IsToLog told at replied → begun_lost ≡ lost → begun ≡ log_old →
+      IsTold d told begun_lost begun log_new → IsLoggedAs replied
+  logged_as asked replied told None begun_lost begun sent answered holds is same_lost same line =
+      absurd sent
+  logged_as asked replied told (Some r) begun_lost begun sent answered holds is lost_too same line =
+      let status = is.2 ∙ sym sent.0 in
+      let body = is.3 ∙ sym sent.1 in
+      let of_exchange : Appends log_old log_new (log_line_behind lost
+      (exchange_entry d (Some at) replied.asked r.status r.body line.0)) =
+      subst (λ (t : Bool × Option (List ℕ) × LogEntry).
+      Appends t.1 log_new (log_line_behind t.0 t.2))
+      (λ i. (
+        lost_too i,
+        same i,
+        exchange_entry d (is.0 i) (is.1 i) (status i) (body i) line.0,
+      ))
+      line.1 in (
+        r,
+        sent,
+        record {
+          asked = asked;
+          answered = answered;
+          milliseconds = line.0;
+          told = subst (λ (t : LogEntry). Appends log_old log_new (log_line_behind lost t))
+              (entry_is d at r line.0 asked replied.asked holds) of_exchange;
+        },
+      )

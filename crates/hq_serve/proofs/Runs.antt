@@ -5,15 +5,15 @@ use Rattle.std.specs.Prelude.{option_to_list}
 use Rattle.std.specs.Bool.{⊤}
 use Rattle.hq_store.specs.Shelves.{Sight}
 use Rattle.hq_desk.specs.declared.desk.Desk.{Desk}
-use Rattle.hq_base.proofs.Turns.{turns_on}
+use Rattle.hq_values.proofs.Turns.{turns_on}
 use Rattle.hq_wire.specs.Exchanges.{Exchanged}
 use Rattle.hq_wire.specs.Replies.{SeenReply}
 use Rattle.hq_requests.specs.declared.directory.Directory.{Directory}
 use Rattle.hq_wire.proofs.Serving.{served}
 use Rattle.hq_lines.specs.Lines.{Streams}
-use Rattle.hq_base.specs.declared.engine.EngineFault.{EngineFault}
-use Rattle.hq_base.specs.declared.engine.EngineFault.TheVariants.{Read, Write, TooManyReads}
-use Rattle.hq_base.specs.declared.engine.EngineFault.TheVariants.{WantOfMemory}
+use Rattle.hq_values.specs.declared.engine.EngineFault.{EngineFault}
+use Rattle.hq_values.specs.declared.engine.EngineFault.TheVariants.{Read, Write, TooManyReads}
+use Rattle.hq_values.specs.declared.engine.EngineFault.TheVariants.{WantOfMemory}
 use Rattle.hq_http.specs.Requests.{Wanted, nothing, refused, request}
 use Rattle.hq_serve.specs.Connections.{asks as asked_of, Answered, ConnectionEnds}
 use Rattle.hq_serve.specs.Listening.{DoesSome, ServesComing}
@@ -113,14 +113,14 @@ module _ {S : Type 0} (sight : Sight S) (d : Directory) where
 
   by_answer : (at : ℕ) (a b : Option (List ℕ)) (old new : Desk S) (reply : Option SeenReply) →
       Answered sight d at a b old reply new → DoesSome sight d 1 old new
-  by_answer at a b old new reply (inl p) =
+  by_answer at a b old new reply (asked, inl p) =
       record {
-        asks = asked_of d at p.0;
+        asks = asked_of d at asked;
         replies = option_to_list reply;
-        one_each = at_most_one at p.0;
-        served = p.2;
+        one_each = at_most_one at asked;
+        served = p.1;
       }
-  by_answer at a b old new reply (inr p) = nothing_done 1 old new p.2
+  by_answer at a b old new reply (asked, inr p) = nothing_done 1 old new p.3
 
   -- however a connection ends
   pub by_end : (at : ℕ) (start end : Streams) (quiet : Type 0) (old new : Desk S)

@@ -2,7 +2,7 @@
 use Rattle.std.specs.Prelude.{◌≡◌, ◌⊎◌, ⊤, ℕ, List, [], ◌∷◌, Option, None, Some, option_to_list}
 use Rattle.std.specs.Prelude.{Result, Ok, Err}
 use Rattle.std.specs.Io.KnownBytes.{Appends, Keeps}
-use Rattle.hq_base.specs.Refusals.{no_memory}
+use Rattle.hq_values.specs.Refusals.{no_memory}
 use Rattle.hq_store.specs.Shelves.{Sight}
 use Rattle.hq_desk.specs.declared.desk.Desk.{Desk}
 use Rattle.hq_requests.specs.Calls.{call_from}
@@ -11,9 +11,10 @@ use Rattle.hq_wire.specs.Replies.{SeenReply, reply_of_fault}
 use Rattle.hq_wire.specs.Runs.{Served}
 use Rattle.hq_requests.specs.declared.directory.Directory.{Directory}
 use Rattle.hq_lines.specs.Lines.{Streams}
-use Rattle.hq_base.specs.declared.engine.EngineFault.{EngineFault}
-use Rattle.hq_base.specs.declared.engine.EngineFault.TheVariants.{Read, Write, TooManyReads}
-use Rattle.hq_base.specs.declared.engine.EngineFault.TheVariants.{WantOfMemory}
+use Rattle.hq_lines.specs.Written.{AppendsPart}
+use Rattle.hq_values.specs.declared.engine.EngineFault.{EngineFault}
+use Rattle.hq_values.specs.declared.engine.EngineFault.TheVariants.{Read, Write, TooManyReads}
+use Rattle.hq_values.specs.declared.engine.EngineFault.TheVariants.{WantOfMemory}
 use Rattle.hq_http.specs.Requests.{Wanted, nothing, refused, request, Received, HasNoRoom}
 use Rattle.hq_http.specs.Responses.{response_text}
 use Rattle.hq_http.specs.Stages.{StaysOpen}
@@ -34,18 +35,25 @@ abbrev pub IsWritten : Option (List ℕ) → Option (List ℕ) → Option SeenRe
 IsWritten old new None = Keeps old new
 IsWritten old new (Some r) = Appends old new (response_of r)
 
--- What was read was served as its exchange is, or as none; or there was no room for it, which is
--- told, and nothing was done.
+-- What was read asks for this, and was served as its exchange is, or as none; or there was no room
+-- for it, so that it asks for nothing, which is told, and nothing was done.
+abbrev pub AnsweredAs : {S : Type 0} → Sight S → Directory → ℕ → Option (List ℕ) →
+    Option (List ℕ) → Desk S → Wanted → Option SeenReply → Desk S → Type 0
+AnsweredAs sight d at read_old read_new old asked reply new =
+    (Received read_old read_new asked
+    × Served sight d old (asks d at asked) (option_to_list reply) new)
+    ⊎ (HasNoRoom read_old read_new × (asked ≡ nothing)
+    × (reply ≡ Some (reply_of_fault no_memory)) × (new ≡ old))
+
+-- whatever it asks for
 abbrev pub Answered : {S : Type 0} → Sight S → Directory → ℕ → Option (List ℕ) → Option (List ℕ) →
     Desk S → Option SeenReply → Desk S → Type 0
 Answered sight d at read_old read_new old reply new =
-    ((asked : Wanted) × Received read_old read_new asked
-    × Served sight d old (asks d at asked) (option_to_list reply) new)
-    ⊎ (HasNoRoom read_old read_new × (reply ≡ Some (reply_of_fault no_memory)) × (new ≡ old))
+    (asked : Wanted) × AnsweredAs sight d at read_old read_new old asked reply new
 
 -- How the serving of a connection ends: what was read is answered, and the response is written; or
--- nothing was done, as more had to be read; or what was read is answered, and its response is not
--- told to be whole.
+-- nothing was done, as more had to be read; or what was read is answered, and a beginning of the
+-- response went out.
 abbrev pub ConnectionEnds : {S : Type 0} → Sight S → Directory → ℕ → Streams → Streams → Type 0 →
     Desk S → Desk S → Result ⊤ EngineFault → Type 0
 ConnectionEnds sight d at start end quiet old new (Ok _) = (reply : Option SeenReply)
@@ -59,4 +67,5 @@ ConnectionEnds sight d at start end quiet old new (Err TooManyReads) = StaysOpen
     × (new ≡ old)
 ConnectionEnds sight d at start end quiet old new (Err Write) = (reply : SeenReply)
     × Answered sight d at start.input end.input old (Some reply) new
+    × AppendsPart start.output end.output (response_of reply)
 ConnectionEnds sight d at start end quiet old new (Err WantOfMemory) = ⊥

@@ -2,14 +2,17 @@
 -- is replied.
 use Rattle.std.specs.Prelude.{◌≡◌, ◌⊎◌, ⊤, ℕ, Bool, List, Option, None, Some, Result, Ok, Err}
 use Rattle.std.specs.Io.KnownBytes.{Appends, Keeps}
-use Rattle.hq_base.specs.declared.engine.EngineFault.{EngineFault}
-use Rattle.hq_base.specs.declared.engine.EngineFault.TheVariants.{Write}
-use Rattle.hq_http.specs.Requests.{Wanted, nothing, request, Received, HasNoRoom}
+use Rattle.hq_values.specs.declared.engine.EngineFault.{EngineFault}
+use Rattle.hq_values.specs.declared.engine.EngineFault.TheVariants.{Write}
+use Rattle.hq_desk.specs.declared.desk.Desk.{Desk}
+use Rattle.hq_http.specs.Requests.{Wanted, request}
 use Rattle.hq_lines.specs.Lines.{Streams}
+use Rattle.hq_lines.specs.Written.{AppendsPart}
 use Rattle.hq_log.specs.Entries.{customer_named}
 use Rattle.hq_log.specs.Lines.{LogEntry, log_line_behind}
 use Rattle.hq_requests.specs.declared.directory.Directory.{Directory}
-use Rattle.hq_serve.specs.Connections.{response_of}
+use Rattle.hq_serve.specs.Connections.{AnsweredAs, response_of}
+use Rattle.hq_store.specs.Shelves.{Sight}
 use Rattle.hq_wire.specs.Replies.{SeenReply}
 
 -- what is told of what was read at a moment, and of its reply; of what is no request there is
@@ -34,26 +37,26 @@ connection_entry d at _ r milliseconds = record {
   milliseconds = milliseconds;
 }
 
--- what was read; where there was no room for it, it is no request
-abbrev pub WasRead : Option (List ℕ) → Option (List ℕ) → Wanted → Type 0
-WasRead read_old read_new asked = Received read_old read_new asked
-    ⊎ (HasNoRoom read_old read_new × (asked ≡ nothing))
-
--- Its line is there, of what was read and of this reply; lines were lost before, or not.
-pub record IsLogged (d : Directory) (at : ℕ) (read_old read_new : Option (List ℕ)) (lost : Bool)
-    (old new : Option (List ℕ)) (r : SeenReply) : Type 0 where
+-- What was read is answered by this reply, and the line of just that is there; lines were lost
+-- before, or not.
+pub record IsLogged {S : Type 0} (sight : Sight S) (d : Directory) (at : ℕ)
+    (read_old read_new : Option (List ℕ)) (old new : Desk S) (lost : Bool)
+    (log_old log_new : Option (List ℕ)) (r : SeenReply) : Type 0 where
   pub asked : Wanted
-  pub read : WasRead read_old read_new asked
+  pub answered : AnsweredAs sight d at read_old read_new old asked (Some r) new
   pub milliseconds : Option ℕ
-  pub told : Appends old new (log_line_behind lost (connection_entry d at asked r milliseconds))
+  pub told : Appends log_old log_new
+      (log_line_behind lost (connection_entry d at asked r milliseconds))
 
--- The reply that is written has its line, and so has one that could not be written whole; where
--- nothing is replied there is none.
-abbrev pub LogEnds : Directory → ℕ → Streams → Streams → Bool → Option (List ℕ) → Option (List ℕ) →
-    Result ⊤ EngineFault → Type 0
-LogEnds d at start end lost old new (Ok _) = (Keeps start.output end.output × (new ≡ old))
+-- The reply that is written has its line, and so has one of which only a beginning is told to be
+-- written; where nothing is replied there is none.
+abbrev pub LogEnds : {S : Type 0} → Sight S → Directory → ℕ → Streams → Streams → Desk S → Desk S →
+    Bool → Option (List ℕ) → Option (List ℕ) → Result ⊤ EngineFault → Type 0
+LogEnds sight d at start end old new lost log_old log_new (Ok _) =
+    (Keeps start.output end.output × (log_new ≡ log_old))
     ⊎ ((r : SeenReply) × Appends start.output end.output (response_of r)
-    × IsLogged d at start.input end.input lost old new r)
-LogEnds d at start end lost old new (Err Write) =
-    (r : SeenReply) × IsLogged d at start.input end.input lost old new r
-LogEnds d at start end lost old new (Err _) = new ≡ old
+    × IsLogged sight d at start.input end.input old new lost log_old log_new r)
+LogEnds sight d at start end old new lost log_old log_new (Err Write) = (r : SeenReply)
+    × AppendsPart start.output end.output (response_of r)
+    × IsLogged sight d at start.input end.input old new lost log_old log_new r
+LogEnds sight d at start end old new lost log_old log_new (Err _) = log_new ≡ log_old

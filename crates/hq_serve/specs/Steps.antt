@@ -1,9 +1,8 @@
 -- Words of the crate's own functions. No claim rests on them.
 -- Inner: it serves proofs alone, and no promise rests on it.
-use Rattle.std.specs.Prelude.{◌≡◌, ◌⊎◌, ⊤, ℕ, List, Option, None, Some, string_bytes, option_map}
-use Rattle.hq_base.specs.declared.failure.Refusal.{Refusal}
+use Rattle.std.specs.Prelude.{◌≡◌, ⊤, ℕ, List, Option, None, Some, string_bytes, option_map}
 use Rattle.hq_http.specs.Requests as requests
-use Rattle.hq_http.specs.Requests.{Received, HasNoRoom, refused, request}
+use Rattle.hq_http.specs.Requests.{Wanted, request}
 use Rattle.hq_log.specs.declared.keeping.Answered.{Answered as ToLog}
 use Rattle.hq_store.specs.Shelves.{Sight}
 use Rattle.hq_desk.specs.declared.desk.Desk.{Desk}
@@ -11,7 +10,7 @@ use Rattle.hq_wire.specs.Replies.{IsSent, SeenReply, body_bytes}
 use Rattle.hq_requests.specs.declared.exchanges.Exchange.{Exchange}
 use Rattle.hq_requests.specs.declared.directory.Directory.{Directory}
 use Rattle.hq_wire.specs.declared.reply.Reply.{Reply}
-use Rattle.hq_serve.specs.Connections.{Answered}
+use Rattle.hq_serve.specs.Connections.{AnsweredAs}
 use Rattle.hq_serve.specs.declared.serving.Replied.{Replied}
 
 -- the exchange that a request asks for at a moment
@@ -26,18 +25,27 @@ AreSent None None = ⊤
 AreSent (Some reply) (Some r) = IsSent reply r
 AreSent _ _ = ⊥
 
--- what was read is answered, as it is sent
-abbrev pub Sends : {S : Type 0} → Sight S → Directory → ℕ → Option (List ℕ) → Option (List ℕ) →
-    Desk S → Option Reply → Desk S → Type 0
-Sends sight d at read_old read_new old reply new = (r : Option SeenReply) × AreSent reply r
-    × Answered sight d at read_old read_new old r new
+-- the exchange that is there is the request that is asked for, and there is none where none is
+abbrev pub HoldsRequest : ℕ → Wanted → Option Exchange → Type 0
+HoldsRequest at (request q) (Some x) = IsOfRequest x at q
+HoldsRequest at (request q) None = ⊥
+HoldsRequest at _ (Some x) = ⊥
+HoldsRequest at _ None = ⊤
 
--- the exchange that is there is the request that was read, and there is none where none was
-abbrev pub HoldsRequest : Option (List ℕ) → Option (List ℕ) → ℕ → Option Exchange → Type 0
-HoldsRequest read_old read_new at (Some x) =
-    (q : requests.Request) × Received read_old read_new (request q) × IsOfRequest x at q
-HoldsRequest read_old read_new at None =
-    ((why : Refusal) × Received read_old read_new (refused why)) ⊎ HasNoRoom read_old read_new
+-- where there is a reply, its exchange is the one that is asked for
+abbrev pub HoldsAsked : ℕ → Wanted → Option Replied → Type 0
+HoldsAsked at asked None = ⊤
+HoldsAsked at asked (Some replied) = HoldsRequest at asked replied.asked
+
+-- what was read is answered, as it is sent, and its exchange is at hand
+pub record Sends {S : Type 0} (sight : Sight S) (d : Directory) (at : ℕ)
+    (read_old read_new : Option (List ℕ)) (old : Desk S) (replied : Option Replied) (new : Desk S)
+    : Type 0 where
+  pub asked : Wanted
+  pub reply : Option SeenReply
+  pub sent : AreSent (option_map (λ r. r.reply) replied) reply
+  pub answered : AnsweredAs sight d at read_old read_new old asked reply new
+  pub holds : HoldsAsked at asked replied
 
 abbrev pub IsToLog : ToLog → ℕ → Replied → Type 0
 IsToLog told at replied = (told.at ≡ Some at) × (option_map (λ x. x.now) told.asked ≡ replied.asked)

@@ -10,7 +10,7 @@ mod serving;
 mod sockets;
 
 pub use connections::Connections;
-pub use hq_base::EngineFault;
+pub use hq_values::EngineFault;
 pub use listening::{End, Limits, serve_on};
 pub use places::{Place, bind};
 pub use serving::serve_one;

@@ -1,7 +1,8 @@
 //! Where a server listens: at an address, or at a path.
 
-ghost use Rattle.std.specs.Prelude.{◌≡◌, IfOk, string_bytes};
-ghost use Rattle.hq_serve.specs.Places.{place_line};
+ghost use Rattle.std.specs.Prelude.{◌≡◌, MatchBool, IfOk, IfSome, string_bytes};
+ghost use Rattle.std.specs.Net.Grammar.{IsSocketText};
+ghost use Rattle.hq_serve.specs.Places.{IsBoundFor, IsPlaceOf, IsSocketOf, place_line};
 
 use crate::sockets::Listener;
 use std::alloc::{AllocError, Global};
@@ -60,18 +61,33 @@ fn bind_path(rt: &HostRuntime, path: &str) -> io::Result<UnixListener> {
     Ok(listener)
 }
 
+/// Whether the address that was bound is the one that was asked for; of the port 0, at any port.
+fn is_bound_for(asked: SocketAddr, bound: SocketAddr) -> bool
+    ensures { MatchBool result (IsBoundFor asked bound) (¬ (IsBoundFor asked bound)) }
+{
+    bound.ip() == asked.ip() && (asked.port() == 0 || bound.port() == asked.port())
+}
+
 /// A socket that listens at an address, and the address that was bound; `None` where the text is no
-/// address, or it cannot be bound.
-fn bind_address(rt: &HostRuntime, address: &str) -> Option<(TcpListener, SocketAddr)> {
-    let address = address.parse::<SocketAddr>().ok()?;
-    let listener = TcpListener::bind(rt, address).ok()?;
+/// address, or it cannot be bound. The system tells what was bound, and a server that listened
+/// elsewhere would be open to others.
+fn bind_address(rt: &HostRuntime, text: &str) -> Option<(TcpListener, SocketAddr)>
+    ensures { IfSome result (λ bound. IsPlaceOf text.now (Place.Address bound.1)) }
+{
+    let asked = text.parse::<SocketAddr>().ok()?;
+    let listener = TcpListener::bind(rt, asked).ok()?;
     let bound = listener.local_addr().ok()?;
+    if !is_bound_for(asked, bound) {
+        return None;
+    }
     Some((listener, bound))
 }
 
 /// A socket that listens where a text says, at a path behind `unix:` or else at an address, and the
 /// place that was bound; `None` where there is none.
-pub fn bind<'p>(rt: &HostRuntime, text: &'p str) -> Option<(Listener, Place<'p>)> {
+pub fn bind<'p>(rt: &HostRuntime, text: &'p str) -> Option<(Listener, Place<'p>)>
+    ensures { IfSome result (λ bound. IsPlaceOf text.now bound.1 × IsSocketOf bound.1 bound.0) }
+{
     match text.strip_prefix("unix:") {
         Some(path) => {
             let listener = bind_path(rt, path).ok()?;

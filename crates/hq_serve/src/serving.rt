@@ -1,22 +1,29 @@
 //! One connection with the desk.
 
-ghost use Rattle.std.specs.Prelude.{◌≡◌, false, List, ℕ, Option, IfSome, OnOk, option_map};
-ghost use Rattle.std.specs.Io.KnownBytes.{Appends};
-ghost use Rattle.hq_http.specs.Stages.{request_seen, InputIs};
+ghost use Rattle.std.specs.Prelude.{◌≡◌, false, List, ℕ, Option, IfOk, IfErr};
+ghost use Rattle.hq_http.specs.Stages.{request_seen, InputIs, LeavesOpen};
+ghost use Rattle.hq_lines.specs.Written.{GoesOut};
 ghost use Rattle.hq_wire.specs.Replies.{seen};
 ghost use Rattle.hq_serve.specs.Connections.{response_of, ConnectionEnds};
 ghost use Rattle.hq_serve.specs.Logged.{LogEnds};
-ghost use Rattle.hq_serve.specs.Steps.{HoldsRequest, IsOfRequest, IsToLog, Sends};
+ghost use Rattle.hq_serve.specs.Steps.{IsOfRequest, IsToLog, Sends};
 
-use hq_base::EngineFault;
 use hq_desk::Desk;
-use hq_envelope::{Fault, Moment};
-use hq_http::{Input, Request, read_request, write_response};
+use hq_http::{Input, Reads, Request, read_request, write_response};
 use hq_log::{Answered, Log};
 use hq_store::Shelf;
+use hq_values::{EngineFault, Fault, Moment};
 use hq_wire::{Directory, Exchange, Reply, exchange, fault_reply, refusal_reply};
 use std::alloc::Global;
 use std::io::{self, Read, Write};
+
+/// Reads what a connection asks for, with 300,000 reads at most.
+fn read_input<R: Read>(alloc: Global, reader: &mut R) -> Result<Input, EngineFault>
+    ensures told { IfOk result (InputIs (R.remaining reader.old) (R.remaining reader.new)) }
+    ensures fault { IfErr result (LeavesOpen (R.remaining reader.old) (R.remaining reader.new)) }
+{
+    read_request(alloc, &mut Reads::new(reader))
+}
 
 /// The exchange that a request asks for at a moment.
 fn exchange_of(request: Request, at: Moment) -> Exchange
@@ -60,11 +67,8 @@ fn reply_to<S: Shelf + Drop>(
     at: Moment,
     input: Input,
 ) -> Option<Replied>
-    ensures sends { (read_old read_new : Option (List ℕ)) → InputIs read_old read_new input
-        → Sends S.sight directory.now at read_old read_new desk.old
-        (option_map (λ r. r.reply) result) desk.new }
-    ensures asked { (read_old read_new : Option (List ℕ)) → InputIs read_old read_new input
-        → IfSome result (λ r. HoldsRequest read_old read_new at r.asked) }
+    ensures { (read_old read_new : Option (List ℕ)) → InputIs read_old read_new input
+        → Sends S.sight directory.now at read_old read_new desk.old result desk.new }
 {
     match input {
         Input::Nothing => None,
@@ -87,10 +91,10 @@ fn reply_to<S: Shelf + Drop>(
     }
 }
 
-/// Writes a reply as a response, and flushes.
+/// Writes a reply as a response, and flushes; at an error a beginning of it went out.
 fn write_reply<W: Write>(writer: &mut W, reply: &Reply) -> io::Result<()>
-    ensures { OnOk result (Appends (W.contents writer.old) (W.contents writer.new)
-        (response_of (seen reply.now))) }
+    ensures { GoesOut (W.contents writer.old) (W.contents writer.new)
+        (response_of (seen reply.now)) result }
 {
     write_response(writer, reply.status, reply.body.as_bytes())
 }
@@ -111,8 +115,8 @@ fn write_reply<W: Write>(writer: &mut W, reply: &Reply) -> io::Result<()>
 /// nothing of all this.
 ///
 /// An error is `Read` or `TooManyReads`: no head had ended, or the body of one was not whole, and
-/// nothing was done and nothing written; or `Write`: what was asked was done, and how much of its
-/// response went out is not told. At most 300,000 reads are made, an interrupted one counted.
+/// nothing was done and nothing written; or `Write`: what was asked was done, and a beginning of
+/// its response went out. At most 300,000 reads are made, an interrupted one counted.
 pub fn serve_one<R: Read, W: Write, S: Shelf + Drop, L: Log>(
     alloc: Global,
     reader: &mut R,
@@ -126,12 +130,12 @@ pub fn serve_one<R: Read, W: Write, S: Shelf + Drop, L: Log>(
         (record { input = R.remaining reader.old; output = W.contents writer.old })
         (record { input = R.remaining reader.new; output = W.contents writer.new })
         (writer.new ≡ writer.old) desk.old desk.new result }
-    ensures logged { L.is_losing log.new ≡ false → LogEnds directory.now at
+    ensures logged { L.is_losing log.new ≡ false → LogEnds S.sight directory.now at
         (record { input = R.remaining reader.old; output = W.contents writer.old })
         (record { input = R.remaining reader.new; output = W.contents writer.new })
-        (L.is_losing log.old) (L.contents log.old) (L.contents log.new) result }
+        desk.old desk.new (L.is_losing log.old) (L.contents log.old) (L.contents log.new) result }
 {
-    let input = match read_request(alloc, reader) {
+    let input = match read_input(alloc, reader) {
         Ok(input) => input,
         Err(fault) => return Err(fault),
     };

@@ -1,9 +1,9 @@
 //! The desk of the tests over HTTP: two customers, over plain lists.
 
 use hq_desk::Desk;
-use hq_envelope::Fail as Failure;
 use hq_lists::ListShelf;
 use hq_settings::{Relay, Settings};
+use hq_values::Fail as Failure;
 use hq_wire::Directory;
 use std::alloc::Global;
 

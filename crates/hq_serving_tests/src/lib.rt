@@ -1,6 +1,6 @@
-//! The tests of what serves a desk, over the public calls: one connection, the connections of a
-//! socket over loopback, and what the program has over any shelf. They stand apart so that those
-//! calls are proved once, and not again with their tests.
+//! For tests alone, of what no clause says: that lines, requests and connections are read whole
+//! from readers that give little and are interrupted, how many reads are made, and what is told
+//! where a reader or a writer fails in the middle.
 #![tactic(auto)]
 
 #[cfg(test)]
@@ -10,6 +10,10 @@ mod desk;
 #[cfg(test)]
 mod exchanges;
 #[cfg(test)]
-mod loopback;
+mod lines;
+#[cfg(test)]
+mod over_http;
 #[cfg(test)]
 mod program;
+#[cfg(test)]
+mod readers;

@@ -1,0 +1,7 @@
+pub mod Places
+pub mod Reading
+pub mod Refused
+pub mod Rows
+pub mod Texts
+pub mod Told
+pub mod Keys

@@ -3,10 +3,10 @@
 -- a customer's.
 use Rattle.std.specs.Prelude.{ℕ, not, List, Result, Ok}
 use Rattle.std.specs.List.{list_any}
-use Rattle.hq_base.specs.Readers.{◌>>=◌, checked, guard}
-use Rattle.hq_base.specs.declared.failure.Refusal.{Refusal}
-use Rattle.hq_base.specs.declared.failure.Refusal.TheVariants.{BadRelayKey}
-use Rattle.hq_envelope.specs.Words.{host_in, is_key}
+use Rattle.hq_values.specs.Readers.{◌>>=◌, checked, guard}
+use Rattle.hq_values.specs.declared.failure.Refusal.{Refusal}
+use Rattle.hq_values.specs.declared.failure.Refusal.TheVariants.{BadRelayKey}
+use Rattle.hq_values.specs.Words.{host_in, is_key}
 use Rattle.hq_import.specs.Directories.{customers_in}
 use Rattle.hq_queue.specs.Customers.{has_key}
 use Rattle.hq_queue.specs.declared.account.Customer.{Customer}

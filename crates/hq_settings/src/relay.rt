@@ -1,9 +1,9 @@
 //! The relay's name, and the key of its workers.
 
-ghost use Rattle.hq_base.specs.Readers.{Reads, seen_by};
+ghost use Rattle.hq_values.specs.Readers.{Reads, seen_by};
 ghost use Rattle.hq_settings.specs.Settings.{relay_key_in, relay_in};
 
-use hq_envelope::{Fail, Host, Key, Refusal};
+use hq_values::{Fail, Host, Key, Refusal};
 use std::alloc::Global;
 
 /// Reads the relay's key, or refuses it as 57 `BadRelayKey`.

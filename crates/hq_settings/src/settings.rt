@@ -1,9 +1,9 @@
 //! The relay and its customers.
 
 use crate::relay::Relay;
-use hq_envelope::{Fail, Host};
 use hq_import::directory_of;
 use hq_requests::Directory;
+use hq_values::{Fail, Host};
 use std::alloc::Global;
 
 /// What a desk is set up with.
@@ -16,7 +16,7 @@ pub struct Settings {
 }
 
 impl Settings {
-    ghost use Rattle.hq_base.specs.Readers.{Reads, seen_by};
+    ghost use Rattle.hq_values.specs.Readers.{Reads, seen_by};
     ghost use Rattle.hq_settings.specs.Seen.{relay_seen, settings_seen};
     ghost use Rattle.hq_settings.specs.Settings.{settings_of};
 

@@ -2,7 +2,7 @@
 //! its key, the directory, and the relay's key beside the customers'.
 
 use crate::{Relay, Settings};
-use hq_envelope::Fail as Failure;
+use hq_values::Fail as Failure;
 use std::alloc::{AllocError, Global};
 use std::test::Fail;
 

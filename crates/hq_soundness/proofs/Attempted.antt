@@ -5,8 +5,9 @@ use Rattle.std.proofs.Common.{◌∙◌, subst, Some, Ok, Err, arith}
 use Rattle.std.specs.Prelude.{if◌then◌else◌, ◌==◌, nat_le, nat_lt}
 use Rattle.std.specs.List.{list_any}
 use Rattle.std.specs.FinMap.{get}
-use Rattle.hq_base.specs.declared.failure.Refusal.TheVariants as refusal
+use Rattle.hq_values.specs.declared.failure.Refusal.TheVariants as refusal
 use Rattle.hq_queue.specs.Attempts.{tried, after_attempt, done, left, failed, delivered, deferred}
+use Rattle.hq_queue.specs.Attempts.{ended}
 use Rattle.hq_queue.specs.Attempts.{is_doubled, is_unknown}
 use Rattle.hq_queue.specs.Moves.{is_on_hold}
 use Rattle.hq_queue.specs.declared.account.Entry.{Entry}
@@ -66,7 +67,8 @@ done_kept host entry s at attempt outcomes m h there =
     let exact_failed : saturated (s.head.tally.failed + lost) ≡ s.head.tally.failed + lost =
     saturated_is (s.head.tally.failed + lost) (omega arith) in
     carried_out_kept host entry s at (attempted s.head n gave (deferred outcomes m.pending)
-    (failed outcomes m.pending)) (gave + lost) h did refl refl refl (omega arith)
+    (failed outcomes m.pending) (ended m outcomes m.pending)) (gave + lost) h did refl refl refl
+    (omega arith)
 
 -- by the tests of a report, in their order: whatever they say, a refusal and a repeat change
 -- nothing

@@ -3,6 +3,7 @@ pub mod Imported
 pub mod Kept
 pub mod Noted
 pub mod Queued
+pub mod Remembered
 pub mod Requeued
 pub mod Settled
 pub mod Shapes

@@ -9,6 +9,7 @@ use Rattle.std.specs.FinMap.{get, insert, get-insert}
 use Rattle.std.proofs.lemmas.Map.Lookups.{exact_unsigned}
 use Rattle.std.proofs.lemmas.Map.Views.{tells_apart}
 use Rattle.hq_queue.specs.declared.account.Entry.{Entry}
+use Rattle.hq_queue.specs.declared.account.Head.{Head}
 use Rattle.hq_store.specs.declared.change.Change.{Change}
 use Rattle.hq_store.specs.declared.change.Change.TheVariants.{PutHead, AddNotice, DropNoticesBelow}
 use Rattle.hq_store.specs.declared.notice.Notice.{Notice}
@@ -16,9 +17,11 @@ use Rattle.hq_store.specs.Sound.{SoundState}
 use Rattle.hq_store.specs.Tables.{State, Noted, noted_of, change, change_all}
 use Rattle.hq_states.proofs.Many.{change_all-append}
 use Rattle.hq_states.proofs.States.{change_shaped}
+use Rattle.hq_calls.specs.Histories.{kept_history}
 use Rattle.hq_calls.specs.Notices.{noticed, added_from, kept_below, with_notices, planned}
 use Rattle.hq_calls.specs.declared.plan.Draft.{Draft}
 use Rattle.hq_calls.specs.declared.plan.Plan.{Plan}
+use Rattle.hq_soundness.proofs.Remembered.{history_sound}
 
 -- no notice has this number or a later one
 abbrev pub NoneFrom : State → ℕ → Type 0
@@ -55,14 +58,15 @@ added_sound s n h positive below none = record {
 
 -- notices under the numbers from this one on, all of them given out, and then changes that keep
 -- what is sound
-notices_sound : (host : List ℕ) (at k : ℕ) (ds : List Draft) (rest : List Change) (s : State) →
-    SoundState s → 0 < k → k + length ds ≤ s.head.next_notice → NoneFrom s k
-    → ((u : State) → SoundState u → SoundState (change_all rest u)) →
+notices_sound : (host : List ℕ) (at k : ℕ) (ds : List Draft) (rest : List Change) (head : Head)
+    (s : State) → s.head ≡ head → SoundState s → 0 < k → k + length ds ≤ s.head.next_notice →
+    NoneFrom s k
+    → ((u : State) → u.head ≡ head → SoundState u → SoundState (change_all rest u)) →
     SoundState (change_all (added_from host at k ds ++ rest) s)
-notices_sound host at k [] rest s h positive room none keeps = keeps s h
-notices_sound host at k (d ∷ ds) rest s h positive room none keeps =
+notices_sound host at k [] rest head s is h positive room none keeps = keeps s is h
+notices_sound host at k (d ∷ ds) rest head s is h positive room none keeps =
     let n = noticed host at k d in
-    notices_sound host at (suc k) ds rest (change (AddNotice n) s)
+    notices_sound host at (suc k) ds rest head (change (AddNotice n) s) is
     (added_sound s n h positive (omega arith) none) (omega arith) (omega arith)
     (λ x m f. ⊎_elim (λ (same : x ≡ k). omega arith) (λ (old : get s.notices x ≡ Some m). let low =
     none x m old in omega arith) (found s n x m f))
@@ -79,6 +83,11 @@ kept_sound quota next (d ∷ ds) s h =
       bounded = h.bounded;
     }
 
+kept_head : (quota next : ℕ) (ds : List Draft) (s : State) →
+    (change_all (kept_below quota next ds) s).head ≡ s.head
+kept_head quota next [] s = refl
+kept_head quota next (d ∷ ds) s = refl
+
 -- a plan keeps what is sound where its changes and its head do
 pub planned_sound : (host : List ℕ) (entry : Entry) (at : ℕ) (plan : Plan) (s : State) →
     0 < plan.head.next_notice → NoneFrom (change_all plan.changes s) plan.head.next_notice
@@ -87,9 +96,13 @@ pub planned_sound : (host : List ℕ) (entry : Entry) (at : ℕ) (plan : Plan) (
 planned_sound host entry at plan s positive none h =
     let head = with_notices (length plan.drafts) plan.head in
     let quota = entry.quota.notices in
-    let rest = kept_below quota head.next_notice plan.drafts in
+    let old = kept_below quota head.next_notice plan.drafts in
+    let past = kept_history entry at head plan.ended in
     subst SoundState (sym (change_all-append plan.changes (PutHead head
-    ∷ (added_from host at plan.head.next_notice plan.drafts ++ rest)) s))
-    (notices_sound host at plan.head.next_notice plan.drafts rest
-    (change (PutHead head) (change_all plan.changes s)) h positive (omega arith) none
-    (kept_sound quota head.next_notice plan.drafts))
+    ∷ (added_from host at plan.head.next_notice plan.drafts ++ (old ++ past))) s))
+    (notices_sound host at plan.head.next_notice plan.drafts (old ++ past) head
+    (change (PutHead head) (change_all plan.changes s)) refl h positive (omega arith) none
+    (λ u is sound. subst SoundState (sym (change_all-append old past u))
+    (history_sound entry at head plan.ended (change_all old u)
+    (kept_head quota head.next_notice plan.drafts u ∙ is)
+    (kept_sound quota head.next_notice plan.drafts u sound))))

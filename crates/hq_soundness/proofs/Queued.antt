@@ -13,10 +13,10 @@ use Rattle.std.proofs.lemmas.Bool.{eqb-false, false≢true}
 use Rattle.std.proofs.lemmas.Bool.Decides.{nat_tests}
 use Rattle.std.proofs.lemmas.List.{length-map}
 use Rattle.std.proofs.lemmas.Map.Lookups.{exact_unsigned}
-use Rattle.hq_base.specs.declared.failure.Refusal.{Refusal}
-use Rattle.hq_base.specs.declared.failure.Refusal.TheVariants as refusal
-use Rattle.hq_envelope.specs.declared.address.Sender.{Sender}
-use Rattle.hq_envelope.specs.declared.address.Sender.TheVariants.{From}
+use Rattle.hq_values.specs.declared.failure.Refusal.{Refusal}
+use Rattle.hq_values.specs.declared.failure.Refusal.TheVariants as refusal
+use Rattle.hq_values.specs.declared.address.Sender.{Sender}
+use Rattle.hq_values.specs.declared.address.Sender.TheVariants.{From}
 use Rattle.hq_access.specs.Verdicts as access
 use Rattle.hq_access.specs.declared.action.Action.{Action}
 use Rattle.hq_access.specs.declared.pattern.Class.TheVariants.{SenderSide, RecipientSide}
@@ -256,6 +256,7 @@ queue_kept s at sub addresses held refused h may text spool room serials =
       above = λ k m f. let was = (h.shaped.messages k m f).below in
           omega arith;
       above_notices = λ k n f. (h.shaped.notices k n f).1;
+      above_ends = h.shaped.ends;
     } in
     let many : length n.pending ≡ length addresses = length-map addresses rules.not_tried in
     let some = may.some in

@@ -9,8 +9,8 @@ use Rattle.std.specs.Cmp.{nat_cmp_total}
 use Rattle.std.specs.FinMap.{get, remove, len, get-remove, len-remove}
 use Rattle.std.proofs.lemmas.List.{length-map}
 use Rattle.std.proofs.lemmas.Bool.Decides.{nat_tests}
-use Rattle.hq_base.specs.declared.failure.Refusal.TheVariants.{SerialsSpent}
-use Rattle.hq_envelope.specs.Addresses.{same_address}
+use Rattle.hq_values.specs.declared.failure.Refusal.TheVariants.{SerialsSpent}
+use Rattle.hq_values.specs.Addresses.{same_address}
 use Rattle.hq_queue.specs.Admission.{spent}
 use Rattle.hq_queue.specs.Moves.{requeued, cleared}
 use Rattle.hq_queue.specs.declared.message.Message.{Message}
@@ -76,6 +76,7 @@ requeued_sound s at m h there room =
       above = λ k o f. let low = (h.shaped.messages k o (left s.messages m.serial k o f)).below in
           omega arith;
       above_notices = λ k o f. (h.shaped.notices k o f).1;
+      above_ends = h.shaped.ends;
     } in
     let fits : MessageFits raised n = record {
       queued = record {

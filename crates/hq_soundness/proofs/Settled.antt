@@ -5,8 +5,9 @@ use Rattle.std.proofs.Common.{sym, refl, ap, ◌∙◌, subst, Some, arith}
 use Rattle.std.specs.Prelude.{if◌then◌else◌, nat_lt}
 use Rattle.std.specs.FinMap.{get}
 use Rattle.std.proofs.lemmas.Bool.Decides.{nat_tests}
-use Rattle.hq_base.specs.declared.failure.Refusal.TheVariants.{NoticesSpent}
+use Rattle.hq_values.specs.declared.failure.Refusal.TheVariants.{NoticesSpent}
 use Rattle.hq_queue.specs.Admission.{spent}
+use Rattle.hq_queue.specs.Ends.{all_gone}
 use Rattle.hq_queue.specs.declared.account.Entry.{Entry}
 use Rattle.hq_queue.specs.declared.account.Head.{Head}
 use Rattle.hq_queue.specs.declared.message.Message.{Message}
@@ -56,6 +57,9 @@ settled_sound s after w head h done serial notice later accepted told =
         next_notice = notice;
         above = λ k n at. subst (λ x. k < x) (sym same) ((done.shaped.messages k n at).below);
         above_notices = λ k n at. let below = (done.shaped.notices k n at).1 in omega arith;
+        above_ends = λ k n at. let below : k ≤ all_gone s.head.tally =
+            subst (λ (x : Head). k ≤ all_gone x.tally) done.head (done.shaped.ends k n at) in
+            omega arith;
       });
       conserved = omega arith;
       bounded = subst (λ (x : ℕ × ℕ). x.0 ≤ 100 * (x.1 - 1)) (λ i. (sym accepted i, sym serial i))

@@ -5,13 +5,15 @@ use Rattle.std.specs.Prelude.{if◌then◌else◌, nat_le}
 use Rattle.std.specs.Cmp.{nat_cmp_total}
 use Rattle.std.specs.FinMap.{get, entries, len-entries}
 use Rattle.std.proofs.lemmas.Map.Lookups.{exact_unsigned}
-use Rattle.hq_base.specs.declared.failure.Refusal.TheVariants.{QuotaLines}
+use Rattle.hq_values.specs.declared.failure.Refusal.TheVariants.{QuotaLines}
 use Rattle.hq_access.specs.declared.action.Action.{Action}
 use Rattle.hq_access.specs.declared.pattern.Class.{Class}
 use Rattle.hq_access.specs.declared.pattern.Line.{Line}
 use Rattle.hq_queue.specs.Moves.{is_on_hold}
+use Rattle.hq_queue.specs.Ends.{all_ended}
 use Rattle.hq_queue.specs.declared.account.Entry.{Entry}
-use Rattle.hq_envelope.specs.Words.{customer_hold}
+use Rattle.hq_queue.specs.declared.outcome.Fate.TheVariants as fate
+use Rattle.hq_values.specs.Words.{customer_hold}
 use Rattle.hq_queue.specs.declared.message.Message.{Message}
 use Rattle.hq_queue.specs.declared.message.Pending.{Pending}
 use Rattle.hq_queue.specs.declared.message.QueueState.TheVariants.{Hold, Deferred}
@@ -23,6 +25,7 @@ use Rattle.hq_store.specs.Readings.{Readings, read_state, read_tables, saturated
 use Rattle.hq_store.specs.Sound.{Sound, SoundState, IsReasoned, AreApart}
 use Rattle.hq_store.specs.Tables.{State, Tables, own, change, change_all}
 use Rattle.hq_store.proofs.Read.{same_readings}
+use Rattle.hq_soundness.proofs.Remembered.{history_sound}
 use Rattle.hq_soundness.proofs.Shapes.{stays_sound}
 use Rattle.hq_owned.proofs.Cases.{none_some}
 use Rattle.hq_states.proofs.States.{change_shaped, left}
@@ -37,6 +40,7 @@ use Rattle.hq_calls.specs.Notices.{show_notice}
 use Rattle.hq_calls.specs.Outcomes.{outcome}
 use Rattle.hq_calls.specs.declared.answer.Answer.TheVariants as answer
 use Rattle.hq_calls.specs.declared.answer.LinePut.TheVariants.{Added, Changed, Same}
+use Rattle.hq_calls.specs.Selections.{is_selected}
 use Rattle.hq_calls.specs.declared.call.Call.{Call}
 use Rattle.hq_calls.specs.declared.call.Call.TheVariants as call
 use Rattle.hq_calls.specs.declared.decision.Decision.{Decision}
@@ -113,18 +117,13 @@ release_kept : (s : State) (m : Message) (at : ℕ) (b : Bool) → SoundState s 
 release_kept s m at true h there = moved_kept s m _ h there refl refl refl refl
 release_kept s m at false h there = h
 
-delete_kept : (s : State) (m : Message) → SoundState s → get s.messages m.serial ≡ Some m →
-    Keeps s (rules.delete s.head (Some m))
-delete_kept s m h there =
+-- a message is dropped, and the head tells that its recipients were deleted
+gone_sound : (s : State) (m : Message) → SoundState s → get s.messages m.serial ≡ Some m →
+    SoundState (change (PutHead (rules.with_deleted (length m.pending) s.head))
+    (change (DropMessage m.serial) s))
+gone_sound s m h there =
     let dropped = change (DropMessage m.serial) s in
     let head = rules.with_deleted (length m.pending) s.head in
-    let fits : HeadFits dropped head =
-    record {
-      next_serial = h.shaped.next_serial;
-      next_notice = h.shaped.next_notice;
-      above = λ k n f. (h.shaped.messages k n (left s.messages m.serial k n f)).below;
-      above_notices = λ k n f. (h.shaped.notices k n f).1;
-    } in
     let sums = total-remove nat_cmp_total exact_unsigned (λ (x : Message). length x.pending)
     s.messages m.serial in
     let old : given 0 (λ (x : Message). length x.pending) (get s.messages m.serial) ≡ length
@@ -134,12 +133,27 @@ delete_kept s m h there =
     let next = h.shaped.next_serial in
     let exact : saturated (s.head.tally.deleted + length m.pending) ≡ s.head.tally.deleted + length
     m.pending = saturated_is (s.head.tally.deleted + length m.pending) (omega arith) in
+    let fits : HeadFits dropped head =
+    record {
+      next_serial = h.shaped.next_serial;
+      next_notice = h.shaped.next_notice;
+      above = λ k n f. (h.shaped.messages k n (left s.messages m.serial k n f)).below;
+      above_notices = λ k n f. (h.shaped.notices k n f).1;
+      above_ends = λ k p f. let below = h.shaped.ends k p f in omega arith;
+    } in
     record {
       shaped = change_shaped dropped (PutHead head)
           (change_shaped s (DropMessage m.serial) h.shaped tt) fits;
       conserved = omega arith;
       bounded = h.bounded;
     }
+
+delete_kept : (s : State) (entry : Entry) (at : ℕ) (m : Message) → SoundState s →
+    get s.messages m.serial ≡ Some m → Keeps s (rules.delete entry at s.head (Some m))
+delete_kept s entry at m h there =
+    let head = rules.with_deleted (length m.pending) s.head in
+    history_sound entry at head (all_ended fate.Deleted m)
+    (change (PutHead head) (change (DropMessage m.serial) s)) refl (gone_sound s m h there)
 
 -- ---- lines
 
@@ -189,7 +203,7 @@ pub step_sound : (host : List ℕ) (entry : Entry) (s : State) (at : ℕ) (call 
     SoundState (step host entry s at call).1
 unfolding decide
 step_sound host entry s at (call.Submit sub) h = submit_kept s entry at sub h
-step_sound host entry s at (call.List after) h = h
+step_sound host entry s at (call.List after which) h = h
 step_sound host entry s at (call.Show serial) h = on_found s serial rules.show h (λ m there. h)
 step_sound host entry s at (call.Hold serial) h =
     on_found s serial rules.hold h (λ m there. hold_kept s m (is_on_hold m.state) h
@@ -201,11 +215,14 @@ step_sound host entry s at (call.Requeue serial) h =
     on_found s serial (rules.requeue s.head at) h (λ m there. requeue_kept s at m h
     (own_place s serial m h there))
 step_sound host entry s at (call.Delete serial) h =
-    on_found s serial (rules.delete s.head) h (λ m there. delete_kept s m h
+    on_found s serial (rules.delete entry at s.head) h (λ m there. delete_kept s entry at m h
     (own_place s serial m h there))
-step_sound host entry s at call.HoldAll h = move_all_kept move.Hold s h
-step_sound host entry s at call.ReleaseAll h = move_all_kept (move.Release at) s h
-step_sound host entry s at call.DeleteAll h = delete_all_kept s h
+step_sound host entry s at (call.HoldAll which) h =
+    move_all_kept (is_selected which) move.Hold s h
+step_sound host entry s at (call.ReleaseAll which) h =
+    move_all_kept (is_selected which) (move.Release at) s h
+step_sound host entry s at (call.DeleteAll which) h =
+    delete_all_kept (is_selected which) s entry at h
 step_sound host entry s at (call.Lines after) h = h
 step_sound host entry s at (call.PutLine line) h = put_kept s entry line h
 step_sound host entry s at (call.DropLine pattern) h = drop_kept s pattern (get s.lines pattern) h
@@ -218,8 +235,11 @@ step_sound host entry s at (call.Due after) h = h
 step_sound host entry s at call.Sweep h = sweep_kept host entry s at h
 step_sound host entry s at (call.Notices after) h = h
 step_sound host entry s at (call.Notice number) h = shown_kept s ((read_state s).notice number) h
+step_sound host entry s at (call.History before) h = h
+step_sound host entry s at (call.FindHistory pattern before) h = h
 step_sound host entry s at call.Usage h = h
-step_sound host entry s at call.Report h = h
+step_sound host entry s at call.Limits h = h
+step_sound host entry s at (call.Report which) h = h
 
 -- what holds of the machine holds of the shared step
 pub shared_sound : (host : List ℕ) (entry : Entry) (t : Tables) (at : ℕ) (call : Call) → Sound t →

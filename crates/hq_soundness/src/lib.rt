@@ -1,31 +1,10 @@
-//! Sound tables stay sound by every call, and by changes: laws over the definitions, with no
-//! program in them. Each is an empty function whose contract is the law.
+//! Soundness of tables: every call keeps sound tables sound, so no recipient is lost. Changes that
+//! fit one customer's state keep it shaped.
+//!
+//! These are laws over the definitions of the calls, with no program in them; each is the contract
+//! of an empty function.
 #![tactic(auto)]
 
-ghost use Rattle.std.specs.Prelude.{ℕ, List};
-ghost use Rattle.hq_queue.specs.declared.account.Entry.{Entry};
-ghost use Rattle.hq_store.specs.declared.change.Change.{Change};
-ghost use Rattle.hq_store.specs.Tables.{Tables, own, change_all, write_all};
-ghost use Rattle.hq_store.specs.Sound.{Shaped, Sound, SoundState};
-ghost use Rattle.hq_calls.specs.declared.call.Call.{Call};
-ghost use Rattle.hq_calls.specs.Machine.{shared};
-ghost use Rattle.hq_states.specs.Fits.{AllFit};
+mod sound;
 
-/// Sound tables stay sound by every call; so conservation holds for every customer afterwards.
-pub fn stays_sound()
-    ensures { (host : List ℕ) (entry : Entry) (t : Tables) (at : ℕ) (call : Call)
-        → Sound t → Sound (shared host entry t at call).1 }
-{}
-
-/// Sound tables stay sound by changes that leave the customer's own state sound.
-pub fn sound_tables_stay_sound()
-    ensures { (customer : List ℕ) (changes : List Change) (t : Tables)
-        → Sound t → SoundState (change_all changes (own customer t))
-        → Sound (write_all customer changes t) }
-{}
-
-/// Changes that fit keep shaped tables shaped.
-pub fn shaped_tables_stay_shaped()
-    ensures { (customer : List ℕ) (changes : List Change) (t : Tables)
-        → Shaped t → AllFit (own customer t) changes → Shaped (write_all customer changes t) }
-{}
+pub use sound::{shaped_tables_stay_shaped, sound_tables_stay_sound, stays_sound};

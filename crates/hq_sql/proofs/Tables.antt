@@ -18,11 +18,11 @@ use Rattle.hq_keyed.proofs.Placed.{Kind, Place, Wrote, map_in}
 use Rattle.hq_schema.specs.Schema.{desk_schema}
 use Rattle.hq_store.specs.Tables.{Tables}
 use Rattle.hq_rows.specs.Listed.{heads_of, messages_of, recipients_of, holds_of, lines_of, marks_of}
-use Rattle.hq_rows.specs.Listed.{notices_of}
+use Rattle.hq_rows.specs.Listed.{notices_of, ends_of}
 use Rattle.hq_sql.specs.Rows.{head_read, message_read, recipient_read, hold_read, line_read}
-use Rattle.hq_sql.specs.Rows.{mark_read, notice_read}
+use Rattle.hq_sql.specs.Rows.{mark_read, notice_read, end_read}
 use Rattle.hq_sql.specs.Tables.{IsDesk, Leaves, AreHeads, AreMessages, AreRecipients, AreHolds}
-use Rattle.hq_sql.specs.Tables.{AreLines, AreMarks, AreNotices, tables_in}
+use Rattle.hq_sql.specs.Tables.{AreLines, AreMarks, AreNotices, AreEnds, tables_in}
 
 -- a tree of a table is no index
 pub no_index : (t : ℕ) → list_all (λ (i : Index). not (eqb i.tree t)) desk_schema.indexes ≡ true →
@@ -43,11 +43,11 @@ either false A B = B
 -- the rows may stand in this tree
 abbrev pub Fits : ℕ → List Row → Type 0
 Fits t rows =
-    either (eqb t 0) (map (λ r. column r 1) rows ≡ Int (pos 2) ∷ [])
+    either (eqb t 0) (map (λ r. column r 1) rows ≡ Int (pos 3) ∷ [])
     (either (eqb t 1) (AreHeads rows) (either (eqb t 3) (AreMessages rows)
     (either (eqb t 6) (AreRecipients rows)
     (either (eqb t 8) (AreLines rows) (either (eqb t 10) (AreNotices rows)
-    (either (eqb t 12) (AreMarks rows) (AreHolds rows)))))))
+    (either (eqb t 12) (AreMarks rows) (either (eqb t 14) (AreHolds rows) (AreEnds rows))))))))
 
 -- the database with these rows in one tree
 abbrev pub with_rows : ℕ → List Row → Database → Database
@@ -83,6 +83,7 @@ module _ (old new : Database) (tree : ℕ) (rows : List Row)
     notices = fits are 10 (no_index 10 refl) desk.notices;
     marks = fits are 12 (no_index 12 refl) desk.marks;
     holds = fits are 14 (no_index 14 refl) desk.holds;
+    ends = fits are 16 (no_index 16 refl) desk.ends;
   }
 
   pub tables_left : tables_in new ≡ tables_in (with_rows tree rows old)
@@ -94,6 +95,7 @@ module _ (old new : Database) (tree : ℕ) (rows : List Row)
     lines = lines_of (map line_read (there 8 (no_index 8 refl) i));
     marks = marks_of (map mark_read (there 12 (no_index 12 refl) i));
     notices = notices_of (map notice_read (there 10 (no_index 10 refl) i));
+    ends = ends_of (map end_read (there 16 (no_index 16 refl) i));
   }
 
 -- a table of the desk: how it keeps its rows, its place in the schema, and its place among the

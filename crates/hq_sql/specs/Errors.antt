@@ -3,8 +3,8 @@
 use Rattle.sqlite.specs.declared.error.Error.{Error}
 use Rattle.sqlite.specs.declared.error.Error.TheVariants.{SqliteFailure, InvalidQuery}
 use Rattle.sqlite.specs.declared.error.ErrorCode.TheVariants.{OutOfMemory}
-use Rattle.hq_base.specs.declared.failure.Fail.{Fail}
-use Rattle.hq_base.specs.declared.failure.Fail.TheVariants.{Refused, Fault}
+use Rattle.hq_values.specs.declared.failure.Fail.{Fail}
+use Rattle.hq_values.specs.declared.failure.Fail.TheVariants.{Refused, Fault}
 
 -- a text that is no value of its type is no want of memory, and so the other way
 abbrev pub unread_as : Fail → Error

@@ -8,9 +8,9 @@ use Rattle.std.specs.Str.{bytes_eq}
 use Rattle.sqlite.specs.declared.types.Value.{Value}
 use Rattle.sqlite.specs.declared.types.Value.TheVariants.{Null, Int, Text, Blob}
 use Rattle.sqlite.specs.Order.{Row, column}
-use Rattle.hq_envelope.specs.Senders.{sender_text}
-use Rattle.hq_envelope.specs.declared.address.Sender.{Sender}
-use Rattle.hq_envelope.specs.declared.address.Sender.TheVariants as sender
+use Rattle.hq_values.specs.Senders.{sender_text}
+use Rattle.hq_values.specs.declared.address.Sender.{Sender}
+use Rattle.hq_values.specs.declared.address.Sender.TheVariants as sender
 use Rattle.hq_access.specs.Actions.{is_space, action_text}
 use Rattle.hq_access.specs.Patterns.{class_name}
 use Rattle.hq_access.specs.declared.action.Action.{Action}
@@ -19,6 +19,9 @@ use Rattle.hq_access.specs.declared.pattern.Class.{Class}
 use Rattle.hq_access.specs.declared.pattern.Class.TheVariants.{SenderSide, RecipientSide}
 use Rattle.hq_queue.specs.declared.message.QueueState.{QueueState}
 use Rattle.hq_queue.specs.declared.message.QueueState.TheVariants.{Incoming, Deferred, Hold}
+use Rattle.hq_queue.specs.declared.outcome.Fate.{Fate}
+use Rattle.hq_queue.specs.declared.outcome.Fate.TheVariants.{Delivered, Failed, Deleted, Expired}
+use Rattle.hq_rows.specs.declared.rows.EndRow.{EndRow}
 use Rattle.hq_rows.specs.declared.rows.HeadRow.{HeadRow}
 use Rattle.hq_rows.specs.declared.rows.HoldRow.{HoldRow}
 use Rattle.hq_rows.specs.declared.rows.LineRow.{LineRow}
@@ -75,6 +78,19 @@ kind_code Delay = 1
 abbrev pub kind_of : ℕ → Kind
 kind_of zero = Failure
 kind_of (suc n) = Delay
+
+-- 0 delivered, 1 failed, 2 deleted, 3 expired
+abbrev pub fate_code : Fate → ℕ
+fate_code Delivered = 0
+fate_code Failed = 1
+fate_code Deleted = 2
+fate_code Expired = 3
+
+abbrev pub fate_of : ℕ → Fate
+fate_of zero = Delivered
+fate_of (suc zero) = Failed
+fate_of (suc (suc zero)) = Deleted
+fate_of (suc (suc (suc n))) = Expired
 
 -- the empty text stands for no status
 abbrev pub status_column : Option (List ℕ) → List ℕ
@@ -257,6 +273,33 @@ notice_read r = record {
   };
 }
 
+abbrev pub end_columns : EndRow → Row
+end_columns r =
+    Text r.customer ∷ number r.end.number ∷ number r.end.at ∷ number r.end.ended.serial
+    ∷ Text (sender_text r.end.ended.sender) ∷ Text r.end.ended.recipient
+    ∷ number (fate_code r.end.ended.fate) ∷ Text (status_column r.end.ended.status)
+    ∷ Text r.end.ended.text ∷ []
+
+abbrev pub end_stored : ℤ × EndRow → Row
+end_stored k = Int k.0 ∷ end_columns k.1
+
+abbrev pub end_read : Row → EndRow
+end_read r = record {
+  customer = value_text (column r 1);
+  end = record {
+    number = value_number (column r 2);
+    at = value_number (column r 3);
+    ended = record {
+      serial = value_number (column r 4);
+      sender = sender_of (value_text (column r 5));
+      recipient = value_text (column r 6);
+      fate = fate_of (value_number (column r 7));
+      status = status_read (value_text (column r 8));
+      text = value_text (column r 9);
+    };
+  };
+}
+
 -- ---- rows of answers, which have no rowid
 
 abbrev pub head_shown : Row → HeadRow
@@ -279,3 +322,6 @@ notice_shown r = notice_read (Null ∷ r)
 
 abbrev pub hold_shown : Row → HoldRow
 hold_shown r = hold_read (Null ∷ r)
+
+abbrev pub end_shown : Row → EndRow
+end_shown r = end_read (Null ∷ r)

@@ -7,9 +7,9 @@ ghost use Rattle.hq_store.specs.declared.account.Account.{Account};
 ghost use Rattle.hq_sql.specs.Rows.{head_columns};
 ghost use Rattle.hq_sql.specs.Bound.{head_numbers, message_key_columns, between_columns};
 
-use hq_envelope::{Name, Serial};
 use hq_queue::Head;
 use hq_store::Account;
+use hq_values::{Name, Serial};
 use sqlite::Error;
 use sqlite::types::ValueRef;
 

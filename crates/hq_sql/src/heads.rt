@@ -10,8 +10,8 @@ ghost use Rattle.hq_sql.specs.Kept.{Shows, Yields, Writes, Inserts, Updates, Int
 ghost use Rattle.hq_sql.specs.Kept.{KeepsCommitted};
 
 use crate::{bind, decode};
-use hq_envelope::Name;
 use hq_store::Account;
+use hq_values::Name;
 use sqlite::{Alter, Connection, Error, Row};
 
 fn query<S: Alter>(conn: &mut Connection<S>, customer: &Name) -> Result<Vec<Row>, Error>

@@ -1,5 +1,5 @@
 //! What the statements of the store on `sqlite` share: rows and columns, the tables of a store,
-//! reading and binding, rows that are lent, what is kept; and the statements on heads.
+//! reading and binding values, rows that are lent, what is kept; and the statements on heads.
 #![tactic(auto)]
 
 pub mod bind;
@@ -7,3 +7,4 @@ mod decode;
 pub mod heads;
 pub mod lent;
 pub mod read;
+pub mod values;

@@ -5,7 +5,7 @@ ghost use Rattle.sqlite.specs.Order.{column};
 ghost use Rattle.hq_sql.specs.Errors.{unread_as};
 ghost use Rattle.hq_sql.specs.Rows.{value_text, value_number};
 
-use hq_envelope::Fail;
+use hq_values::Fail;
 use sqlite::{Error, ErrorCode, Row};
 
 /// The error of a text that is no value of its type, or of want of memory.

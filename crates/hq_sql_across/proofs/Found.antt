@@ -15,14 +15,15 @@ use Rattle.hq_sql.specs.Tables.{tables_in}
 use Rattle.hq_sql_open.specs.Found.{HoldDesk, desk_with, tables_with}
 use Rattle.hq_sql_open.specs.Opening.{IsUnmade}
 use Rattle.hq_sql_open.specs.Transactions.{IsSettled}
-use Rattle.hq_envelope.specs.Words.{earlier_hold}
-use Rattle.hq_sql_migrate.specs.Migration.{HoldLifted}
-use Rattle.hq_sql_migrate.proofs.Customers.{second_is_desk, customers_lifted, sound_lifted}
+use Rattle.hq_values.specs.Words.{earlier_hold}
+use Rattle.hq_sql_open.specs.Migration.{TreesOfThird}
+use Rattle.hq_sql_open.specs.Stores.{lifted_in, second_tables_in}
+use Rattle.hq_sql_open.proofs.Customers.{third_is_desk, customers_lifted, sound_lifted}
 use Rattle.hq_sql_shelf.specs.Shelf.{Adopts, HoldsTables, IsOurs, IsWholeDesk}
 use Rattle.hq_sql_shelf.proofs.Ours.{never_both}
 use Rattle.hq_sql_shelf.proofs.Stops.{whole_held}
 use Rattle.hq_sql_across.specs.Stopped.{AreBlank, KeepTables, KeepsDesk, MayKeep, Reopens}
-use Rattle.hq_sql_across.specs.Stopped.{BeginsHistory}
+use Rattle.hq_sql_across.specs.Stopped.{BeginsHistory, BeginsUpgraded}
 
 -- what is said of an answer, where it is no error
 pub on_ok : {X E : Type 0} {P : Type 0} (r : Result X E) → is_err r ≡ false → OnOk r P → P
@@ -131,15 +132,30 @@ not_taken old conn new it rests less keeps = (keeps_on, may_on) where
 -- ---- a migration
 
 pub begins : (old new : State) → ((trees : Trees) → new.may_leave trees →
-    (trees ≡ old.now.trees) ⊎ HoldLifted earlier_hold old.now trees) → BeginsHistory old new
+    (trees ≡ old.now.trees) ⊎ TreesOfThird (lifted_in earlier_hold old.now) trees) →
+    BeginsHistory old new
 begins old new left sound trees may = elim (left trees may) [
   | inl same ↦ inl same
   | inr held ↦
-      let desk = second_is_desk (desk_with trees) held.lifted.second in
-      let all = sound_lifted old.now (desk_with trees) held.lifted sound in
+      let desk = third_is_desk (desk_with trees) held.holds.third in
+      let all = sound_lifted old.now (desk_with trees) held.holds sound in
       inr (record {
         whole = record { sound = held.sound; holds = record { desk = desk; counted = all.counts } };
         sound = all;
-        lifted = customers_lifted old.now (desk_with trees) held.lifted;
+        lifted = customers_lifted old.now (desk_with trees) held.holds;
+      })
+]
+
+pub upgraded : (old new : State) → ((trees : Trees) → new.may_leave trees →
+    (trees ≡ old.now.trees) ⊎ TreesOfThird (second_tables_in old.now) trees) →
+    BeginsUpgraded old new
+upgraded old new left sound trees may = elim (left trees may) [
+  | inl same ↦ inl same
+  | inr held ↦
+      let desk = third_is_desk (desk_with trees) held.holds.third in
+      let all = subst Sound (sym held.holds.tables) sound in
+      inr (record {
+        whole = record { sound = held.sound; holds = record { desk = desk; counted = all.counts } };
+        tables = held.holds.tables;
       })
 ]

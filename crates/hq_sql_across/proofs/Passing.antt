@@ -10,7 +10,7 @@ use Rattle.sqlite.specs.Held.{state}
 use Rattle.sqlite.specs.State.{State, HasCleanDisk}
 use Rattle.sqlite.specs.Tree.{Trees}
 use Rattle.sqlite_trees.specs.declared.store.Store.{Ghosts}
-use Rattle.hq_base.specs.declared.failure.Fault.{Fault}
+use Rattle.hq_values.specs.declared.failure.Fault.{Fault}
 use Rattle.hq_store.specs.Shelves.{StopLeaves, StopLeavesTables}
 use Rattle.hq_store.specs.Sound.{Sound}
 use Rattle.hq_store.specs.Tables.{Tables}
@@ -23,6 +23,7 @@ use Rattle.hq_wire.specs.Replies.{IsSent}
 use Rattle.hq_wire.specs.Runs.{RunsSo}
 use Rattle.hq_wire.specs.declared.reply.Reply.{Reply}
 use Rattle.hq_wire.proofs.Alone.{alone}
+use Rattle.hq_wire.proofs.Serving.{tells_each}
 use Rattle.hq_across.specs.Histories.{Passed, Session, uncut}
 use Rattle.hq_across.specs.Sessions.{IsJustOpened, IsSession}
 use Rattle.hq_across.proofs.Across.{across, across_sound}
@@ -37,7 +38,7 @@ use Rattle.hq_sql_open.specs.declared.transaction.Standing.{Standing}
 use Rattle.hq_sql_open.specs.declared.transaction.Standing.TheVariants.{Open, Gone, InDoubt, Lost}
 use Rattle.hq_sql_shelf.specs.Shelf.{Adopts, IsOurs, Stands, is_doubtful, sight_over}
 use Rattle.hq_sql_across.specs.Stopped.{IsServed, KeepsDesk, MayKeep, Reopens}
-use Rattle.hq_sql_across.specs.Stopped.{PassesSession, PassesSessions, PassesHistory}
+use Rattle.hq_sql_across.specs.Stopped.{PassesSession, PassesSessions, PassesHistory, Visit}
 use Rattle.hq_sql_across.proofs.Found.{found_again, keep_whole, sound_found}
 
 abbrev any : Fault → Type 0
@@ -54,10 +55,12 @@ nothing_passed host d exchanges replies before after stops none keeps =
       λ t' may. (
         t',
         left.1 t' may,
-        uncut [] [],
+        uncut d [] [],
         record {
+          by = refl;
           told = subst (λ (rs : List Reply). AllZip IsSent rs []) (sym none) tt;
           asked = inr (refl, none);
+          tells = tt;
           stopped_at = refl;
         },
         record {
@@ -99,7 +102,7 @@ module _ {S : Type 0} (g : Ghosts S) (d : Directory) (before : Trees → Type 0)
       → KeepsDesk (state g (shelf_of new).conn).may_leave
       × ((t' : Tables) → MayKeep (state g (shelf_of new).conn).may_leave t' → (t : Tables)
       × MayKeep before t
-      × (s : Session) × IsServed d exchanges replies s × Passed (host_of old) d s t t')
+      × (s : Session) × IsServed d exchanges replies s × Passed (host_of old) s t t')
   asked new exchanges replies ran clean = (keeps_on, passed_on) where
     after : Trees → Type 0
     after = (state g (shelf_of new).conn).may_leave
@@ -120,7 +123,8 @@ module _ {S : Type 0} (g : Ghosts S) (d : Directory) (before : Trees → Type 0)
     keeps_on trees left =
         let one = session_to trees (tables_with trees) left refl in inl (
           all.0 trees left,
-          across_sound (host_of old) d (record {
+          across_sound (host_of old) (record {
+            directory = d;
             asked = map (ask_of d) exchanges;
             replies = ran.told;
             under_way = one.under_way;
@@ -128,18 +132,26 @@ module _ {S : Type 0} (g : Ghosts S) (d : Directory) (before : Trees → Type 0)
         )
 
     passed_on : (t' : Tables) → MayKeep after t' → (t : Tables) × MayKeep before t × (s : Session)
-        × IsServed d exchanges replies s × Passed (host_of old) d s t t'
+        × IsServed d exchanges replies s × Passed (host_of old) s t t'
     passed_on t' (trees, left, kept) =
         let one = session_to trees t' left
         (keep_whole trees t' (all.0 trees left) kept) in (
           tables,
           found.1,
           record {
+            directory = d;
             asked = map (ask_of d) exchanges;
             replies = ran.told;
             under_way = one.under_way;
           },
-          record { told = ran.sent; asked = inl refl; stopped_at = one.stopped_at },
+          record {
+            by = refl;
+            told = ran.sent;
+            tells = tells_each (sight_over (state g)) d old (map (ask_of d) exchanges) ran.told new
+                ran.served.each;
+            asked = inl refl;
+            stopped_at = one.stopped_at;
+          },
           one.passed,
         )
 
@@ -185,7 +197,7 @@ module _ {S : Type 0} (g : Ghosts S) (d : Directory) (before : Trees → Type 0)
       → KeepsDesk (state g (shelf_of new).conn).may_leave
       × ((t' : Tables) → MayKeep (state g (shelf_of new).conn).may_leave t' → (t : Tables)
       × MayKeep before t
-      × (s : Session) × IsServed d exchanges replies s × Passed (host_of old) d s t t')
+      × (s : Session) × IsServed d exchanges replies s × Passed (host_of old) s t t')
   asked_passed ran clean sure =
       let seen : (on (sight_over (state g))).is_clean new =
       (clean, stands_sure (shelf_of new).standing (state g (shelf_of new).conn) sure) in
@@ -199,7 +211,7 @@ module _ {S : Type 0} (g : Ghosts S) (d : Directory) (before : Trees → Type 0)
       → KeepsDesk (state g (shelf_of new).conn).may_leave
       × ((t' : Tables) → MayKeep (state g (shelf_of new).conn).may_leave t' → (t : Tables)
       × MayKeep before t
-      × (s : Session) × IsServed d exchanges replies s × Passed (host_of old) d s t t')
+      × (s : Session) × IsServed d exchanges replies s × Passed (host_of old) s t t')
   unasked_passed same clean none =
       let was = subst (λ (n : Desk (SqlShelf S)). HasCleanDisk (state g (shelf_of n).conn)) same
       clean in
@@ -211,17 +223,17 @@ module _ {S : Type 0} (g : Ghosts S) (d : Directory) (before : Trees → Type 0)
 
 -- ---- a history
 
-module _ (host : List ℕ) (d : Directory) where
-  pub no_sessions : (before : Trees → Type 0) → PassesSessions host d [] [] before before
+module _ (host : List ℕ) where
+  pub no_sessions : (before : Trees → Type 0) → PassesSessions host [] [] before before
   no_sessions before keeps = (keeps, λ t' may. (t', may, [], tt, refl))
 
   -- a session, and then others
-  pub session_then : (exchanges : List Exchange) (replies : List Reply)
-      (later : List (List Exchange)) (told : List (List Reply)) (before mid after : Trees → Type 0)
-      → PassesSession host d exchanges replies before mid
-      → PassesSessions host d later told mid after
-      → PassesSessions host d (exchanges ∷ later) (replies ∷ told) before after
-  session_then exchanges replies later told before mid after first next keeps =
+  pub session_then : (visit : Visit) (replies : List Reply) (later : List Visit)
+      (told : List (List Reply)) (before mid after : Trees → Type 0)
+      → PassesSession host visit.directory visit.exchanges replies before mid
+      → PassesSessions host later told mid after
+      → PassesSessions host (visit ∷ later) (replies ∷ told) before after
+  session_then visit replies later told before mid after first next keeps =
       let one = first keeps in
       let rest = next one.0 in (
         rest.0,
@@ -237,14 +249,14 @@ module _ (host : List ℕ) (d : Directory) where
       )
 
   -- the history is to every customer its own machine alone
-  pub alone_in_history : (exchanges : List (List Exchange)) (replies : List (List Reply))
-      (before after : Trees → Type 0) → PassesSessions host d exchanges replies before after →
-      PassesHistory host d exchanges replies before after
-  alone_in_history exchanges replies before after passed keeps =
+  pub alone_in_history : (visits : List Visit) (replies : List (List Reply))
+      (before after : Trees → Type 0) → PassesSessions host visits replies before after →
+      PassesHistory host visits replies before after
+  alone_in_history visits replies before after passed keeps =
       let all = passed keeps in (
         all.0,
         λ t' may. let one = all.1 t' may in
-            (one.0, one.1, one.2, one.3, across host d one.2 one.0 t' one.4),
+            (one.0, one.1, one.2, one.3, across host one.2 one.0 t' one.4),
       )
 
 -- ---- lists of sessions, as the code goes through them

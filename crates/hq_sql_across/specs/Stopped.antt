@@ -6,18 +6,18 @@ use Rattle.sqlite.specs.Effect.{Database, IsDatabase}
 use Rattle.sqlite.specs.State.{State, Opens, IsLive}
 use Rattle.sqlite.specs.Tree.{Trees}
 use Rattle.hq_store.specs.Sound.{Sound}
-use Rattle.hq_sql_migrate.specs.Lifted.{lift, FirstSound}
+use Rattle.hq_sql_open.specs.Lifted.{lift, FirstSound}
 use Rattle.hq_store.specs.Tables.{Tables, no_tables, own}
 use Rattle.hq_requests.specs.declared.directory.Directory.{Directory}
 use Rattle.hq_requests.specs.declared.exchanges.Exchange.{Exchange}
-use Rattle.hq_wire.specs.Exchanges.{ask_of}
-use Rattle.hq_wire.specs.Replies.{IsSent}
+use Rattle.hq_wire.specs.Exchanges.{Tells, ask_of}
+use Rattle.hq_wire.specs.Replies.{IsSent, SeenReply}
 use Rattle.hq_wire.specs.declared.reply.Reply.{Reply}
 use Rattle.hq_across.specs.Histories.{Session, Passed, InSessions, AloneAcross}
 use Rattle.hq_across.specs.Sessions.{StoppedAt}
 use Rattle.hq_sql_open.specs.Found.{tables_with}
 use Rattle.hq_sql_open.specs.Opening.{IsUnmade}
-use Rattle.hq_sql_migrate.specs.Stores.{first_tables_in}
+use Rattle.hq_sql_open.specs.Stores.{first_tables_in, second_tables_in}
 use Rattle.hq_sql_shelf.specs.Shelf.{IsWholeDesk}
 
 -- nothing was made yet in a store with these trees
@@ -49,13 +49,20 @@ pub record Reopens (old new : State) : Type 0 where
 
 -- ---- one session
 
--- The replies are those of the session: to all that was to be asked, or to nothing, where the store
--- was not opened or there was no room.
+-- The replies are those of the session by this directory, one to each thing that was asked: to all
+-- that was to be asked, or to nothing, where the store was not opened or there was no room.
 pub record IsServed (d : Directory) (exchanges : List Exchange) (replies : List Reply) (s : Session)
     : Type 0 where
+  pub by : s.directory ≡ d
   pub told : AllZip IsSent replies s.replies
+  -- what each of them tells, the calls that no customer is told of among them
+  pub tells : AllZip (Tells d) s.asked s.replies
   pub asked : (s.asked ≡ map (ask_of d) exchanges) ⊎ ((s.asked ≡ []) × (replies ≡ []))
   pub stopped_at : StoppedAt d s.asked s.replies s.under_way
+
+-- the bytes of a reply tell what may be told of an exchange
+abbrev pub IsReplyTo : Directory → Exchange → Reply → Type 0
+IsReplyTo d x reply = (r : SeenReply) × IsSent reply r × Tells d (ask_of d x) r
 
 -- From one stop up to the next: it is a desk's still, and whatever an opening may
 -- find then came by a session from what an opening may have found before.
@@ -63,31 +70,37 @@ abbrev pub PassesSession : List ℕ → Directory → List Exchange → List Rep
     (Trees → Type 0) → Type 0
 PassesSession host d exchanges replies before after = KeepsDesk before → KeepsDesk after
     × ((t' : Tables) → MayKeep after t' → (t : Tables) × MayKeep before t
-    × (s : Session) × IsServed d exchanges replies s × Passed host d s t t')
+    × (s : Session) × IsServed d exchanges replies s × Passed host s t t')
 
 -- ---- a history
 
+-- what is asked in a session, by the directory of its start
+pub record Visit : Type 0 where
+  pub directory : Directory
+  pub exchanges : List Exchange
+
 -- each session in turn
-abbrev pub AreServed : Directory → List (List Exchange) → List (List Reply) → List Session → Type 0
-AreServed d [] [] [] = ⊤
-AreServed d (x ∷ xs) (r ∷ rs) (s ∷ ss) = IsServed d x r s × AreServed d xs rs ss
-AreServed d _ _ _ = ⊥
+abbrev pub AreServed : List Visit → List (List Reply) → List Session → Type 0
+AreServed [] [] [] = ⊤
+AreServed (v ∷ vs) (r ∷ rs) (s ∷ ss) = IsServed v.directory v.exchanges r s × AreServed vs rs ss
+AreServed _ _ _ = ⊥
 
 -- Of sessions one after another: whatever an opening may find in the end came by these sessions
 -- from what an opening may have found at first.
-abbrev pub PassesSessions : List ℕ → Directory → List (List Exchange) → List (List Reply) →
-    (Trees → Type 0) → (Trees → Type 0) → Type 0
-PassesSessions host d exchanges replies before after = KeepsDesk before → KeepsDesk after
+abbrev pub PassesSessions : List ℕ → List Visit → List (List Reply) → (Trees → Type 0) →
+    (Trees → Type 0) → Type 0
+PassesSessions host visits replies before after = KeepsDesk before → KeepsDesk after
     × ((t' : Tables) → MayKeep after t' → (t : Tables) × MayKeep before t
-    × (h : List Session) × AreServed d exchanges replies h × InSessions (Passed host d) h t t')
+    × (h : List Session) × AreServed visits replies h × InSessions (Passed host) h t t')
 
 -- Whatever an opening may find in the end came by sessions with these replies from what an opening
--- may have found at first, and they are to every customer its own machine alone.
-abbrev pub PassesHistory : List ℕ → Directory → List (List Exchange) → List (List Reply) →
-    (Trees → Type 0) → (Trees → Type 0) → Type 0
-PassesHistory host d exchanges replies before after = KeepsDesk before → KeepsDesk after
+-- may have found at first, and they are to every customer its own machine alone, in each session by
+-- its entry in the directory of that.
+abbrev pub PassesHistory : List ℕ → List Visit → List (List Reply) → (Trees → Type 0) →
+    (Trees → Type 0) → Type 0
+PassesHistory host visits replies before after = KeepsDesk before → KeepsDesk after
     × ((t' : Tables) → MayKeep after t' → (t : Tables) × MayKeep before t
-    × (h : List Session) × AreServed d exchanges replies h × AloneAcross host d h t t')
+    × (h : List Session) × AreServed visits replies h × AloneAcross host h t t')
 
 -- ---- a migration before it
 
@@ -99,7 +112,17 @@ pub record BeginLifted (first : Database) (trees : Trees) : Type 0 where
   pub lifted : (customer : List ℕ) →
       own customer (tables_with trees) ≡ lift (own customer (first_tables_in first))
 
--- What an opening may find behind a migration is the store of version 1 as it was, or such a desk.
+-- Behind a migration from version 1 an opening may find that store as it was, or such a desk.
 abbrev pub BeginsHistory : State → State → Type 0
 BeginsHistory old new = FirstSound (first_tables_in old.now) → (trees : Trees) →
     new.may_leave trees → (trees ≡ old.now.trees) ⊎ BeginLifted old.now trees
+
+-- The trees are those of a desk with the tables of a store of version 2.
+pub record BeginUpgraded (second : Database) (trees : Trees) : Type 0 where
+  pub whole : IsWholeDesk trees
+  pub tables : tables_with trees ≡ second_tables_in second
+
+-- Behind a migration from version 2 an opening may find that store as it was, or such a desk.
+abbrev pub BeginsUpgraded : State → State → Type 0
+BeginsUpgraded old new = Sound (second_tables_in old.now) → (trees : Trees) →
+    new.may_leave trees → (trees ≡ old.now.trees) ⊎ BeginUpgraded old.now trees

@@ -5,9 +5,10 @@ ghost use Rattle.sqlite.specs.Held.{state};
 ghost use Rattle.sqlite.specs.State.{HasCleanDisk};
 ghost use Rattle.hq_wire.specs.declared.reply.Reply.{Reply};
 ghost use Rattle.hq_sql_across.specs.Stopped.{PassesSessions, PassesHistory};
+ghost use Rattle.hq_sql_across.specs.Visits.{visit_of, replies_in};
 
 use crate::sessions::session;
-use hq_envelope::{Fault, Host, TryCopy};
+use hq_values::{Fault, Host, TryCopy};
 use hq_wire::{Directory, Exchange, Reply};
 use sqlite::{Alter, Connection};
 use sqlite_trees::store::Reopen;
@@ -26,30 +27,39 @@ pub struct Served<S: Alter> {
     pub conn: Connection<S>,
 }
 
+/// What is asked of a desk from one start to the next stop.
+#[derive(Drop)]
+pub struct Visit {
+    /// The customers at that start.
+    pub directory: Directory,
+    /// What is asked, in order.
+    pub exchanges: Vec<Exchange>,
+}
+
 /// Serves sessions, one after another, and adds what each replied.
 fn serve_all<S: Alter + Reopen + Drop>(
     alloc: Global,
     conn: Connection<S>,
     host: &Host,
-    directory: &Directory,
-    sessions: &[Vec<Exchange>],
+    visits: &[Visit],
     told: &mut Vec<Vec<Reply>>,
 ) -> Result<(bool, Connection<S>), Fault>
     ensures passed { IfOk result (λ end. HasCleanDisk (state S.Store end.1) → end.0 ≡ false
         → (replies : List (List Reply))
-        × (map (λ r. r.items) told.new.items ≡ map (λ r. r.items) told.old.items ++ replies)
-        × PassesSessions host.now directory.now (map (λ s. s.items) sessions.now) replies
+        × (map replies_in told.new.items ≡ map replies_in told.old.items ++ replies)
+        × PassesSessions host.now (map visit_of visits.now) replies
         (state S.Store conn).may_leave (state S.Store end.1).may_leave) }
     ensures quiet { IfOk result (λ end. HasCleanDisk (state S.Store end.1) → end.0 ≡ false
         → HasCleanDisk (state S.Store conn)) }
 {
-    match sessions {
+    match visits {
         [] => Ok((false, conn)),
         [first, rest @ ..] => {
             let name = host.copy(alloc)?;
-            let one = session(alloc, conn, name, directory, first.as_slice())?;
+            let exchanges = first.exchanges.as_slice();
+            let one = session(alloc, conn, name, &first.directory, exchanges)?;
             told.push(one.replies)?;
-            let (later, conn) = serve_all(alloc, one.conn, host, directory, rest, told)?;
+            let (later, conn) = serve_all(alloc, one.conn, host, rest, told)?;
             Ok((one.in_doubt || later, conn))
         }
     }
@@ -59,10 +69,14 @@ fn serve_all<S: Alter + Reopen + Drop>(
 /// which replies to exchanges in order, up to the next stop, wherever that comes. Where it comes in
 /// the opening, the session is empty.
 ///
-/// To every customer the whole history is its own machine on its own calls, whatever the other
-/// customers do and wherever the stops come: what it heard over all sessions is what that machine
-/// answers, and what the next opening finds of it is what that machine keeps. Of each stop at most
-/// one call is under way, done or not, the same for all customers.
+/// Each session has the directory of its start: customers may come, leave and get other limits
+/// from one to the next.
+///
+/// To every customer the whole history is its own machine on its own calls, by its entry in each
+/// session, whatever the other customers do and wherever the stops come: what it heard over all
+/// sessions is what that machine answers, and what the next opening finds of it is what that
+/// machine keeps. Of each stop at most one call is under way, done or not, the same for all
+/// customers.
 ///
 /// It asks for a store of a desk whose tables are sound, or in which nothing was made yet; and that
 /// the store returned what was written, and kept what was synced. 90 tells that memory was wanted
@@ -71,16 +85,14 @@ pub fn history<S: Alter + Reopen + Drop>(
     alloc: Global,
     conn: Connection<S>,
     host: &Host,
-    directory: &Directory,
-    sessions: &[Vec<Exchange>],
+    visits: &[Visit],
 ) -> Result<Served<S>, Fault>
     ensures across { IfOk result (λ h. HasCleanDisk (state S.Store h.conn) → h.in_doubt ≡ false
-        → PassesHistory host.now directory.now (map (λ s. s.items) sessions.now)
-        (map (λ r. r.items) h.replies.items)
+        → PassesHistory host.now (map visit_of visits.now) (map replies_in h.replies.items)
         (state S.Store conn).may_leave (state S.Store h.conn).may_leave) }
 {
-    let mut replies = Vec::with_capacity(alloc, sessions.len())?;
-    let (in_doubt, conn) = serve_all(alloc, conn, host, directory, sessions, &mut replies)?;
+    let mut replies = Vec::with_capacity(alloc, visits.len())?;
+    let (in_doubt, conn) = serve_all(alloc, conn, host, visits, &mut replies)?;
     Ok(Served {
         replies,
         in_doubt,

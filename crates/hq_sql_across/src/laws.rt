@@ -1,17 +1,23 @@
 //! Laws of a desk's store, as functions that do nothing else and whose contracts are the laws.
 
+ghost use Rattle.std.specs.Prelude.{◌≡◌, ◌⊎◌, List, []};
+ghost use Rattle.std.specs.List.{AllZip};
 ghost use Rattle.sqlite.specs.Held.{state};
 ghost use Rattle.sqlite.specs.State.{HasCleanDisk};
 ghost use Rattle.hq_sql.specs.Tables.{tables_in};
 ghost use Rattle.hq_sql_shelf.specs.Shelf.{IsOurs};
 ghost use Rattle.hq_sql_shelf.specs.Stops.{LeavesOnly};
 ghost use Rattle.hq_sql_open.specs.Transactions.{IsSettled};
-ghost use Rattle.hq_sql_migrate.specs.Stores.{IsFirst};
-ghost use Rattle.hq_sql_across.specs.Stopped.{BeginsHistory};
+ghost use Rattle.hq_sql_open.specs.Stores.{IsFirst, IsSecond};
+ghost use Rattle.hq_requests.specs.declared.directory.Directory.{Directory};
+ghost use Rattle.hq_requests.specs.declared.exchanges.Exchange.{Exchange};
+ghost use Rattle.hq_wire.specs.declared.reply.Reply.{Reply};
+ghost use Rattle.hq_across.specs.Histories.{Session};
+ghost use Rattle.hq_sql_across.specs.Stopped.{BeginsHistory, BeginsUpgraded, IsServed, IsReplyTo};
 
-use hq_envelope::Fault;
 use hq_sql_open::transaction::sees_database;
 use hq_sql_shelf::migrate;
+use hq_values::Fault;
 use sqlite::{Alter, Connection};
 use std::alloc::Global;
 
@@ -37,3 +43,25 @@ pub fn migration_begins_a_history<S: Alter>(
 {
     migrate(alloc, conn)
 }
+
+/// Wherever the process or its machine stops in a migration, an opening finds the store of version
+/// 2 as it was, or a desk with its tables, from which a history goes on. It migrates as `migrate`
+/// does.
+pub fn later_migration_begins_a_history<S: Alter>(
+    alloc: Global,
+    conn: &mut Connection<S>,
+) -> Result<u64, Fault>
+    ensures { HasCleanDisk (state S.Store conn.new) → IsSettled (state S.Store conn.old)
+        → IsSecond (state S.Store conn.old).now
+        → BeginsUpgraded (state S.Store conn.old) (state S.Store conn.new) }
+{
+    migrate(alloc, conn)
+}
+
+/// What a session sends, whatever becomes of its store: nothing at all, or one reply to each
+/// exchange, and each tells what `Tells` allows of what was asked.
+pub fn each_reply_tells()
+    ensures { (d : Directory) (exchanges : List Exchange) (replies : List Reply) (s : Session)
+        → IsServed d exchanges replies s
+        → (replies ≡ []) ⊎ AllZip (IsReplyTo d) exchanges replies }
+{}

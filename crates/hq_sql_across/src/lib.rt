@@ -6,5 +6,5 @@ mod histories;
 pub mod laws;
 mod sessions;
 
-pub use histories::{Served, history};
+pub use histories::{Served, Visit, history};
 pub use sessions::{Stopped, session};

@@ -7,8 +7,8 @@ ghost use Rattle.hq_keyed.specs.Left.{IsQuiet};
 ghost use Rattle.hq_sql_across.specs.Stopped.{Reopens, PassesSession};
 
 use hq_desk::Desk;
-use hq_envelope::{Fault, Host};
 use hq_sql_shelf::SqlShelf;
+use hq_values::{Fault, Host};
 use hq_wire::{Directory, Exchange, Reply, run};
 use sqlite::{Alter, Connection};
 use sqlite_trees::store::Reopen;

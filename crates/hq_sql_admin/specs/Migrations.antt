@@ -1,12 +1,12 @@
 -- How the word `migrate` ends. What a file holds is said by no contract, so nothing is said here of
 -- which stores are migrated.
 use Rattle.std.specs.Prelude.{ℕ, ◌≡◌, ◌++◌, ◌⊎◌, List, codes, decimal, Result, Ok, Err}
-use Rattle.hq_base.specs.Refusals.{no_memory}
-use Rattle.hq_base.specs.declared.failure.Fail.TheVariants.{Fault as AsFault}
-use Rattle.hq_base.specs.declared.failure.Fault.{Fault}
+use Rattle.hq_values.specs.Refusals.{no_memory}
+use Rattle.hq_values.specs.declared.failure.Fail.TheVariants.{Fault as AsFault}
+use Rattle.hq_values.specs.declared.failure.Fault.{Fault}
 use Rattle.hq_desk.specs.declared.desk.Rendered.{Rendered}
-use Rattle.hq_trouble.specs.declared.trouble.Trouble.{Trouble}
-use Rattle.hq_trouble.specs.declared.trouble.Trouble.TheVariants.{Desk}
+use Rattle.hq_settings.specs.declared.trouble.Trouble.{Trouble}
+use Rattle.hq_settings.specs.declared.trouble.Trouble.TheVariants.{Desk}
 use Rattle.hq_sql_admin.specs.Calls.{trouble_told}
 
 -- how many messages were on hold, on a line

@@ -1,20 +1,22 @@
 -- Rounds, one call of each customer: what their words ask for, each check before those behind it,
 -- and what is done over a store.
 use Rattle.std.specs.Prelude.{ℕ, ◌≡◌, List, codes, Result, Ok, Err}
-use Rattle.hq_base.specs.Refusals.{no_memory}
-use Rattle.hq_base.specs.declared.failure.Fail.TheVariants.{Fault as AsFault}
-use Rattle.hq_base.specs.declared.failure.Fault.{Fault}
-use Rattle.hq_envelope.specs.Words.{host_in}
+use Rattle.hq_values.specs.Refusals.{no_memory}
+use Rattle.hq_values.specs.declared.failure.Fail.TheVariants.{Fault as AsFault}
+use Rattle.hq_values.specs.declared.failure.Fault.{Fault}
+use Rattle.hq_values.specs.Words.{host_in}
 use Rattle.hq_queue.specs.declared.account.Customer.{Customer}
 use Rattle.hq_store.specs.Shelves.{Sight}
-use Rattle.hq_sql_file.specs.Opened.{OverFile}
+use Rattle.hq_sql_shelf.specs.Opened.{OverFile}
 use Rattle.hq_calls.specs.declared.each.EachCall.{EachCall}
 use Rattle.hq_calls.specs.declared.each.EachCall.TheVariants.{Sweep as SweepOf, Usage as UsageOf}
+use Rattle.hq_desk.specs.Desks.{host_of, shelf_of}
+use Rattle.hq_desk.specs.declared.desk.Desk.{Desk}
 use Rattle.hq_admin.specs.Rounds.{CallsEach}
 use Rattle.hq_admin.specs.declared.rounds.ToldAll.{ToldAll}
-use Rattle.hq_trouble.specs.declared.trouble.Trouble.{Trouble}
-use Rattle.hq_trouble.specs.declared.trouble.Trouble.TheVariants.{Desk}
-use Rattle.hq_set_up.specs.Steps.{Then, HasCustomers, IsRead}
+use Rattle.hq_settings.specs.declared.trouble.Trouble.{Trouble}
+use Rattle.hq_settings.specs.declared.trouble.Trouble.TheVariants.{Desk as AsDesk}
+use Rattle.hq_settings.specs.Steps.{Then, HasCustomers, IsRead}
 use Rattle.hq_words.specs.declared.options.Sweep.{Sweep}
 use Rattle.hq_words.specs.declared.options.Usage.{Usage}
 use Rattle.hq_sql_admin.specs.declared.rounds.Round.{Round}
@@ -38,18 +40,19 @@ SweepAllAsks given = AsksRound given.host.now given.at SweepOf
 abbrev pub UsageAsks : Result Round Trouble → Type 0
 UsageAsks = AsksRound (codes "localhost") 0 UsageOf
 
--- The calls are done over this shelf; or there is no memory for what is told of them, and then
--- nothing is done.
+-- A desk over this shelf makes the calls; or there is no memory for what is told of them, and then
+-- it makes none.
 abbrev pub RoundOver : {S : Type 0} → Sight S → S → Round → Result ToldAll Trouble → Type 0
-RoundOver sight shelf asked (Ok told) =
-    CallsEach sight shelf asked.host asked.at asked.each asked.customers.items told
-RoundOver sight shelf asked (Err trouble) = trouble ≡ Desk (AsFault no_memory)
+RoundOver {S} sight shelf asked (Ok told) = (old : Desk S) × (new : Desk S)
+    × (host_of old ≡ asked.host) × (shelf_of old ≡ shelf)
+    × CallsEach sight old new asked.at asked.each asked.customers.items told
+RoundOver sight shelf asked (Err trouble) = trouble ≡ AsDesk (AsFault no_memory)
 
 -- That is done over a desk as it was opened; where it could not be, that is told.
 abbrev pub RoundOpened : {S : Type 0} → Sight S → Result S Fault → Round → Result ToldAll Trouble →
     Type 0
 RoundOpened sight (Ok shelf) asked result = RoundOver sight shelf asked result
-RoundOpened sight (Err fault) asked result = result ≡ Err (Desk (AsFault fault))
+RoundOpened sight (Err fault) asked result = result ≡ Err (AsDesk (AsFault fault))
 
 -- How the words end: with the trouble of what they are given, or as the round over the desk in some
 -- file does.

@@ -3,17 +3,32 @@
 use Rattle.std.specs.Prelude.{ℕ, List, Result}
 use Rattle.hq_store.specs.Shelves.{Sight}
 use Rattle.hq_desk.specs.declared.desk.Rendered.{Rendered}
-use Rattle.hq_trouble.specs.declared.trouble.Trouble.{Trouble}
-use Rattle.hq_words.specs.declared.options.Queue.{Queue}
+use Rattle.hq_settings.specs.declared.trouble.Trouble.{Trouble}
+use Rattle.hq_words.specs.declared.selecting.Moving.{Moving}
+use Rattle.hq_words.specs.declared.selecting.Telling.{Telling}
+use Rattle.hq_sql_admin.specs.declared.requests.Done.{Done}
+use Rattle.hq_sql_admin.specs.declared.requests.Done.TheVariants.{Held, Released, Deleted}
 use Rattle.hq_words.specs.declared.options.Import.{Import}
 use Rattle.hq_words.specs.declared.options.Sweep.{Sweep}
 use Rattle.hq_sql_admin.specs.Calls.{PerformsInFile}
-use Rattle.hq_set_up.specs.Steps.{Then}
-use Rattle.hq_sql_admin.specs.Requests.{QueueAsks, ImportAsks, SweepAsks}
+use Rattle.hq_settings.specs.Steps.{Then}
+use Rattle.hq_sql_admin.specs.Requests.{QueueAsks, HistoryAsks, MoveAsks, ImportAsks, SweepAsks}
 
 module _ {S : Type 0} (sight : Sight S) where
-  abbrev pub QueueEnds : Queue → Result Rendered Trouble → Type 0
+  abbrev pub QueueEnds : Telling → Result Rendered Trouble → Type 0
   QueueEnds given = Then (QueueAsks given) (PerformsInFile sight)
+
+  abbrev pub HistoryEnds : Telling → Result Rendered Trouble → Type 0
+  HistoryEnds given = Then (HistoryAsks given) (PerformsInFile sight)
+
+  abbrev pub HoldEnds : Moving → Result Rendered Trouble → Type 0
+  HoldEnds given = Then (MoveAsks given Held) (PerformsInFile sight)
+
+  abbrev pub ReleaseEnds : Moving → Result Rendered Trouble → Type 0
+  ReleaseEnds given = Then (MoveAsks given Released) (PerformsInFile sight)
+
+  abbrev pub DeleteEnds : Moving → Result Rendered Trouble → Type 0
+  DeleteEnds given = Then (MoveAsks given Deleted) (PerformsInFile sight)
 
   abbrev pub ImportEnds : Import → Result Rendered Trouble → Type 0
   ImportEnds given = Then (ImportAsks given) (PerformsInFile sight)

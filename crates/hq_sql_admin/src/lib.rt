@@ -1,6 +1,6 @@
-//! The words of an administrator over a store in a file: `queue`, `import` and `sweep`, each one
-//! call of one customer; `usage`, and `sweep` of all customers, a call for each; and `migrate`, for
-//! a store of the release before.
+//! The words of an administrator over a store in a file: `queue`, `history`, `hold`, `release`,
+//! `delete`, `import` and `sweep`, each one call of one customer; `usage`, and `sweep` of all
+//! customers, a call for each; and `migrate`, for a store of an earlier release.
 #![tactic(auto)]
 
 mod migrating;
@@ -11,4 +11,4 @@ mod words;
 
 pub use migrating::migrate;
 pub use rounds::{sweep_all, usage};
-pub use words::{import, queue, sweep};
+pub use words::{delete, history, hold, import, queue, release, sweep};

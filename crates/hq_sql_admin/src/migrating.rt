@@ -3,9 +3,9 @@
 ghost use Rattle.hq_sql_admin.specs.Migrations.{IsMigrationTold, MigrateEnds};
 
 use hq_desk::Rendered;
-use hq_envelope::Fault;
-use hq_sql_file::migrate_file;
-use hq_trouble::Trouble;
+use hq_settings::Trouble;
+use hq_sql_shelf::migrate_file;
+use hq_values::Fault;
 use hq_words::Migrate;
 use std::fmt::Write;
 

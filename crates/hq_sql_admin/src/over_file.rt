@@ -6,11 +6,10 @@ ghost use Rattle.hq_sql_admin.specs.Calls.{PerformsOpened, PerformsInFile};
 
 use hq_admin::{Request, perform};
 use hq_desk::Rendered;
-use hq_envelope::Fault;
-use hq_sql_file::{FileShelf, open_file};
-use hq_sql_shelf::SqlShelf;
+use hq_settings::Trouble;
+use hq_sql_shelf::{FileShelf, SqlShelf, open_file};
 use hq_store::Shelf;
-use hq_trouble::Trouble;
+use hq_values::Fault;
 use sqlite::Alter;
 
 /// Does what is asked for over a store as it was opened; or tells why it could not be opened.
@@ -21,7 +20,8 @@ fn perform_opened<S: Alter + Drop>(
 ) -> Result<Rendered, Trouble>
     ensures { PerformsOpened (sight_over (state S.Store)) opened request result }
 {
-    Ok(perform(rt.alloc(), opened?, request)?)
+    let (_shelf, done) = perform(rt.alloc(), opened?, request);
+    Ok(done?)
 }
 
 /// Does what is asked for over the store of a path, which is made where it is missing. A store that

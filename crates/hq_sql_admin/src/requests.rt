@@ -1,15 +1,19 @@
 //! What each word asks for, checked in the written order: the relay's name, the directory, the
-//! customer, the label, and the file of lines.
+//! customer, the pattern, the label, and the file of lines.
 
-ghost use Rattle.hq_sql_admin.specs.Requests.{HasCustomer, QueueAsks, ImportAsks, SweepAsks};
+ghost use Rattle.std.specs.Prelude.{◌≡◌};
+ghost use Rattle.hq_settings.specs.Steps.{IsRead};
+ghost use Rattle.hq_sql_admin.specs.Requests.{HasCustomer, HasPattern, QueueAsks, HistoryAsks};
+ghost use Rattle.hq_sql_admin.specs.Requests.{MoveAsks, ImportAsks, SweepAsks, move_call};
+ghost use Rattle.hq_sql_admin.specs.Requests.{history_call, pattern_read};
 
+use hq_access::{Class, Pattern};
 use hq_admin::{Request, customer_in};
 use hq_desk::Call;
-use hq_envelope::{Host, Items, Label, Moment};
 use hq_queue::Entry;
-use hq_set_up::file_of;
-use hq_trouble::Trouble;
-use hq_words::{Import, Queue, Sweep};
+use hq_settings::{Trouble, file_of};
+use hq_values::{Host, Items, Label, Moment};
+use hq_words::{Import, Matching, Moving, Sweep, Telling};
 
 /// The relay's name where nothing shows it.
 pub(crate) const LOCALHOST: &str = "localhost";
@@ -25,17 +29,101 @@ fn customer_of(rt: &HostRuntime, directory: &str, name: &str) -> Result<Entry, T
     Ok(customer_in(rt.alloc(), file.as_slice(), name)?)
 }
 
-/// The queue report of a customer.
-pub(crate) fn queue_request(rt: &HostRuntime, given: &Queue) -> Result<Request, Trouble>
+/// What is done to the messages that a pattern is for.
+#[derive(Clone, Copy, Debug, PartialEq, Eq, Drop)]
+pub(crate) enum Done {
+    /// They go on hold.
+    Held,
+    /// They are released.
+    Released,
+    /// They are deleted.
+    Deleted,
+}
+
+/// The call that does it.
+fn move_call(done: Done, pattern: Pattern) -> Call
+    ensures { result ≡ move_call done pattern }
+{
+    match done {
+        Done::Held => Call::HoldAll(Some(pattern)),
+        Done::Released => Call::ReleaseAll(Some(pattern)),
+        Done::Deleted => Call::DeleteAll(Some(pattern)),
+    }
+}
+
+/// The call for a history, or for what of it a pattern is for.
+fn history_call(pattern: Option<Pattern>) -> Call
+    ensures { result ≡ history_call pattern }
+{
+    match pattern {
+        None => Call::History(None),
+        Some(pattern) => Call::FindHistory(pattern, None),
+    }
+}
+
+/// The pattern that words give.
+fn pattern_of(rt: &HostRuntime, matching: Matching) -> Result<Pattern, Trouble>
+    ensures { IsRead (pattern_read matching.entry) result }
+{
+    let pattern = match matching {
+        Matching::Sender(text) => Pattern::parse(rt.alloc(), Class::SenderSide, text)?,
+        Matching::Recipient(text) => Pattern::parse(rt.alloc(), Class::RecipientSide, text)?,
+    };
+    Ok(pattern)
+}
+
+/// The pattern that words give, where they give one.
+fn any_pattern_of(rt: &HostRuntime, matching: Option<Matching>) -> Result<Option<Pattern>, Trouble>
+    ensures { HasPattern matching.entry result }
+{
+    match matching {
+        None => Ok(None),
+        Some(matching) => Ok(Some(pattern_of(rt, matching)?)),
+    }
+}
+
+/// The queue report of a customer: of the messages that a pattern is for, or of all.
+pub(crate) fn queue_request(rt: &HostRuntime, given: &Telling) -> Result<Request, Trouble>
     ensures { QueueAsks given.now result }
 {
     let host = Host::parse(rt.alloc(), LOCALHOST)?;
     let entry = customer_of(rt, given.directory, given.customer)?;
+    let pattern = any_pattern_of(rt, given.pattern)?;
     Ok(Request {
         host,
         at: Moment::no_later(NO_MOMENT),
         entry,
-        call: Call::Report,
+        call: Call::Report(pattern),
+    })
+}
+
+/// The history of a customer: what of it a pattern is for, or the newest of it.
+pub(crate) fn history_request(rt: &HostRuntime, given: &Telling) -> Result<Request, Trouble>
+    ensures { HistoryAsks given.now result }
+{
+    let host = Host::parse(rt.alloc(), LOCALHOST)?;
+    let entry = customer_of(rt, given.directory, given.customer)?;
+    let pattern = any_pattern_of(rt, given.pattern)?;
+    Ok(Request {
+        host,
+        at: Moment::no_later(NO_MOMENT),
+        entry,
+        call: history_call(pattern),
+    })
+}
+
+/// What is done to the messages of a customer that a pattern is for.
+pub(crate) fn move_request(rt: &HostRuntime, given: &Moving, done: Done) -> Result<Request, Trouble>
+    ensures { MoveAsks given.now done result }
+{
+    let host = Host::parse(rt.alloc(), LOCALHOST)?;
+    let entry = customer_of(rt, given.directory, given.customer)?;
+    let pattern = pattern_of(rt, given.pattern)?;
+    Ok(Request {
+        host,
+        at: given.at,
+        entry,
+        call: move_call(done, pattern),
     })
 }
 

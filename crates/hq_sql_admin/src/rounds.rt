@@ -9,13 +9,12 @@ ghost use Rattle.hq_sql_admin.specs.Rounds.{SweepAllEnds, UsageEnds};
 use crate::requests::{LOCALHOST, NO_MOMENT};
 use hq_admin::{ToldAll, call_each};
 use hq_calls::EachCall;
-use hq_envelope::{Fault, Host, Moment};
+use hq_desk::Desk;
 use hq_queue::Customer;
-use hq_set_up::customers_of;
-use hq_sql_file::{FileShelf, open_file};
-use hq_sql_shelf::SqlShelf;
+use hq_settings::{Trouble, customers_of};
+use hq_sql_shelf::{FileShelf, SqlShelf, open_file};
 use hq_store::Shelf;
-use hq_trouble::Trouble;
+use hq_values::{Fault, Host, Moment};
 use hq_words::{Sweep, Usage};
 use sqlite::Alter;
 
@@ -66,7 +65,8 @@ fn round_opened<S: Alter + Drop>(
         each,
         customers,
     } = asked;
-    match call_each(rt.alloc(), opened?, host, at, each, customers.as_slice()) {
+    let mut desk = Desk::new(opened?, host);
+    match call_each(rt.alloc(), &mut desk, at, each, customers.as_slice()) {
         Ok(told) => Ok(told),
         Err(_) => Err(Trouble::from(Fault::WantOfMemory)),
     }

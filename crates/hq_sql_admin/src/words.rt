@@ -1,21 +1,57 @@
 //! What each word does: the checks of what it is given, the opening of its store, and then the
 //! call, with its own refusals.
 
-ghost use Rattle.hq_sql_admin.specs.Words.{QueueEnds, ImportEnds, SweepEnds};
+ghost use Rattle.hq_sql_admin.specs.Words.{QueueEnds, HistoryEnds, HoldEnds, ReleaseEnds};
+ghost use Rattle.hq_sql_admin.specs.Words.{DeleteEnds, ImportEnds, SweepEnds};
 
 use crate::over_file::perform_in_file;
-use crate::requests::{import_request, queue_request, sweep_request};
+use crate::requests::{
+    Done, history_request, import_request, move_request, queue_request, sweep_request,
+};
 use hq_desk::Rendered;
-use hq_sql_file::FileShelf;
+use hq_settings::Trouble;
+use hq_sql_shelf::FileShelf;
 use hq_store::Shelf;
-use hq_trouble::Trouble;
-use hq_words::{Import, Queue, Sweep};
+use hq_words::{Import, Moving, Sweep, Telling};
 
-/// The queue report of a customer. Checked in the order directory, customer, store.
-pub fn queue(rt: &HostRuntime, given: &Queue) -> Result<Rendered, Trouble>
+/// The queue report of a customer. Checked in the order directory, customer, pattern, store.
+pub fn queue(rt: &HostRuntime, given: &Telling) -> Result<Rendered, Trouble>
     ensures { QueueEnds ⟦<FileShelf as Shelf>⟧.sight given.now result }
 {
     let request = queue_request(rt, given)?;
+    perform_in_file(rt, given.store, request)
+}
+
+/// The history of a customer. Checked in the order directory, customer, pattern, store.
+pub fn history(rt: &HostRuntime, given: &Telling) -> Result<Rendered, Trouble>
+    ensures { HistoryEnds ⟦<FileShelf as Shelf>⟧.sight given.now result }
+{
+    let request = history_request(rt, given)?;
+    perform_in_file(rt, given.store, request)
+}
+
+/// How many messages of a customer that a pattern is for went on hold. Checked in the order
+/// directory, customer, pattern, store.
+pub fn hold(rt: &HostRuntime, given: &Moving) -> Result<Rendered, Trouble>
+    ensures { HoldEnds ⟦<FileShelf as Shelf>⟧.sight given.now result }
+{
+    let request = move_request(rt, given, Done::Held)?;
+    perform_in_file(rt, given.store, request)
+}
+
+/// How many of them were released. Checked in the same order.
+pub fn release(rt: &HostRuntime, given: &Moving) -> Result<Rendered, Trouble>
+    ensures { ReleaseEnds ⟦<FileShelf as Shelf>⟧.sight given.now result }
+{
+    let request = move_request(rt, given, Done::Released)?;
+    perform_in_file(rt, given.store, request)
+}
+
+/// How many of them were deleted. Checked in the same order.
+pub fn delete(rt: &HostRuntime, given: &Moving) -> Result<Rendered, Trouble>
+    ensures { DeleteEnds ⟦<FileShelf as Shelf>⟧.sight given.now result }
+{
+    let request = move_request(rt, given, Done::Deleted)?;
     perform_in_file(rt, given.store, request)
 }
 

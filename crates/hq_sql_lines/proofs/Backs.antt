@@ -1,8 +1,8 @@
 -- A line can be read back from its columns.
 use Rattle.std.proofs.Common.{◌≡◌, ℕ, ℤ, Bool, true, false, List, [], ◌∷◌, Ok, refl}
-use Rattle.hq_base.specs.Readers.{checked}
-use Rattle.hq_base.specs.declared.failure.Refusal.TheVariants.{BadPattern}
-use Rattle.hq_envelope.specs.Addresses.{folded}
+use Rattle.hq_values.specs.Readers.{checked}
+use Rattle.hq_values.specs.declared.failure.Refusal.TheVariants.{BadPattern}
+use Rattle.hq_values.specs.Addresses.{folded}
 use Rattle.hq_access.specs.Actions.{action_text}
 use Rattle.hq_access.specs.Patterns.{class_name, is_pattern, pattern_in}
 use Rattle.hq_access.specs.declared.action.Action.{Action}

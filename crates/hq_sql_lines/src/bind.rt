@@ -9,9 +9,9 @@ ghost use Rattle.hq_sql_lines.specs.LinePages.{first_columns, after_columns};
 ghost use Rattle.hq_sql_lines.specs.Marks.{mark_key_columns, mark_numbers, mark_row};
 
 use hq_access::{Class, Pattern};
-use hq_envelope::{Label, Name};
 use hq_sql::bind::{RowLimit, large};
 use hq_store::Mark;
+use hq_values::{Label, Name};
 use sqlite::Error;
 use sqlite::types::ValueRef;
 

@@ -9,9 +9,9 @@ ghost use Rattle.hq_sql_lines.specs.LinePages.{page_line};
 
 use crate::{bind, decode};
 use hq_access::{Line, Pattern};
-use hq_envelope::{Items, Name};
 use hq_sql::lent;
 use hq_sql::lent::Taker;
+use hq_values::{Items, Name};
 use sqlite::{Alter, Connection, Error, Row};
 use std::alloc::Global;
 

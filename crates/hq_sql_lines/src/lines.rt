@@ -12,7 +12,7 @@ ghost use Rattle.hq_sql.specs.Rows.{line_shown};
 
 use crate::{bind, decode};
 use hq_access::{Action, Class, Line, LookupKey, Pattern};
-use hq_envelope::Name;
+use hq_values::Name;
 use sqlite::{Alter, Connection, Error, ErrorCode, Row};
 use std::alloc::Global;
 

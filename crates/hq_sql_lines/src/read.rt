@@ -8,8 +8,8 @@ ghost use Rattle.hq_access.specs.Actions.{is_space};
 ghost use Rattle.hq_sql.specs.Rows.{blob_in, value_text, class_of, action_of, action_of_verb};
 
 use hq_access::{Action, Class, Pattern};
-use hq_envelope::{Address, Fail, Label, Text};
 use hq_sql::read::{text, unread};
+use hq_values::{Address, Fail, Label, Text};
 use sqlite::{Error, Row};
 use std::alloc::Global;
 

@@ -1,4 +1,6 @@
-pub mod Texts
+pub mod HoldTexts
+pub mod OnHolds
+pub mod MessageTexts
 pub mod Backs
 pub mod SetWhere
 pub mod OnMessages

@@ -44,7 +44,7 @@ use Rattle.std.proofs.lemmas.Map.Lookups.{exact_unsigned}
 use Rattle.hq_owned.proofs.Cases.{equal}
 use Rattle.hq_sql_messages.specs.Messages.{UpdatedSize}
 use Rattle.hq_sql_messages.proofs.SetWhere.{sets_where}
-use Rattle.hq_sql_messages.proofs.Texts as text
+use Rattle.hq_sql_messages.proofs.MessageTexts as text
 
 abbrev Key : Type 0
 Key = List ℕ × ℕ

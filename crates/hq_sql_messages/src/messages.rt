@@ -13,11 +13,11 @@ ghost use Rattle.hq_sql_messages.specs.Messages.{UpdatesSize, with_row, without_
 ghost use Rattle.hq_sql_messages.specs.Messages.{is_on_page, has_spool_name};
 ghost use Rattle.hq_sql_messages.specs.Messages.{bare, bare_entry};
 
-use crate::{bind, decode};
-use hq_envelope::{Items, Name, Serial, Spool, Text};
+use crate::{message_rows, message_values};
 use hq_queue::Message;
 use hq_sql::lent;
 use hq_sql::lent::Taker;
+use hq_values::{Items, Name, Serial, Spool, Text};
 use sqlite::{Alter, Connection, Error, Row};
 use std::alloc::Global;
 
@@ -52,7 +52,7 @@ pub fn query_by_spool<S: Alter>(
         (λ t. take 1 (filter (has_spool_name customer.now spool.now) (entries t.messages))) }
     ensures kept { Intact (state S.Store conn.old) (state S.Store conn.new) result }
 {
-    let params = bind::spool(customer, spool);
+    let params = message_values::spool(customer, spool);
     let rows = conn.query_all(
         "SELECT customer, serial, sender, spool, size, arrival, state, next_try, attempts, warned \
          FROM messages WHERE customer = ?1 AND spool = ?2 ORDER BY customer, serial LIMIT 1",
@@ -72,9 +72,15 @@ impl Taker for TakenMessages {
     ghost takes = { λ before row after. after.page.items ≡ before.page.items ++ bare row ∷ [] };
 
     fn take(&mut self, row: &Row) -> Result<(), Error> {
-        let serial = decode::serial(row)?;
+        let serial = message_rows::serial(row)?;
         let none = Items::from_vec(Vec::new(self.alloc));
-        let message = decode::message(self.alloc, row, serial, Text::empty(self.alloc), none)?;
+        let message = message_rows::message(
+            self.alloc,
+            row,
+            serial,
+            Text::empty(self.alloc),
+            none,
+        )?;
         self.page.push(message)?;
         Ok(())
     }
@@ -97,7 +103,7 @@ pub fn page<S: Alter>(
     ensures kept { Intact (state S.Store conn.old) (state S.Store conn.new) result }
 {
     let most = hq_sql::bind::limit(limit)?;
-    let params = bind::page(customer, after, &most);
+    let params = message_values::page(customer, after, &most);
     let page = Vec::new(alloc);
     let taken = lent::walk(
         conn,
@@ -120,7 +126,7 @@ pub fn size<S: Alter>(
     ensures kept { Intact (state S.Store conn.old) (state S.Store conn.new) result }
 {
     let rows = query(conn, customer, serial)?;
-    decode::first_size(rows.as_slice())
+    message_rows::first_size(rows.as_slice())
 }
 
 /// Sets all columns of the message's row; whether it has one is told.
@@ -134,7 +140,7 @@ fn update<S: Alter>(
         (with_row customer.now message.now) }
     ensures kept { KeepsCommitted (state S.Store conn.old) (state S.Store conn.new) }
 {
-    let params = bind::message(customer, message);
+    let params = message_values::message(customer, message);
     let count = conn.execute(
         "UPDATE messages SET sender = ?3, spool = ?4, size = ?5, arrival = ?6, state = ?7, \
          next_try = ?8, attempts = ?9, warned = ?10 WHERE customer = ?1 AND serial = ?2",
@@ -154,7 +160,7 @@ pub fn update_of_size<S: Alter>(
         message.now.size (with_row customer.now message.now) }
     ensures kept { KeepsCommitted (state S.Store conn.old) (state S.Store conn.new) }
 {
-    let params = bind::message(customer, message);
+    let params = message_values::message(customer, message);
     let changed = conn.execute(
         "UPDATE messages SET sender = ?3, spool = ?4, size = ?5, arrival = ?6, state = ?7, \
          next_try = ?8, attempts = ?9, warned = ?10 \
@@ -176,7 +182,7 @@ pub fn insert<S: Alter>(
         (with_row customer.now message.now) }
     ensures kept { KeepsCommitted (state S.Store conn.old) (state S.Store conn.new) }
 {
-    let params = bind::message(customer, message);
+    let params = message_values::message(customer, message);
     conn.execute(
         "INSERT INTO messages (customer, serial, sender, spool, size, arrival, state, next_try, \
          attempts, warned) VALUES (?1, ?2, ?3, ?4, ?5, ?6, ?7, ?8, ?9, ?10)",

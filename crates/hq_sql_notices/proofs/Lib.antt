@@ -1,2 +1,5 @@
-pub mod Texts
+pub mod NoticeTexts
 pub mod OnNotices
+pub mod EndTexts
+pub mod OnEnds
+pub mod Adding

@@ -48,9 +48,9 @@ use Rattle.hq_rows.proofs.Pages.{sorted_found}
 use Rattle.hq_sql.specs.Rows.{kind_code, kind_of, notice_columns, notice_stored, notice_read}
 use Rattle.hq_sql.specs.Rows.{notice_shown}
 use Rattle.hq_sql_notices.specs.Notices.{with_notice, without_notice, without_below}
-use Rattle.hq_sql_notices.specs.Notices.{notice_key_columns}
+use Rattle.hq_sql_notices.specs.Numbered.{number_key_columns}
 use Rattle.hq_sql_notices.specs.Notices.{notice_page_columns, notices_in}
-use Rattle.hq_sql_notices.proofs.Texts as text
+use Rattle.hq_sql_notices.proofs.NoticeTexts as text
 
 abbrev Key : Type 0
 Key = List ℕ × ℕ
@@ -101,7 +101,7 @@ key_tests q k more =
 -- ---- reading
 
 pub notice_got : (old new : State) (q : Key) (rows : List Row) → IsDesk old.now →
-    Shown text.notice_read_text (notice_key_columns q) old new rows
+    Shown text.notice_read_text (number_key_columns q) old new rows
     → option_map (λ r. (notice_shown r).notice) (slice_get rows 0) ≡ option_map
     (λ (n : Noted). notice_of (q.1, n)) (get (tables_in old.now).notices q)
 unfolding is_notice
@@ -109,7 +109,7 @@ notice_got old new q rows desk h =
     sym (option_map-map (λ (r : NoticeRow). r.notice) notice_shown (slice_get rows 0))
     ∙ ap (option_map (λ (r : NoticeRow). r.notice))
     (row_at notices_table old new desk text.notice_read_text text.notice_key text.notice_columns
-    _ text.notice_read_known (notice_key_columns q) notice_shown (λ k. refl) (λ xs. refl) q
+    _ text.notice_read_known (number_key_columns q) notice_shown (λ k. refl) (λ xs. refl) q
     (λ k. key_tests q k []) rows h)
     ∙ notice_found (map notice_read (old.now.trees 10)) q.0 q.1
 
@@ -130,11 +130,11 @@ notice_inserted old new r count desk free h =
     (λ n. notice_back r n) free h
 
 pub notice_deleted : (old new : State) (q : Key) (count : ℕ) → IsDesk old.now →
-    Executes text.notice_delete_text (notice_key_columns q) old new (Ok count) →
+    Executes text.notice_delete_text (number_key_columns q) old new (Ok count) →
     Leaves old new (without_notice q (tables_in old.now))
 notice_deleted old new q count desk h =
     drops_at notices_table old new desk text.notice_delete_text text.notice_key
-    text.notice_delete_known (notice_key_columns q) count q (λ k. key_tests q k []) h
+    text.notice_delete_known (number_key_columns q) count q (λ k. key_tests q k []) h
 
 -- ---- the drop of old ones
 
@@ -148,7 +148,7 @@ abbrev is_below : Key → List ℕ × ℕ → Bool
 is_below q k = eq_by_cmp text_cmp q.0 k.0 && nat_lt k.1 q.1
 
 below_tests : (q : Key) (k : ℤ × NoticeRow) →
-    list_all (holds (notice_key_columns q ∷ notice_stored k ∷ [])) text.below_terms ≡ is_below q
+    list_all (holds (number_key_columns q ∷ notice_stored k ∷ [])) text.below_terms ≡ is_below q
     (notice_key k.1)
 below_tests q k = then_term (text_is k.1.customer q.0)
     (last_term (number_below k.1.notice.number q.1))
@@ -157,14 +157,14 @@ below_is : (x n : ℕ) → nat_lt x n ≡ not (nat_le n x)
 below_is x n = grind (arith, nat_tests)
 
 pub below_deleted : (old new : State) (q : Key) (count : ℕ) → IsDesk old.now →
-    Executes text.below_text (notice_key_columns q) old new (Ok count) →
+    Executes text.below_text (number_key_columns q) old new (Ok count) →
     Leaves old new (without_below q.0 q.1 (tables_in old.now))
 below_deleted old new q count desk h =
     subst (λ m. Leaves old new (record (tables_in old.now) { notices = m }))
     (λ i. retain_keys (tables_in old.now).notices (λ k. not (eq_by_cmp text_cmp q.0 k.0
     && below_is k.1 q.1 i)))
     (drops notices_table old new desk text.below_text text.below_terms text.below_known
-    (notice_key_columns q) count (is_below q) (below_tests q) h)
+    (number_key_columns q) count (is_below q) (below_tests q) h)
 
 -- ---- pages
 

@@ -10,7 +10,7 @@ use Rattle.hq_rows.specs.declared.rows.NoticeRow.{NoticeRow}
 use Rattle.hq_rows.specs.Listed.{notice_key, notice_value}
 use Rattle.hq_store.specs.Tables.{Tables, left_of}
 use Rattle.hq_sql.specs.Rows.{kind_code, notice_shown}
-use Rattle.hq_sql_notices.specs.declared.bind.NoticeNumbers.{NoticeNumbers}
+use Rattle.hq_sql_notices.specs.declared.notice_values.NoticeNumbers.{NoticeNumbers}
 
 abbrev pub notice_row : List ℕ → Notice → NoticeRow
 notice_row customer notice = record { customer = customer; notice = notice }
@@ -28,10 +28,6 @@ abbrev pub without_below : List ℕ → ℕ → Tables → Tables
 without_below customer n t = record t {
   notices = retain_keys t.notices (left_of customer (nat_le n));
 }
-
--- the columns of a key
-abbrev pub notice_key_columns : List ℕ × ℕ → Row
-notice_key_columns key = Text key.0 ∷ number key.1 ∷ []
 
 -- the numbers of a notice as columns take them
 abbrev pub notice_numbers : Notice → NoticeNumbers

@@ -1,8 +1,13 @@
-//! The statements of the store on `sqlite` on notices, one function each, said of the tables of all
-//! customers as finite maps.
+//! The statements of the store on `sqlite` on notices and on histories, one function each, said of
+//! the tables of all customers as finite maps.
 #![tactic(auto)]
 
-mod bind;
-mod decode;
+pub mod end_pages;
+mod end_rows;
+mod end_values;
+pub mod ends;
+pub mod notice_pages;
+mod notice_rows;
+mod notice_values;
 pub mod notices;
-pub mod pages;
+mod numbered;

@@ -10,9 +10,9 @@ ghost use Rattle.hq_sql.specs.Rows.{notice_shown};
 ghost use Rattle.hq_sql_notices.specs.Notices.{notice_row, with_notice, without_notice};
 ghost use Rattle.hq_sql_notices.specs.Notices.{without_below};
 
-use crate::{bind, decode};
-use hq_envelope::Name;
+use crate::{notice_rows, notice_values, numbered};
 use hq_store::Notice;
+use hq_values::Name;
 use sqlite::{Alter, Connection, Error, Row};
 use std::alloc::Global;
 
@@ -27,8 +27,8 @@ fn query<S: Alter>(
         (get t.notices (customer.now, number))) }
     ensures kept { Intact (state S.Store conn.old) (state S.Store conn.new) result }
 {
-    let column = bind::number(number)?;
-    let params = bind::key(customer, &column);
+    let column = numbered::number(number)?;
+    let params = numbered::key(customer, &column);
     let rows = conn.query_all(
         "SELECT customer, number, kind, serial, moment, sender, human, status FROM notices \
          WHERE customer = ?1 AND number = ?2",
@@ -50,7 +50,7 @@ pub fn notice<S: Alter>(
     ensures kept { Intact (state S.Store conn.old) (state S.Store conn.new) result }
 {
     let rows = query(conn, customer, number)?;
-    decode::first_notice(alloc, rows.as_slice())
+    notice_rows::first_notice(alloc, rows.as_slice())
 }
 
 /// Drops the notice of a number; nothing where there is none.
@@ -59,8 +59,8 @@ fn remove<S: Alter>(conn: &mut Connection<S>, customer: &Name, number: u64) -> R
         (without_notice (customer.now, number)) }
     ensures kept { KeepsCommitted (state S.Store conn.old) (state S.Store conn.new) }
 {
-    let column = bind::number(number)?;
-    let params = bind::key(customer, &column);
+    let column = numbered::number(number)?;
+    let params = numbered::key(customer, &column);
     conn.execute(
         "DELETE FROM notices WHERE customer = ?1 AND number = ?2",
         &params,
@@ -75,8 +75,8 @@ fn insert<S: Alter>(conn: &mut Connection<S>, customer: &Name, notice: &Notice) 
         (with_notice (notice_row customer.now notice.now)) }
     ensures kept { KeepsCommitted (state S.Store conn.old) (state S.Store conn.new) }
 {
-    let numbers = bind::numbers(notice)?;
-    let params = bind::notice(customer, notice, &numbers);
+    let numbers = notice_values::numbers(notice)?;
+    let params = notice_values::notice(customer, notice, &numbers);
     conn.execute(
         "INSERT INTO notices (customer, number, kind, serial, moment, sender, human, status) \
          VALUES (?1, ?2, ?3, ?4, ?5, ?6, ?7, ?8)",
@@ -110,8 +110,8 @@ pub fn drop_below<S: Alter>(
         (without_below customer.now number) }
     ensures kept { KeepsCommitted (state S.Store conn.old) (state S.Store conn.new) }
 {
-    let column = bind::number(number)?;
-    let params = bind::key(customer, &column);
+    let column = numbered::number(number)?;
+    let params = numbered::key(customer, &column);
     conn.execute(
         "DELETE FROM notices WHERE customer = ?1 AND number < ?2",
         &params,

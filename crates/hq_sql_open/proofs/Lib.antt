@@ -1,6 +1,13 @@
 pub mod Transactions
 pub mod Standings
 pub mod Making
-pub mod Texts
-pub mod Version
+pub mod OpeningTexts
+pub mod Current
 pub mod Opened
+pub mod MigrationTexts
+pub mod Held
+pub mod Statements
+pub mod Migrated
+pub mod Versions
+pub mod Customers
+pub mod Lifted

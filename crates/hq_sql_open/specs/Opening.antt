@@ -19,15 +19,15 @@ use Rattle.hq_sql_open.specs.Transactions.{IsSettled, Commits}
 abbrev pub versions_in : Database → List Value
 versions_in db = map (λ r. column r 1) (db.trees 0)
 
--- the one row of the version table is 2
+-- the one row of the version table is 3
 abbrev pub IsVersioned : Database → Type 0
-IsVersioned db = versions_in db ≡ Int (pos 2) ∷ []
+IsVersioned db = versions_in db ≡ Int (pos 3) ∷ []
 
 -- nothing was made yet, or the version table alone, without a row
 abbrev pub IsUnmade : Database → Type 0
 IsUnmade db = (db.schema ≡ no_schema) ⊎ ((db.schema ≡ version_alone) × (db.trees 0 ≡ []))
 
--- a desk's store: its schema is exactly schema 2, and its version is 2
+-- a desk's store: its schema is exactly schema 3, and its version is 3
 abbrev pub IsDeskStore : Database → Type 0
 IsDeskStore db = (db.schema ≡ desk_schema) × IsVersioned db
 
@@ -63,9 +63,9 @@ pub record KeepsOpening {X : Type 0} (old new : State) (result : Result X Error)
 abbrev pub ShowVersions : Database → List Row → Type 0
 ShowVersions db rows = IsPermutation (map (λ v. v ∷ []) (versions_in db)) rows
 
--- one row, which shows 2
+-- one row, which shows 3
 abbrev pub ShowsOne : List Row → Type 0
-ShowsOne rows = (row : Row) × (rows ≡ row ∷ []) × (column row 0 ≡ Int (pos 2))
+ShowsOne rows = (row : Row) × (rows ≡ row ∷ []) × (column row 0 ≡ Int (pos 3))
 
 -- the version table is there, and its name means it
 abbrev pub HasVersions : Database → Type 0

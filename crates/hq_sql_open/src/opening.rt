@@ -24,7 +24,7 @@ use sqlite::types::ValueRef;
 use sqlite::{Alter, Connection, Error, Row};
 
 /// The texts of the tables of a desk, in the order in which they are made.
-const TABLES: [&str; 8] = [
+const TABLES: [&str; 9] = [
     "CREATE TABLE desk_schema (version INTEGER NOT NULL) STRICT",
     "CREATE TABLE heads (customer TEXT NOT NULL, next_serial INTEGER NOT NULL, \
      next_notice INTEGER NOT NULL, accepted INTEGER NOT NULL, delivered INTEGER NOT NULL, \
@@ -49,6 +49,10 @@ const TABLES: [&str; 8] = [
      PRIMARY KEY (customer, label)) STRICT",
     "CREATE TABLE holds (customer TEXT NOT NULL, serial INTEGER NOT NULL, \
      hold_reason TEXT NOT NULL, PRIMARY KEY (customer, serial)) STRICT",
+    "CREATE TABLE ends (customer TEXT NOT NULL, number INTEGER NOT NULL, moment INTEGER NOT NULL, \
+     serial INTEGER NOT NULL, sender TEXT NOT NULL, recipient TEXT NOT NULL, \
+     fate INTEGER NOT NULL, status TEXT NOT NULL, reason TEXT NOT NULL, \
+     PRIMARY KEY (customer, number)) STRICT",
 ];
 
 /// Writes the version, where no table has a row.
@@ -62,7 +66,7 @@ fn stamp<S: Alter>(conn: &mut Connection<S>) -> Result<(), Error>
         → KeepsAll (state S.Store conn.old) (state S.Store conn.new) }
     ensures quiet { IsQuiet (state S.Store conn.old) (state S.Store conn.new) }
 {
-    conn.execute("INSERT INTO desk_schema (version) VALUES (2)", &[])?;
+    conn.execute("INSERT INTO desk_schema (version) VALUES (3)", &[])?;
     Ok(())
 }
 
@@ -146,17 +150,17 @@ fn versions<S: Alter>(conn: &mut Connection<S>) -> Result<Vec<Row>, Error>
     Ok(rows)
 }
 
-/// Whether the rows are one, which shows 2.
+/// Whether the rows are one, which shows 3.
 fn is_one(rows: &[Row]) -> bool
     ensures { IsTrue result ↔ ShowsOne rows.now }
 {
     match rows {
-        [row] => matches!(row.get_ref(0), Ok(ValueRef::Int(2))),
+        [row] => matches!(row.get_ref(0), Ok(ValueRef::Int(3))),
         _ => false,
     }
 }
 
-/// Whether the one version of a desk is 2.
+/// Whether the one version of a desk is 3.
 pub fn is_current<S: Alter>(conn: &mut Connection<S>) -> Result<bool, Error>
     ensures found { HasCleanDisk (state S.Store conn.new)
         → HasVersions (state S.Store conn.old).now
@@ -204,7 +208,7 @@ fn complete<S: Alter>(conn: &mut Connection<S>) -> Result<bool, Error>
 
 /// Opens a store as a desk. It decides by the schema, before any statement: a store in which
 /// nothing was made yet, or the version table alone and without a row, gets the tables of a desk in
-/// one transaction; one that has exactly the tables of schema 2, and its one version is 2, stays as
+/// one transaction; one that has exactly the tables of schema 3, and its one version is 3, stays as
 /// it is. For any other store it answers false, and changes nothing.
 ///
 /// It asks for a connection in no transaction. After an error `settle` undoes what was begun.

@@ -16,7 +16,7 @@ use Rattle.hq_sql.specs.Bound.{between_columns}
 use Rattle.hq_sql.specs.Rows.{recipient_shown, hold_shown}
 use Rattle.hq_sql.specs.Tables.{IsDesk, tables_in}
 use Rattle.hq_sql.proofs.Statements.{lists_entries}
-use Rattle.hq_sql_holds.proofs.OnHolds.{holds_table}
+use Rattle.hq_sql_messages.proofs.OnHolds.{holds_table}
 use Rattle.hq_sql_recipients.proofs.OnRecipients.{recipients_table}
 use Rattle.hq_queue.specs.Limits.{is_within}
 use Rattle.hq_sql_queue.specs.Dealt.{is_between}

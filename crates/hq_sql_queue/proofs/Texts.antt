@@ -7,7 +7,7 @@ use Rattle.hq_keyed.proofs.Known.{Asks}
 use Rattle.hq_keyed.proofs.Select.{query_of}
 use Rattle.hq_schema.specs.Schema.{desk_schema}
 use Rattle.hq_sql.proofs.Texts.{between_terms}
-use Rattle.hq_sql_holds.proofs.Texts.{hold_columns, hold_names, hold_order}
+use Rattle.hq_sql_messages.proofs.HoldTexts.{hold_columns, hold_names, hold_order}
 use Rattle.hq_sql_recipients.proofs.Texts.{recipient_columns, recipient_names, recipient_order}
 
 abbrev pub recipients_between_text : List ℕ

@@ -10,11 +10,10 @@ ghost use Rattle.hq_sql_queue.specs.Giving.{give_row_reason};
 ghost use Rattle.hq_sql_queue.specs.Giving.{with_held};
 
 use crate::dealing::place_from;
-use hq_envelope::{Name, Serial, Text};
 use hq_queue::Message;
 use hq_sql::lent::Taker;
-use hq_sql::{bind, lent, read};
-use hq_sql_holds::decode;
+use hq_sql::{bind, lent, read, values};
+use hq_values::{Name, Serial, Text};
 use sqlite::{Alter, Connection, Error, Row};
 use std::alloc::Global;
 
@@ -52,7 +51,7 @@ impl Taker for Giving {
 
     fn take(&mut self, row: &Row) -> Result<(), Error> {
         let serial = read::number(row, 1)?;
-        let reason = decode::reason(self.alloc, row, 2)?;
+        let reason = values::reason(self.alloc, row, 2)?;
         self.place = place_from(self.page.as_slice(), self.place, serial);
         give_at(&mut self.page, self.place, serial, reason);
         Ok(())

@@ -12,11 +12,10 @@ ghost use Rattle.hq_sql_queue.specs.Dealt.{Spans, Rise, serials_of};
 ghost use Rattle.hq_sql_queue.specs.Giving.{with_parts};
 
 use crate::{dealing, giving};
-use hq_envelope::{Items, Name, Serial, Spool, Text};
 use hq_queue::{Message, Pending};
-use hq_sql_holds::holds;
-use hq_sql_messages::{decode, messages};
+use hq_sql_messages::{holds, message_rows, messages};
 use hq_sql_recipients::recipients;
+use hq_values::{Items, Name, Serial, Spool, Text};
 use sqlite::{Alter, Connection, Error, Row};
 use std::alloc::Global;
 
@@ -54,7 +53,7 @@ fn joined<S: Alter>(
     ensures kept { Intact (state S.Store conn.old) (state S.Store conn.new) result }
 {
     let (pending, reason) = parts(alloc, conn, customer, serial)?;
-    decode::message(alloc, row, serial, reason, pending)
+    message_rows::message(alloc, row, serial, reason, pending)
 }
 
 /// The message of a row, with its recipients and its reason.
@@ -68,7 +67,7 @@ fn whole<S: Alter>(
         (λ t. whole customer.now t row.now) }
     ensures kept { Intact (state S.Store conn.old) (state S.Store conn.new) result }
 {
-    let serial = decode::serial(row)?;
+    let serial = message_rows::serial(row)?;
     let message = joined(alloc, conn, customer, serial, row)?;
     Ok(message)
 }

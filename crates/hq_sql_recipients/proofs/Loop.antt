@@ -9,7 +9,7 @@ use Rattle.std.specs.FinMap.{entries, get, insert}
 use Rattle.std.proofs.lemmas.Bool.Decides.{nat_tests}
 use Rattle.sqlite.specs.Order.{Row}
 use Rattle.sqlite.specs.State.{State, HasCleanDisk, IsUnchanged}
-use Rattle.hq_keyed.proofs.Left.{clean_before, quiet_then, keeps_then, unchanged_keeps}
+use Rattle.hq_keyed.proofs.Left.{clean_before, unchanged_keeps}
 use Rattle.hq_queue.specs.declared.message.Pending.{Pending}
 use Rattle.hq_owned.specs.Rows.{pairs_of}
 use Rattle.hq_store.specs.Tables.{Tables, place_all}
@@ -17,7 +17,8 @@ use Rattle.hq_rows.specs.Listed.{recipient_key, recipient_value}
 use Rattle.hq_sql.specs.Rows.{recipient_shown}
 use Rattle.hq_sql.specs.Tables.{IsDesk, Leaves, tables_in}
 use Rattle.hq_sql.specs.Kept.{Intact, KeepsCommitted}
-use Rattle.hq_sql.proofs.Tables.{leaves_then, leaves_keeps}
+use Rattle.hq_sql.proofs.Steps.{keeps_on}
+use Rattle.hq_sql.proofs.Tables.{leaves_then}
 use Rattle.hq_sql_recipients.specs.Places.{is_far, is_of, StandsAfter}
 use Rattle.hq_sql_recipients.specs.Recipients.{recipient_row, with_recipient, without_beside}
 use Rattle.hq_sql_recipients.specs.Recipients.{with_pending}
@@ -35,21 +36,6 @@ unchanged_leaves a b desk h = record {
   was_open = h.0.was_open;
   mode = h.0.mode;
   committed = λ _. h.0.committed_is;
-}
-
-pub keeps_on : (a b d : State) (t : Tables) → KeepsCommitted a b →
-    (HasCleanDisk b → IsDesk a.now → Leaves a b t) → KeepsCommitted b d → KeepsCommitted a d
-keeps_on a b d t p made q = record {
-  kept = λ clean desk within.
-      let l = made (clean_before b d q.quiet clean) desk in
-      keeps_then a b d (leaves_keeps a b t l within)
-      (q.kept clean l.desk (subst IsTrue (sym l.mode) within));
-  quiet = quiet_then a b d p.quiet q.quiet;
-  stops = λ desk within clean db may.
-      let before = clean_before b d q.quiet clean in
-      let l = made before desk in
-      p.stops desk within before db (q.stops l.desk (subst IsTrue (sym l.mode) within) clean db
-      may);
 }
 
 -- ---- the first so many of a list

@@ -10,9 +10,9 @@ ghost use Rattle.hq_sql.specs.Rows.{recipient_columns, recipient_shown};
 ghost use Rattle.hq_sql_recipients.specs.Places.{is_far, StandsAfter};
 ghost use Rattle.hq_sql_recipients.specs.Recipients.{recipient_row, range_columns};
 
-use hq_envelope::{Address, Items, Name, Serial, Text};
 use hq_queue::{Pending, Status};
-use hq_sql::{bind, read};
+use hq_sql::{bind, read, values};
+use hq_values::{Items, Name, Serial, Text};
 use sqlite::types::ValueRef;
 use sqlite::{Error, Row};
 use std::alloc::Global;
@@ -73,47 +73,13 @@ pub(crate) fn range<'a>(customer: &'a Name, serial: Serial, last: u32) -> [Value
     ]
 }
 
-fn address(alloc: Global, row: &Row, at: usize) -> Result<Address, Error>
-    ensures { IfOk result (λ address. address ≡ value_text (column row.now at)) }
-{
-    let text = read::text(row, at)?;
-    match Address::parse(alloc, text.as_str()) {
-        Ok(address) => Ok(address),
-        Err(fail) => Err(read::unread(fail)),
-    }
-}
-
-/// The status of a column: none, where its text is empty.
-fn status(row: &Row, at: usize) -> Result<Option<Status>, Error>
-    ensures { IfOk result (λ status. status ≡ status_read (value_text (column row.now at))) }
-{
-    let text = read::text(row, at)?;
-    if text.as_str().is_empty() {
-        return Ok(None);
-    }
-    match Status::parse(text.as_str()) {
-        Ok(status) => Ok(Some(status)),
-        Err(_) => Err(Error::InvalidQuery),
-    }
-}
-
-fn reason(alloc: Global, row: &Row, at: usize) -> Result<Text, Error>
-    ensures { IfOk result (λ reason. reason ≡ value_text (column row.now at)) }
-{
-    let text = read::text(row, at)?;
-    match Text::parse(alloc, text.as_str()) {
-        Ok(reason) => Ok(reason),
-        Err(fail) => Err(read::unread(fail)),
-    }
-}
-
 /// The recipient of a row.
 pub fn recipient(alloc: Global, row: &Row) -> Result<Pending, Error>
     ensures { IfOk result (λ pending. pending ≡ recipient_value (recipient_shown row.now)) }
 {
-    let address = address(alloc, row, 3)?;
-    let status = status(row, 4)?;
-    let text = reason(alloc, row, 5)?;
+    let address = values::address(alloc, row, 3)?;
+    let status = values::status(row, 4)?;
+    let text = values::reason(alloc, row, 5)?;
     Ok(Pending {
         address,
         status,

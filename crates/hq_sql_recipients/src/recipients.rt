@@ -14,9 +14,9 @@ ghost use Rattle.hq_sql_recipients.specs.Recipients.{Puts, recipient_row, with_r
 ghost use Rattle.hq_sql_recipients.specs.Recipients.{without_beside, with_pending};
 
 use crate::places;
-use hq_envelope::{Items, Name, Serial};
 use hq_queue::Pending;
 use hq_sql::bind;
+use hq_values::{Items, Name, Serial};
 use sqlite::{Alter, Connection, Error, Row};
 use std::alloc::Global;
 

@@ -1,26 +1,26 @@
 -- What a server does over a shelf in memory that is empty.
-use Rattle.std.proofs.Common.{◌≡◌, inl, inr, ℕ, List, Option, Result, Ok, Err, IfOk}
+use Rattle.std.proofs.Common.{◌≡◌, inl, inr, ℕ, Result, Ok, Err, IfOk}
 use Rattle.std.specs.Bool.{⊤}
 use Rattle.sqlite.specs.Held.{state}
 use Rattle.sqlite.specs.Steps.{over_memory}
 use Rattle.sqlite_trees.specs.declared.memory.MemStore.{MemStore}
-use Rattle.hq_base.specs.declared.failure.Fault.{Fault}
+use Rattle.hq_values.specs.declared.failure.Fault.{Fault}
 use Rattle.hq_store.specs.Tables.{no_tables}
 use Rattle.hq_sql.specs.Tables.{tables_in}
 use Rattle.hq_sql_shelf.specs.Shelf.{IsOurs}
 use Rattle.hq_sql_shelf.specs.declared.shelf.SqlShelf.{SqlShelf}
 use Rattle.hq_settings.specs.declared.settings.Settings.{Settings}
-use Rattle.hq_trouble.specs.declared.trouble.Trouble.{Trouble}
-use Rattle.hq_sql_program.specs.Runs.{memory}
-use Rattle.hq_sql_program.proofs.Memory.{from_empty}
+use Rattle.hq_settings.specs.declared.trouble.Trouble.{Trouble}
+use Rattle.hq_sql_server.specs.Stored.{memory}
+use Rattle.hq_sql_server.proofs.Memory.{from_empty}
 use Rattle.hq_sql_server.specs.Runs.{ServesConnections, ServesEmpty, ServedEnds, OpenedServerEnds}
 use Rattle.hq_sql_server.specs.Runs.{MemoryServerEnds}
 
-module _ (served other : Type 0) (so : served → other) (unwritten : Type 0)
-    (old new : Option (List ℕ)) (result : Result ⊤ Trouble) where
+module _ (served other : Type 0) (so : served → other) (unwritten told : Type 0)
+    (result : Result ⊤ Trouble) where
   -- what is said of the connections may be said in other words
-  pub served_ends_as : ServedEnds served unwritten old new result →
-      ServedEnds other unwritten old new result
+  pub served_ends_as : ServedEnds served unwritten told result →
+      ServedEnds other unwritten told result
   served_ends_as (inl unheard) = inl unheard
   served_ends_as (inr ended) = inr (ended.0, ended.1, so ended.2)
 
@@ -36,12 +36,12 @@ serves_empty settings count shelf ours none it = record {
 }
 
 pub memory_ends : (settings : Settings) (count : ℕ) (opened : Result (SqlShelf MemStore) Fault)
-    (unwritten : Type 0) (old new : Option (List ℕ)) (result : Result ⊤ Trouble)
+    (unwritten told : Type 0) (result : Result ⊤ Trouble)
     → IfOk opened (λ s. IsOurs (state over_memory s.conn)) →
     IfOk opened (λ s. tables_in (state over_memory s.conn).committed ≡ no_tables)
-    → OpenedServerEnds memory settings count opened unwritten old new result →
-    MemoryServerEnds settings count unwritten old new result
-memory_ends settings count (Ok shelf) unwritten old new result ours none p =
+    → OpenedServerEnds memory settings count opened unwritten told result →
+    MemoryServerEnds settings count unwritten told result
+memory_ends settings count (Ok shelf) unwritten told result ours none p =
     inl (served_ends_as (ServesConnections memory settings count shelf) (ServesEmpty settings count)
-    (serves_empty settings count shelf ours none) unwritten old new result p)
-memory_ends settings count (Err fault) unwritten old new result ours none p = inr (fault, p)
+    (serves_empty settings count shelf ours none) unwritten told result p)
+memory_ends settings count (Err fault) unwritten told result ours none p = inr (fault, p)

@@ -1,9 +1,9 @@
 -- What a server of the program does over a store of `sqlite`, however it ends.
 use Rattle.std.specs.Prelude.{◌≡◌, ◌⊎◌, ⊤, ℕ, List, Option, option_map, Result, Ok, Err}
 use Rattle.sqlite_trees.specs.declared.memory.MemStore.{MemStore}
-use Rattle.hq_base.specs.declared.failure.Fault.{Fault}
+use Rattle.hq_values.specs.declared.failure.Fault.{Fault}
 use Rattle.hq_store.specs.Shelves.{Sight}
-use Rattle.hq_sql_file.specs.Opened.{OverOpened, OverMemory, OverStore}
+use Rattle.hq_sql_shelf.specs.Opened.{OverOpened, OverMemory, OverStore}
 use Rattle.hq_sql_shelf.specs.declared.shelf.SqlShelf.{SqlShelf}
 use Rattle.hq_desk.specs.Desks.{host_of, shelf_of}
 use Rattle.hq_desk.specs.declared.desk.Desk.{Desk}
@@ -11,10 +11,10 @@ use Rattle.hq_settings.specs.declared.settings.Settings.{Settings}
 use Rattle.hq_serve.specs.Listening.{DoesSome}
 use Rattle.hq_words.specs.Asked.{key_given}
 use Rattle.hq_words.specs.declared.options.Serve.{Serve}
-use Rattle.hq_set_up.specs.SettingUp.{SetsUp}
-use Rattle.hq_trouble.specs.declared.trouble.Trouble.{Trouble}
-use Rattle.hq_trouble.specs.declared.trouble.Trouble.TheVariants.{Network, Clock}
-use Rattle.hq_sql_program.specs.Runs.{memory, FromEmpty, IsUnopened}
+use Rattle.hq_settings.specs.SettingUp.{SetsUp}
+use Rattle.hq_settings.specs.declared.trouble.Trouble.{Trouble}
+use Rattle.hq_settings.specs.declared.trouble.Trouble.TheVariants.{Network, Clock}
+use Rattle.hq_sql_server.specs.Stored.{memory, FromEmpty, IsUnopened}
 use Rattle.hq_sql_server.specs.Listening.{HasTold, IsUnbound}
 
 -- So many connections at most are served by a desk over this shelf, as a run of exchanges.
@@ -40,22 +40,21 @@ abbrev pub IsUnheard : Type 0 → Result ⊤ Trouble → Type 0
 IsUnheard unwritten (Ok _) = ⊥
 IsUnheard unwritten (Err trouble) = IsUnbound unwritten trouble
 
--- How a server ends: nothing is listened on; or the address is told, and then connections are
--- served so.
-abbrev pub ServedEnds : Type 0 → Type 0 → Option (List ℕ) → Option (List ℕ) → Result ⊤ Trouble →
-    Type 0
-ServedEnds served unwritten old new result =
-    IsUnheard unwritten result ⊎ (HasTold old new × IsEnd result × served)
+-- How a server ends: nothing is listened on; or the place is told, and then connections are served
+-- so.
+abbrev pub ServedEnds : Type 0 → Type 0 → Type 0 → Result ⊤ Trouble → Type 0
+ServedEnds served unwritten told result =
+    IsUnheard unwritten result ⊎ (told × IsEnd result × served)
 
-abbrev pub ShelfEnds : {S : Type 0} → Sight S → Settings → ℕ → S → Type 0 → Option (List ℕ) →
-    Option (List ℕ) → Result ⊤ Trouble → Type 0
+abbrev pub ShelfEnds : {S : Type 0} → Sight S → Settings → ℕ → S → Type 0 → Type 0 →
+    Result ⊤ Trouble → Type 0
 ShelfEnds sight settings count shelf = ServedEnds (ServesConnections sight settings count shelf)
 
 -- over a desk as it was opened: over this shelf, or there is none
 abbrev pub OpenedServerEnds : {S : Type 0} → Sight S → Settings → ℕ → Result S Fault → Type 0 →
-    Option (List ℕ) → Option (List ℕ) → Result ⊤ Trouble → Type 0
-OpenedServerEnds sight settings count opened unwritten old new result = OverOpened
-    (λ shelf. ShelfEnds sight settings count shelf unwritten old new result)
+    Type 0 → Result ⊤ Trouble → Type 0
+OpenedServerEnds sight settings count opened unwritten told result = OverOpened
+    (λ shelf. ShelfEnds sight settings count shelf unwritten told result)
     (λ fault. IsUnopened unwritten fault result) opened
 
 -- ---- in memory
@@ -67,29 +66,28 @@ pub record ServesEmpty (settings : Settings) (count : ℕ) : Type 0 where
   pub over : ServesConnections memory settings count shelf
   pub from_empty : FromEmpty settings over.served.asks over.served.replies over.new
 
-abbrev pub MemoryServerEnds : Settings → ℕ → Type 0 → Option (List ℕ) → Option (List ℕ) →
-    Result ⊤ Trouble → Type 0
-MemoryServerEnds settings count unwritten old new result = OverMemory
-    (ServedEnds (ServesEmpty settings count) unwritten old new result)
+abbrev pub MemoryServerEnds : Settings → ℕ → Type 0 → Type 0 → Result ⊤ Trouble → Type 0
+MemoryServerEnds settings count unwritten told result = OverMemory
+    (ServedEnds (ServesEmpty settings count) unwritten told result)
     (λ fault. IsUnopened unwritten fault result)
 
 -- ---- in memory, or in the file of a path
 
 abbrev pub StoreServerEnds : {S : Type 0} → Sight S → Option (List ℕ) → Settings → ℕ → Type 0 →
-    Option (List ℕ) → Option (List ℕ) → Result ⊤ Trouble → Type 0
-StoreServerEnds sight path settings count unwritten old new result = OverStore sight path
-    (MemoryServerEnds settings count unwritten old new result)
-    (λ opened. OpenedServerEnds sight settings count opened unwritten old new result)
+    Type 0 → Result ⊤ Trouble → Type 0
+StoreServerEnds sight path settings count unwritten told result = OverStore sight path
+    (MemoryServerEnds settings count unwritten told result)
+    (λ opened. OpenedServerEnds sight settings count opened unwritten told result)
 
 -- How a server ends with the settings that its words name: with the trouble of these, and then
--- nothing is printed; or as its store has it.
+-- nothing is printed; or as its store has it, at a place that its words name.
 abbrev pub SetServerEnds : {S : Type 0} → Sight S → Serve → Type 0 → Option (List ℕ) →
     Option (List ℕ) → Result Settings Trouble → Result ⊤ Trouble → Type 0
 SetServerEnds sight given unwritten old new (Err trouble) result = unwritten
     × (result ≡ Err trouble)
 SetServerEnds sight given unwritten old new (Ok set) result =
-    StoreServerEnds sight (option_map (λ s. s.now) given.store) set given.count unwritten old new
-    result
+    StoreServerEnds sight (option_map (λ s. s.now) given.store) set given.count unwritten
+    (HasTold given.listen.now old new) result
 
 abbrev pub ServeEnds : {S : Type 0} → Sight S → Serve → Type 0 → Option (List ℕ) → Option (List ℕ) →
     Result ⊤ Trouble → Type 0

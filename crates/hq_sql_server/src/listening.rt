@@ -1,12 +1,12 @@
 //! The place at which a server listens.
 
 ghost use Rattle.std.specs.Prelude.{◌≡◌};
-ghost use Rattle.hq_sql_server.specs.Listening.{ListenEnds, TellsPlace};
+ghost use Rattle.hq_sql_server.specs.Listening.{HasTold, IsPlaceTold, ListenEnds, TellsPlace};
 
-use hq_envelope::Fault;
-use hq_program::put;
+use hq_batch::put;
 use hq_serve::{Limits, Listener, Place, bind};
-use hq_trouble::Trouble;
+use hq_settings::Trouble;
+use hq_values::Fault;
 use hq_words::Serve;
 use std::alloc::Global;
 use std::io::Write;
@@ -22,8 +22,8 @@ pub(crate) fn limits(given: &Serve) -> Limits {
 
 /// Prints the place that was bound.
 fn tell_place<W: Write>(alloc: Global, place: Place<'_>, output: &mut W) -> Result<(), Trouble>
-    ensures { TellsPlace place.entry (output.new ≡ output.old) (W.contents output.old)
-        (W.contents output.new) result }
+    ensures { TellsPlace (output.new ≡ output.old)
+        (IsPlaceTold place.entry (W.contents output.old) (W.contents output.new)) result }
 {
     match place.line(alloc) {
         Ok(line) => put(line.as_bytes(), output),
@@ -38,8 +38,8 @@ pub(crate) fn listen<W: Write>(
     text: &str,
     output: &mut W,
 ) -> Result<Listener, Trouble>
-    ensures { ListenEnds (output.new ≡ output.old) (W.contents output.old)
-        (W.contents output.new) result }
+    ensures { ListenEnds (output.new ≡ output.old)
+        (HasTold text.now (W.contents output.old) (W.contents output.new)) result }
 {
     let Some((listener, place)) = bind(rt, text) else {
         return Err(Trouble::Network);

@@ -3,20 +3,18 @@
 ghost use Rattle.std.specs.Prelude.{◌≡◌, option_map};
 ghost use Rattle.sqlite.specs.Held.{state};
 ghost use Rattle.hq_sql_shelf.specs.Shelf.{sight_over};
+ghost use Rattle.hq_sql_server.specs.Listening.{HasTold};
 ghost use Rattle.hq_sql_server.specs.Runs.{IsEnd, ShelfEnds, OpenedServerEnds, MemoryServerEnds};
 ghost use Rattle.hq_sql_server.specs.Runs.{StoreServerEnds, ServeEnds};
 
 use crate::listening::{limits, listen};
 use hq_desk::Desk;
-use hq_envelope::Fault;
 use hq_log::log_of;
 use hq_serve::{Connections, End, serve_on};
-use hq_set_up::set_up;
-use hq_settings::Settings;
-use hq_sql_file::{FileShelf, open_file};
-use hq_sql_shelf::SqlShelf;
+use hq_settings::{Settings, Trouble, set_up};
+use hq_sql_shelf::{FileShelf, SqlShelf, open_file};
 use hq_store::Shelf;
-use hq_trouble::Trouble;
+use hq_values::Fault;
 use hq_words::Serve;
 use sqlite::Alter;
 use std::io::Write;
@@ -42,7 +40,7 @@ fn serve_over<S: Shelf + Drop, W: Write, E: Write>(
     errors: &mut E,
 ) -> Result<(), Trouble>
     ensures { ShelfEnds S.sight settings given.now.count shelf (output.new ≡ output.old)
-        (W.contents output.old) (W.contents output.new) result }
+        (HasTold given.now.listen.now (W.contents output.old) (W.contents output.new)) result }
 {
     let listener = listen(rt, given.listen, output)?;
     let Settings { host, directory } = settings;
@@ -71,7 +69,8 @@ fn serve_opened<S: Alter + Drop, W: Write, E: Write>(
     errors: &mut E,
 ) -> Result<(), Trouble>
     ensures { OpenedServerEnds (sight_over (state S.Store)) settings given.now.count opened
-        (output.new ≡ output.old) (W.contents output.old) (W.contents output.new) result }
+        (output.new ≡ output.old)
+        (HasTold given.now.listen.now (W.contents output.old) (W.contents output.new)) result }
 {
     serve_over(rt, opened?, settings, given, output, errors)
 }
@@ -85,7 +84,7 @@ fn serve_memory<W: Write, E: Write>(
     errors: &mut E,
 ) -> Result<(), Trouble>
     ensures { MemoryServerEnds settings given.now.count (output.new ≡ output.old)
-        (W.contents output.old) (W.contents output.new) result }
+        (HasTold given.now.listen.now (W.contents output.old) (W.contents output.new)) result }
 {
     let opened = SqlShelf::open_memory(rt.alloc());
     serve_opened(rt, opened, settings, given, output, errors)
@@ -102,7 +101,8 @@ fn serve_stored<W: Write, E: Write>(
 ) -> Result<(), Trouble>
     ensures { StoreServerEnds ⟦<FileShelf as Shelf>⟧.sight
         (option_map (λ s. s.now) given.now.store) settings given.now.count
-        (output.new ≡ output.old) (W.contents output.old) (W.contents output.new) result }
+        (output.new ≡ output.old)
+        (HasTold given.now.listen.now (W.contents output.old) (W.contents output.new)) result }
 {
     match given.store {
         None => serve_memory(rt, settings, given, output, errors),

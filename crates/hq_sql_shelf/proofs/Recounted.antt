@@ -15,7 +15,7 @@ use Rattle.hq_store.specs.declared.account.Account.{Account}
 use Rattle.hq_store.specs.declared.change.Change.{Change}
 use Rattle.hq_store.specs.declared.change.Change.TheVariants.{PutHead, PutMessage, DropMessage}
 use Rattle.hq_store.specs.declared.change.Change.TheVariants.{PutLine, DropLine, PutMark, AddNotice}
-use Rattle.hq_store.specs.declared.change.Change.TheVariants.{DropNoticesBelow}
+use Rattle.hq_store.specs.declared.change.Change.TheVariants.{DropNoticesBelow, PutEnds, DropEndsTo}
 use Rattle.hq_store.specs.Readings.{kept_in}
 use Rattle.hq_store.specs.Sound.{AreCounted}
 use Rattle.hq_store.specs.Tables.{Tables, Row, text_cmp, account, recounted, counted, with_message}
@@ -172,6 +172,8 @@ made_is c (DropLine pattern) t h = refl
 made_is c (PutMark mark) t h = refl
 made_is c (AddNotice notice) t h = refl
 made_is c (DropNoticesBelow number) t h = refl
+made_is c (PutEnds ends) t h = refl
+made_is c (DropEndsTo number) t h = refl
 
 made_all_is : (c : List ℕ) (chs : List Change) (t : Tables) → AreCounted t →
     made_by_all c chs t ≡ write_all c chs t

@@ -10,7 +10,7 @@ use Rattle.sqlite_trees.specs.declared.store.Store.{Ghosts}
 use Rattle.hq_keyed.specs.Left.{IsQuiet, LeavesNoMore}
 use Rattle.hq_keyed.proofs.Left.{clean_before}
 use Rattle.hq_schema.specs.Schema.{desk_schema}
-use Rattle.hq_base.specs.declared.failure.Fault.{Fault}
+use Rattle.hq_values.specs.declared.failure.Fault.{Fault}
 use Rattle.hq_store.specs.declared.change.Change.{Change}
 use Rattle.hq_store.specs.Shelves.{Keeps, StopLeavesTables, StopLeavesNoMore}
 use Rattle.hq_store.specs.Sound.{AreCounted}

@@ -11,12 +11,12 @@ ghost use Rattle.hq_sql_shelf.specs.Accounts.{resized_message, recounted_message
 ghost use Rattle.hq_sql_shelf.specs.Accounts.{unsized};
 
 use hq_access::Pattern;
-use hq_envelope::{Name, Serial};
 use hq_queue::Head;
 use hq_sql::heads;
 use hq_sql_lines::lines;
 use hq_sql_messages::messages;
 use hq_store::Account;
+use hq_values::{Name, Serial};
 use sqlite::{Alter, Connection, Error, ErrorCode};
 
 /// The error of a count that has no room. No sound table has one.

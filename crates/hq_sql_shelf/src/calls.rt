@@ -3,12 +3,12 @@
 use crate::accounts;
 use crate::shelf::SqlShelf;
 use hq_access::{Action, Class, Line, LookupKey, Pattern};
-use hq_envelope::{Fault, Items, Label, Name, Serial, Spool};
 use hq_queue::{Counts, Head, Message};
 use hq_sql_lines::{line_pages, lines, marks};
-use hq_sql_notices::{notices, pages};
+use hq_sql_notices::{end_pages, notice_pages, notices};
 use hq_sql_queue::queued;
-use hq_store::{Change, Mark, Notice, Shelf};
+use hq_store::{Change, End, Mark, Notice, Shelf};
+use hq_values::{Fault, Items, Label, Name, Serial, Spool};
 use sqlite::Alter;
 
 impl<S: Alter> Shelf for SqlShelf<S> {
@@ -111,7 +111,20 @@ impl<S: Alter> Shelf for SqlShelf<S> {
         limit: usize,
     ) -> Result<Items<Notice>, Fault> {
         self.ready()?;
-        match pages::page(self.alloc, &mut self.conn, customer, after, limit) {
+        match notice_pages::page(self.alloc, &mut self.conn, customer, after, limit) {
+            Ok(page) => Ok(page),
+            Err(error) => Err(self.give_up(error)),
+        }
+    }
+
+    fn ends(
+        &mut self,
+        customer: &Name,
+        before: Option<u64>,
+        limit: usize,
+    ) -> Result<Items<End>, Fault> {
+        self.ready()?;
+        match end_pages::page(self.alloc, &mut self.conn, customer, before, limit) {
             Ok(page) => Ok(page),
             Err(error) => Err(self.give_up(error)),
         }

@@ -18,16 +18,15 @@ ghost use Rattle.hq_sql_shelf.specs.Stops.{KeepsTransaction};
 
 use crate::accounts;
 use hq_access::{Line, Pattern};
-use hq_envelope::{Name, Serial};
 use hq_queue::{Head, Message};
 use hq_sql::heads;
-use hq_sql_holds::holds;
 use hq_sql_lines::{lines, marks};
-use hq_sql_messages::messages;
-use hq_sql_notices::notices;
+use hq_sql_messages::{holds, messages};
+use hq_sql_notices::{ends, notices};
 use hq_sql_open::transaction::{begin, commit, sees_database};
 use hq_sql_recipients::recipients;
 use hq_store::{Account, Change};
+use hq_values::{Name, Serial};
 use sqlite::{Alter, Connection, Error};
 use std::alloc::Global;
 
@@ -198,6 +197,8 @@ fn make<S: Alter>(
         Change::PutMark(mark) => marks::put(conn, customer, mark),
         Change::AddNotice(notice) => notices::put(conn, customer, notice),
         Change::DropNoticesBelow(number) => notices::drop_below(conn, customer, *number),
+        Change::PutEnds(ends) => ends::put(conn, customer, ends),
+        Change::DropEndsTo(number) => ends::drop_to(conn, customer, *number),
     }
 }
 

@@ -1,12 +1,22 @@
-//! The shelf whose tables stand in a `sqlite` store, in memory or in a file.
+//! The shelf whose tables stand in a `sqlite` store, in memory or in a file, and the migration of a
+//! file.
+//!
+//! ```
+//! let shelf = SqlShelf::open_memory(alloc)?; // empty tables in memory
+//! let shelf = open_file(rt, path)?; // a file: made, or a desk's; else 91 or 92
+//! let shelf = SqlShelf::adopt(alloc, conn); // any connection; it comes back where it is no desk's
+//! let held = migrate_file(rt, path)?; // a store of version 1 or 2; else 0, or 92
+//! ```
 #![tactic(auto)]
 
 mod accounts;
 mod calls;
 mod changes;
+mod file;
 mod migrating;
 mod shelf;
 mod writing;
 
+pub use file::{FileShelf, migrate_file, open_file};
 pub use migrating::migrate;
 pub use shelf::{SqlShelf, fault_of};

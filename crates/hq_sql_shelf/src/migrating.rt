@@ -1,25 +1,28 @@
-//! A store of version 1 becomes one of version 2.
+//! A store of version 1 or 2 becomes one of version 3.
 
-ghost use Rattle.std.specs.Prelude.{◌≡◌, ◌≢◌, IfOk};
+ghost use Rattle.std.specs.Prelude.{◌≡◌, IfOk};
 ghost use Rattle.sqlite.specs.Held.{state};
 ghost use Rattle.sqlite.specs.State.{HasCleanDisk};
 ghost use Rattle.hq_keyed.specs.Left.{IsQuiet, LeavesNoMore};
-ghost use Rattle.hq_schema.specs.Schema.{first_schema};
-ghost use Rattle.hq_sql_migrate.specs.Stores.{IsFirst};
+ghost use Rattle.hq_values.specs.Words.{earlier_hold};
+ghost use Rattle.hq_sql_open.specs.Migration.{IsFirstStore, IsSecondStore};
+ghost use Rattle.hq_sql_open.specs.Stores.{IsFirst, IsSecond, lifted_in, second_tables_in};
 ghost use Rattle.hq_sql_open.specs.Transactions.{IsSettled};
-ghost use Rattle.hq_sql_shelf.specs.Migration.{IsMigrated, TellsVersion, LeavesEither};
+ghost use Rattle.hq_sql_shelf.specs.Migration.{IsMigrated, IsUpgraded, TellsVersion};
+ghost use Rattle.hq_sql_shelf.specs.Migration.{LeavesEither};
 
 use crate::shelf::fault_after;
-use hq_envelope::{Fault, Text};
-use hq_sql_migrate::migration;
+use hq_sql_open::migration;
 use hq_sql_open::transaction::settle;
+use hq_values::{Fault, Text};
 use sqlite::{Alter, Connection};
 use std::alloc::Global;
 
-/// Makes a store of version 2 of one of version 1, in one transaction: each message on hold gets
-/// the reason `held before version 2`, and all else stays. It tells how many messages are on hold.
-/// A store of version 2 stays as it is, and 0 is told. Any other, one in which nothing was made
-/// too, is refused as 92 `BadSchema`, and stays as it is.
+/// Makes a store of version 3 of one of version 1 or 2, in one transaction, with no history. Of
+/// version 1 each message on hold gets the reason `held before version 2`, and it tells how many
+/// are on hold; all else stays. Of version 2 all stays, and 0 is told. A store of version 3 stays
+/// as it is, and 0 is told. Any other, one in which nothing was made too, is refused as 92
+/// `BadSchema`, and stays as it is.
 ///
 /// It asks for a connection in no transaction. After 90, 91 and 92 the store holds what it held; 93
 /// tells that the connection is gone. Wherever in it a stop comes, the store is as before or whole.
@@ -28,11 +31,20 @@ pub fn migrate<S: Alter>(alloc: Global, conn: &mut Connection<S>) -> Result<u64,
         → IsSettled (state S.Store conn.old) → IsFirst (state S.Store conn.old).now
         → IfOk result (λ count.
         IsMigrated count (state S.Store conn.old) (state S.Store conn.new)) }
+    ensures upgrades { HasCleanDisk (state S.Store conn.new)
+        → IsSettled (state S.Store conn.old) → IsSecond (state S.Store conn.old).now
+        → IfOk result (λ count. (count ≡ 0)
+        × IsUpgraded (state S.Store conn.old) (state S.Store conn.new)) }
     ensures told { HasCleanDisk (state S.Store conn.new) → IsSettled (state S.Store conn.old)
         → TellsVersion result (state S.Store conn.old) (state S.Store conn.new) }
     ensures stops { IsSettled (state S.Store conn.old) → IsFirst (state S.Store conn.old).now
-        → LeavesEither (state S.Store conn.old) (state S.Store conn.new) }
-    ensures others { (state S.Store conn.old).now.schema ≢ first_schema
+        → LeavesEither (lifted_in earlier_hold (state S.Store conn.old).now)
+        (state S.Store conn.old) (state S.Store conn.new) }
+    ensures later_stops { IsSettled (state S.Store conn.old) → IsSecond (state S.Store conn.old).now
+        → LeavesEither (second_tables_in (state S.Store conn.old).now)
+        (state S.Store conn.old) (state S.Store conn.new) }
+    ensures others { (¬ IsFirstStore (state S.Store conn.old).now)
+        → (¬ IsSecondStore (state S.Store conn.old).now)
         → LeavesNoMore (state S.Store conn.old) (state S.Store conn.new) }
     ensures quiet { IsQuiet (state S.Store conn.old) (state S.Store conn.new) }
 {

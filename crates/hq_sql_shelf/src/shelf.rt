@@ -4,7 +4,7 @@ ghost use Rattle.std.specs.Prelude.{◌≡◌, ◌≢◌, true, false, IfOk, IfE
 ghost use Rattle.sqlite.specs.Held.{state};
 ghost use Rattle.sqlite.specs.State.{HasCleanDisk};
 ghost use Rattle.sqlite.specs.Steps.{over_memory};
-ghost use Rattle.hq_base.specs.declared.failure.Fault.TheVariants.{BadSchema, Closed};
+ghost use Rattle.hq_values.specs.declared.failure.Fault.TheVariants.{BadSchema, Closed};
 ghost use Rattle.hq_keyed.specs.Left.{IsQuiet, LeavesNoMore};
 ghost use Rattle.hq_store.specs.Shelves.{Keeps, StopLeavesTables};
 ghost use Rattle.hq_store.specs.Tables.{no_tables};
@@ -16,9 +16,9 @@ ghost use Rattle.hq_sql_open.specs.declared.transaction.Standing.TheVariants.{Op
 ghost use Rattle.hq_sql_shelf.specs.Shelf.{sight_over, fault_in, fault_left, fault_counted};
 ghost use Rattle.hq_sql_shelf.specs.Shelf.{is_gone, is_doubtful, GivesUp, Adopts, IsOurs};
 
-use hq_envelope::Fault;
 use hq_sql_open::open;
 use hq_sql_open::transaction::{Standing, sees_database, settle};
+use hq_values::Fault;
 use sqlite::{Alter, Connection, Error, ErrorCode, MemStore};
 use std::alloc::Global;
 
@@ -70,7 +70,7 @@ impl<S: Alter> SqlShelf<S> {
 
     /// Opens a store as a desk. A store in which nothing was made yet, or the version table alone
     /// and without a row, gets empty tables in one transaction; one that has exactly the tables of
-    /// schema 2, whose one version is 2, is taken as it is; any other is refused as 92 `BadSchema`,
+    /// schema 3, whose one version is 3, is taken as it is; any other is refused as 92 `BadSchema`,
     /// and stays as it is.
     ///
     /// It asks for a connection in no transaction, and keeps the allocator. A refused connection

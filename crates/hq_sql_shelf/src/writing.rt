@@ -11,9 +11,9 @@ ghost use Rattle.hq_sql_shelf.specs.Stops.{LeavesWhole, LeavesOnly};
 
 use crate::changes;
 use crate::shelf::SqlShelf;
-use hq_envelope::{Fault, Name};
 use hq_sql_open::transaction::sees_database;
 use hq_store::Change;
+use hq_values::{Fault, Name};
 use sqlite::Alter;
 
 impl<S: Alter> SqlShelf<S> {

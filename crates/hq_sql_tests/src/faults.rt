@@ -1,8 +1,8 @@
 //! What a shelf tells of rows that are no values, and of want of memory.
 
-use hq_envelope::{Fault, Label, Name};
 use hq_sql_shelf::SqlShelf;
 use hq_store::Shelf;
+use hq_values::{Fault, Label, Name};
 use sqlite::{Connection, MemStore};
 use std::alloc::Global;
 use std::test::Fail;

@@ -1,9 +1,9 @@
 //! What each store is migrated as: a desk of version 1, one of version 2, or left alone as it was.
 
 use crate::openings::{FIRST_TABLES, number, opened};
-use hq_envelope::{Fault, Name, Serial, Text};
 use hq_sql_shelf::{SqlShelf, migrate};
 use hq_store::Shelf;
+use hq_values::{Fault, Name, Serial, Text};
 use sqlite::{Connection, MemStore};
 use std::alloc::Global;
 use std::test::Fail;
@@ -68,7 +68,7 @@ fn first(alloc: Global) -> Result<Connection<MemStore>, Fail> {
 fn adopted(alloc: Global, conn: Connection<MemStore>) -> Result<SqlShelf<MemStore>, Fail> {
     match SqlShelf::adopt(alloc, conn) {
         Ok(shelf) => Ok(shelf),
-        Err(_) => Err("no desk of version 2")?,
+        Err(_) => Err("no desk of version 3")?,
     }
 }
 

@@ -1,7 +1,7 @@
 //! What each store is opened as: a desk, or left alone as it was.
 
-use hq_envelope::Fault;
 use hq_sql_shelf::SqlShelf;
+use hq_values::Fault;
 use sqlite::{Connection, Error, MemStore};
 use std::alloc::Global;
 use std::test::Fail;
@@ -31,30 +31,34 @@ added INTEGER NOT NULL, changed INTEGER NOT NULL, same INTEGER NOT NULL, \
 PRIMARY KEY (customer, label)) STRICT;
 ";
 
-/// The table that version 2 has beside them.
-const HOLDS: &str = "\
+/// The tables that versions 2 and 3 have beside them.
+const FURTHER_TABLES: &str = "\
 CREATE TABLE holds (customer TEXT NOT NULL, serial INTEGER NOT NULL, hold_reason TEXT NOT NULL, \
 PRIMARY KEY (customer, serial)) STRICT;
+CREATE TABLE ends (customer TEXT NOT NULL, number INTEGER NOT NULL, moment INTEGER NOT NULL, \
+serial INTEGER NOT NULL, sender TEXT NOT NULL, recipient TEXT NOT NULL, fate INTEGER NOT NULL, \
+status TEXT NOT NULL, reason TEXT NOT NULL, PRIMARY KEY (customer, number)) STRICT;
 ";
 
 /// What stands beside those tables, and whether it is opened as a desk.
-const BESIDE: [(&str, bool); 9] = [
-    ("INSERT INTO desk_schema VALUES (2)", true),
+const BESIDE: [(&str, bool); 10] = [
+    ("INSERT INTO desk_schema VALUES (3)", true),
     (
-        "INSERT INTO desk_schema VALUES (2); INSERT INTO marks VALUES ('a', 'l', x'00', 1, 0, 0)",
+        "INSERT INTO desk_schema VALUES (3); INSERT INTO marks VALUES ('a', 'l', x'00', 1, 0, 0)",
         true,
     ),
     ("INSERT INTO desk_schema VALUES (1)", false),
+    ("INSERT INTO desk_schema VALUES (2)", false),
     ("INSERT INTO desk_schema VALUES (9)", false),
     ("", false),
-    ("INSERT INTO desk_schema VALUES (2), (2)", false),
-    ("INSERT INTO desk_schema VALUES (2), (9)", false),
+    ("INSERT INTO desk_schema VALUES (3), (3)", false),
+    ("INSERT INTO desk_schema VALUES (3), (9)", false),
     (
-        "INSERT INTO desk_schema VALUES (2); CREATE INDEX more ON heads (next_serial)",
+        "INSERT INTO desk_schema VALUES (3); CREATE INDEX more ON heads (next_serial)",
         false,
     ),
     (
-        "INSERT INTO desk_schema VALUES (2); CREATE TABLE other (a)",
+        "INSERT INTO desk_schema VALUES (3); CREATE TABLE other (a)",
         false,
     ),
 ];
@@ -62,16 +66,16 @@ const BESIDE: [(&str, bool); 9] = [
 /// Stores of other tables, whether they are opened as desks, and what is asked of them afterwards
 /// with the number that has to be answered.
 const OTHERS: [(&str, bool, &str, i64); 5] = [
-    ("", true, "SELECT version FROM desk_schema", 2),
+    ("", true, "SELECT version FROM desk_schema", 3),
     (
         "CREATE TABLE desk_schema (version INTEGER NOT NULL) STRICT",
         true,
         "SELECT version FROM desk_schema",
-        2,
+        3,
     ),
     (
         "CREATE TABLE desk_schema (version INTEGER NOT NULL) STRICT; \
-         INSERT INTO desk_schema VALUES (2)",
+         INSERT INTO desk_schema VALUES (3)",
         false,
         "SELECT count(*) FROM desk_schema",
         1,
@@ -110,7 +114,7 @@ pub fn opened(alloc: Global, text: &str) -> Result<(bool, Connection<MemStore>),
 #[test]
 fn tables_of_a_desk(rt: HostRuntime) -> Result<(), Fail> {
     for (beside, is_desk) in BESIDE {
-        let text = format!(in rt.alloc(); "{FIRST_TABLES}{HOLDS}{beside}")?;
+        let text = format!(in rt.alloc(); "{FIRST_TABLES}{FURTHER_TABLES}{beside}")?;
         let (yes, mut conn) = opened(rt.alloc(), text.as_str())?;
         assert_eq!(rt; yes, is_desk, "{beside}");
         assert_eq!(rt;

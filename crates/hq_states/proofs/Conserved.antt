@@ -53,6 +53,7 @@ dropped_sound s m head h there serial notice later accepted told =
         next_notice = notice;
         above = λ k n at. subst (λ x. k < x) (sym serial) ((dropped.messages k n at).below);
         above_notices = λ k n at. let below = (dropped.notices k n at).1 in omega arith;
+        above_ends = λ k n at. let below = dropped.ends k n at in omega arith;
       });
       conserved = omega arith;
       bounded = subst (λ (x : ℕ × ℕ). x.0 ≤ 100 * (x.1 - 1)) (λ i. (sym accepted i, sym serial i))

@@ -1,6 +1,7 @@
 -- Changes of every message of one customer, one after another.
 use Rattle.std.proofs.Common.{◌≡◌, ◌≢◌, ℕ, ◌+◌, ◌-◌, ◌*◌, ◌<◌, ◌≤◌, cond, T, List, [], ◌∷◌, ◌++◌}
-use Rattle.std.proofs.Common.{map, length, sym, refl, ap, ◌∙◌, subst, Some, None, arith}
+use Rattle.std.proofs.Common.{Bool, true, false, map, filter, length, sym, refl, ap, ◌∙◌, subst}
+use Rattle.std.proofs.Common.{Some, None, arith}
 use Rattle.std.specs.List.{sum_by, flat_map}
 use Rattle.std.proofs.lemmas.List.Sums.{sum_by-cons}
 use Rattle.std.specs.declared.cmp.Ordering.TheVariants.{Less}
@@ -10,6 +11,7 @@ use Rattle.std.proofs.lemmas.Map.Lookups.{exact_unsigned}
 use Rattle.std.specs.FinMap.{FinMap, entries, entries_sorted, values, get, insert, remove}
 use Rattle.std.specs.FinMap.{get-entries, get-insert, get-remove, find, is_sorted}
 use Rattle.std.specs.FinMap.Entries.{below_all}
+use Rattle.hq_queue.specs.Ends.{all_gone}
 use Rattle.hq_queue.specs.declared.account.Head.{Head}
 use Rattle.hq_queue.specs.declared.message.Message.{Message}
 use Rattle.hq_store.specs.declared.change.Change.{Change}
@@ -90,6 +92,30 @@ module _ (q : Queue) (own : (k : ℕ) (m : Message) → get q k ≡ Some m → m
   -- all messages of the queue do
   pub stand_values : Stand q (values q)
   stand_values = stand_from (entries q) (entries_sorted q) (finds (entries q) (entries_sorted q))
+
+-- ---- those that pass a test
+
+apart_some : (p : Message → Bool) (k : ℕ) (ms : List Message) → NotAmong k ms →
+    NotAmong k (filter p ms)
+apart_some p k [] h = tt
+apart_some p k (m ∷ ms) h = by (p m) (apart_some p k ms h.1) where
+  by : (b : Bool) → NotAmong k (filter p ms) → NotAmong k (cond b (m ∷ filter p ms) (filter p ms))
+  by true rest = (h.0, rest)
+  by false rest = rest
+
+stand_some : (p : Message → Bool) (q : Queue) (ms : List Message) → Stand q ms →
+    Stand q (filter p ms)
+stand_some p q [] h = tt
+stand_some p q (m ∷ ms) h = by (p m) (stand_some p q ms h.2) where
+  by : (b : Bool) → Stand q (filter p ms) → Stand q (cond b (m ∷ filter p ms) (filter p ms))
+  by true rest = (h.0, apart_some p m.serial ms h.1, rest)
+  by false rest = rest
+
+-- of a customer's messages
+pub stand_in : (p : Message → Bool) (s : State) → ShapedState s →
+    Stand s.messages (filter p (values s.messages))
+stand_in p s h = stand_some p s.messages (values s.messages)
+    (stand_values s.messages (λ k m f. (h.messages k m f).own_serial))
 
 -- ---- one change for each
 
@@ -186,17 +212,16 @@ no_weight [] = refl
 no_weight (m ∷ ms) = let cons = sum_by-cons (λ (x : Message). 0) m ms in let rest = no_weight ms in
     omega arith
 
--- ---- all of them
+-- ---- all that pass a test
 
 -- changes that take no recipient keep a state sound
-pub moved_sound : (f : Message → List Change) (s : State) →
+pub moved_sound : (p : Message → Bool) (f : Message → List Change) (s : State) →
     ((u : State) (m : Message) → ShapedState u → get u.messages m.serial ≡ Some m →
     Does u (change_all (f m) u) m 0) → SoundState s →
-    SoundState (change_all (flat_map f (values s.messages)) s)
-moved_sound f s does h =
-    let ms = values s.messages in
-    let done = each_done f (λ m. 0) does ms s h.shaped
-    (stand_values s.messages (λ k m g. (h.shaped.messages k m g).own_serial)) in
+    SoundState (change_all (flat_map f (filter p (values s.messages))) s)
+moved_sound p f s does h =
+    let ms = filter p (values s.messages) in
+    let done = each_done f (λ m. 0) does ms s h.shaped (stand_in p s h.shaped) in
     let after = change_all (flat_map f ms) s in
     let sums = done.sum in
     let none = no_weight ms in
@@ -214,19 +239,19 @@ moved_sound f s does h =
     }
 
 -- changes that take recipients, and then a head that tells of as many
-pub taken_sound : (f : Message → List Change) (w : Message → ℕ) (s : State) (head : Head) →
+pub taken_sound : (p : Message → Bool) (f : Message → List Change) (w : Message → ℕ) (s : State)
+    (head : Head) →
     ((u : State) (m : Message) → ShapedState u → get u.messages m.serial ≡ Some m →
     Does u (change_all (f m) u) m (w m)) → SoundState s
     → head.next_serial ≡ s.head.next_serial → IsNext head.next_notice →
     s.head.next_notice ≤ head.next_notice → head.tally.accepted ≡ s.head.tally.accepted
     → head.tally.delivered + head.tally.failed + head.tally.deleted + head.tally.expired ≡
     s.head.tally.delivered + s.head.tally.failed + s.head.tally.deleted + s.head.tally.expired +
-    sum_by w (values s.messages)
-    → SoundState (change (PutHead head) (change_all (flat_map f (values s.messages)) s))
-taken_sound f w s head does h serial notice later accepted told =
-    let ms = values s.messages in
-    let done = each_done f w does ms s h.shaped
-    (stand_values s.messages (λ k m g. (h.shaped.messages k m g).own_serial)) in
+    sum_by w (filter p (values s.messages))
+    → SoundState (change (PutHead head) (change_all (flat_map f (filter p (values s.messages))) s))
+taken_sound p f w s head does h serial notice later accepted told =
+    let ms = filter p (values s.messages) in
+    let done = each_done f w does ms s h.shaped (stand_in p s h.shaped) in
     let after = change_all (flat_map f ms) s in
     let sums = done.sum in
     let was = h.conserved in
@@ -240,6 +265,9 @@ taken_sound f w s head does h serial notice later accepted told =
         next_notice = notice;
         above = λ k n at. subst (λ x. k < x) (sym same) ((done.shaped.messages k n at).below);
         above_notices = λ k n at. let below = (done.shaped.notices k n at).1 in omega arith;
+        above_ends = λ k n at. let below : k ≤ all_gone s.head.tally =
+            subst (λ (x : Head). k ≤ all_gone x.tally) done.head (done.shaped.ends k n at) in
+            omega arith;
       });
       conserved = omega arith;
       bounded = subst (λ (x : ℕ × ℕ). x.0 ≤ 100 * (x.1 - 1)) (λ i. (sym accepted i, sym serial i))

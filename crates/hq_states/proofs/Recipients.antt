@@ -21,7 +21,7 @@ address p = p.address
 by_delivery : (p : Pending) (kept : List Pending) (gave : ℕ) (told : List Told) (d : Delivery) →
     length (cons_option (left_by p d) kept) + (cond (is_delivered d) 1 0 + gave + length
     (cons_option (told_by p d) told)) ≡ suc (length kept + (gave + length told))
-by_delivery p kept gave told delivery.Delivered = omega arith
+by_delivery p kept gave told (delivery.Delivered status text) = omega arith
 by_delivery p kept gave told (delivery.Deferred status text) = omega arith
 by_delivery p kept gave told (delivery.Failed status text) = omega arith
 
@@ -50,7 +50,7 @@ none_lost os (p ∷ ps) =
 all_delivery : (P : List ℕ → Type 0) (p : Pending) (kept : List Pending) (d : Delivery) →
     P p.address → AllByRecursion P (map address kept) →
     AllByRecursion P (map address (cons_option (left_by p d) kept))
-all_delivery P p kept delivery.Delivered here rest = rest
+all_delivery P p kept (delivery.Delivered status text) here rest = rest
 all_delivery P p kept (delivery.Deferred status text) here rest = (here, rest)
 all_delivery P p kept (delivery.Failed status text) here rest = rest
 
@@ -72,7 +72,7 @@ apart_delivery : (p : Pending) (kept : List Pending) (d : Delivery) →
     AllByRecursion (λ y. same_address p.address y ≡ false) (map address kept) → AreApart kept →
     AreApart (cons_option (left_by p d) kept)
 unfolding IsDistinct
-apart_delivery p kept delivery.Delivered here rest = rest
+apart_delivery p kept (delivery.Delivered status text) here rest = rest
 apart_delivery p kept (delivery.Deferred status text) here rest = (here, rest)
 apart_delivery p kept (delivery.Failed status text) here rest = rest
 

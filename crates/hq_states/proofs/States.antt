@@ -1,7 +1,8 @@
 -- A change that fits keeps a customer's state shaped.
 use Rattle.std.proofs.Common.{◌≡◌, ◌⊎◌, inl, inr, ⊎_elim, ℕ, ◌+◌, ◌-◌, ◌<◌, ◌≤◌, Bool, true, false}
+use Rattle.std.proofs.Common.{List, [], ◌∷◌, length}
 use Rattle.std.proofs.Common.{cond, sym, refl, ap, ◌∙◌, subst, Some, None, Option, arith}
-use Rattle.std.specs.Prelude.{is_some, nat_le}
+use Rattle.std.specs.Prelude.{is_some, nat_le, nat_lt}
 use Rattle.std.specs.Ordering.{nat_cmp, eq_by_cmp}
 use Rattle.std.specs.declared.cmp.Ordering.{Ordering}
 use Rattle.std.specs.Cmp.{IsTotalOrder, nat_cmp_total}
@@ -10,17 +11,20 @@ use Rattle.std.proofs.lemmas.Map.Views.{tells_apart}
 use Rattle.std.specs.FinMap.{FinMap, get, insert, remove, retain_keys, len, contains_key}
 use Rattle.std.specs.FinMap.{get-insert, get-remove, get-retain_keys, len-insert, len-remove}
 use Rattle.hq_access.specs.declared.action.Action.{Action}
+use Rattle.hq_queue.specs.Ends.{all_gone}
 use Rattle.hq_queue.specs.declared.account.Head.{Head}
 use Rattle.hq_queue.specs.declared.message.Message.{Message}
 use Rattle.hq_store.specs.declared.change.Change.{Change}
 use Rattle.hq_store.specs.declared.change.Change.TheVariants.{PutHead, PutMessage, DropMessage}
 use Rattle.hq_store.specs.declared.change.Change.TheVariants.{PutLine, DropLine, PutMark, AddNotice}
-use Rattle.hq_store.specs.declared.change.Change.TheVariants.{DropNoticesBelow}
+use Rattle.hq_store.specs.declared.change.Change.TheVariants.{DropNoticesBelow, PutEnds, DropEndsTo}
 use Rattle.hq_store.specs.declared.mark.Mark.{Mark}
-use Rattle.hq_store.specs.Tables.{State, Noted, change, line_cmp, text_cmp, noted_of}
+use Rattle.hq_store.specs.Tables.{State, Noted, Past, change, line_cmp, text_cmp, noted_of}
+use Rattle.hq_store.specs.Tables.{newest_cmp, add_ends, last_before}
+use Rattle.hq_queue.specs.declared.outcome.Ended.{Ended}
 use Rattle.hq_store.specs.Sound.{ShapedState, IsQueued}
 use Rattle.hq_owned.proofs.Cases.{none_some, same_some}
-use Rattle.hq_store.proofs.Orders.{line_total}
+use Rattle.hq_store.proofs.Orders.{line_total, newest_total, newest_exact}
 use Rattle.hq_states.specs.Fits.{Fits, HeadFits, MessageFits}
 
 -- what a look-up finds after a message was put
@@ -59,6 +63,7 @@ head_shaped s head h fit = record {
   few_messages = h.few_messages;
   few_lines = h.few_lines;
   notices = λ number n f. ((h.notices number n f).0, fit.above_notices number n f);
+  ends = fit.above_ends;
 }
 
 -- a put keeps within a limit where a new key has room, and a drop does
@@ -102,6 +107,7 @@ message_shaped s n h fit = record {
   few_messages = few_put nat_cmp_total 1000 s.messages h.few_messages n.serial n fit.room;
   few_lines = h.few_lines;
   notices = h.notices;
+  ends = h.ends;
 }
 
 drop_shaped : (s : State) (k : ℕ) → ShapedState s → ShapedState (change (DropMessage k) s)
@@ -114,6 +120,7 @@ drop_shaped s k h = record {
   few_messages = few_drop nat_cmp_total 1000 s.messages h.few_messages k;
   few_lines = h.few_lines;
   notices = h.notices;
+  ends = h.ends;
 }
 
 -- lines are bound by their number alone
@@ -127,6 +134,7 @@ lines_shaped s lines h few = record {
   few_messages = h.few_messages;
   few_lines = few;
   notices = h.notices;
+  ends = h.ends;
 }
 
 -- imports bind nothing of the rest
@@ -140,6 +148,7 @@ marks_shaped s marks h = record {
   few_messages = h.few_messages;
   few_lines = h.few_lines;
   notices = h.notices;
+  ends = h.ends;
 }
 
 -- what a look-up of notices finds after one was added, and after some were dropped
@@ -172,6 +181,57 @@ notices_shaped s notices h given_out =
       few_messages = h.few_messages;
       few_lines = h.few_lines;
       notices = given_out;
+      ends = h.ends;
+    }
+
+-- what a look-up of ends finds after one was added, and after some were dropped
+added_end : (m : FinMap newest_cmp Past) (k : ℕ) (v : Past) (x : ℕ) (p : Past) →
+    get (insert m k v) x ≡ Some p → (x ≡ k) ⊎ (get m x ≡ Some p)
+added_end m k v x p h = cases (eq_by_cmp newest_cmp x k) refl
+    (sym (get-insert newest_total m k v x) ∙ h) where
+      cases : (b : Bool) → eq_by_cmp newest_cmp x k ≡ b → cond b (Some v) (get m x) ≡ Some p →
+          (x ≡ k) ⊎ (get m x ≡ Some p)
+      cases true e f = inl (tells_apart newest_exact x k e)
+      cases false e f = inr f
+
+not_above : (last n gone : ℕ) → last ≤ gone → last - n ≤ gone
+not_above last n gone h = omega arith
+
+-- ends up to a number stay below a bound
+abbrev AreBelow : ℕ → FinMap newest_cmp Past → Type 0
+AreBelow gone m = (x : ℕ) (p : Past) → get m x ≡ Some p → x ≤ gone
+
+below_all : (gone at last : ℕ) → last ≤ gone → (es : List Ended) (m : FinMap newest_cmp Past) →
+    AreBelow gone m → AreBelow gone (add_ends at last es m)
+below_all gone at last fit [] m below = below
+below_all gone at last fit (e ∷ es) m below = below_all gone at last fit es _
+    (λ x p f. ⊎_elim
+    (λ (same : x ≡ last - length es). subst (λ y. y ≤ gone) (sym same)
+    (not_above last (length es) gone fit))
+    (λ (old : get m x ≡ Some p). below x p old)
+    (added_end m (last - length es) _ x p f))
+
+kept_end : (s : State) (p : ℕ → Bool) (x : ℕ) (e : Past) → get (retain_keys s.ends p) x ≡ Some e →
+    get s.ends x ≡ Some e
+kept_end s p x e h = cases (p x) (sym
+    (get-retain_keys s.ends p x (λ y q. ap p (sym (newest_exact x y q)))) ∙ h) where
+      cases : (b : Bool) → cond b (get s.ends x) None ≡ Some e → get s.ends x ≡ Some e
+      cases true f = f
+      cases false f = absurd (none_some e f)
+
+ends_shaped : (s : State) (ends : FinMap newest_cmp Past) → ShapedState s →
+    ((number : ℕ) (p : Past) → get ends number ≡ Some p → number ≤ all_gone s.head.tally) →
+    ShapedState (record s { ends = ends })
+ends_shaped s ends h gone =
+    record {
+      next_serial = h.next_serial;
+      next_notice = h.next_notice;
+      messages = h.messages;
+      spools = h.spools;
+      few_messages = h.few_messages;
+      few_lines = h.few_lines;
+      notices = h.notices;
+      ends = gone;
     }
 
 pub change_shaped : (s : State) (ch : Change) → ShapedState s → Fits s ch →
@@ -193,3 +253,8 @@ change_shaped s (AddNotice notice) h fit = notices_shaped s _ h (λ x n f. ⊎_e
     (added s notice.number (noted_of notice) x n f))
 change_shaped s (DropNoticesBelow number) h fit = notices_shaped s _ h
     (λ x n f. h.notices x n (kept s (nat_le number) x n f))
+change_shaped s (PutEnds ends) h fit = ends_shaped s _ h
+    (below_all (all_gone s.head.tally) ends.at ends.last fit ends.ended _
+    (λ x p f. h.ends x p (kept_end s (λ n. nat_le n (last_before ends)) x p f)))
+change_shaped s (DropEndsTo number) h fit = ends_shaped s _ h
+    (λ x p f. h.ends x p (kept_end s (nat_lt number) x p f))

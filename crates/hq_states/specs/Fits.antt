@@ -1,17 +1,19 @@
 -- When a change fits the customer's state that it meets: then shaped tables stay shaped.
-use Rattle.std.specs.Prelude.{◌≡◌, ℕ, ◌<◌, ⊤, List, [], ◌∷◌, Some, None}
+use Rattle.std.specs.Prelude.{◌≡◌, ℕ, ◌<◌, ◌≤◌, ⊤, List, [], ◌∷◌, Some, None}
 use Rattle.std.specs.FinMap.{get, len}
+use Rattle.hq_queue.specs.Ends.{all_gone}
 use Rattle.hq_queue.specs.declared.account.Head.{Head}
 use Rattle.hq_queue.specs.declared.message.Message.{Message}
 use Rattle.hq_store.specs.declared.change.Change.{Change}
 use Rattle.hq_store.specs.declared.change.Change.TheVariants.{PutHead, PutMessage, DropMessage}
 use Rattle.hq_store.specs.declared.change.Change.TheVariants.{PutLine, DropLine, PutMark, AddNotice}
-use Rattle.hq_store.specs.declared.change.Change.TheVariants.{DropNoticesBelow}
-use Rattle.hq_store.specs.Tables.{State, Noted, change}
+use Rattle.hq_store.specs.declared.change.Change.TheVariants.{DropNoticesBelow, PutEnds, DropEndsTo}
+use Rattle.hq_store.specs.Tables.{State, Noted, Past, change}
 use Rattle.hq_store.specs.Sound.{IsNext, IsQueued}
 use Rattle.hq_queue.specs.Limits.{most_messages, most_lines}
 
--- next numbers in range, above every serial and every number of a notice that is there
+-- next numbers in range, above every serial and every number of a notice that is there, and no
+-- fewer recipients gone than the number of any end
 pub record HeadFits (s : State) (head : Head) : Type 0 where
   pub next_serial : IsNext head.next_serial
   pub next_notice : IsNext head.next_notice
@@ -19,6 +21,8 @@ pub record HeadFits (s : State) (head : Head) : Type 0 where
       serial < head.next_serial
   pub above_notices : (number : ℕ) (n : Noted) → get s.notices number ≡ Some n →
       number < head.next_notice
+  pub above_ends : (number : ℕ) (p : Past) → get s.ends number ≡ Some p →
+      number ≤ all_gone head.tally
 
 -- a message for the queue, with a spool name that no other message has, and room where its serial
 -- is new
@@ -29,7 +33,7 @@ pub record MessageFits (s : State) (m : Message) : Type 0 where
   pub room : get s.messages m.serial ≡ None → len s.messages < most_messages
 
 -- drops always fit; a line fits with room where its pattern is new, an import under a new label,
--- and a notice with a new number below the next
+-- a notice with a new number below the next, and ends up to the number of one who is gone
 abbrev pub Fits : State → Change → Type 0
 Fits s (PutHead head) = HeadFits s head
 Fits s (PutMessage m) = MessageFits s m
@@ -40,6 +44,8 @@ Fits s (PutMark mark) = get s.marks mark.label ≡ None
 Fits s (AddNotice notice) = (0 < notice.number)
     × ((notice.number < s.head.next_notice) × (get s.notices notice.number ≡ None))
 Fits s (DropNoticesBelow number) = ⊤
+Fits s (PutEnds ends) = ends.last ≤ all_gone s.head.tally
+Fits s (DropEndsTo number) = ⊤
 
 -- each change fits the state that those before it leave
 abbrev pub AllFit : State → List Change → Type 0

@@ -11,7 +11,7 @@ use Rattle.hq_store.specs.declared.account.Account.{Account}
 use Rattle.hq_store.specs.declared.change.Change.{Change}
 use Rattle.hq_store.specs.declared.change.Change.TheVariants.{PutHead, PutMessage, DropMessage}
 use Rattle.hq_store.specs.declared.change.Change.TheVariants.{PutLine, DropLine, PutMark, AddNotice}
-use Rattle.hq_store.specs.declared.change.Change.TheVariants.{DropNoticesBelow}
+use Rattle.hq_store.specs.declared.change.Change.TheVariants.{DropNoticesBelow, PutEnds, DropEndsTo}
 use Rattle.hq_owned.specs.Owned.{given}
 use Rattle.hq_owned.proofs.Parts.{tied_true, tied_false}
 use Rattle.hq_store.specs.Tables.{Tables, Row, text_cmp, opening_account, recounted, account}
@@ -86,6 +86,8 @@ account_other c d (DropLine pattern) t apart =
 account_other c d (PutMark mark) t apart = refl
 account_other c d (AddNotice n) t apart = refl
 account_other c d (DropNoticesBelow number) t apart = refl
+account_other c d (PutEnds ends) t apart = refl
+account_other c d (DropEndsTo number) t apart = refl
 
 -- counts change no head
 abbrev SameHead : List ℕ → Tables → Heads → Type 0

@@ -14,7 +14,7 @@ use Rattle.hq_store.specs.declared.account.Account.{Account}
 use Rattle.hq_store.specs.declared.change.Change.{Change}
 use Rattle.hq_store.specs.declared.change.Change.TheVariants.{PutHead, PutMessage, DropMessage}
 use Rattle.hq_store.specs.declared.change.Change.TheVariants.{PutLine, DropLine, PutMark, AddNotice}
-use Rattle.hq_store.specs.declared.change.Change.TheVariants.{DropNoticesBelow}
+use Rattle.hq_store.specs.declared.change.Change.TheVariants.{DropNoticesBelow, PutEnds, DropEndsTo}
 use Rattle.hq_owned.specs.Owned.{part_of, given}
 use Rattle.hq_owned.proofs.Totals.{total_put, total_drop, many_put}
 use Rattle.hq_store.specs.Tables.{Tables, Row, text_cmp, line_cmp, row_of, account, counted}
@@ -205,6 +205,8 @@ kept_after c (DropLine pattern) t = cases (get t.lines (c, pattern)) where
 kept_after c (PutMark mark) t = refl
 kept_after c (AddNotice n) t = refl
 kept_after c (DropNoticesBelow number) t = refl
+kept_after c (PutEnds ends) t = refl
+kept_after c (DropEndsTo number) t = refl
 
 -- every other customer's rows stay
 pub found_other : (c d : List ℕ) (ch : Change) (t : Tables) → d ≢ c →

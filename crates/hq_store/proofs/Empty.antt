@@ -14,11 +14,11 @@ use Rattle.hq_queue.specs.declared.message.Pending.{Pending}
 use Rattle.hq_owned.specs.Owned.{by_both, part_of, rows_of, map_values}
 use Rattle.hq_owned.proofs.Parts.{get_part, get-map_values, both_total, both_exact}
 use Rattle.hq_owned.proofs.Pages.{no_entries}
-use Rattle.hq_store.specs.Tables.{Row, text_cmp, line_cmp, lines_cmp, account, opening}
+use Rattle.hq_store.specs.Tables.{Row, text_cmp, line_cmp, lines_cmp, newest_cmp, account, opening}
 use Rattle.hq_store.specs.Tables.{opening_account, no_tables, own, joined, pending_of, message_cmp}
 use Rattle.hq_store.specs.Readings.{kept_of, kept_in}
 use Rattle.hq_store.proofs.Customers.{none_own}
-use Rattle.hq_store.proofs.Orders.{line_total, line_exact}
+use Rattle.hq_store.proofs.Orders.{line_total, line_exact, newest_total, newest_exact}
 use Rattle.hq_store.specs.Sound.{IsNext, SoundState, Sound, AreCounted, numbered, pending_count}
 use Rattle.hq_owned.proofs.Cases.{none_some}
 
@@ -49,6 +49,7 @@ own_opening customer = λ i. record {
   lines = none_own line_total line_exact customer i;
   marks = none_own nat_list_cmp_total exact_bytes customer i;
   notices = none_own nat_cmp_total exact_unsigned customer i;
+  ends = none_own newest_total newest_exact customer i;
 }
 
 -- stated for any number, since the limits are large
@@ -73,6 +74,7 @@ opening_sound = record {
     spools = λ k l m n h g e. absurd (nothing k m h);
     few_messages = let none : len opening.messages ≡ 0 = len-empty nat_cmp Message in omega arith;
     notices = λ k n h. absurd (none_some n (sym (get-empty nat_cmp k) ∙ h));
+    ends = λ k e h. absurd (none_some e (sym (get-empty newest_cmp k) ∙ h));
     few_lines = let none : len opening.lines ≡ 0 = len-empty line_cmp Action in omega arith;
   };
   conserved = ap (λ ms. pending_count ms + 0 + 0 + 0 + 0) (sym no_values);

@@ -1,14 +1,15 @@
 -- The orders of the tables' keys: each tells keys apart. Lines go by the name of the class, then by
 -- the pattern.
-use Rattle.std.proofs.Common.{◌≡◌, refl, Ordering, Less, List, [], ◌∷◌, T}
+use Rattle.std.proofs.Common.{◌≡◌, refl, sym, Ordering, Less, List, [], ◌∷◌, T}
 use Rattle.std.specs.List.{AllByRecursion}
-use Rattle.std.specs.Cmp.{IsTotalOrder, on_total, nat_cmp_total}
+use Rattle.std.specs.Cmp.{IsTotalOrder, on_total, back_total, nat_cmp_total}
 use Rattle.std.specs.Cmp.Lexicographic.{nat_list_cmp_total}
 use Rattle.std.proofs.lemmas.Map.Lookups.{CmpEqualImpliesEq, exact_bytes, exact_unsigned}
 use Rattle.hq_owned.proofs.Parts.{both_total, both_exact}
 use Rattle.hq_access.specs.declared.pattern.Class.TheVariants.{SenderSide, RecipientSide}
 use Rattle.hq_access.specs.Patterns.{class_name}
-use Rattle.hq_store.specs.Tables.{class_cmp, line_cmp, message_cmp, lines_cmp, mark_cmp}
+use Rattle.hq_store.specs.Tables.{class_cmp, line_cmp, message_cmp, lines_cmp, mark_cmp, newest_cmp}
+use Rattle.hq_store.specs.Tables.{end_cmp}
 use Rattle.std.specs.FinMap.{is_sorted}
 use Rattle.std.specs.FinMap.Entries.{below_all}
 use Rattle.sqlite_trees.specs.Tree.{IsAscending}
@@ -31,6 +32,18 @@ message_total = both_total nat_list_cmp_total nat_cmp_total
 
 pub message_exact : CmpEqualImpliesEq message_cmp
 message_exact = both_exact exact_bytes exact_unsigned
+
+pub newest_total : IsTotalOrder newest_cmp
+newest_total = back_total nat_cmp_total
+
+pub newest_exact : CmpEqualImpliesEq newest_cmp
+newest_exact a b e = sym (exact_unsigned b a e)
+
+pub end_total : IsTotalOrder end_cmp
+end_total = both_total nat_list_cmp_total newest_total
+
+pub end_exact : CmpEqualImpliesEq end_cmp
+end_exact = both_exact exact_bytes newest_exact
 
 pub lines_total : IsTotalOrder lines_cmp
 lines_total = both_total nat_list_cmp_total line_total

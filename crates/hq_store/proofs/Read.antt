@@ -15,8 +15,9 @@ use Rattle.hq_owned.specs.Owned.{part_of, rows_of}
 use Rattle.std.specs.Cmp.{nat_cmp_total}
 use Rattle.hq_owned.proofs.Parts.{entries_part, get-map_values, entries-map_values}
 use Rattle.hq_store.proofs.Customers.{read_own, rows_own}
-use Rattle.hq_store.proofs.Orders.{line_total, line_exact}
+use Rattle.hq_store.proofs.Orders.{line_total, line_exact, newest_total, newest_exact}
 use Rattle.hq_store.specs.Tables.{Tables, Row, Noted, text_cmp, line_cmp, own, joined, notice_of}
+use Rattle.hq_store.specs.Tables.{end_of}
 use Rattle.hq_store.specs.Readings.{read_state, read_tables, messages_in, with_spool, kept_of}
 use Rattle.hq_store.specs.Readings.{kept_in, counts_told, line_of}
 
@@ -81,6 +82,7 @@ same_readings customer t =
       notice = λ number. option_map (λ (n : Noted). notice_of (number, n))
           (sym (read_own nat_cmp_total exact_unsigned customer t.notices number) i);
       notices = map notice_of (sym (rows_own nat_cmp_total exact_unsigned customer t.notices) i);
+      ends = map end_of (sym (rows_own newest_total newest_exact customer t.ends) i);
     }
 
 -- a customer that keeps no line has none at any key

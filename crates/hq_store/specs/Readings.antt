@@ -10,10 +10,11 @@ use Rattle.hq_queue.specs.declared.message.Message.{Message}
 use Rattle.hq_access.specs.declared.action.Action.{Action}
 use Rattle.hq_access.specs.declared.pattern.Class.{Class}
 use Rattle.hq_access.specs.declared.pattern.Line.{Line}
+use Rattle.hq_store.specs.declared.end.End.{End}
 use Rattle.hq_store.specs.declared.mark.Mark.{Mark}
 use Rattle.hq_store.specs.declared.notice.Notice.{Notice}
 use Rattle.hq_store.specs.Tables.{State, Tables, Row, Noted, text_cmp, line_cmp, account, joined}
-use Rattle.hq_store.specs.Tables.{notice_of}
+use Rattle.hq_store.specs.Tables.{notice_of, end_of}
 use Rattle.hq_owned.specs.Owned.{rows_of}
 
 -- what can be read of one customer
@@ -28,6 +29,7 @@ pub record Readings : Type 0 where
   pub mark : List ℕ → Option Mark  -- of a label
   pub notice : ℕ → Option Notice  -- of a number
   pub notices : List Notice  -- in order of number
+  pub ends : List End  -- the newest first
 
 -- a sum that stays at the greatest number of 64 bits
 abbrev pub saturated : ℕ → ℕ
@@ -55,6 +57,11 @@ abbrev pub after_number : Option ℕ → List Notice → List Notice
 after_number None ns = ns
 after_number (Some number) ns = filter (λ (n : Notice). nat_lt number n.number) ns
 
+-- the ends before a number, or all
+abbrev pub before_end : Option ℕ → List End → List End
+before_end None es = es
+before_end (Some number) es = filter (λ (e : End). nat_lt e.number number) es
+
 -- the first message with that spool name
 abbrev pub with_spool : List ℕ → List Message → Option Message
 with_spool spool ms = find (λ (m : Message). eq_by_cmp text_cmp spool m.spool) ms
@@ -81,6 +88,7 @@ read_state s = record {
   mark = get s.marks;
   notice = λ number. option_map (λ (n : Noted). notice_of (number, n)) (get s.notices number);
   notices = map notice_of (entries s.notices);
+  ends = map end_of (entries s.ends);
 }
 
 -- the customer's rows of messages with their recipients, in order of serial
@@ -109,4 +117,5 @@ read_tables customer t = record {
   notice = λ number. option_map (λ (n : Noted). notice_of (number, n))
       (get t.notices (customer, number));
   notices = map notice_of (rows_of text_cmp customer (entries t.notices));
+  ends = map end_of (rows_of text_cmp customer (entries t.ends));
 }

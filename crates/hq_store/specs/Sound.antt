@@ -4,11 +4,12 @@ use Rattle.std.specs.Prelude.{length, map, Some, None}
 use Rattle.std.specs.List.{sum_by, IsDistinct}
 use Rattle.std.specs.Ordering.{nat_cmp}
 use Rattle.std.specs.FinMap.{get, len, entries, values}
-pub use Rattle.hq_envelope.specs.Addresses.{same_address}
+pub use Rattle.hq_values.specs.Addresses.{same_address}
+use Rattle.hq_queue.specs.Ends.{all_gone}
 use Rattle.hq_queue.specs.Moves.{is_on_hold}
 use Rattle.hq_queue.specs.declared.message.Message.{Message}
 use Rattle.hq_queue.specs.declared.message.Pending.{Pending}
-use Rattle.hq_store.specs.Tables.{State, Tables, Noted, text_cmp, own, account, pending_of}
+use Rattle.hq_store.specs.Tables.{State, Tables, Noted, Past, text_cmp, own, account, pending_of}
 use Rattle.hq_store.specs.Readings.{kept_in}
 use Rattle.hq_owned.specs.Owned.{part_of}
 use Rattle.hq_queue.specs.Limits.{most_messages, most_lines, most_recipients}
@@ -52,6 +53,9 @@ pub record ShapedStateBy (IsRight : Message → Type 0) (s : State) : Type 0 whe
   -- numbers of notices were given out
   pub notices : (number : ℕ) (n : Noted) → get s.notices number ≡ Some n → (0 < number)
       × (number < s.head.next_notice)
+  -- and so were those of ends: at least as many recipients left the queue
+  pub ends : (number : ℕ) (p : Past) → get s.ends number ≡ Some p →
+      number ≤ all_gone s.head.tally
 
 abbrev pub ShapedState : State → Type 0
 ShapedState = ShapedStateBy IsReasoned

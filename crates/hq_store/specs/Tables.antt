@@ -1,9 +1,10 @@
 -- One customer's state, the tables of all customers, and what a change does to each.
-use Rattle.std.specs.Prelude.{ℕ, suc, nat_le, ◌+◌, ◌-◌, Bool, not, ◌&&◌, List, [], ◌∷◌, unwrap_or}
+use Rattle.std.specs.Prelude.{ℕ, suc, nat_le, nat_lt, ◌+◌, ◌-◌, Bool, not, ◌&&◌, List, [], ◌∷◌}
+use Rattle.std.specs.Prelude.{length, unwrap_or}
 use Rattle.std.specs.declared.cmp.Ordering.{Ordering}
-use Rattle.std.specs.Ordering.{nat_cmp, eq_by_cmp}
+use Rattle.std.specs.Ordering.{nat_cmp, eq_by_cmp, flip_args}
 use Rattle.std.specs.FinMap.{FinMap, empty, get, insert, remove, retain_keys, values}
-use Rattle.hq_envelope.specs.declared.address.Sender.{Sender}
+use Rattle.hq_values.specs.declared.address.Sender.{Sender}
 use Rattle.hq_access.specs.Patterns.{class_name}
 use Rattle.hq_access.specs.declared.action.Action.{Action}
 use Rattle.hq_access.specs.declared.pattern.Class.{Class}
@@ -12,11 +13,14 @@ use Rattle.hq_queue.specs.declared.account.Head.{Head}
 use Rattle.hq_queue.specs.declared.message.Message.{Message}
 use Rattle.hq_queue.specs.declared.message.Pending.{Pending}
 use Rattle.hq_queue.specs.declared.message.QueueState.{QueueState}
+use Rattle.hq_queue.specs.declared.outcome.Ended.{Ended}
 use Rattle.hq_store.specs.declared.account.Account.{Account}
 use Rattle.hq_store.specs.declared.change.Change.{Change}
 use Rattle.hq_store.specs.declared.change.Change.TheVariants.{PutHead, PutMessage, DropMessage}
 use Rattle.hq_store.specs.declared.change.Change.TheVariants.{PutLine, DropLine, PutMark, AddNotice}
-use Rattle.hq_store.specs.declared.change.Change.TheVariants.{DropNoticesBelow}
+use Rattle.hq_store.specs.declared.change.Change.TheVariants.{DropNoticesBelow, PutEnds, DropEndsTo}
+use Rattle.hq_store.specs.declared.end.End.{End}
+use Rattle.hq_store.specs.declared.end.Ends.{Ends}
 use Rattle.hq_store.specs.declared.mark.Mark.{Mark}
 use Rattle.hq_store.specs.declared.notice.Notice.{Notice}
 use Rattle.hq_queue.specs.declared.kind.Kind.{Kind}
@@ -51,6 +55,14 @@ mark_cmp = by_both text_cmp text_cmp
 abbrev pub notice_cmp : List ℕ × ℕ → List ℕ × ℕ → Ordering
 notice_cmp = by_both text_cmp nat_cmp
 
+-- the greater number first
+abbrev pub newest_cmp : ℕ → ℕ → Ordering
+newest_cmp = flip_args nat_cmp
+
+-- by customer, then by the number of an end, the newest first
+abbrev pub end_cmp : List ℕ × ℕ → List ℕ × ℕ → Ordering
+end_cmp = by_both text_cmp newest_cmp
+
 -- ---- one customer
 
 -- a notice without its number
@@ -84,14 +96,38 @@ notice_of e = record {
   status = e.1.status;
 }
 
+-- an end without its number
+pub record Past : Type 0 where
+  pub at : ℕ
+  pub ended : Ended
+
+abbrev pub past_of : End → Past
+past_of e = record { at = e.at; ended = e.ended }
+
+-- the end of a number
+abbrev pub end_of : ℕ × Past → End
+end_of e = record { number = e.0; at = e.1.at; ended = e.1.ended }
+
+-- the greatest number that stays before these ends
+abbrev pub last_before : Ends → ℕ
+last_before ends = ends.last - length ends.ended
+
+-- ends added, of which the last has this number
+abbrev pub add_ends : ℕ → ℕ → List Ended → FinMap newest_cmp Past → FinMap newest_cmp Past
+add_ends at last [] m = m
+add_ends at last (e ∷ es) m =
+    add_ends at last es (insert m (last - length es) (record { at = at; ended = e }))
+
 -- a customer's state: its head, its messages by serial, the actions of its lines by pattern, its
--- imports by label, and its notices by number
+-- imports by label, its notices by number, and its history: the ends of recipients, the newest
+-- first
 pub record State : Type 0 where
   pub head : Head
   pub messages : FinMap nat_cmp Message
   pub lines : FinMap line_cmp Action
   pub marks : FinMap text_cmp Mark
   pub notices : FinMap nat_cmp Noted
+  pub ends : FinMap newest_cmp Past
 
 -- the head of a customer of whom nothing is kept yet: both next numbers are 1
 abbrev pub opening_head : Head
@@ -109,6 +145,7 @@ opening = record {
   lines = empty;
   marks = empty;
   notices = empty;
+  ends = empty;
 }
 
 -- a change of one customer's state; a message stands at its serial, and an import at its label
@@ -123,6 +160,11 @@ change (AddNotice notice) s = record s {
   notices = insert s.notices notice.number (noted_of notice);
 }
 change (DropNoticesBelow number) s = record s { notices = retain_keys s.notices (nat_le number) }
+change (PutEnds ends) s = record s {
+  ends = add_ends ends.at ends.last ends.ended
+      (retain_keys s.ends (λ n. nat_le n (last_before ends)));
+}
+change (DropEndsTo number) s = record s { ends = retain_keys s.ends (nat_lt number) }
 
 -- all changes in order
 abbrev pub change_all : List Change → State → State
@@ -152,6 +194,7 @@ pub record Tables : Type 0 where
   pub lines : FinMap lines_cmp Action
   pub marks : FinMap mark_cmp Mark
   pub notices : FinMap notice_cmp Noted
+  pub ends : FinMap end_cmp Past
 
 -- tables of nobody
 abbrev pub no_tables : Tables
@@ -163,6 +206,7 @@ no_tables = record {
   lines = empty;
   marks = empty;
   notices = empty;
+  ends = empty;
 }
 
 -- the row of a message
@@ -284,6 +328,12 @@ uncounted_message customer serial t = given t.heads
 abbrev pub left_of : {K : Type 0} → List ℕ → (K → Bool) → List ℕ × K → Bool
 left_of customer p k = not (eq_by_cmp text_cmp customer k.0 && not (p k.1))
 
+-- ends of a customer added, of which the last has this number
+abbrev pub add_rows : List ℕ → ℕ → ℕ → List Ended → FinMap end_cmp Past → FinMap end_cmp Past
+add_rows customer at last [] m = m
+add_rows customer at last (e ∷ es) m = add_rows customer at last es
+    (insert m (customer, last - length es) (record { at = at; ended = e }))
+
 -- a change of one customer's rows in the tables; the counts in its head row follow
 abbrev pub write : List ℕ → Change → Tables → Tables
 write customer (PutHead head) t = record t { heads = headed customer head t.heads }
@@ -316,6 +366,13 @@ write customer (AddNotice notice) t = record t {
 write customer (DropNoticesBelow number) t = record t {
   notices = retain_keys t.notices (left_of customer (nat_le number));
 }
+write customer (PutEnds ends) t = record t {
+  ends = add_rows customer ends.at ends.last ends.ended
+      (retain_keys t.ends (left_of customer (λ n. nat_le n (last_before ends))));
+}
+write customer (DropEndsTo number) t = record t {
+  ends = retain_keys t.ends (left_of customer (nat_lt number));
+}
 
 -- all changes in order
 abbrev pub write_all : List ℕ → List Change → Tables → Tables
@@ -331,4 +388,5 @@ own customer t = record {
   lines = part_of text_cmp customer t.lines;
   marks = part_of text_cmp customer t.marks;
   notices = part_of text_cmp customer t.notices;
+  ends = part_of text_cmp customer t.ends;
 }

@@ -2,11 +2,12 @@
 
 ghost use Rattle.std.specs.Prelude.{◌≡◌};
 
+use crate::end::Ends;
 use crate::mark::Mark;
 use crate::notice::Notice;
 use hq_access::{Line, Pattern};
-use hq_envelope::{Serial, TryCopy};
 use hq_queue::{Head, Message};
+use hq_values::{Serial, TryCopy};
 use std::alloc::{AllocError, Global};
 
 /// One change of one customer's rows.
@@ -28,6 +29,10 @@ pub enum Change {
     AddNotice(Notice),
     /// Drops the notices of numbers below this one.
     DropNoticesBelow(u64),
+    /// Sets these ends, in place of all from the number of the first of them on.
+    PutEnds(Ends),
+    /// Drops the ends of numbers up to this one.
+    DropEndsTo(u64),
 }
 
 impl TryCopy for Change {
@@ -41,6 +46,8 @@ impl TryCopy for Change {
             Change::PutMark(mark) => Ok(Change::PutMark(mark.copy(alloc)?)),
             Change::AddNotice(notice) => Ok(Change::AddNotice(notice.copy(alloc)?)),
             Change::DropNoticesBelow(number) => Ok(Change::DropNoticesBelow(*number)),
+            Change::PutEnds(ends) => Ok(Change::PutEnds(ends.copy(alloc)?)),
+            Change::DropEndsTo(number) => Ok(Change::DropEndsTo(*number)),
         }
     }
 }

@@ -5,6 +5,7 @@
 
 mod account;
 mod change;
+mod end;
 pub mod laws;
 mod mark;
 mod notice;
@@ -12,6 +13,7 @@ mod shelf;
 
 pub use account::Account;
 pub use change::Change;
+pub use end::{End, Ends};
 pub use mark::Mark;
 pub use notice::Notice;
 pub use shelf::Shelf;

@@ -2,7 +2,7 @@
 
 ghost use Rattle.std.specs.Prelude.{◌≡◌};
 
-use hq_envelope::{Label, TryCopy};
+use hq_values::{Label, TryCopy};
 use std::alloc::{AllocError, Global};
 
 /// An import that was done: it is done once for its label, and what it answered is kept for good.

@@ -1,7 +1,7 @@
 //! What is told to the sender of a message of what became of it.
 
-use hq_envelope::{Address, Moment, Serial, TryCopy, WrittenText};
 use hq_queue::Kind;
+use hq_values::{Address, Moment, Serial, TryCopy, WrittenText};
 use std::alloc::{AllocError, Global};
 
 /// A notice to the sender of a message (bounce(5)). The desk keeps it; sending it is the relay's.

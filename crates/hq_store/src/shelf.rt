@@ -2,16 +2,17 @@
 
 ghost use Rattle.std.specs.Prelude.{◌≡◌, OnOk, take, option_map};
 ghost use Rattle.hq_store.specs.Tables.{write_all};
-ghost use Rattle.hq_store.specs.Readings.{page_of, after_pattern, after_number};
+ghost use Rattle.hq_store.specs.Readings.{page_of, after_pattern, after_number, before_end};
 ghost use Rattle.hq_store.specs.Shelves.{Sight, OnClean, Finds, Keeps, KeepsOnErr};
 ghost use Rattle.hq_store.specs.Shelves.{StopLeavesWhole};
 
 use crate::change::Change;
+use crate::end::End;
 use crate::mark::Mark;
 use crate::notice::Notice;
 use hq_access::{Action, Class, Line, LookupKey, Pattern};
-use hq_envelope::{Fault, Items, Label, Name, Serial, Spool};
 use hq_queue::{Counts, Head, Message};
+use hq_values::{Fault, Items, Label, Name, Serial, Spool};
 
 /// The tables of all customers. Each call reads or changes the rows of the customer that it names.
 ///
@@ -108,6 +109,18 @@ pub trait Shelf {
     ) -> Result<Items<Notice>, Fault>
         ensures found { Finds sight self.old self.new result customer.now
             (λ rows. take limit (after_number after rows.notices)) }
+        ensures kept { Keeps sight self.old self.new result };
+
+    /// The customer's history, the newest first: the first `limit` of the ends before the number,
+    /// or of all.
+    fn ends(
+        &mut self,
+        customer: &Name,
+        before: Option<u64>,
+        limit: usize,
+    ) -> Result<Items<End>, Fault>
+        ensures found { Finds sight self.old self.new result customer.now
+            (λ rows. take limit (before_end before rows.ends)) }
         ensures kept { Keeps sight self.old self.new result };
 
     /// Makes all changes of the customer's rows, in order, or none: so also where the process or

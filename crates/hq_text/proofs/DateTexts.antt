@@ -10,7 +10,7 @@ use Rattle.std.proofs.lemmas.Fmt.{decimal_digit, decimal_injective}
 use Rattle.std.proofs.lemmas.List.{length-append, append_cancel_right}
 use Rattle.jiff_core.specs.Calendar.{days_from_civil}
 use Rattle.jiff_core.proofs.CalendarLemmas.{days_in_month_bounds}
-use Rattle.hq_base.specs.Moments.{last_moment}
+use Rattle.hq_values.specs.Moments.{last_moment}
 use Rattle.hq_text.specs.Dates.{Civil, civil, weekday_names, weekday_name, month_names, month_name}
 use Rattle.hq_text.specs.Dates.{two, day_text, clock_text, date_text}
 use Rattle.hq_text.proofs.Days.{civil_is}

@@ -6,10 +6,10 @@ use Rattle.std.specs.List.{list_all, flat_map}
 use Rattle.std.proofs.lemmas.Bool.Decides.{nat_tests}
 use Rattle.std.proofs.lemmas.List.{append_cancel_left}
 use Rattle.std.proofs.lemmas.List.Folds.{list_all-append}
-use Rattle.hq_base.specs.Serials.{serial_text, serial_in}
-use Rattle.hq_base.proofs.QueueIds.{read_of_text}
-use Rattle.hq_envelope.specs.Addresses.{is_address}
-use Rattle.hq_envelope.specs.Words.{is_text}
+use Rattle.hq_values.specs.Serials.{serial_text, serial_in}
+use Rattle.hq_values.proofs.QueueIds.{read_of_text}
+use Rattle.hq_values.specs.Addresses.{is_address}
+use Rattle.hq_values.specs.Words.{is_text}
 use Rattle.hq_queue.specs.Statuses.{is_status}
 use Rattle.hq_queue.specs.declared.message.Message.{Message}
 use Rattle.hq_queue.specs.declared.outcome.Told.{Told}

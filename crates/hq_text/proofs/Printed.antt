@@ -8,11 +8,11 @@ use Rattle.std.proofs.lemmas.Bool.Decides.{nat_tests}
 use Rattle.std.proofs.lemmas.Fmt.{decimal_by_steps}
 use Rattle.std.proofs.lemmas.List.Folds.{list_all-append}
 use Rattle.std.proofs.lemmas.List.Splits.{join_with_byte-slice_split}
-use Rattle.hq_base.specs.Serials.{hex_digit, hex_text, serial_text}
-use Rattle.hq_envelope.specs.Addresses.{is_label_byte, is_local_byte, is_dot, is_domain_label}
-use Rattle.hq_envelope.specs.Addresses.{is_domain, is_local, is_address, parts_of, last_at}
-use Rattle.hq_envelope.specs.Addresses.{has_good_parts}
-use Rattle.hq_envelope.specs.Words.{is_text_byte, is_text, is_host}
+use Rattle.hq_values.specs.Serials.{hex_digit, hex_text, serial_text}
+use Rattle.hq_values.specs.Addresses.{is_label_byte, is_local_byte, is_dot, is_domain_label}
+use Rattle.hq_values.specs.Addresses.{is_domain, is_local, is_address, parts_of, last_at}
+use Rattle.hq_values.specs.Addresses.{has_good_parts}
+use Rattle.hq_values.specs.Words.{is_text_byte, is_text, is_host}
 use Rattle.hq_queue.specs.Statuses.{is_digit, is_leading_digit, is_class, is_number, is_status}
 use Rattle.hq_queue.specs.Statuses.{are_status_parts}
 

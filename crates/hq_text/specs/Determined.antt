@@ -1,9 +1,9 @@
 -- What a status text tells of the notice that it is of.
 use Rattle.std.specs.Prelude.{ℕ, ◌≡◌, ◌<◌, ◌≤◌, ◌^◌, Bool, ◌&&◌, IsTrue, List, length}
 use Rattle.std.specs.List.{list_all}
-use Rattle.hq_base.specs.Moments.{last_moment}
-use Rattle.hq_envelope.specs.Addresses.{is_address}
-use Rattle.hq_envelope.specs.Words.{is_host, is_text, is_text_byte}
+use Rattle.hq_values.specs.Moments.{last_moment}
+use Rattle.hq_values.specs.Addresses.{is_address}
+use Rattle.hq_values.specs.Words.{is_host, is_text, is_text_byte}
 use Rattle.hq_queue.specs.Statuses.{is_status}
 use Rattle.hq_queue.specs.declared.message.Message.{Message}
 use Rattle.hq_queue.specs.declared.outcome.Told.{Told}

@@ -3,8 +3,8 @@
 use Rattle.std.specs.Prelude.{ℕ, ◌+◌, ◌==◌, List, [], ◌∷◌, ◌++◌, length, map, Option, None, Some}
 use Rattle.std.specs.Prelude.{codes, if◌then◌else◌}
 use Rattle.std.specs.List.{flat_map}
-use Rattle.hq_base.specs.Moments.{no_later}
-use Rattle.hq_base.specs.Serials.{serial_text}
+use Rattle.hq_values.specs.Moments.{no_later}
+use Rattle.hq_values.specs.Serials.{serial_text}
 use Rattle.hq_queue.specs.Limits.{expiry}
 use Rattle.hq_queue.specs.declared.message.Message.{Message}
 use Rattle.hq_queue.specs.declared.outcome.Told.{Told}

@@ -5,7 +5,7 @@ ghost use Rattle.jiff.specs.Words.{epoch_day};
 ghost use Rattle.hq_text.specs.Dates.{two, civil, weekday_name, month_name, day_text, clock_text};
 ghost use Rattle.hq_text.specs.Dates as dates;
 
-use hq_envelope::Moment;
+use hq_values::Moment;
 use jiff::ToSpan;
 use jiff::civil::{Date, date};
 use std::alloc::{AllocError, Global};

@@ -2,8 +2,8 @@
 //! contract is the law.
 
 ghost use Rattle.std.specs.Prelude.{◌≡◌, ℕ, List, IsTrue};
-ghost use Rattle.hq_envelope.specs.Addresses.{is_address};
-ghost use Rattle.hq_envelope.specs.Words.{is_host, is_text};
+ghost use Rattle.hq_values.specs.Addresses.{is_address};
+ghost use Rattle.hq_values.specs.Words.{is_host, is_text};
 ghost use Rattle.hq_queue.specs.Statuses.{is_status};
 ghost use Rattle.hq_queue.specs.declared.message.Message.{Message};
 ghost use Rattle.hq_queue.specs.declared.outcome.Told.{Told};

@@ -14,5 +14,5 @@ mod notices;
 mod queue_report;
 
 pub use dates::date_text;
-pub use notices::{human_text, status_text};
+pub use notices::{human_text, queue_id, status_text};
 pub use queue_report::{Report, report_text};

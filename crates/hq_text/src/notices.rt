@@ -2,13 +2,13 @@
 //! what a person reads. Who is told, and when, is not said here.
 
 ghost use Rattle.std.specs.Prelude.{◌≡◌, [], ◌∷◌, ◌++◌, IfOk, OnOk, Some, option_map, string_bytes};
-ghost use Rattle.hq_base.specs.Serials.{serial_text};
+ghost use Rattle.hq_values.specs.Serials.{serial_text};
 ghost use Rattle.hq_text.specs.Lines.{crlf, said, text_of};
 ghost use Rattle.hq_text.specs.Notices as notices;
 
 use crate::dates::date_text;
-use hq_envelope::{Host, Moment, Serial};
 use hq_queue::{EXPIRY_SECONDS, Kind, Message, Told};
+use hq_values::{Host, Moment, Serial};
 use std::alloc::{AllocError, Global};
 use std::fmt::Write;
 use std::str;
@@ -35,7 +35,7 @@ fn lent(date: &Option<String>) -> Option<&str>
 }
 
 /// The queue ID as a text.
-pub(crate) fn queue_id(alloc: Global, serial: Serial) -> Result<String, AllocError>
+pub fn queue_id(alloc: Global, serial: Serial) -> Result<String, AllocError>
     ensures { IfOk result (λ id. string_bytes id ≡ serial_text serial) }
 {
     let text = serial.text();

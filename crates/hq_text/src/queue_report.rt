@@ -10,8 +10,8 @@ ghost use Rattle.hq_text.specs.Reports as reports;
 
 use crate::dates::date_text;
 use crate::notices::queue_id;
-use hq_envelope::Sender;
 use hq_queue::{Message, Pending, QueueState, Status};
+use hq_values::Sender;
 use std::alloc::{AllocError, Global};
 use std::fmt::Write;
 use std::marker::Model;

@@ -6,9 +6,9 @@ ghost use Rattle.hq_trial.specs.Shelves.{inner_of, trial_of, greatest_limit_of};
 
 use crate::failure::{Failure, Trial};
 use hq_access::{Action, Class, Line, LookupKey, Pattern};
-use hq_envelope::{Fault, Items, Label, Name, Serial, Spool};
 use hq_queue::{Counts, Head, Message};
-use hq_store::{Change, Mark, Notice, Shelf};
+use hq_store::{Change, End, Mark, Notice, Shelf};
+use hq_values::{Fault, Items, Label, Name, Serial, Spool};
 
 /// A shelf before another: it hands each call on, or fails it as told without handing it on.
 ///
@@ -61,7 +61,7 @@ impl<S> FailingShelf<S> {
 
 impl<S: Shelf> Shelf for FailingShelf<S> {
     ghost use Rattle.std.specs.Prelude.{◌≡◌, ◌⊎◌};
-    ghost use Rattle.hq_base.specs.declared.failure.Fault.TheVariants.{Disk, Closed};
+    ghost use Rattle.hq_values.specs.declared.failure.Fault.TheVariants.{Disk, Closed};
 
     ghost sight = { record {
       tables = λ s. S.sight.tables s.inner;
@@ -171,6 +171,19 @@ impl<S: Shelf> Shelf for FailingShelf<S> {
         let answer = match self.trial.count() {
             Some(fault) => Err(fault),
             None => self.inner.notices(customer, after, limit),
+        };
+        self.trial.answer(answer)
+    }
+
+    fn ends(
+        &mut self,
+        customer: &Name,
+        before: Option<u64>,
+        limit: usize,
+    ) -> Result<Items<End>, Fault> {
+        let answer = match self.trial.count() {
+            Some(fault) => Err(fault),
+            None => self.inner.ends(customer, before, limit),
         };
         self.trial.answer(answer)
     }

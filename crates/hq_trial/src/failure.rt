@@ -3,7 +3,7 @@
 ghost use Rattle.std.specs.Prelude.{◌≡◌};
 ghost use Rattle.hq_trial.specs.Trials.{fault_planned, call_counted, uncalled, after_answer};
 
-use hq_envelope::Fault;
+use hq_values::Fault;
 
 /// When a shelf fails. Its calls count from 1.
 #[derive(Clone, Copy, Debug, PartialEq, Eq, Drop)]

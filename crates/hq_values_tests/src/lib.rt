@@ -1,8 +1,6 @@
-//! The tests of values and refusals, over their public calls. They stand apart so that the crates
-//! of those are proved once, and not again with them.
+//! For tests alone: what is printed of refusals, faults and keys. Clauses say the numbers and
+//! names, and no clause says what `Display` and `Debug` write.
 #![tactic(auto)]
 
 #[cfg(test)]
-mod refusals;
-#[cfg(test)]
-mod values;
+mod printed;

@@ -8,10 +8,10 @@ use Rattle.std.specs.Cmp.Lexicographic.{nat_list_cmp_total}
 use Rattle.std.proofs.lemmas.Map.Lookups.{exact_bytes}
 use Rattle.std.proofs.lemmas.Map.Views.{tells_apart}
 use Rattle.std.proofs.lemmas.Bool.{eq-eqb, both_ways}
-use Rattle.hq_base.specs.Refusals.{no_memory}
-use Rattle.hq_base.specs.declared.failure.Fault.{Fault}
-use Rattle.hq_base.specs.declared.failure.Fault.TheVariants.{WantOfMemory}
-use Rattle.hq_base.specs.declared.failure.Refusal.{Refusal}
+use Rattle.hq_values.specs.Refusals.{no_memory}
+use Rattle.hq_values.specs.declared.failure.Fault.{Fault}
+use Rattle.hq_values.specs.declared.failure.Fault.TheVariants.{WantOfMemory}
+use Rattle.hq_values.specs.declared.failure.Refusal.{Refusal}
 use Rattle.hq_queue.specs.declared.account.Entry.{Entry}
 use Rattle.hq_store.specs.Tables.{Tables, State, text_cmp, own}
 use Rattle.hq_owned.proofs.Parts.{tied_true}

@@ -6,10 +6,12 @@ use Rattle.std.proofs.Common.{append-nil, append_assoc}
 use Rattle.std.specs.List.{flat_map}
 use Rattle.std.proofs.lemmas.List.{map-append}
 use Rattle.std.proofs.lemmas.List.Concat.{flat_map-append}
-use Rattle.hq_base.specs.declared.failure.Fault.{Fault}
-use Rattle.hq_base.specs.declared.failure.Fault.TheVariants.{WantOfMemory, Disk, BadSchema, Closed}
+use Rattle.hq_values.specs.Refusals.{no_memory}
+use Rattle.hq_values.specs.declared.failure.Fault.{Fault}
+use Rattle.hq_values.specs.declared.failure.Fault.TheVariants.{WantOfMemory, Disk, BadSchema}
+use Rattle.hq_values.specs.declared.failure.Fault.TheVariants.{Closed}
 use Rattle.hq_queue.specs.declared.account.Entry.{Entry}
-use Rattle.hq_store.specs.Shelves.{Sight, IsTallied, KeepsOnErr, OnSound, OnOpenSound, one_more}
+use Rattle.hq_store.specs.Shelves.{Sight, IsTallied, KeepsOnErr, OnSound, OnOpenSound}
 use Rattle.hq_store.specs.Shelves.{StopLeavesTables, StopLeavesWhole}
 use Rattle.hq_store.specs.Sound.{Sound}
 use Rattle.hq_store.specs.Tables.{Tables}
@@ -24,10 +26,10 @@ use Rattle.hq_wire.specs.Exchanges.{AllDone, Exchanged, InPart, StopsClosed, Unh
 use Rattle.hq_wire.specs.Exchanges.{of_part, unheard_call}
 use Rattle.hq_wire.specs.Replies.{AreObjects, IsObject, Part, is_memory, comma_joined}
 use Rattle.hq_wire.specs.Replies.{parts_opening, part_text}
-use Rattle.hq_wire.specs.Replies.{separated, parted_reply}
+use Rattle.hq_wire.specs.Replies.{separated, parted_reply, reply_of_fault}
 use Rattle.hq_requests.specs.declared.directory.Directory.{Directory}
 use Rattle.hq_wire.proofs.Alone.{all_done_on}
-use Rattle.hq_wire.proofs.Exchanging.{apart, stay_put, stay_on, stop_closes, tells_none}
+use Rattle.hq_wire.proofs.Exchanging.{apart, counts, stay_put, stay_on, stop_closes, tells_none}
 
 -- ---- the text of parts
 
@@ -74,16 +76,6 @@ tells_closed WantOfMemory was is m n name h closed = apart (sym h.1 ∙ closed)
 tells_closed Disk was is m n name h closed = apart (sym h.1 ∙ closed)
 tells_closed BadSchema was is m n name h closed = absurd h
 tells_closed Closed was is m n name h closed = (name, refl)
-
-one_more_is : (m n : ℕ) → n ≡ one_more m → n < 2 ^ 64 - 1 → 1 + m ≤ n
-one_more_is m n h small = grind arith
-
-counts : (fault : Fault) (was is : Bool) (m n : ℕ) → IsTallied {X = Rendered} was is m n (Err fault)
-    → n < 2 ^ 64 - 1 → cond (not (is_memory fault)) 1 0 + m ≤ n
-counts WantOfMemory was is m n h small = let same = h.2 in omega (arith, same)
-counts Disk was is m n h small = one_more_is m n h.2 small
-counts BadSchema was is m n h small = absurd h
-counts Closed was is m n h small = one_more_is m n h.1 small
 
 -- ---- the calls
 
@@ -254,7 +246,14 @@ module _ {S : Type 0} (sight : Sight S) (d : Directory) (at : ℕ) (call : Call)
       objects = so_far.objects;
       reply = refl;
     });
-    anyway = λ closed. inr (inr (either so_far.open_ closed));
+    tells = inl (record {
+      left = [];
+      order = sym (append-nil (map customer_of_part so_far.parts) ∙ so_far.whose ∙ all);
+      ends = refl;
+      objects = so_far.objects;
+      reply = refl;
+    });
+    anyway = λ closed. inr (either so_far.open_ closed);
     closed = tells_none (parted_reply so_far.parts None) refl;
     sound = so_far.sound;
     stays = so_far.stays;
@@ -267,8 +266,10 @@ module _ {S : Type 0} (sight : Sight S) (d : Directory) (at : ℕ) (call : Call)
     counted = λ small. let same = so_far.tally in omega (arith, same);
   } where
     either : ((names ≡ []) × (new ≡ old)) ⊎ ((on sight).is_closed new ≡ false) →
-        (on sight).is_closed new ≡ true → names_of d ≡ []
-    either (inl none) closed = sym all ∙ none.0
+        (on sight).is_closed new ≡ true →
+        ((parted_reply so_far.parts None ≡ reply_of_fault no_memory) ⊎ (names_of d ≡ []))
+        × (new ≡ old)
+    either (inl none) closed = (inr (sym all ∙ none.0), none.1)
     either (inr open_) closed = apart (sym open_ ∙ closed)
 
   -- a fault stopped it at a customer
@@ -318,6 +319,13 @@ module _ {S : Type 0} (sight : Sight S) (d : Directory) (at : ℕ) (call : Call)
               objects = so_far.objects;
               reply = refl;
             });
+        tells = inl (record {
+          left = name ∷ more;
+          order = all ∙ ap (λ ns. ns ++ name ∷ more) (sym so_far.whose);
+          ends = (inr tt, (more, refl));
+          objects = so_far.objects;
+          reply = refl;
+        });
         anyway = λ closed. inl (tells_closed fault _ _ _ _ name kept.tally closed);
         closed = stop_closes fault _ _ _ _ so_far.parts name kept.tally;
         sound = λ clean ours open_ fit.
@@ -339,7 +347,7 @@ module _ {S : Type 0} (sight : Sight S) (d : Directory) (at : ℕ) (call : Call)
             );
         shut = closed_told_none old mid names body is_first so_far;
         counted = λ small. let told = counts fault _ _ _ _ kept.tally small in let same =
-            so_far.tally in subst (λ n. cond (not (is_memory fault)) 1 0 + n ≤
+            so_far.tally in subst (λ n. cond (not (is_memory fault)) 1 0 + n ≡
             (on sight).fault_count new) same told;
       }
 

@@ -1,15 +1,17 @@
 -- What one exchange does, by how it goes.
-use Rattle.std.proofs.Common.{◌≡◌, ◌⊎◌, inl, inr, ⊎_elim, ℕ, ◌+◌, ◌≤◌, Bool, true, false, cond, not}
+use Rattle.std.proofs.Common.{◌≡◌, ◌⊎◌, inl, inr, ⊎_elim, ℕ, ◌+◌, ◌-◌, ◌^◌, ◌<◌, Bool, true, false}
+use Rattle.std.proofs.Common.{cond, not}
 use Rattle.std.proofs.Common.{◌&&◌, ◌||◌, eqb, List, [], ◌∷◌, map, Option, None, Some, Result, Ok}
 use Rattle.std.proofs.Common.{Err, refl, sym, take, drop, length}
 use Rattle.std.proofs.Common.{ap, ◌∙◌, subst, arith}
 use Rattle.std.specs.Prelude.{bytes_eq}
 use Rattle.std.proofs.lemmas.Bool.{eq-eqb, false≢true}
-use Rattle.hq_base.specs.Refusals.{no_memory}
-use Rattle.hq_base.specs.declared.failure.Fault.{Fault}
-use Rattle.hq_base.specs.declared.failure.Fault.TheVariants.{WantOfMemory, Disk, BadSchema, Closed}
-use Rattle.hq_base.specs.declared.failure.Refusal.{Refusal}
-use Rattle.hq_store.specs.Shelves.{Sight, IsTallied, StopLeaves, StopLeavesTables}
+use Rattle.hq_values.specs.Refusals.{no_memory}
+use Rattle.hq_values.specs.declared.failure.Fault.{Fault}
+use Rattle.hq_values.specs.declared.failure.Fault.TheVariants.{WantOfMemory, Disk, BadSchema}
+use Rattle.hq_values.specs.declared.failure.Fault.TheVariants.{Closed}
+use Rattle.hq_values.specs.declared.failure.Refusal.{Refusal}
+use Rattle.hq_store.specs.Shelves.{Sight, IsTallied, StopLeaves, StopLeavesTables, one_more}
 use Rattle.hq_store.specs.Tables.{Tables}
 use Rattle.hq_queue.specs.declared.account.Entry.{Entry}
 use Rattle.hq_calls.specs.Machine.{shared}
@@ -20,10 +22,10 @@ use Rattle.hq_desk.specs.declared.desk.Desk.{Desk}
 use Rattle.hq_desk.specs.declared.desk.Rendered.{Rendered}
 use Rattle.hq_requests.specs.Calls.{Asked, CallOf, CallOfAll}
 use Rattle.hq_wire.specs.Exchanges.{Ask, MayReplyTo, IsRefused, RepliesAnyway, StopsClosed}
-use Rattle.hq_wire.specs.Exchanges.{TellsClosed, Exchanged, AllDone, Deed, StopMayLeave, Whole}
-use Rattle.hq_wire.specs.Exchanges.{after_calls, deeds_of, of_part, unheard_call}
-use Rattle.hq_wire.specs.Replies.{Part, SeenReply, Stop, fault_text, reply_of_fault, stops_by_store}
-use Rattle.hq_wire.specs.Replies.{parted_reply, tells_store}
+use Rattle.hq_wire.specs.Exchanges.{TellsClosed, TellsOf, Exchanged, AllDone, Deed, StopMayLeave}
+use Rattle.hq_wire.specs.Exchanges.{Whole, after_calls, deeds_of, of_part, unheard_call}
+use Rattle.hq_wire.specs.Replies.{Part, SeenReply, Stop, fault_text, is_memory, reply_of_fault}
+use Rattle.hq_wire.specs.Replies.{parted_reply, stops_by_store, tells_store}
 use Rattle.hq_requests.specs.declared.directory.Directory.{Directory}
 use Rattle.hq_wire.proofs.Alone.{fault_status, no_parts}
 
@@ -143,11 +145,17 @@ room_anyway : {S : Type 0} (sight : Sight (Desk S)) (d : Directory) (desk : Desk
     (called : Result Asked Refusal) (r : SeenReply) → r ≡ reply_of_fault no_memory →
     RepliesAnyway sight d desk called r desk
 room_anyway sight d desk (Err e) r h = (inr h, refl)
-room_anyway sight d desk (Ok (CallOf name call)) r h = λ closed. inr h
-room_anyway sight d desk (Ok (CallOfAll call)) r h = λ closed. inr (inl h)
+room_anyway sight d desk (Ok (CallOf name call)) r h = λ closed. inr (h, refl)
+room_anyway sight d desk (Ok (CallOfAll call)) r h = λ closed. inr (inl h, refl)
 
-none_more : (b : Bool) (n : ℕ) → b ≡ false → cond b 1 0 + n ≤ n
-none_more b n h = subst (λ (x : Bool). cond x 1 0 + n ≤ n) (sym h) (omega arith)
+room_tells : (d : Directory) (called : Result Asked Refusal) (r : SeenReply) →
+    r ≡ reply_of_fault no_memory → TellsOf d called r
+room_tells d (Err e) r h = inr h
+room_tells d (Ok (CallOf name call)) r h = inr (no_memory, h)
+room_tells d (Ok (CallOfAll call)) r h = inr h
+
+none_more : (b : Bool) (n : ℕ) → b ≡ false → cond b 1 0 + n ≡ n
+none_more b n h = subst (λ (x : Bool). cond x 1 0 + n ≡ n) (sym h) (omega arith)
 
 memory_is_none : tells_store (reply_of_fault no_memory) ≡ false
 unfolding reply_of_fault
@@ -196,6 +204,41 @@ fault_closes Disk was is m n r h same told = ⊎_elim
 fault_closes BadSchema was is m n r h same told = absurd h
 fault_closes Closed was is m n r h same told = h.0
 
+-- where the store is closed behind it, it was told
+pub fault_told : {X : Type 0} (fault : Fault) (was is : Bool) (m n : ℕ) (r : SeenReply) →
+    IsTallied {X = Rendered} was is m n (Err fault) → r ≡ reply_of_fault fault → is ≡ true →
+    (r ≡ reply_of_fault Closed) ⊎ X
+fault_told WantOfMemory was is m n r h same closed = apart (sym h.1 ∙ closed)
+fault_told Disk was is m n r h same closed = apart (sym h.1 ∙ closed)
+fault_told BadSchema was is m n r h same closed = absurd h
+fault_told Closed was is m n r h same closed = inl same
+
+is_counted : (fault : Fault) → tells_store (reply_of_fault fault) ≡ not (is_memory fault)
+unfolding reply_of_fault
+is_counted WantOfMemory = refl
+is_counted Disk = refl
+is_counted BadSchema = refl
+is_counted Closed = refl
+
+one_more_is : (m n : ℕ) → n ≡ one_more m → n < 2 ^ 64 - 1 → 1 + m ≡ n
+one_more_is m n h small = grind arith
+
+pub counts : (fault : Fault) (was is : Bool) (m n : ℕ) →
+    IsTallied {X = Rendered} was is m n (Err fault) → n < 2 ^ 64 - 1 →
+    cond (not (is_memory fault)) 1 0 + m ≡ n
+counts WantOfMemory was is m n h small = let same = h.2 in omega (arith, same)
+counts Disk was is m n h small = one_more_is m n h.2 small
+counts BadSchema was is m n h small = absurd h
+counts Closed was is m n h small = one_more_is m n h.1 small
+
+-- as it is told whole
+pub counts_told : (fault : Fault) (was is : Bool) (m n : ℕ) (r : SeenReply) →
+    IsTallied {X = Rendered} was is m n (Err fault) → r ≡ reply_of_fault fault →
+    n < 2 ^ 64 - 1 → cond (tells_store r) 1 0 + m ≡ n
+counts_told fault was is m n r h same small =
+    subst (λ (b : Bool). cond b 1 0 + m ≡ n) (sym (ap tells_store same ∙ is_counted fault))
+    (counts fault was is m n h small)
+
 is_closed : Fault → Bool
 is_closed Closed = true
 is_closed _ = false
@@ -235,6 +278,7 @@ module _ {S : Type 0} (sight : Sight S) (d : Directory) (desk : Desk S) where
       Exchanged sight d desk a r desk
   no_room a r h = record {
     replied = λ clean ours open_ sound. without_room sight.may_answer _ d _ a.at a.called r h;
+    tells = room_tells d a.called r h;
     anyway = room_anyway (on sight) d desk a.called r h;
     closed = tells_none r (ap tells_store h ∙ memory_is_none);
     sound = λ clean ours open_ sound. sound;
@@ -250,6 +294,7 @@ module _ {S : Type 0} (sight : Sight S) (d : Directory) (desk : Desk S) where
       Exchanged sight d desk (record { at = at; called = Err e }) r desk
   refused at e r h none = record {
     replied = λ clean ours open_ sound. (h, refl);
+    tells = h;
     anyway = (h, refl);
     closed = tells_none r none;
     sound = λ clean ours open_ sound. sound;

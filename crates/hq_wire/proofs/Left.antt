@@ -1,9 +1,9 @@
 -- Which replies leave the tables as they were.
 use Rattle.std.proofs.Common.{◌≡◌, ◌≢◌, ◌⊎◌, ⊎_elim, ℕ, true, List, [], ◌∷◌, map}
 use Rattle.std.proofs.Common.{Result, Ok, Err, refl, ap, ◌∙◌}
-use Rattle.hq_base.specs.Refusals.{no_memory}
-use Rattle.hq_base.specs.declared.failure.Fault.{Fault}
-use Rattle.hq_base.specs.declared.failure.Refusal.{Refusal}
+use Rattle.hq_values.specs.Refusals.{no_memory}
+use Rattle.hq_values.specs.declared.failure.Fault.{Fault}
+use Rattle.hq_values.specs.declared.failure.Refusal.{Refusal}
 use Rattle.hq_store.specs.Readings.{read_tables}
 use Rattle.hq_store.specs.Tables.{Tables, write_all}
 use Rattle.hq_store.specs.declared.change.Change.{Change}

@@ -1,14 +1,15 @@
 -- Exchanges one after the other are served together.
 use Rattle.std.proofs.Common.{◌≡◌, ◌+◌, List, [], ◌∷◌, cond, sym, ap, subst, arith}
 use Rattle.std.proofs.lemmas.List.Sums.{sum_by-append}
-use Rattle.hq_base.specs.Turns.{InTurn}
-use Rattle.hq_base.proofs.Turns.{one_turn}
+use Rattle.std.specs.List.{AllZip}
+use Rattle.hq_values.specs.Turns.{InTurn}
+use Rattle.hq_values.proofs.Turns.{one_turn}
 use Rattle.hq_store.specs.Shelves.{Sight, OnOpenSound}
 use Rattle.hq_store.specs.Sound.{Sound}
 use Rattle.hq_store.specs.Tables.{Tables}
 use Rattle.hq_desk.specs.Desks.{Stays, host_of, on}
 use Rattle.hq_desk.specs.declared.desk.Desk.{Desk}
-use Rattle.hq_wire.specs.Exchanges.{Ask, Exchanged}
+use Rattle.hq_wire.specs.Exchanges.{Ask, Exchanged, Tells}
 use Rattle.hq_wire.specs.Replies.{SeenReply, IsSent, store_faults, tells_store}
 use Rattle.hq_wire.specs.Runs.{AllReplied, Served, RepliesSo}
 use Rattle.hq_wire.specs.declared.reply.Reply.{Reply}
@@ -113,3 +114,13 @@ module _ {S : Type 0} (sight : Sight S) (d : Directory) where
     done = p;
     alone = (served_once old new a r p).alone;
   }
+
+-- what each reply tells
+pub tells_each : {S : Type 0} (sight : Sight S) (d : Directory) (old : Desk S) (asks : List Ask)
+    (rs : List SeenReply) (new : Desk S) → InTurn (Exchanged sight d) old asks rs new →
+    AllZip (Tells d) asks rs
+tells_each sight d old [] [] new h = tt
+tells_each sight d old [] (r ∷ rs) new h = absurd h
+tells_each sight d old (a ∷ asks) [] new h = absurd h
+tells_each sight d old (a ∷ asks) (r ∷ rs) new h =
+    (h.1.tells, tells_each sight d h.0 asks rs new h.2)

@@ -1,12 +1,12 @@
 -- One exchange: what may be replied, and what is left.
 use Rattle.std.specs.Prelude.{◌≡◌, ◌⊎◌, ℕ, ◌+◌, ◌-◌, ◌^◌, ◌<◌, ◌≤◌, ◌==◌, Bool, true, false, List}
 use Rattle.std.specs.Prelude.{[], ◌∷◌, ◌++◌, map, length, take, drop, Option, None, Some, Result}
-use Rattle.std.specs.Prelude.{Ok, Err}
+use Rattle.std.specs.Prelude.{Ok, Err, ⊤}
 use Rattle.std.specs.Prelude.{if◌then◌else◌}
-use Rattle.hq_base.specs.Refusals.{no_memory}
-use Rattle.hq_base.specs.declared.failure.Fault.{Fault}
-use Rattle.hq_base.specs.declared.failure.Fault.TheVariants.{Closed}
-use Rattle.hq_base.specs.declared.failure.Refusal.{Refusal}
+use Rattle.hq_values.specs.Refusals.{no_memory}
+use Rattle.hq_values.specs.declared.failure.Fault.{Fault}
+use Rattle.hq_values.specs.declared.failure.Fault.TheVariants.{Closed}
+use Rattle.hq_values.specs.declared.failure.Refusal.{Refusal}
 use Rattle.hq_store.specs.Shelves.{Sight, OnSound, OnOpenSound, StopLeaves, StopLeavesTables}
 use Rattle.hq_store.specs.Sound.{Sound}
 use Rattle.hq_store.specs.Tables.{Tables}
@@ -156,6 +156,27 @@ abbrev pub MayReply : (Fault → Type 0) → List ℕ → Directory → Tables �
     Type 0
 MayReply may host d t a r t' = MayReplyTo may host d t a.at a.called r t'
 
+-- The reply to a call of all has the parts of the first customers of the directory, and then ends,
+-- or names the next one and the fault that stopped it there.
+pub record ArePartsOf (d : Directory) (r : SeenReply) : Type 0 where
+  pub left : List (List ℕ)
+  pub order : names_of d ≡ map (λ (part : Part). part.customer) r.parts ++ left
+  pub ends : EndsAt (λ fault. ⊤) left r.stopped
+  pub objects : AreObjects r.parts
+  pub reply : r ≡ parted_reply r.parts r.stopped
+
+-- What a reply tells, whatever the store is: of what was refused, the refusal; of a call of a
+-- customer, an answer or a fault; of a call of all, parts and what stopped it. Want of memory may
+-- stand in place of any.
+abbrev pub TellsOf : Directory → Result Asked Refusal → SeenReply → Type 0
+TellsOf d (Err refusal) r = IsRefused refusal r
+TellsOf d (Ok (CallOf name call)) r = ((answer : Answer) × (r ≡ reply_of answer))
+    ⊎ ((fault : Fault) × (r ≡ reply_of_fault fault))
+TellsOf d (Ok (CallOfAll call)) r = ArePartsOf d r ⊎ (r ≡ reply_of_fault no_memory)
+
+abbrev pub Tells : Directory → Ask → SeenReply → Type 0
+Tells d a r = TellsOf d a.called r
+
 -- a call of all was stopped by 93
 abbrev pub StopsClosed : Option Stop → Type 0
 StopsClosed stopped = (customer : List ℕ) × (stopped ≡ Some
@@ -166,15 +187,16 @@ abbrev pub TellsClosed : SeenReply → Type 0
 TellsClosed r = (r ≡ reply_of_fault Closed) ⊎ StopsClosed r.stopped
 
 -- Whatever the store is: a refusal is told, and the desk stays as it is; and where the store is
--- closed after a call, the reply tells this, or want of memory; and so of a call of all, unless
--- there is no customer.
+-- closed after a call, the reply tells this, or want of memory before anything was done; and so of
+-- a call of all, unless there is no customer.
 abbrev pub RepliesAnyway : {S : Type 0} → Sight (Desk S) → Directory → Desk S → Result Asked Refusal
     → SeenReply → Desk S → Type 0
 RepliesAnyway sight d old (Err refusal) r new = IsRefused refusal r × (new ≡ old)
 RepliesAnyway sight d old (Ok (CallOf name call)) r new = sight.is_closed new ≡ true →
-    (r ≡ reply_of_fault Closed) ⊎ (r ≡ reply_of_fault no_memory)
+    (r ≡ reply_of_fault Closed) ⊎ ((r ≡ reply_of_fault no_memory) × (new ≡ old))
 RepliesAnyway sight d old (Ok (CallOfAll call)) r new = sight.is_closed new ≡ true →
-    StopsClosed r.stopped ⊎ ((r ≡ reply_of_fault no_memory) ⊎ (names_of d ≡ []))
+    StopsClosed r.stopped
+    ⊎ (((r ≡ reply_of_fault no_memory) ⊎ (names_of d ≡ [])) × (new ≡ old))
 
 -- What one exchange does to a desk, by what is seen of its shelf.
 pub record Exchanged {S : Type 0} (sight : Sight S) (d : Directory) (old : Desk S) (a : Ask)
@@ -182,6 +204,7 @@ pub record Exchanged {S : Type 0} (sight : Sight S) (d : Directory) (old : Desk 
   pub replied : OnOpenSound (on sight) old new
       (MayReply sight.may_answer (host_of old) d ((on sight).tables old) a r
       ((on sight).tables new))
+  pub tells : Tells d a r
   pub anyway : RepliesAnyway (on sight) d old a.called r new
   -- 93 is told only where the store is closed then
   pub closed : TellsClosed r → (on sight).is_closed new ≡ true
@@ -193,7 +216,7 @@ pub record Exchanged {S : Type 0} (sight : Sight S) (d : Directory) (old : Desk 
       (StopMayLeave (host_of old) d ((on sight).tables old) a.at a.called r))
   -- a desk that was closed does nothing
   pub shut : (on sight).is_closed old ≡ true → deeds_of a.at a.called r ≡ []
-  -- 91 and 93 are told only where the shelf counted a fault, as long as its count does not stand
+  -- 91 and 93 are told exactly where the shelf counted a fault, as long as its count does not stand
   -- still
   pub counted : (on sight).fault_count new < 2 ^ 64 - 1 →
-      (if tells_store r then 1 else 0) + (on sight).fault_count old ≤ (on sight).fault_count new
+      (if tells_store r then 1 else 0) + (on sight).fault_count old ≡ (on sight).fault_count new

@@ -3,8 +3,9 @@ use Rattle.std.specs.Prelude.{ℕ, ⊤, ◌≡◌, ◌==◌, ◌&&◌, ◌||◌,
 use Rattle.std.specs.Prelude.{◌∷◌, ◌++◌, take, drop, Option, None, Some, bytes_eq, codes, count_by}
 use Rattle.std.specs.Prelude.{if◌then◌else◌}
 use Rattle.std.specs.List.{flat_map, list_all}
-use Rattle.hq_base.specs.declared.failure.Fault.{Fault}
-use Rattle.hq_base.specs.declared.failure.Fault.TheVariants.{WantOfMemory, Disk, BadSchema, Closed}
+use Rattle.hq_values.specs.declared.failure.Fault.{Fault}
+use Rattle.hq_values.specs.declared.failure.Fault.TheVariants.{WantOfMemory, Disk, BadSchema}
+use Rattle.hq_values.specs.declared.failure.Fault.TheVariants.{Closed}
 use Rattle.hq_calls.specs.Answers.{answer_number}
 use Rattle.hq_calls.specs.declared.answer.Answer.{Answer}
 use Rattle.hq_json.specs.Replies.{answer_text}

@@ -3,8 +3,8 @@ use Rattle.std.specs.Prelude.{◌≡◌, ℕ, ◌+◌, ◌-◌, ◌^◌, ◌<◌
 use Rattle.std.specs.Prelude.{filter}
 use Rattle.std.specs.List.{AllZip}
 use Rattle.std.specs.Ordering.{eq_by_cmp}
-use Rattle.hq_base.specs.Turns.{InTurn}
-use Rattle.hq_base.specs.declared.failure.Fault.{Fault}
+use Rattle.hq_values.specs.Turns.{InTurn}
+use Rattle.hq_values.specs.declared.failure.Fault.{Fault}
 use Rattle.hq_store.specs.Shelves.{Sight, OnOpenSound}
 use Rattle.hq_store.specs.Sound.{Sound}
 use Rattle.hq_store.specs.Tables.{Tables, text_cmp, own}
@@ -87,10 +87,10 @@ pub record Served {S : Type 0} (sight : Sight S) (d : Directory) (old : Desk S) 
       (Alone (host_of old) d asks rs ((on sight).tables old) ((on sight).tables new))
   pub sound : OnOpenSound (on sight) old new (Sound ((on sight).tables new))
   pub stays : Stays (on sight) old new
-  -- 91 and 93 are told at most as often as the shelf counted a fault, as long as its count does not
-  -- stand still
+  -- 91 and 93 are told as often as the shelf counted a fault, as long as its count does not stand
+  -- still
   pub counted : (on sight).fault_count new < 2 ^ 64 - 1 →
-      store_faults rs + (on sight).fault_count old ≤ (on sight).fault_count new
+      store_faults rs + (on sight).fault_count old ≡ (on sight).fault_count new
 
 -- What one exchange does to a desk, with the reply as it is sent; and the headline, of one
 -- exchange.

@@ -11,11 +11,11 @@ ghost use Rattle.hq_requests.specs.declared.directory.Directory.{Directory};
 use crate::calling::call_all;
 use crate::reply::{Body, Reply, fault_reply, status_of};
 use hq_desk::{Call, Desk};
-use hq_envelope::{Fail, Fault, Moment, Refusal};
 use hq_json::{Json, refusal_text};
 use hq_queue::Entry;
 use hq_requests::{Asking, Directory, Exchange, call_of};
 use hq_store::Shelf;
+use hq_values::{Fail, Fault, Moment, Refusal};
 use std::alloc::Global;
 
 /// The reply to a refusal that no call was made for, or to want of memory where its text has no

@@ -12,10 +12,10 @@ ghost use Rattle.hq_wire.specs.Replies.{fault_text, separated, parts_opening, cl
 use crate::reply::{Body, Reply, fault_reply, fault_text};
 use hq_calls::EachCall;
 use hq_desk::{Answer, Desk, Render};
-use hq_envelope::{Fault, Moment, Name};
 use hq_json::Json;
 use hq_requests::Directory;
 use hq_store::Shelf;
+use hq_values::{Fault, Moment, Name};
 use std::alloc::{AllocError, Global};
 
 /// Room for the longest part and a comma: a name has 32 bytes at most, and each count 20 digits, of

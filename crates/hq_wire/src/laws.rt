@@ -3,7 +3,7 @@
 
 ghost use Rattle.std.specs.Prelude.{◌≡◌, ◌≢◌, ℕ, true, List, Ok};
 ghost use Rattle.std.specs.List.{list_all};
-ghost use Rattle.hq_envelope.specs.Words.{is_name};
+ghost use Rattle.hq_values.specs.Words.{is_name};
 ghost use Rattle.hq_store.specs.Tables.{Tables, own};
 ghost use Rattle.hq_calls.specs.Unchanged.{only_reads};
 ghost use Rattle.hq_json.specs.OneLine.{is_one_line};

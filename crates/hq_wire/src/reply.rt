@@ -4,7 +4,7 @@ ghost use Rattle.std.specs.Prelude.{◌≡◌, not};
 ghost use Rattle.hq_wire.specs.Replies.{status_of, fault_text, reply_of_fault, seen, body_bytes};
 ghost use Rattle.hq_wire.specs.Replies.{tells_store, is_memory};
 
-use hq_envelope::Fault;
+use hq_values::Fault;
 
 /// The bytes of a reply.
 #[derive(Drop)]

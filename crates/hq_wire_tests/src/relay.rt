@@ -1,10 +1,10 @@
 //! The relay of these tests, its two customers, and what they ask as lines `METHOD PATH KEY BODY`.
 
 use hq_desk::Desk;
-use hq_envelope::{Fail as Failure, Host, Key, Moment, Name};
 use hq_lists::ListShelf;
 use hq_queue::{Customer, Entry, Quota};
 use hq_store::Shelf;
+use hq_values::{Fail as Failure, Host, Key, Moment, Name};
 use hq_wire::{Directory, Exchange, Reply, are_customers, exchange};
 use std::alloc::{AllocError, Global};
 use std::process::Abort;
@@ -37,6 +37,7 @@ fn customer(alloc: Global, name: &str, key: &str, quota: Quota) -> Result<Custom
         name: Name::parse(alloc, name)?,
         quota,
         delay: 3600,
+        history: 0,
     };
     let key = Key::parse(alloc, key)?;
     Ok(Customer { entry, key })

@@ -2,12 +2,12 @@
 //! messages a report asks a shelf for at once.
 
 use crate::relay::{desk_over, expect_at};
-use hq_envelope::Name;
 use hq_lists::ListShelf;
 use hq_queue::{Head, Tally};
 use hq_sql_shelf::SqlShelf;
 use hq_store::{Change, Shelf};
 use hq_trial::{FailingShelf, Failure as Plan};
+use hq_values::Name;
 use std::process::Abort;
 use std::test::Fail;
 

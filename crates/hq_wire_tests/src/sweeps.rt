@@ -1,12 +1,10 @@
-//! Sweeps of all customers.
+//! Sweeps of all customers, over stores that fail.
 
 use crate::relay::{desk_over, expect_at};
 use hq_desk::Desk;
-use hq_envelope::Name;
 use hq_lists::ListShelf;
-use hq_queue::{Head, Tally};
 use hq_sql_shelf::SqlShelf;
-use hq_store::{Change, Shelf};
+use hq_store::Shelf;
 use hq_trial::{FailingShelf, Failure as Plan};
 use std::process::Abort;
 use std::test::Fail;
@@ -29,87 +27,6 @@ pub fn submit_both<S: Shelf + Drop>(
 }
 
 const SWEEP: &str = "POST /relay/sweep relaykey00000001";
-
-#[test]
-fn a_sweep_of_all(rt: HostRuntime) -> Result<(), Fail> {
-    let mut desk = desk_over(rt.alloc(), ListShelf::new(rt.alloc()))?;
-    submit_both(&rt, &mut desk)?;
-    expect_at(
-        &rt,
-        &mut desk,
-        3600,
-        SWEEP,
-        "200 {\"done\":[{\"customer\":\"acme\",\"expired\":0,\"notices\":1,\"warned\":1},\
-         {\"customer\":\"birch\",\"expired\":0,\"notices\":1,\"warned\":1}],\"stopped\":null}",
-    )?;
-    for (line, want) in [
-        (
-            "POST /relay/sweep acmekey000000001",
-            "403 {\"error\":3,\"name\":\"WrongRole\"}",
-        ),
-        (
-            "GET /relay/sweep relaykey00000001",
-            "405 {\"error\":5,\"name\":\"WrongMethod\"}",
-        ),
-        (
-            "POST /relay/sweep -",
-            "401 {\"error\":2,\"name\":\"NoKey\"}",
-        ),
-        (
-            "POST /relay/sweep nobody",
-            "401 {\"error\":2,\"name\":\"NoKey\"}",
-        ),
-        (
-            "POST /relay/sweep/ relaykey00000001",
-            "404 {\"error\":4,\"name\":\"NoRoute\"}",
-        ),
-        (
-            "POST /relay/sweep/cedar relaykey00000001",
-            "404 {\"error\":13,\"name\":\"NoCustomer\"}",
-        ),
-    ] {
-        expect_at(&rt, &mut desk, 3600, line, want)?;
-    }
-    Ok(())
-}
-
-fn spent() -> Head {
-    Head {
-        next_serial: 2,
-        next_notice: 1_099_511_627_776,
-        tally: Tally {
-            accepted: 1,
-            delivered: 0,
-            failed: 0,
-            deleted: 0,
-            expired: 0,
-        },
-    }
-}
-
-/// Of two customers one has no numbers of notices left.
-fn expect_refusal<S: Shelf + Drop>(rt: &(impl Abort + AllocGlobal), shelf: S) -> Result<(), Fail> {
-    let mut desk = desk_over(rt.alloc(), shelf)?;
-    submit_both(rt, &mut desk)?;
-    let acme = Name::parse(rt.alloc(), "acme")?;
-    let mut shelf = desk.into_shelf();
-    shelf.apply(&acme, &[Change::PutHead(spent())])?;
-    let mut desk = desk_over(rt.alloc(), shelf)?;
-    expect_at(
-        rt,
-        &mut desk,
-        432_000,
-        SWEEP,
-        "200 {\"done\":[{\"customer\":\"acme\",\"error\":44,\"name\":\"NoticesSpent\"},\
-         {\"customer\":\"birch\",\"expired\":1,\"notices\":1,\"warned\":0}],\"stopped\":null}",
-    )
-}
-
-#[test]
-fn a_refusal_does_not_stop_it(rt: HostRuntime) -> Result<(), Fail> {
-    expect_refusal(&rt, ListShelf::new(rt.alloc()))?;
-    expect_refusal(&rt, SqlShelf::open_memory(rt.alloc())?)
-}
 
 const ALL_SWEPT: &str = "200 {\"done\":[\
     {\"customer\":\"acme\",\"expired\":1,\"notices\":1,\"warned\":0},\

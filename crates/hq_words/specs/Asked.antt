@@ -9,7 +9,9 @@ use Rattle.clap.specs.Walk.{Text}
 use Rattle.clap.specs.declared.error.kind.ErrorKind.{ErrorKind}
 use Rattle.clap.specs.declared.error.kind.ErrorKind.TheVariants.{DisplayHelp, DisplayVersion}
 use Rattle.hq_words.specs.Given.{BatchGiven, CheckGiven, Given, ImportGiven, KeyGiven, MigrateGiven}
-use Rattle.hq_words.specs.Given.{QueueGiven, ServeGiven, SweepGiven, UsageGiven}
+use Rattle.hq_words.specs.Given.{MovingGiven, PatternGiven, ServeGiven, SweepGiven, TellingGiven}
+use Rattle.hq_words.specs.Given.{UsageGiven, OfSender, OfRecipient, OfHistory, OfHold, OfRelease}
+use Rattle.hq_words.specs.Given.{OfDelete}
 use Rattle.hq_words.specs.Given.{AsText, InFile, OfServe, OfBatch, OfCheck, OfQueue, OfUsage}
 use Rattle.hq_words.specs.Given.{OfImport, OfSweep, OfMigrate, given_in}
 use Rattle.hq_words.specs.Program.{program}
@@ -18,7 +20,10 @@ use Rattle.hq_words.specs.declared.options.RelayKey.TheVariants as key
 use Rattle.hq_words.specs.declared.options.Serve.{Serve}
 use Rattle.hq_words.specs.declared.options.Batch.{Batch}
 use Rattle.hq_words.specs.declared.options.Check.{Check}
-use Rattle.hq_words.specs.declared.options.Queue.{Queue}
+use Rattle.hq_words.specs.declared.selecting.Matching.{Matching}
+use Rattle.hq_words.specs.declared.selecting.Matching.TheVariants as matching
+use Rattle.hq_words.specs.declared.selecting.Moving.{Moving}
+use Rattle.hq_words.specs.declared.selecting.Telling.{Telling}
 use Rattle.hq_words.specs.declared.options.Usage.{Usage}
 use Rattle.hq_words.specs.declared.options.Import.{Import}
 use Rattle.hq_words.specs.declared.options.Sweep.{Sweep}
@@ -27,7 +32,7 @@ use Rattle.hq_words.specs.declared.words.Word.{Word}
 use Rattle.hq_words.specs.declared.words.Word.TheVariants as asked
 use Rattle.hq_words.specs.declared.words.Words.{Words}
 use Rattle.hq_words.specs.declared.words.Words.TheVariants.{Builtin, Word as OfWord, Shown, Refused}
-use Rattle.hq_base.specs.Moments.{last_moment}
+use Rattle.hq_values.specs.Moments.{last_moment}
 
 -- what words give
 abbrev pub given_by : List Text → Option Given
@@ -78,8 +83,37 @@ check_of c = record {
   relay_key = option_map key_given c.relay_key;
 }
 
-abbrev pub queue_of : Queue → QueueGiven
-queue_of q = record { directory = q.directory.now; store = q.store.now; customer = q.customer.now }
+-- a pattern as it was written
+abbrev pub pattern_given : Matching → PatternGiven
+pattern_given (matching.Sender text) = OfSender text.now
+pattern_given (matching.Recipient text) = OfRecipient text.now
+
+abbrev pub telling_of : Telling → TellingGiven
+telling_of t = record {
+  directory = t.directory.now;
+  store = t.store.now;
+  customer = t.customer.now;
+  pattern = option_map pattern_given t.pattern;
+}
+
+-- a move as it was written, but for its moment
+abbrev pub moving_at : Text → Moving → MovingGiven
+moving_at at m = record {
+  directory = m.directory.now;
+  store = m.store.now;
+  customer = m.customer.now;
+  pattern = pattern_given m.pattern;
+  at = at;
+}
+
+-- A move is what it is given, at the moment that is named; there is none where an option is missing
+-- or names no moment.
+abbrev pub MovingIs : Option MovingGiven → Option Moving → Type 0
+MovingIs (Some given) (Some moving) = (given ≡ moving_at given.at moving)
+    × IsMoment given.at (Some moving.at)
+MovingIs (Some given) None = IsMoment given.at None
+MovingIs None (Some moving) = ⊥
+MovingIs None None = ⊤
 
 abbrev pub usage_of : Usage → UsageGiven
 usage_of u = record { directory = u.directory.now; store = u.store.now }
@@ -156,7 +190,14 @@ Asks (Some (OfServe given)) (Some (asked.Serve s)) = ServeIs (Some given) (Some 
 Asks (Some (OfServe given)) None = ServeIs (Some given) None
 Asks (Some (OfBatch given)) (Some (asked.Batch b)) = given ≡ given_of b
 Asks (Some (OfCheck given)) (Some (asked.Check c)) = given ≡ check_of c
-Asks (Some (OfQueue given)) (Some (asked.Queue q)) = given ≡ queue_of q
+Asks (Some (OfQueue given)) (Some (asked.Queue t)) = given ≡ telling_of t
+Asks (Some (OfHistory given)) (Some (asked.History t)) = given ≡ telling_of t
+Asks (Some (OfHold given)) (Some (asked.Hold m)) = MovingIs (Some given) (Some m)
+Asks (Some (OfHold given)) None = MovingIs (Some given) None
+Asks (Some (OfRelease given)) (Some (asked.Release m)) = MovingIs (Some given) (Some m)
+Asks (Some (OfRelease given)) None = MovingIs (Some given) None
+Asks (Some (OfDelete given)) (Some (asked.Delete m)) = MovingIs (Some given) (Some m)
+Asks (Some (OfDelete given)) None = MovingIs (Some given) None
 Asks (Some (OfUsage given)) (Some (asked.Usage u)) = given ≡ usage_of u
 Asks (Some (OfImport given)) (Some (asked.Import i)) = given ≡ import_of i
 Asks (Some (OfSweep given)) (Some (asked.Sweep s)) = SweepIs (Some given) (Some s)

@@ -2,7 +2,7 @@
 use Rattle.std.specs.Prelude.{List, codes, bytes_eq, if◌then◌else◌, Option, Some, None, option_map}
 use Rattle.std.specs.Prelude.{option_and_then}
 use Rattle.clap.specs.Walk.{Row, Text, first_of}
-use Rattle.hq_base.specs.Options.{◌>>=◌}
+use Rattle.hq_values.specs.Options.{◌>>=◌}
 
 -- the key of the relay's workers: the text itself, or the path of its file
 pub data KeyGiven : Type 0 where
@@ -32,10 +32,23 @@ pub record CheckGiven : Type 0 where
   pub host : Text
   pub relay_key : Option KeyGiven
 
-pub record QueueGiven : Type 0 where
+-- a pattern of access tables: of the sender, or of a recipient
+pub data PatternGiven : Type 0 where
+  OfSender : Text → PatternGiven
+  OfRecipient : Text → PatternGiven
+
+pub record TellingGiven : Type 0 where
   pub directory : Text
   pub store : Text
   pub customer : Text
+  pub pattern : Option PatternGiven
+
+pub record MovingGiven : Type 0 where
+  pub directory : Text
+  pub store : Text
+  pub customer : Text
+  pub pattern : PatternGiven
+  pub at : Text
 
 pub record UsageGiven : Type 0 where
   pub directory : Text
@@ -62,7 +75,11 @@ pub data Given : Type 0 where
   OfServe : ServeGiven → Given
   OfBatch : BatchGiven → Given
   OfCheck : CheckGiven → Given
-  OfQueue : QueueGiven → Given
+  OfQueue : TellingGiven → Given
+  OfHistory : TellingGiven → Given
+  OfHold : MovingGiven → Given
+  OfRelease : MovingGiven → Given
+  OfDelete : MovingGiven → Given
   OfUsage : UsageGiven → Given
   OfImport : ImportGiven → Given
   OfSweep : SweepGiven → Given
@@ -83,9 +100,24 @@ any_key_in rows = key_of_two (first_of (codes "relay-key") rows)
 abbrev pub one_key_in : List Row → Option KeyGiven
 one_key_in rows = option_and_then (λ found. found) (any_key_in rows)
 
+-- the pattern that the values of two options give: none or one of them is there, and not both
+abbrev pub pattern_of_two : Option Text → Option Text → Option (Option PatternGiven)
+pattern_of_two None None = Some None
+pattern_of_two (Some sender) None = Some (Some (OfSender sender))
+pattern_of_two None (Some recipient) = Some (Some (OfRecipient recipient))
+pattern_of_two (Some sender) (Some recipient) = None
+
+abbrev pub any_pattern_in : List Row → Option (Option PatternGiven)
+any_pattern_in rows = pattern_of_two (first_of (codes "sender") rows)
+    (first_of (codes "recipient") rows)
+
+-- the pattern where one has to be there
+abbrev pub one_pattern_in : List Row → Option PatternGiven
+one_pattern_in rows = option_and_then (λ found. found) (any_pattern_in rows)
+
 -- the values of the options of each word, the first of each, in the written order; all are there
 -- but those that may be left out: the store and the log of a server or of a batch, the key of a
--- check, and the customer of a sweep
+-- check, the pattern of a queue or of a history, and the customer of a sweep
 abbrev pub serve_in : List Row → Option ServeGiven
 serve_in rows = do
   directory ← first_of (codes "directory") rows
@@ -127,12 +159,28 @@ check_in rows = do
   relay_key ← any_key_in rows
   Some (record { directory = directory; host = host; relay_key = relay_key })
 
-abbrev pub queue_in : List Row → Option QueueGiven
-queue_in rows = do
+abbrev pub telling_in : List Row → Option TellingGiven
+telling_in rows = do
   directory ← first_of (codes "directory") rows
   store ← first_of (codes "store") rows
   customer ← first_of (codes "customer") rows
-  Some (record { directory = directory; store = store; customer = customer })
+  pattern ← any_pattern_in rows
+  Some (record { directory = directory; store = store; customer = customer; pattern = pattern })
+
+abbrev pub moving_in : List Row → Option MovingGiven
+moving_in rows = do
+  directory ← first_of (codes "directory") rows
+  store ← first_of (codes "store") rows
+  customer ← first_of (codes "customer") rows
+  pattern ← one_pattern_in rows
+  at ← first_of (codes "at") rows
+  Some (record {
+    directory = directory;
+    store = store;
+    customer = customer;
+    pattern = pattern;
+    at = at;
+  })
 
 abbrev pub usage_in : List Row → Option UsageGiven
 usage_in rows = do
@@ -180,7 +228,11 @@ given_in word rows =
     if bytes_eq word (codes "serve") then option_map OfServe (serve_in rows)
     else if bytes_eq word (codes "batch") then option_map OfBatch (batch_in rows)
     else if bytes_eq word (codes "check") then option_map OfCheck (check_in rows)
-    else if bytes_eq word (codes "queue") then option_map OfQueue (queue_in rows)
+    else if bytes_eq word (codes "queue") then option_map OfQueue (telling_in rows)
+    else if bytes_eq word (codes "history") then option_map OfHistory (telling_in rows)
+    else if bytes_eq word (codes "hold") then option_map OfHold (moving_in rows)
+    else if bytes_eq word (codes "release") then option_map OfRelease (moving_in rows)
+    else if bytes_eq word (codes "delete") then option_map OfDelete (moving_in rows)
     else if bytes_eq word (codes "usage") then option_map OfUsage (usage_in rows)
     else if bytes_eq word (codes "import") then option_map OfImport (import_in rows)
     else if bytes_eq word (codes "sweep") then option_map OfSweep (sweep_in rows)

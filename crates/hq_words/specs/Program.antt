@@ -1,10 +1,10 @@
--- The words that the program takes, as `clap` has commands: eight words, with options that take one
--- value each. What `clap` makes of words is said by its own definitions.
+-- The words that the program takes, as `clap` has commands: twelve words, with options that take
+-- one value each. What `clap` makes of words is said by its own definitions.
 use Rattle.std.specs.Prelude.{Bool, true, false, ℕ, List, [], ◌∷◌, codes, fold, Some}
 use Rattle.clap.specs.Simple.{App, Shape, new_app, new_rule, new_shape, with_subcommand}
 use Rattle.clap.specs.Walk.{Rule, Text}
 use Rattle.clap.specs.declared.builder.value_parser.ValueParser.TheVariants.{Unsigned}
-use Rattle.hq_base.specs.Moments.{last_moment}
+use Rattle.hq_values.specs.Moments.{last_moment}
 
 -- an option `--NAME` with one value
 abbrev pub option_rule : Text → Bool → Rule
@@ -60,9 +60,35 @@ check_shape = word_shape (codes "check")
     (needed (codes "directory") ∷ needed (codes "host") ∷ optional (codes "relay-key")
     ∷ optional (codes "relay-key-file") ∷ [])
 
+-- a word that tells of what a customer has: of all of it, or of what a pattern is for
+abbrev pub telling_shape : Text → Shape
+telling_shape name = word_shape name
+    (needed (codes "directory") ∷ needed (codes "store") ∷ needed (codes "customer")
+    ∷ optional (codes "sender")
+    ∷ optional (codes "recipient") ∷ [])
+
+-- a word that changes the messages that a pattern is for, at a moment
+abbrev pub moving_shape : Text → Shape
+moving_shape name = word_shape name
+    (needed (codes "directory") ∷ needed (codes "store") ∷ needed (codes "customer")
+    ∷ optional (codes "sender")
+    ∷ optional (codes "recipient")
+    ∷ moment_rule ∷ [])
+
 abbrev pub queue_shape : Shape
-queue_shape = word_shape (codes "queue")
-    (needed (codes "directory") ∷ needed (codes "store") ∷ needed (codes "customer") ∷ [])
+queue_shape = telling_shape (codes "queue")
+
+abbrev pub history_shape : Shape
+history_shape = telling_shape (codes "history")
+
+abbrev pub hold_shape : Shape
+hold_shape = moving_shape (codes "hold")
+
+abbrev pub release_shape : Shape
+release_shape = moving_shape (codes "release")
+
+abbrev pub delete_shape : Shape
+delete_shape = moving_shape (codes "delete")
 
 abbrev pub usage_shape : Shape
 usage_shape = word_shape (codes "usage") (needed (codes "directory") ∷ needed (codes "store") ∷ [])
@@ -82,22 +108,29 @@ sweep_shape = word_shape (codes "sweep")
 abbrev pub migrate_shape : Shape
 migrate_shape = word_shape (codes "migrate") (needed (codes "store") ∷ [])
 
--- the program, whose version is told, and its words
-abbrev pub with_words : App
-with_words = fold with_subcommand (new_app (codes "hq_main"))
-    (serve_shape ∷ batch_shape ∷ check_shape ∷ queue_shape ∷ usage_shape ∷ import_shape
-    ∷ sweep_shape
-    ∷ migrate_shape ∷ [])
+-- the words, in the order in which they are told
+abbrev pub serving_words : List Shape
+serving_words = serve_shape ∷ batch_shape ∷ check_shape ∷ []
 
--- they stand behind the program's name, and one of them is there, or help or the version is asked
--- for
-abbrev pub program : App
-program = record with_words {
+abbrev pub message_words : List Shape
+message_words = queue_shape ∷ history_shape ∷ hold_shape ∷ release_shape ∷ delete_shape ∷ []
+
+abbrev pub upkeep_words : List Shape
+upkeep_words = usage_shape ∷ import_shape ∷ sweep_shape ∷ migrate_shape ∷ []
+
+-- The program, whose version is told: its words stand behind its name, and one of them is there, or
+-- help or the version is asked for.
+abbrev pub bare_program : App
+bare_program = record (new_app (codes "hq_main")) {
   top = record (new_shape (codes "hq_main")) {
-    is_leaf = false;
     no_binary_name = true;
     disable_help_subcommand = true;
     subcommand_required = true;
     has_version = true;
   };
 }
+
+abbrev pub program : App
+program = fold with_subcommand
+    (fold with_subcommand (fold with_subcommand bare_program serving_words) message_words)
+    upkeep_words

@@ -1,13 +1,15 @@
 //! The words that there are, with the help that teaches them.
 
-ghost use Rattle.std.specs.Prelude.{◌≡◌, IfOk, codes, false};
-ghost use Rattle.clap.specs.Simple.{app_of, shape_of};
+ghost use Rattle.std.specs.Prelude.{◌≡◌, IfOk, codes, false, fold};
+ghost use Rattle.clap.specs.Simple.{app_of, shape_of, with_subcommand};
 ghost use Rattle.clap.specs.Walk.{rule_of};
 ghost use Rattle.clap.specs.declared.builder.command.Command.TheViews.{out-Command};
 ghost use Rattle.hq_words.specs.Program.{option_rule, default_rule, number_rule, moment_rule};
-ghost use Rattle.hq_words.specs.Program.{serve_shape, batch_shape, check_shape, queue_shape};
+ghost use Rattle.hq_words.specs.Program.{serve_shape, batch_shape, check_shape, telling_shape};
+ghost use Rattle.hq_words.specs.Program.{moving_shape};
 ghost use Rattle.hq_words.specs.Program.{usage_shape, import_shape, sweep_shape, migrate_shape};
-ghost use Rattle.hq_words.specs.Program.{program};
+ghost use Rattle.hq_words.specs.Program.{bare_program, serving_words, message_words};
+ghost use Rattle.hq_words.specs.Program.{upkeep_words, program};
 
 use crate::texts::*;
 use clap::{Arg, Command, value_parser};
@@ -132,17 +134,40 @@ fn check<'w>(alloc: Global) -> Result<Command<'w>, AllocError>
         .arg(option(alloc, "relay-key-file", "FILE", RELAY_KEY_FILE, false))
 }
 
-/// The word `queue`, with its options.
-fn queue<'w>(alloc: Global) -> Result<Command<'w>, AllocError>
-    ensures shape { IfOk result (λ c. shape_of c ≡ queue_shape) }
+/// A word that tells of what a customer has, with its options.
+fn telling<'w>(
+    alloc: Global,
+    name: &'w str,
+    about: &'w str,
+    after_help: &'w str,
+) -> Result<Command<'w>, AllocError>
+    ensures shape { IfOk result (λ c. shape_of c ≡ telling_shape name.entry.now) }
     ensures local { IfOk result (λ c. (out-Command c).has_globals ≡ false) }
 {
-    Command::new(alloc, "queue")
-        .about(QUEUE)
-        .after_help(AFTER_QUEUE)
+    Command::new(alloc, name)
+        .about(about)
+        .after_help(after_help)
         .arg(option(alloc, "directory", "FILE", DIRECTORY, true))?
         .arg(option(alloc, "store", "FILE", STORE, true))?
-        .arg(option(alloc, "customer", "NAME", CUSTOMER, true))
+        .arg(option(alloc, "customer", "NAME", CUSTOMER, true))?
+        .arg(option(alloc, "sender", "PATTERN", TOLD_SENDER, false))?
+        .arg(option(alloc, "recipient", "PATTERN", TOLD_RECIPIENT, false))
+}
+
+/// A word that changes the messages that a pattern is for, with its options.
+fn moving<'w>(alloc: Global, name: &'w str, about: &'w str) -> Result<Command<'w>, AllocError>
+    ensures shape { IfOk result (λ c. shape_of c ≡ moving_shape name.entry.now) }
+    ensures local { IfOk result (λ c. (out-Command c).has_globals ≡ false) }
+{
+    Command::new(alloc, name)
+        .about(about)
+        .after_help(AFTER_MOVING)
+        .arg(option(alloc, "directory", "FILE", DIRECTORY, true))?
+        .arg(option(alloc, "store", "FILE", STORE, true))?
+        .arg(option(alloc, "customer", "NAME", CUSTOMER, true))?
+        .arg(option(alloc, "sender", "PATTERN", SENDER, false))?
+        .arg(option(alloc, "recipient", "PATTERN", RECIPIENT, false))?
+        .arg(moment(alloc))
 }
 
 /// The word `usage`, with its options.
@@ -198,19 +223,11 @@ fn migrate<'w>(alloc: Global) -> Result<Command<'w>, AllocError>
         .arg(option(alloc, "store", "FILE", OLD_STORE, true))
 }
 
-/// The program, with its words.
-pub(crate) fn program<'w>(alloc: Global) -> Result<Command<'w>, AllocError>
-    ensures { IfOk result (λ c. app_of c ≡ program) }
+/// The program, without a word.
+fn bare<'w>(alloc: Global) -> Result<Command<'w>, AllocError>
+    ensures { IfOk result (λ c. app_of c ≡ bare_program) }
 {
-    let serve = serve(alloc)?;
-    let batch = batch(alloc)?;
-    let check = check(alloc)?;
-    let queue = queue(alloc)?;
-    let usage = usage(alloc)?;
-    let import = import(alloc)?;
-    let sweep = sweep(alloc)?;
-    let migrate = migrate(alloc)?;
-    Command::new(alloc, NAME)
+    let program = Command::new(alloc, NAME)
         .bin_name(NAME)?
         .version(VERSION)
         .override_usage(SYNOPSIS)
@@ -218,13 +235,64 @@ pub(crate) fn program<'w>(alloc: Global) -> Result<Command<'w>, AllocError>
         .disable_help_subcommand(true)
         .subcommand_required(true)
         .about(ABOUT)
-        .after_help(AFTER_ABOUT)
+        .after_help(AFTER_ABOUT);
+    Ok(program)
+}
+
+/// With the words that serve customers, or check that a start would.
+fn with_serving<'w>(alloc: Global, program: Command<'w>) -> Result<Command<'w>, AllocError>
+    ensures { IfOk result
+        (λ c. app_of c ≡ fold with_subcommand (app_of program.entry) serving_words) }
+{
+    let serve = serve(alloc)?;
+    let batch = batch(alloc)?;
+    let check = check(alloc)?;
+    program
         .subcommand(serve)?
         .subcommand(batch)?
-        .subcommand(check)?
+        .subcommand(check)
+}
+
+/// With the words on the messages of a customer.
+fn with_messages<'w>(alloc: Global, program: Command<'w>) -> Result<Command<'w>, AllocError>
+    ensures { IfOk result
+        (λ c. app_of c ≡ fold with_subcommand (app_of program.entry) message_words) }
+{
+    let queue = telling(alloc, "queue", QUEUE, AFTER_QUEUE)?;
+    let history = telling(alloc, "history", HISTORY, AFTER_HISTORY)?;
+    let hold = moving(alloc, "hold", HOLD)?;
+    let release = moving(alloc, "release", RELEASE)?;
+    let delete = moving(alloc, "delete", DELETE)?;
+    program
         .subcommand(queue)?
+        .subcommand(history)?
+        .subcommand(hold)?
+        .subcommand(release)?
+        .subcommand(delete)
+}
+
+/// With the words on all of a customer, on all customers, and on the store.
+fn with_upkeep<'w>(alloc: Global, program: Command<'w>) -> Result<Command<'w>, AllocError>
+    ensures { IfOk result
+        (λ c. app_of c ≡ fold with_subcommand (app_of program.entry) upkeep_words) }
+{
+    let usage = usage(alloc)?;
+    let import = import(alloc)?;
+    let sweep = sweep(alloc)?;
+    let migrate = migrate(alloc)?;
+    program
         .subcommand(usage)?
         .subcommand(import)?
         .subcommand(sweep)?
         .subcommand(migrate)
+}
+
+/// The program, with its words.
+pub(crate) fn program<'w>(alloc: Global) -> Result<Command<'w>, AllocError>
+    ensures { IfOk result (λ c. app_of c ≡ program) }
+{
+    let bare = bare(alloc)?;
+    let serving = with_serving(alloc, bare)?;
+    let messages = with_messages(alloc, serving)?;
+    with_upkeep(alloc, messages)
 }

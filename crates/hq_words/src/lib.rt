@@ -4,8 +4,10 @@
 
 mod command;
 mod options;
+mod selecting;
 mod texts;
 mod words;
 
-pub use options::{Batch, Check, Import, Migrate, Queue, RelayKey, Serve, Sweep, Usage};
+pub use options::{Batch, Check, Import, Migrate, RelayKey, Serve, Sweep, Usage};
+pub use selecting::{Matching, Moving, Telling};
 pub use words::{Word, Words, read_words};

@@ -4,13 +4,13 @@ ghost use Rattle.std.specs.Prelude.{◌≡◌, option_map};
 ghost use Rattle.clap.specs.Matches.{found_of};
 ghost use Rattle.clap.specs.Walk.{first_of, rows_of};
 ghost use Rattle.hq_words.specs.Asked.{IsMoment, IsNumber, ServeIs, SweepIs, key_given, given_of};
-ghost use Rattle.hq_words.specs.Asked.{check_of, queue_of, usage_of, import_of, migrate_of};
+ghost use Rattle.hq_words.specs.Asked.{check_of, usage_of, import_of, migrate_of};
 ghost use Rattle.hq_words.specs.Given.{key_of_two, any_key_in, one_key_in, serve_in, batch_in};
-ghost use Rattle.hq_words.specs.Given.{check_in, queue_in, usage_in, import_in, sweep_in};
+ghost use Rattle.hq_words.specs.Given.{check_in, usage_in, import_in, sweep_in};
 ghost use Rattle.hq_words.specs.Given.{migrate_in};
 
 use clap::ArgMatches;
-use hq_base::Moment;
+use hq_values::Moment;
 
 /// Where the key of the relay's workers is.
 #[derive(Clone, Copy, Debug, PartialEq, Eq, Drop)]
@@ -71,17 +71,6 @@ pub struct Check<'w> {
     pub relay_key: Option<RelayKey<'w>>,
 }
 
-/// What the word `queue` is given, as it was written.
-#[derive(Clone, Copy, Debug, PartialEq, Eq, Drop)]
-pub struct Queue<'w> {
-    /// The path of the file of the customers.
-    pub directory: &'w str,
-    /// The path of the store.
-    pub store: &'w str,
-    /// The name of the customer.
-    pub customer: &'w str,
-}
-
 /// What the word `usage` is given, as it was written.
 #[derive(Clone, Copy, Debug, PartialEq, Eq, Drop)]
 pub struct Usage<'w> {
@@ -129,7 +118,7 @@ pub struct Migrate<'w> {
 }
 
 /// The first value of an option.
-fn value<'w>(given: &ArgMatches<'w>, option: &str) -> Option<&'w str>
+pub(crate) fn value<'w>(given: &ArgMatches<'w>, option: &str) -> Option<&'w str>
     ensures { option_map (λ s. s.now) result
         ≡ first_of option.now (rows_of (found_of given.now)) }
 {
@@ -137,7 +126,7 @@ fn value<'w>(given: &ArgMatches<'w>, option: &str) -> Option<&'w str>
 }
 
 /// The moment that a text of seconds since 1970 names.
-fn moment_in(text: &str) -> Option<Moment>
+pub(crate) fn moment_in(text: &str) -> Option<Moment>
     ensures { IsMoment text.now result }
 {
     match text.parse::<u64>() {
@@ -238,20 +227,6 @@ pub(crate) fn check_in<'w>(given: &ArgMatches<'w>) -> Option<Check<'w>>
         directory,
         host,
         relay_key,
-    })
-}
-
-/// What matches give the word `queue`.
-pub(crate) fn queue_in<'w>(given: &ArgMatches<'w>) -> Option<Queue<'w>>
-    ensures { option_map queue_of result ≡ queue_in (rows_of (found_of given.now)) }
-{
-    let directory = value(given, "directory")?;
-    let store = value(given, "store")?;
-    let customer = value(given, "customer")?;
-    Some(Queue {
-        directory,
-        store,
-        customer,
     })
 }
 

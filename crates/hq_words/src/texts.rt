@@ -16,6 +16,20 @@ error: one of --relay-key and --relay-key-file is wanted, and not both
 For more information, try '--help'.
 ";
 
+/// What is told where a pattern is asked for and not given, or given twice.
+pub(crate) const ONE_PATTERN: &str = "\
+error: one of --sender and --recipient is wanted, and not both
+
+For more information, try '--help'.
+";
+
+/// What is told where a pattern is given twice.
+pub(crate) const ONE_PATTERN_AT_MOST: &str = "\
+error: not both of --sender and --recipient are wanted
+
+For more information, try '--help'.
+";
+
 /// What the program is.
 pub(crate) const ABOUT: &str = "\
 A customer desk of a mail relay: each customer sees and steers its own queued mail, and keeps its
@@ -98,7 +112,8 @@ Examples:
 
 pub(crate) const DIRECTORY: &str = "\
 The customers: a CSV file of 1 to 1,000 rows under the header
-name,key,messages,bytes,lines,notices,delay. No default.
+name,key,messages,bytes,lines,notices,delay; with ,history
+behind it where histories are kept. No default.
 Example: --directory customers.csv";
 
 pub(crate) const HOST: &str = "\
@@ -153,10 +168,55 @@ pub(crate) const QUEUE: &str = "Print the queue report of a customer";
 /// What it prints, and an example of its calls.
 pub(crate) const AFTER_QUEUE: &str = "\
 The report lists the customer's messages as postqueue(1) does, held ones with `!`, or tells that its
-queue is empty.
+queue is empty. With a pattern it lists those that the pattern is for, by the keys of their sender
+or of a pending recipient.
 
-Example:
-  hq_main queue --directory customers.csv --store desk.db --customer acme";
+Examples:
+  hq_main queue --directory customers.csv --store desk.db --customer acme
+  hq_main queue --directory customers.csv --store desk.db --customer acme --recipient far.example";
+
+/// What `history` does.
+pub(crate) const HISTORY: &str = "Print what became of a customer's recipients";
+
+/// What it prints, and examples of its calls.
+pub(crate) const AFTER_HISTORY: &str = "\
+Each of the newest 100 recipients that left the queue has a line, the newest first: its number, when
+it left, the queue ID of its message, what became of it, its sender or `<>`, itself, and a status
+and a text: those of the report that it left by, else those that were told of it last. With a
+pattern these are found among the newest 1,000:
+
+  7 1767225700 0000000001 delivered bob@acme.example eve@far.example 2.0.0 250 2.0.0 Ok
+
+A last line `more before 7` tells that there are more; the relay's call `/relay/history` goes on
+from there. Where the row has no history, or a smaller one than before, what was kept goes as soon
+as the next recipient leaves.
+
+Examples:
+  hq_main history --directory customers.csv --store desk.db --customer acme
+  hq_main history --directory customers.csv --store desk.db --customer acme \\
+    --recipient far.example";
+
+/// What `hold` does.
+pub(crate) const HOLD: &str = "Put the messages of a customer on hold that a pattern is for";
+
+/// What `release` does.
+pub(crate) const RELEASE: &str = "Release the messages of a customer that a pattern is for";
+
+/// What `delete` does.
+pub(crate) const DELETE: &str = "Delete the messages of a customer that a pattern is for";
+
+/// What these three print, and examples of their calls.
+pub(crate) const AFTER_MOVING: &str = "\
+A pattern is one of the access tables. It is for a message whose sender is looked up by it, or one
+of whose pending recipients is. It prints how many messages were changed: `changed 3`.
+
+Examples:
+  hq_main hold --directory customers.csv --store desk.db --customer acme \\
+    --sender bob@acme.example --at 1767225700
+  hq_main release --directory customers.csv --store desk.db --customer acme \\
+    --recipient far.example --at 1767225700
+  hq_main delete --directory customers.csv --store desk.db --customer acme \\
+    --sender bob@acme.example --at 1767225700";
 
 /// What `usage` does.
 pub(crate) const USAGE: &str = "Print what each customer uses";
@@ -212,15 +272,15 @@ Examples:
     --at 1767657600";
 
 /// What `migrate` does.
-pub(crate) const MIGRATE: &str = "Make a store of the release before one of this release";
+pub(crate) const MIGRATE: &str = "Make a store of an earlier release one of this release";
 
 /// What it prints, what to do before, and an example of its calls.
 pub(crate) const AFTER_MIGRATE: &str = "\
-A store of the release before keeps no reasons of messages on hold, and is refused as
-`hq: 92 BadSchema` by the other commands. This one gives each message on hold the reason
-`held before version 2`, and prints how many there are: `migrated 1 on hold`. A store of this
-release stays as it is, and `migrated 0 on hold` is printed; any other file is refused as
-`hq: 92 BadSchema` and stays as it is.
+The other commands refuse a store of version 1 or 2 as `hq: 92 BadSchema`. This one makes it one of
+version 3, whose histories are empty at first. Version 1 keeps no reasons of messages on hold: each
+of them gets `held before version 2`, and `migrated 1 on hold` tells how many there are. Of a store
+of version 2 or 3 it prints `migrated 0 on hold`, and one of version 3 stays as it is. Any other
+file is refused as `hq: 92 BadSchema` and stays as it is.
 
 It is done whole or not at all. Stop the desk and copy the file before: the copy is the way back.
 
@@ -243,6 +303,22 @@ pub(crate) const CUSTOMER_OR_ALL: &str = "\
 The customer's name, as the directory has it. By default all
 customers are swept. Example: --customer acme";
 
+pub(crate) const SENDER: &str = "\
+A pattern that messages are matched by, of their sender.
+Example: --sender bob@acme.example";
+
+pub(crate) const RECIPIENT: &str = "\
+A pattern that messages are matched by, of a pending
+recipient. Example: --recipient far.example";
+
+pub(crate) const TOLD_SENDER: &str = "\
+A pattern of the sender: it tells of what matches alone.
+Example: --sender bob@acme.example";
+
+pub(crate) const TOLD_RECIPIENT: &str = "\
+A pattern of the recipient: it tells of what matches alone.
+Example: --recipient far.example";
+
 pub(crate) const LABEL: &str = "\
 What the import goes by: 1 to 64 letters, digits, dots,
 hyphens and underscores. No default. Example: --label january";
@@ -252,5 +328,5 @@ The lines: a CSV file of at most 1,000 rows under the header
 class,pattern,action. No default. Example: --file lines.csv";
 
 pub(crate) const AT: &str = "\
-The moment of the sweep, in seconds since 1970,
+The moment at which it is done, in seconds since 1970,
 0 to 4102444799. No default. Example: --at 1767657600";

@@ -13,10 +13,11 @@ ghost use Rattle.hq_words.specs.Program.{program};
 
 use crate::command::program;
 use crate::options::{
-    Batch, Check, Import, Migrate, Queue, Serve, Sweep, Usage, batch_in, check_in, import_in,
-    migrate_in, queue_in, serve_in, sweep_in, usage_in,
+    Batch, Check, Import, Migrate, Serve, Sweep, Usage, batch_in, check_in, import_in, migrate_in,
+    serve_in, sweep_in, usage_in,
 };
-use crate::texts::ONE_KEY;
+use crate::selecting::{Moving, Telling, moving_in, telling_in};
+use crate::texts::{ONE_KEY, ONE_PATTERN, ONE_PATTERN_AT_MOST};
 use clap::error::ErrorKind;
 use clap::{ArgMatches, Error};
 use std::alloc::{AllocError, Global};
@@ -31,7 +32,15 @@ pub enum Word<'w> {
     /// `check`: whether a desk can be set up with these.
     Check(Check<'w>),
     /// `queue`: the queue report of a customer.
-    Queue(Queue<'w>),
+    Queue(Telling<'w>),
+    /// `history`: what became of a customer's recipients.
+    History(Telling<'w>),
+    /// `hold`: messages of a customer put on hold.
+    Hold(Moving<'w>),
+    /// `release`: messages of a customer released from hold.
+    Release(Moving<'w>),
+    /// `delete`: messages of a customer deleted.
+    Delete(Moving<'w>),
     /// `usage`: what each customer of a directory uses of its quota.
     Usage(Usage<'w>),
     /// `import`: lines of a customer's access tables, from a file.
@@ -68,7 +77,20 @@ fn asked_in<'w>(word: &str, given: &ArgMatches<'w>) -> Option<Word<'w>>
         },
         "batch" => Some(Word::Batch(batch_in(given)?)),
         "check" => Some(Word::Check(check_in(given)?)),
-        "queue" => Some(Word::Queue(queue_in(given)?)),
+        "queue" => Some(Word::Queue(telling_in(given)?)),
+        "history" => Some(Word::History(telling_in(given)?)),
+        "hold" => match moving_in(given) {
+            Some(moving) => Some(Word::Hold(moving)),
+            None => None,
+        },
+        "release" => match moving_in(given) {
+            Some(moving) => Some(Word::Release(moving)),
+            None => None,
+        },
+        "delete" => match moving_in(given) {
+            Some(moving) => Some(Word::Delete(moving)),
+            None => None,
+        },
         "usage" => Some(Word::Usage(usage_in(given)?)),
         "import" => Some(Word::Import(import_in(given)?)),
         "sweep" => match sweep_in(given) {
@@ -87,6 +109,16 @@ fn asked_of<'w>(matches: &ArgMatches<'w>) -> Option<Word<'w>>
 {
     let (word, given) = matches.subcommand()?;
     asked_in(word, given)
+}
+
+/// What is told where `clap` takes the words, and yet an option is missing or given twice: it asks
+/// for the other options and looks at the numbers, so that they are there.
+fn wanted(matches: &ArgMatches) -> &'static str {
+    match matches.subcommand() {
+        Some(("queue" | "history", _)) => ONE_PATTERN_AT_MOST,
+        Some(("hold" | "release" | "delete", _)) => ONE_PATTERN,
+        _ => ONE_KEY,
+    }
 }
 
 /// What `clap` tells in place of matches: help or the version, or why the words are refused; or
@@ -116,8 +148,7 @@ pub fn read_words<'w>(alloc: Global, words: &'w [String]) -> Result<Words<'w>, A
         Err(error) => told(alloc, &error),
         Ok(matches) => match asked_of(&matches) {
             Some(asked) => Ok(Words::Word(asked)),
-            // (`clap` asks for the other options and looks at the numbers, so that they are there)
-            None => Ok(Words::Refused(String::from_str(alloc, ONE_KEY)?)),
+            None => Ok(Words::Refused(String::from_str(alloc, wanted(&matches))?)),
         },
     }
 }

@@ -3,8 +3,8 @@
 use crate::connection::served::{response, serve};
 use crate::desk::{Office, open};
 use crate::exchanges::USAGE;
-use hq_pieces::{Narrow, Pieces};
 use hq_serve::EngineFault;
+use hq_trial::{Narrow, Pieces};
 use std::process::Abort;
 use std::test::Fail;
 

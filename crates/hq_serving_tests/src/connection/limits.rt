@@ -4,8 +4,8 @@
 use crate::connection::served::{response, serve};
 use crate::desk::open;
 use crate::exchanges::{EMPTY, REFUSED, TOO_LONG, USAGE};
-use hq_pieces::Pieces;
 use hq_serve::EngineFault;
+use hq_trial::Pieces;
 use std::alloc::{AllocError, Global};
 use std::process::Abort;
 use std::test::Fail;
@@ -149,5 +149,23 @@ fn a_reader_that_only_is_interrupted(rt: HostRuntime) -> Result<(), Fail> {
     assert_eq!(rt; served, Err(EngineFault::TooManyReads));
     assert!(rt; output.is_empty());
     assert_eq!(rt; reader.reads, 300_000);
+    Ok(())
+}
+
+/// One read for each piece up to where the request is whole, and none behind it.
+#[test]
+fn no_read_but_those_needed(rt: HostRuntime) -> Result<(), Fail> {
+    for most in 1..=USAGE.len() {
+        let mut office = open(rt.alloc())?;
+        let mut reader = Pieces::new(USAGE, most);
+        let mut output = Vec::new(rt.alloc());
+        let served = serve(&rt, &mut office, &mut reader, &mut output);
+        assert_eq!(rt; (served, output.as_slice()), (Ok(()), EMPTY.as_bytes()));
+        assert_eq!(rt;
+            reader.reads,
+            USAGE.len().div_ceil(most) as u64,
+            "in pieces of {most}"
+        );
+    }
     Ok(())
 }

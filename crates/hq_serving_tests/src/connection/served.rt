@@ -1,10 +1,10 @@
 //! One connection that is served.
 
 use crate::desk::Office;
-use hq_envelope::Moment;
 use hq_log::NoLog;
-use hq_pieces::Pieces;
 use hq_serve::{EngineFault, serve_one};
+use hq_trial::Pieces;
+use hq_values::Moment;
 use std::io::Write;
 use std::process::Abort;
 

@@ -1,11 +1,10 @@
 //! A batch over plain lists, and readers and writers in memory: how it ends, and what it writes.
 
+use hq_batch::{builtin_settings, run_batch};
 use hq_lists::ListShelf;
 use hq_log::NoLog;
-use hq_pieces::{Narrow, Pieces};
-use hq_program::{builtin_settings, serve};
-use hq_settings::{Relay, Settings};
-use hq_trouble::Trouble;
+use hq_settings::{Relay, Settings, Trouble};
+use hq_trial::{Narrow, Pieces};
 use std::alloc::{AllocError, Global};
 use std::io::{self, Read, Write};
 use std::process::Abort;
@@ -48,7 +47,7 @@ struct Ended {
 /// not need.
 fn end_of<R: Read, W: Write>(alloc: Global, input: &mut R, output: &mut W) -> Result<(), Trouble> {
     let settings = builtin_settings(alloc)?;
-    serve(
+    run_batch(
         alloc,
         ListShelf::new(alloc),
         settings,
@@ -166,7 +165,7 @@ fn customers_of_other_settings(rt: HostRuntime) -> Result<(), Fail> {
         .as_bytes();
     let mut output = Vec::new(rt.alloc());
     let shelf = ListShelf::new(rt.alloc());
-    serve(
+    run_batch(
         rt.alloc(),
         shelf,
         settings,

@@ -1,10 +1,9 @@
 //! What is told of a run's end, and its exit status.
 
-use hq_batch::EngineFault;
-use hq_envelope::{Fail as Failure, Fault, Refusal};
-use hq_pieces::Narrow;
-use hq_program::{not_begun, refuse, show, tell};
-use hq_trouble::Trouble;
+use hq_batch::{EngineFault, not_begun, refuse, show, tell};
+use hq_settings::Trouble;
+use hq_trial::Narrow;
+use hq_values::{Fail as Failure, Fault, Refusal};
 use std::alloc::{AllocError, Global};
 use std::io::{self, ErrorKind, Write};
 use std::process::Abort;

@@ -1,7 +1,7 @@
 use Rattle.std.proofs.Common.{◌≡◌, ◌≢◌, ℕ, Bool, true, false, ◌&&◌, List, [], ◌∷◌, refl, sym, ap}
 use Rattle.std.proofs.Common.{arith, eqb}
 use Rattle.std.proofs.lemmas.Bool.Decides.{nat_tests}
-use Rattle.hq_envelope.specs.Addresses.{is_domain}
+use Rattle.hq_values.specs.Addresses.{is_domain}
 use Rattle.hq_access.specs.Patterns.{is_subdomains}
 use Rattle.hq_access.proofs.pattern.is_subdomains.Goals as goal
 

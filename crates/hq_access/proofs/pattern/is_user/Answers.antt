@@ -1,7 +1,7 @@
 use Rattle.std.proofs.Common.{◌≡◌, ℕ, Bool, true, false, ◌&&◌, List, length, Some, None, refl, sym}
 use Rattle.std.proofs.Common.{ap, ◌∙◌, eqb}
-use Rattle.hq_envelope.specs.Addresses.{is_local, parts_of}
-use Rattle.hq_envelope.proofs.Parts.{parts_from_rsplit}
+use Rattle.hq_values.specs.Addresses.{is_local, parts_of}
+use Rattle.hq_values.proofs.Parts.{parts_from_rsplit}
 use Rattle.hq_access.specs.Patterns.{is_local_alone, is_user}
 use Rattle.hq_access.proofs.pattern.is_user.Goals as goal
 

@@ -1,10 +1,9 @@
 use Rattle.std.proofs.Common.{◌≡◌, ◌+◌, ◌++◌, ◌∷◌, [], suc, map, take, drop, refl, sym}
 use Rattle.std.proofs.Common.{ap, ◌∙◌, subst, arith}
 use Rattle.std.proofs.lemmas.List.{take_all, take_more, map-append}
-use Rattle.hq_desk.specs.declared.desk.Desk.{Desk}
 use Rattle.hq_calls.specs.Each.{each_call}
 use Rattle.hq_admin.specs.Rounds.{customer_entry}
-use Rattle.hq_admin.proofs.Called.{SoFar, on_end, one_more, split_at, stopped}
+use Rattle.hq_admin.proofs.Called.{SoFar, on_end, one_more, split_at}
 use Rattle.hq_admin.proofs.rounds.call_each.Goals as goal
 
 pub loop-customer-preserved : goal.loop-customer-preserved
@@ -12,7 +11,7 @@ loop-customer-preserved g c =
     let i = c.loop-customer.customer-index in
     let xs = c.args.customers.now in
     let item = c.customer-item.result in
-    let old : Desk g.row.S.Denot = record { shelf = c.args.shelf; host = c.args.host } in
+    let old = c.args.desk.now in
     let more : map customer_entry (take (i + 1) xs) ≡ map customer_entry (take i xs) ++ item.entry
     ∷ [] =
     ap (map customer_entry) (take_more xs i item c.loop-customer-test.true ∙ ap (λ x. take i xs ++ x
@@ -33,50 +32,47 @@ loop-customer-preserved g c =
       room = omega (arith, c.push_reserved.ensures.capacity, c.loop-customer.invariant.room);
     }
 
-pub returns-in-Err : goal.returns-in-Err
-returns-in-Err g c =
+pub returns-in-Err-clause-done : goal.returns-in-Err-clause-done
+returns-in-Err-clause-done g c =
     let i = c.loop-customer.customer-index in
     let xs = c.args.customers.now in
     let item = c.customer-item.result in
-    let old : Desk g.row.S.Denot = record { shelf = c.args.shelf; host = c.args.host } in
+    let before = c.loop-customer.invariant.so_far in
     record {
-      old = old;
-      host_is = refl;
-      shelf_is = refl;
-      new = c.act.new.self;
+      mid = c.loop-customer.desk;
       called = map customer_entry (take i xs);
       left = item.entry ∷ map customer_entry (drop (suc i) xs);
       order = split_at customer_entry xs i item c.loop-customer-test.true c.customer-item.is;
-      counted = c.loop-customer.invariant.so_far.counted;
-      each = stopped g.S.Shelf.sight c.args.at (each_call c.args.each) old c.loop-customer.desk
-          c.act.new.self
-          (map customer_entry (take i xs)) c.loop-customer.told.items c.in-Err.fault
-          c.loop-customer.invariant.so_far c.in-Err.ensures.kept;
-      ends = (
-        c.in-Err.ensures.kept.cause,
-        (
-          item.entry,
-          map customer_entry (drop (suc i) xs),
-          refl,
-        ),
-      );
+      counted = before.counted;
+      each = before.each;
+      stays = before.stays;
+      standing = before.standing;
+      untold = before.untold;
+      ends = record {
+        next = item.entry;
+        more = map customer_entry (drop (suc i) xs);
+        is = refl;
+        kept = c.in-Err.ensures.kept;
+        host = c.in-Err.ensures.host;
+        stops = rw c.call.ensures at c.in-Err.ensures.stops;
+      };
     }
 
-pub returns : goal.returns
-returns g c =
+pub returns-clause-done : goal.returns-clause-done
+returns-clause-done g c =
     let i = c.loop-customer.customer-index in
     let xs = c.args.customers.now in
-    let old : Desk g.row.S.Denot = record { shelf = c.args.shelf; host = c.args.host } in
+    let before = c.loop-customer.invariant.so_far in
     record {
-      old = old;
-      host_is = refl;
-      shelf_is = refl;
-      new = c.loop-customer.desk;
+      mid = c.loop-customer.desk;
       called = map customer_entry (take i xs);
       left = [];
       order = ap (map customer_entry) (sym (take_all i xs (omega arith)))
           ∙ sym (on_end (map customer_entry (take i xs)));
-      counted = c.loop-customer.invariant.so_far.counted;
-      each = c.loop-customer.invariant.so_far.each;
-      ends = refl;
+      counted = before.counted;
+      each = before.each;
+      stays = before.stays;
+      standing = before.standing;
+      untold = before.untold;
+      ends = (refl, refl);
     }

@@ -7,7 +7,7 @@ use Rattle.hq_admin.proofs.rounds.call_each.Given as goal
 abbrev pub invariant-loop-customer : goal.invariant-loop-customer
 invariant-loop-customer g l = record {
   so_far : SoFar g.S.Shelf.sight l.at (each_call l.each)
-      (record { shelf = l.fn.shelf; host = l.fn.host })
+      l.initial.desk
       (map customer_entry (take l.customer-index l.customers)) l.told.items l.desk;
   count : vec_len l.told ≡ l.customer-index;
   room : length l.customers ≤ vec_capacity l.told;

@@ -1,6 +1,6 @@
 use Rattle.std.proofs.Common.{◌≡◌, ◌++◌, drop, Ok}
 use Rattle.serde_json.specs.View.{items_view}
-use Rattle.hq_base.specs.Readers.{◌>>=◌}
+use Rattle.hq_values.specs.Readers.{◌>>=◌}
 use Rattle.hq_bodies.specs.Outcomes.{entries_of}
 use Rattle.hq_bodies.proofs.outcomes.entries_of.Given as goal
 

@@ -1,5 +1,5 @@
 use Rattle.std.proofs.Common.{◌≡◌, ◌++◌, drop, Ok}
-use Rattle.hq_base.specs.Readers.{◌>>=◌}
+use Rattle.hq_values.specs.Readers.{◌>>=◌}
 use Rattle.hq_bodies.specs.Outcomes.{outcomes_in}
 use Rattle.hq_bodies.proofs.outcomes.outcomes_from.Given as goal
 

@@ -1,7 +1,7 @@
 use Rattle.std.proofs.Common.{ap}
 use Rattle.std.proofs.lemmas.Bool.{false≢true}
-use Rattle.hq_base.specs.Readers.{or_refuse}
-use Rattle.hq_base.specs.declared.failure.Refusal.TheVariants.{BadJson}
+use Rattle.hq_values.specs.Readers.{or_refuse}
+use Rattle.hq_values.specs.declared.failure.Refusal.TheVariants.{BadJson}
 use Rattle.hq_bodies.proofs.JsonBodies.{json_of_read, json_of_refused}
 use Rattle.hq_bodies.proofs.reading.json_value.Goals as goal
 

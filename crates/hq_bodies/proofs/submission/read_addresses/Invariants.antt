@@ -1,5 +1,5 @@
 use Rattle.std.proofs.Common.{◌≡◌, ◌++◌, map, drop, string_bytes, Ok}
-use Rattle.hq_base.specs.Readers.{◌>>=◌}
+use Rattle.hq_values.specs.Readers.{◌>>=◌}
 use Rattle.hq_bodies.specs.Submissions.{addresses_in}
 use Rattle.hq_bodies.proofs.submission.read_addresses.Given as goal
 

@@ -1,5 +1,5 @@
 use Rattle.std.proofs.Common.{subst}
-use Rattle.hq_base.specs.Readers.{Reads, seen_by}
+use Rattle.hq_values.specs.Readers.{Reads, seen_by}
 use Rattle.hq_import.proofs.Enough.{customers_enough}
 use Rattle.hq_import.proofs.directory.directory_of.Goals as goal
 

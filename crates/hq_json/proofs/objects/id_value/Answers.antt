@@ -1,6 +1,6 @@
 use Rattle.std.proofs.Common.{sym, subst}
 use Rattle.std.specs.Str.{IsUtf8}
-use Rattle.hq_base.proofs.Ascii.{serial_utf8}
+use Rattle.hq_values.proofs.Ascii.{serial_utf8}
 use Rattle.hq_json.proofs.objects.id_value.Goals as goal
 
 pub unreachable-requires : goal.unreachable-requires

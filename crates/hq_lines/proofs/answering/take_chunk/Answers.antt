@@ -33,8 +33,9 @@ returns-in_err-take_byte-clause-cut g c =
     ap (λ t. before ++ (t ++ drop (i + 1) chunk)) (sym (take_more chunk i 0 (omega arith)))
     ∙ ap (λ t. before ++ t) (take-append-drop (i + 1) chunk) in (
       c.in_err-take_byte.ensures.fault,
-      subst (λ t. Cut g.A.Answers.steps t old c.take_byte.new.answers) all
-          (cut_here g.A.Answers.steps (before ++ take i chunk) (drop (i + 1) chunk) b wo _ old _ _
+      subst (λ t. Cut g.A.Answers.steps t wo (g.W.Write.contents c.take_byte.new.writer) old
+          c.take_byte.new.answers) all
+          (cut_here g.A.Answers.steps (before ++ take i chunk) (drop (i + 1) chunk) b wo _ _ old _ _
           c.loop-byte.line.bytes.items (c.loop-byte.invariant before wo old p)
           c.in_err-take_byte.ensures.answered),
     ))

@@ -56,7 +56,7 @@ returns-clause-passed g c clean sure keeps =
     let Passes : List ℕ → Held g.row.S.Denot → Type 0 = λ host x.
     KeepsDesk (state g.S.Store x).may_leave × ((t' : Tables) →
     MayKeep (state g.S.Store x).may_leave t' → (t : Tables) × MayKeep before t × (s : Session)
-    × IsServed d c.args.exchanges.now replies s × Passed host d s t t') in
+    × IsServed d c.args.exchanges.now replies s × Passed host s t t') in
     let passed : Passes (host_of old) (shelf_of new).conn = elim c.match-run.branch [
       | in-Ok-run w ↦ asked_passed g.S.Store d before keeps old new here c.args.exchanges.now
           replies

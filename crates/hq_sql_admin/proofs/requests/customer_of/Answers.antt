@@ -1,7 +1,7 @@
 use Rattle.std.proofs.Common.{◌≡◌, rules, Ok, Err}
-use Rattle.hq_base.specs.Readers.{Fails}
+use Rattle.hq_values.specs.Readers.{Fails}
 use Rattle.hq_admin.specs.Customers.{entry_named}
-use Rattle.hq_trouble.specs.declared.trouble.Trouble.TheVariants.{Desk}
+use Rattle.hq_settings.specs.declared.trouble.Trouble.TheVariants.{Desk}
 use Rattle.hq_sql_admin.proofs.requests.customer_of.Goals as goal
 
 pub returns-in_err-file : goal.returns-in_err-file

@@ -1,5 +1,5 @@
 use Rattle.std.proofs.Common.{rules, Ok, Err}
-use Rattle.hq_trouble.specs.declared.trouble.Trouble.TheVariants.{Desk}
+use Rattle.hq_settings.specs.declared.trouble.Trouble.TheVariants.{Desk}
 use Rattle.hq_sql_admin.proofs.requests.import_request.Goals as goal
 
 pub returns-in_err-host : goal.returns-in_err-host

@@ -2,7 +2,7 @@ use Rattle.std.proofs.Common.{refl}
 use Rattle.sqlite.specs.Held.{state}
 use Rattle.hq_rows.specs.Lookups.{message_row}
 use Rattle.hq_sql.proofs.Keeping.{write_done, write_failed}
-use Rattle.hq_sql_messages.proofs.Texts.{message_insert_text, message_insert_known}
+use Rattle.hq_sql_messages.proofs.MessageTexts.{message_insert_text, message_insert_known}
 use Rattle.hq_sql_messages.proofs.OnMessages.{message_inserted}
 use Rattle.hq_sql_messages.proofs.messages.insert.Goals as goal
 

@@ -2,7 +2,7 @@ use Rattle.std.proofs.Common.{ap, map, ◌++◌, ◌∙◌}
 use Rattle.sqlite.specs.Held.{state}
 use Rattle.hq_sql.specs.Tables.{tables_in}
 use Rattle.hq_sql.proofs.Keeping.{keeps_ok, keeps_err}
-use Rattle.hq_sql_messages.proofs.Texts.{message_page_known}
+use Rattle.hq_sql_messages.proofs.MessageTexts.{message_page_known}
 use Rattle.hq_sql.proofs.Walking.{pushed_all}
 use Rattle.hq_sql_messages.specs.declared.messages.TakenMessages.{TakenMessages}
 use Rattle.hq_sql_messages.specs.Messages.{bare}

@@ -1,6 +1,6 @@
 use Rattle.sqlite.specs.Held.{state}
 use Rattle.hq_sql.proofs.Keeping.{query_failed, query_answered}
-use Rattle.hq_sql_messages.proofs.Texts.{message_read_text, message_read_known}
+use Rattle.hq_sql_messages.proofs.MessageTexts.{message_read_text, message_read_known}
 use Rattle.hq_sql_messages.proofs.OnMessages.{message_got}
 use Rattle.hq_sql_messages.proofs.messages.query.Goals as goal
 

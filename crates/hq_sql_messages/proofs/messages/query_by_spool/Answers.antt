@@ -1,6 +1,6 @@
 use Rattle.sqlite.specs.Held.{state}
 use Rattle.hq_sql.proofs.Keeping.{query_failed, query_answered}
-use Rattle.hq_sql_messages.proofs.Texts.{spool_read_text, spool_read_known}
+use Rattle.hq_sql_messages.proofs.MessageTexts.{spool_read_text, spool_read_known}
 use Rattle.hq_sql_messages.proofs.OnMessages.{spool_shown}
 use Rattle.hq_sql_messages.proofs.messages.query_by_spool.Goals as goal
 

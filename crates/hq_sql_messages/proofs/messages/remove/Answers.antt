@@ -1,7 +1,7 @@
 use Rattle.std.proofs.Common.{refl}
 use Rattle.sqlite.specs.Held.{state}
 use Rattle.hq_sql.proofs.Keeping.{write_done, write_failed}
-use Rattle.hq_sql_messages.proofs.Texts.{message_delete_text, message_delete_known}
+use Rattle.hq_sql_messages.proofs.MessageTexts.{message_delete_text, message_delete_known}
 use Rattle.hq_sql_messages.proofs.OnMessages.{message_deleted}
 use Rattle.hq_sql_messages.proofs.messages.remove.Goals as goal
 

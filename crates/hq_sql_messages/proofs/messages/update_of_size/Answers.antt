@@ -2,7 +2,7 @@ use Rattle.std.proofs.Common.{refl}
 use Rattle.sqlite.specs.Held.{state}
 use Rattle.hq_rows.specs.Lookups.{message_row}
 use Rattle.hq_sql.proofs.Keeping.{write_done, write_failed}
-use Rattle.hq_sql_messages.proofs.Texts.{sized_update_text, sized_update_known}
+use Rattle.hq_sql_messages.proofs.MessageTexts.{sized_update_text, sized_update_known}
 use Rattle.hq_sql_messages.proofs.OnMessages.{sized_updated}
 use Rattle.hq_sql_messages.proofs.messages.update_of_size.Goals as goal
 

@@ -2,7 +2,7 @@ use Rattle.std.proofs.Common.{refl}
 use Rattle.sqlite.specs.Held.{state}
 use Rattle.hq_sql.proofs.Keeping.{write_done, write_failed}
 use Rattle.hq_sql_notices.proofs.OnNotices.{below_deleted}
-use Rattle.hq_sql_notices.proofs.Texts.{below_text, below_known}
+use Rattle.hq_sql_notices.proofs.NoticeTexts.{below_text, below_known}
 use Rattle.hq_sql_notices.proofs.notices.drop_below.Goals as goal
 
 pub returns-in_err-execute-clause-kept : goal.returns-in_err-execute-clause-kept

@@ -3,7 +3,7 @@ use Rattle.sqlite.specs.Held.{state}
 use Rattle.hq_sql.proofs.Keeping.{write_done, write_failed}
 use Rattle.hq_sql_notices.specs.Notices.{notice_row}
 use Rattle.hq_sql_notices.proofs.OnNotices.{notice_inserted}
-use Rattle.hq_sql_notices.proofs.Texts.{notice_insert_text, notice_insert_known}
+use Rattle.hq_sql_notices.proofs.NoticeTexts.{notice_insert_text, notice_insert_known}
 use Rattle.hq_sql_notices.proofs.notices.insert.Goals as goal
 
 pub returns-in_err-execute-clause-kept : goal.returns-in_err-execute-clause-kept

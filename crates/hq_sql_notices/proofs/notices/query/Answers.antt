@@ -1,7 +1,7 @@
 use Rattle.sqlite.specs.Held.{state}
 use Rattle.hq_sql.proofs.Keeping.{query_failed, query_answered}
 use Rattle.hq_sql_notices.proofs.OnNotices.{notice_got}
-use Rattle.hq_sql_notices.proofs.Texts.{notice_read_text, notice_read_known}
+use Rattle.hq_sql_notices.proofs.NoticeTexts.{notice_read_text, notice_read_known}
 use Rattle.hq_sql_notices.proofs.notices.query.Goals as goal
 
 pub returns-in_err-rows-clause-kept : goal.returns-in_err-rows-clause-kept

@@ -2,7 +2,7 @@ use Rattle.std.proofs.Common.{refl}
 use Rattle.sqlite.specs.Held.{state}
 use Rattle.hq_sql.proofs.Keeping.{write_done, write_failed}
 use Rattle.hq_sql_notices.proofs.OnNotices.{notice_deleted}
-use Rattle.hq_sql_notices.proofs.Texts.{notice_delete_text, notice_delete_known}
+use Rattle.hq_sql_notices.proofs.NoticeTexts.{notice_delete_text, notice_delete_known}
 use Rattle.hq_sql_notices.proofs.notices.remove.Goals as goal
 
 pub returns-in_err-execute-clause-kept : goal.returns-in_err-execute-clause-kept

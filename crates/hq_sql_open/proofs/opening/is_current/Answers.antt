@@ -1,7 +1,7 @@
 use Rattle.std.proofs.Common.{sym, subst}
 use Rattle.sqlite.specs.Held.{state}
 use Rattle.hq_sql_open.specs.Opening.{ShowsOne}
-use Rattle.hq_sql_open.proofs.Version.{tells_one}
+use Rattle.hq_sql_open.proofs.Current.{tells_one}
 use Rattle.hq_sql_open.proofs.opening.is_current.Goals as goal
 
 pub returns-clause-found : goal.returns-clause-found

@@ -1,6 +1,6 @@
 use Rattle.std.proofs.Common.{◌≡◌, [], sym, subst}
 use Rattle.sqlite.specs.Held.{state}
-use Rattle.hq_sql_open.proofs.Version.{tells_none}
+use Rattle.hq_sql_open.proofs.Current.{tells_none}
 use Rattle.hq_sql_open.proofs.opening.is_unversioned.Goals as goal
 
 pub returns-clause-found : goal.returns-clause-found

@@ -1,7 +1,7 @@
 use Rattle.std.proofs.Common.{inl}
 use Rattle.hq_schema.specs.Made.{desk_tables}
 use Rattle.hq_schema.specs.Schema.{no_schema}
-use Rattle.hq_sql_open.proofs.Texts.{all_made, all_whole}
+use Rattle.hq_sql_open.proofs.OpeningTexts.{all_made, all_whole}
 use Rattle.hq_sql_open.proofs.opening.make_all.Goals as goal
 
 pub returns-clause-made : goal.returns-clause-made

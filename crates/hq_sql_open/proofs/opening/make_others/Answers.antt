@@ -1,7 +1,7 @@
 use Rattle.std.proofs.Common.{inr, drop}
 use Rattle.hq_schema.specs.Made.{desk_tables}
 use Rattle.hq_schema.specs.Schema.{version_alone}
-use Rattle.hq_sql_open.proofs.Texts.{others_here, others_whole}
+use Rattle.hq_sql_open.proofs.OpeningTexts.{others_here, others_whole}
 use Rattle.hq_sql_open.proofs.opening.make_others.Goals as goal
 
 pub returns-clause-made : goal.returns-clause-made

@@ -1,6 +1,6 @@
 use Rattle.std.proofs.Common.{Ok, Err}
 use Rattle.sqlite.specs.Held.{state}
-use Rattle.hq_sql_open.proofs.Version.{stamped, stamp_keeps}
+use Rattle.hq_sql_open.proofs.Current.{stamped, stamp_keeps}
 use Rattle.hq_sql_open.proofs.opening.stamp.Goals as goal
 
 pub returns-in_err-execute-clause-kept : goal.returns-in_err-execute-clause-kept

@@ -1,7 +1,7 @@
 use Rattle.std.proofs.Common.{Ok}
 use Rattle.sqlite.specs.Held.{state}
 use Rattle.hq_keyed.proofs.Left.{query_left, left_keeps, on_err}
-use Rattle.hq_sql_open.proofs.Version.{read_shows, read_keeps}
+use Rattle.hq_sql_open.proofs.Current.{read_shows, read_keeps}
 use Rattle.hq_sql_open.proofs.opening.versions.Goals as goal
 
 pub returns-in_err-rows-clause-kept : goal.returns-in_err-rows-clause-kept

@@ -1,5 +1,5 @@
 use Rattle.std.proofs.Common.{[], ◌++◌, codes, refl, ap, ◌∙◌}
-use Rattle.hq_base.specs.Serials.{serial_text}
+use Rattle.hq_values.specs.Serials.{serial_text}
 use Rattle.hq_text.proofs.Joined.{line_then, no_line}
 use Rattle.hq_text.specs.Lines.{crlf}
 use Rattle.hq_text.specs.Notices.{opening_lines, what_follows}

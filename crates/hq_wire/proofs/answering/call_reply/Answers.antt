@@ -1,13 +1,14 @@
-use Rattle.std.proofs.Common.{◌≡◌, ◌+◌, ◌≤◌, inl, Bool, true, false, cond, Result, Ok, rules, sym}
-use Rattle.std.proofs.Common.{subst, arith, ◌∙◌}
-use Rattle.hq_base.specs.declared.failure.Refusal.{Refusal}
+use Rattle.std.proofs.Common.{◌≡◌, ◌+◌, inl, inr, ap, Bool, true, false, cond, Result, Ok}
+use Rattle.std.proofs.Common.{rules, sym, subst, arith, ◌∙◌}
+use Rattle.hq_values.specs.declared.failure.Refusal.{Refusal}
 use Rattle.hq_store.specs.Shelves.{OnOpenSound}
 use Rattle.hq_desk.specs.Desks.{host_of, on}
 use Rattle.hq_requests.specs.Calls.{Asked, CallOf}
 use Rattle.hq_wire.specs.Exchanges.{MayReplyTo}
-use Rattle.hq_wire.specs.Replies.{plain, seen, tells_store}
+use Rattle.hq_wire.specs.Replies.{plain, seen, status_of, tells_store}
 use Rattle.hq_wire.proofs.Alone.{done_once, tells_answer}
-use Rattle.hq_wire.proofs.Exchanging.{fault_closes, leaves_one, no_deeds, tells_none}
+use Rattle.hq_wire.proofs.Exchanging.{counts_told, fault_closes, fault_told, leaves_one}
+use Rattle.hq_wire.proofs.Exchanging.{no_deeds, tells_none}
 use Rattle.hq_wire.proofs.answering.call_reply.Goals as goal
 
 differ : false ≡ true → ⊥
@@ -29,6 +30,11 @@ returns-in-Ok g c = λ d entry.
     c.args.at called told ((on sight).tables c.act.new.self)) = search rules in
     record {
       replied = replied;
+      tells = inl (
+        c.in-Ok.ensures.shown.0,
+        λ i. plain ((c.status_of.ensures ∙ ap status_of c.in-Ok.ensures.shown.1.0) i)
+            (c.in-Ok.ensures.shown.1.1 i),
+      );
       anyway = λ closed. absurd (differ (sym tally.1 ∙ closed));
       closed = tells_none (plain c.status_of.result c.in-Ok.rendered.bytes.items) none;
       sound = search rules;
@@ -44,7 +50,7 @@ returns-in-Ok g c = λ d entry.
             ),
           );
       shut = λ closed. absurd (differ (sym tally.0 ∙ closed));
-      counted = λ small. subst (λ (b : Bool). cond b 1 0 + old ≤ new) (sym none)
+      counted = λ small. subst (λ (b : Bool). cond b 1 0 + old ≡ new) (sym none)
           (omega (arith, tally.2));
     }
 
@@ -56,7 +62,8 @@ returns-in-Err g c = λ d entry.
     c.fault_reply.ensures.told in
     record {
       replied = search rules;
-      anyway = search rules;
+      tells = inr (fault, c.fault_reply.ensures.told);
+      anyway = fault_told fault _ _ _ _ r c.in-Err.ensures.kept.tally c.fault_reply.ensures.told;
       closed = fault_closes fault _ _ _ _ r c.in-Err.ensures.kept.tally c.fault_reply.ensures.told;
       sound = search rules;
       stays = search rules;
@@ -64,5 +71,6 @@ returns-in-Err g c = λ d entry.
           c.args.desk.now c.act.new.self c.args.entry.now c.args.at c.args.call r none entry
           (c.in-Err.ensures.stops clean ours fit rests);
       shut = λ closed. none;
-      counted = search rules;
+      counted = counts_told fault _ _ _ _ r c.in-Err.ensures.kept.tally
+          c.fault_reply.ensures.told;
     }

@@ -1,6 +1,6 @@
 use Rattle.std.proofs.Common.{◌≡◌, Result, Ok, Err, refl, sym, ap, ◌∙◌, subst}
-use Rattle.hq_base.specs.Readers.{Fails}
-use Rattle.hq_base.specs.declared.failure.Refusal.{Refusal}
+use Rattle.hq_values.specs.Readers.{Fails}
+use Rattle.hq_values.specs.declared.failure.Refusal.{Refusal}
 use Rattle.hq_requests.specs.Calls.{Asked, CallOf, CallOfAll, IsKnown, asked_seen, call_of}
 use Rattle.hq_calls.specs.Each.{each_call}
 use Rattle.hq_wire.specs.Exchanges.{ask_of, Exchanged}

@@ -2,8 +2,8 @@ use Rattle.std.proofs.Common.{◌≡◌, ◌+◌, ◌++◌, ◌∷◌, [], map, 
 use Rattle.std.specs.List.{AllZip}
 use Rattle.std.proofs.lemmas.List.{take_all, take_more, map-append}
 use Rattle.std.proofs.lemmas.Slice.Zip.{all_zipped_more}
-use Rattle.hq_base.specs.Turns.{InTurn}
-use Rattle.hq_base.proofs.Turns.{turns_on, one_turn}
+use Rattle.hq_values.specs.Turns.{InTurn}
+use Rattle.hq_values.proofs.Turns.{turns_on, one_turn}
 use Rattle.hq_wire.specs.Exchanges.{Exchanged, ask_of}
 use Rattle.hq_wire.specs.Replies.{IsSent}
 use Rattle.hq_wire.proofs.Serving.{served}

@@ -1,6 +1,6 @@
 use Rattle.std.proofs.Common.{◌≡◌, ◌≤◌, List, map, take, length, vec_len, vec_capacity}
 use Rattle.std.specs.List.{AllZip}
-use Rattle.hq_base.specs.Turns.{InTurn}
+use Rattle.hq_values.specs.Turns.{InTurn}
 use Rattle.hq_wire.specs.Exchanges.{Exchanged, ask_of}
 use Rattle.hq_wire.specs.Replies.{IsSent, SeenReply}
 use Rattle.hq_wire.proofs.headline.run.Given as goal

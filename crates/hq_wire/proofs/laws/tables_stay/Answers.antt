@@ -1,5 +1,5 @@
 use Rattle.std.proofs.Common.{Result, subst}
-use Rattle.hq_base.specs.declared.failure.Refusal.{Refusal}
+use Rattle.hq_values.specs.declared.failure.Refusal.{Refusal}
 use Rattle.hq_requests.specs.Calls.{Asked}
 use Rattle.hq_wire.specs.Exchanges.{MayReplyTo}
 use Rattle.hq_wire.proofs.Left.{left_by_others, left_by_reading}

@@ -1,5 +1,5 @@
 use Rattle.std.proofs.Common.{◌≡◌, ◌∙◌, sym, ap}
-use Rattle.hq_envelope.specs.Addresses.{folded}
+use Rattle.hq_values.specs.Addresses.{folded}
 use Rattle.hq_access.specs.Patterns.{is_pattern}
 use Rattle.hq_access.proofs.Folds.{folded_twice}
 use Rattle.hq_access.proofs.pattern.Pattern.parse.Goals as goal

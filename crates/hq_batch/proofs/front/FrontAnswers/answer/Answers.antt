@@ -7,7 +7,7 @@ use Rattle.hq_batch.proofs.front.FrontAnswers.answer.Goals as goal
 pub returns : goal.returns
 returns g c =
     let line = reply_line (seen c.line_reply-replied.result.reply) in
-    let so = c.line_reply-replied.ensures.replies in
+    let so = c.line_reply-replied.ensures in
     let same : line ≡ reply_line so.told = sym (λ i. three_digits (so.sent.0 i) ++ 32 ∷ so.sent.1 i
     ++ 10 ∷ []) in (
       line,
@@ -17,9 +17,9 @@ returns g c =
         reply = so.told;
         line_is = same;
         done = so.done;
-        logged = λ keeps. logged_as _ _ so.told _ _ _ _ _ c.answered.result
+        logged = λ keeps. logged_as g.S.Shelf.sight _ _ _ _ _ _ _ _ _ c.answered.result
             c.line_reply-replied.result c.begin.ensures.losing c.begin.ensures.contents
-            c.answered.ensures c.line_reply-replied.ensures.line so.sent (c.replied.ensures keeps);
+            c.answered.ensures so (c.replied.ensures keeps);
       },
       c.write_reply.ensures,
     )

@@ -2,7 +2,7 @@ use Rattle.std.proofs.Common.{◌≡◌, inl, inr, ⊎_elim, Err, sym, subst, ap
 use Rattle.std.proofs.lemmas.Result.{err_from_is_err_and}
 use Rattle.hq_store.specs.Sound.{Sound}
 use Rattle.hq_store.specs.Tables.{write_all}
-use Rattle.hq_desk.proofs.Reading.{changes_on, no_memory_on, rests_on}
+use Rattle.hq_reads.proofs.Reading.{changes_on, no_memory_on, rests_on}
 use Rattle.hq_soundness.proofs.Soundness.{shared_sound}
 use Rattle.hq_desk.proofs.desk.Desk.act.Goals as goal
 

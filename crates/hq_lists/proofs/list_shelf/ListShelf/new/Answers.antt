@@ -1,11 +1,12 @@
 use Rattle.std.proofs.Common.{subst, sym, ◌∙◌}
 use Rattle.hq_rows.specs.Listed.{heads_of, messages_of, recipients_of, holds_of, lines_of, marks_of}
-use Rattle.hq_rows.specs.Listed.{notices_of}
+use Rattle.hq_rows.specs.Listed.{notices_of, ends_of}
 use Rattle.hq_rows.specs.Lookups.{AreUnique, AreDealt, AreUniqueLines, AreUniqueNotices}
+use Rattle.hq_rows.specs.Lookups.{AreUniqueEnds}
 use Rattle.hq_store.specs.Sound.{AreCounted}
 use Rattle.hq_store.proofs.Empty.{none_counted}
 use Rattle.hq_rows.proofs.NoRows.{none_unique, none_dealt, none_unique_lines, none_unique_notices}
-use Rattle.hq_rows.proofs.NoRows.{no_rows}
+use Rattle.hq_rows.proofs.NoRows.{none_unique_ends, no_rows}
 use Rattle.hq_lists.proofs.list_shelf.ListShelf.new.Goals as goal
 
 pub returns : goal.returns
@@ -17,6 +18,7 @@ returns c = (λ i. record {
   lines = lines_of (c.new-5.ensures.items i);
   marks = marks_of (c.new-6.ensures.items i);
   notices = notices_of (c.new-7.ensures.items i);
+  ends = ends_of (c.new-8.ensures.items i);
 }) ∙ no_rows
 
 pub invariant_of-result : goal.invariant_of-result
@@ -26,6 +28,7 @@ invariant_of-result c = (
     subst AreDealt (sym c.new-3.ensures.items) none_dealt,
     subst AreUniqueLines (sym c.new-5.ensures.items) none_unique_lines,
     subst AreUniqueNotices (sym c.new-7.ensures.items) none_unique_notices,
+    subst AreUniqueEnds (sym c.new-8.ensures.items) none_unique_ends,
   ),
   subst AreCounted (sym (returns c)) none_counted,
 )

@@ -1,6 +1,0 @@
-use Rattle.std.proofs.Common.{◌≡◌, map}
-use Rattle.hq_calls.specs.Sweeps.{message_met}
-use Rattle.hq_attempts.proofs.sweeps.meet_all.Given as goal
-
-abbrev pub invariant-loop-message : goal.invariant-loop-message
-invariant-loop-message l = l.rows.items ≡ map (message_met l.at l.delay) l.yielded

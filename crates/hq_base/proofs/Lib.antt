@@ -1,6 +1,0 @@
-pub mod Ascii
-pub mod Digits
-pub mod Hex
-pub mod QueueIds
-pub mod Truths
-pub mod Turns

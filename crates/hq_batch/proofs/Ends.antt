@@ -1,0 +1,21 @@
+-- What is said of requests and replies may be said in other words.
+use Rattle.std.proofs.Common.{ℕ, List, Option, Result, Ok, Err}
+use Rattle.std.specs.Bool.{⊤}
+use Rattle.hq_lines.specs.Fields.{LineRequest}
+use Rattle.hq_lines.specs.Lines.{Streams}
+use Rattle.hq_lines.proofs.Steps.{ends_as}
+use Rattle.hq_batch.specs.Runs.{RunEnds}
+use Rattle.hq_settings.specs.declared.trouble.Trouble.{Trouble}
+
+module _ (done other : List (Option LineRequest) → List (List ℕ) → Type 0) (untouched : Type 0)
+    (so : (asked : List (Option LineRequest)) (replies : List (List ℕ)) → done asked replies →
+    other asked replies) (old new : Streams) where
+  pub run_ends_as : (result : Result ⊤ Trouble) → RunEnds done untouched old new result →
+      RunEnds other untouched old new result
+  run_ends_as (Ok x) p = ends_as done other so (λ (x : ⊥). x) old new (Ok tt) p
+  run_ends_as (Err trouble) p = (
+    p.0,
+    p.1,
+    ends_as done other so (λ (x : untouched). x) old new
+        (Err p.0) p.2,
+  )

@@ -1,0 +1,30 @@
+use Rattle.std.proofs.Common.{◌≡◌, Err, refl}
+use Rattle.std.proofs.lemmas.Result.{err_from_is_err_and}
+use Rattle.hq_lines.proofs.Steps.{ends_as}
+use Rattle.hq_batch.specs.Batches.{Replied}
+use Rattle.hq_batch.specs.Runs.{ServesOver}
+use Rattle.hq_batch.proofs.running.run_batch.Goals as goal
+
+pub returns-in_err-batch : goal.returns-in_err-batch
+returns-in_err-batch g c =
+    let told = err_from_is_err_and c.from_residual.result c.from_residual.ensures.1 in
+    let d = c.args.settings.directory in
+    let old = c.new-desk.result in
+    let new = c.batch.new.desk in
+    let less : (c.batch.new.reader ≡ c.args.input.now) × (c.batch.new.writer ≡ c.args.output.now)
+    × (new ≡ old) → (c.batch.new.reader ≡ c.args.input.now)
+    × (c.batch.new.writer ≡ c.args.output.now) = λ same. (same.0, same.1) in
+    rw (told.1, told.2) (
+      c.in_err-batch.field-0.0,
+      refl,
+      ends_as (λ asked lines. Replied g.S.Shelf.sight d old asked lines new)
+          (ServesOver g.S.Shelf.sight c.args.settings c.args.shelf)
+          (λ asked lines p. record {
+            old = old;
+            host_is = c.new-desk.ensures.host;
+            shelf_is = c.new-desk.ensures.shelf;
+            new = new;
+            replied = p;
+          })
+          less _ _ (Err c.in_err-batch.field-0.0) c.in_err-batch.ensures,
+    )

@@ -1,0 +1,41 @@
+-- What a run of a program does, however it ends.
+use Rattle.std.specs.Prelude.{◌≡◌, ⊤, ℕ, List, Option, Result, Ok, Err}
+use Rattle.hq_store.specs.Shelves.{Sight}
+use Rattle.hq_desk.specs.Desks.{host_of, shelf_of}
+use Rattle.hq_desk.specs.declared.desk.Desk.{Desk}
+use Rattle.hq_settings.specs.declared.settings.Settings.{Settings}
+use Rattle.hq_lines.specs.Ends.{InputEnds}
+use Rattle.hq_lines.specs.Fields.{LineRequest}
+use Rattle.hq_lines.specs.Lines.{Streams}
+use Rattle.hq_values.specs.declared.engine.EngineFault.{EngineFault}
+use Rattle.hq_batch.specs.Batches.{Replied}
+use Rattle.hq_settings.specs.Troubles.{trouble_of}
+use Rattle.hq_settings.specs.declared.trouble.Trouble.{Trouble}
+
+-- What lines ask for is replied to as a batch of the customers of these settings, with a desk over
+-- this shelf.
+pub record ServesOver {S : Type 0} (sight : Sight S) (settings : Settings) (shelf : S)
+    (asked : List (Option LineRequest)) (lines : List (List ℕ)) : Type 0 where
+  pub old : Desk S
+  pub host_is : host_of old ≡ settings.host
+  pub shelf_is : shelf_of old ≡ shelf
+  pub new : Desk S
+  pub replied : Replied sight settings.directory old asked lines new
+
+-- how a run ends: as a batch does, with a fault of it told
+abbrev pub RunEnds : (List (Option LineRequest) → List (List ℕ) → Type 0) → Type 0 → Streams →
+    Streams → Result ⊤ Trouble → Type 0
+RunEnds done untouched old new (Ok _) = InputEnds done ⊥ old new (Ok tt)
+RunEnds done untouched old new (Err trouble) = (fault : EngineFault) × (trouble ≡ trouble_of fault)
+    × InputEnds done untouched old new (Err fault)
+
+-- the exit status of a run
+abbrev pub status : Result ⊤ Trouble → ℕ
+status (Ok _) = 0
+status (Err _) = 1
+
+-- A run ends so, and the program with the status of this end.
+pub record Exits (ends : Result ⊤ Trouble → Type 0) (exit_status : ℕ) : Type 0 where
+  pub end : Result ⊤ Trouble
+  pub ends_so : ends end
+  pub status_is : exit_status ≡ status end

@@ -1,0 +1,17 @@
+use Rattle.std.proofs.Common.{◌≡◌, IfOk, Ok, sym, subst, ap, ◌∙◌}
+use Rattle.hq_queue.specs.Attempts.{reported}
+use Rattle.hq_calls.specs.Notices.{carried_out}
+use Rattle.hq_calls.specs.Outcomes.{outcome_with}
+use Rattle.hq_decisions.proofs.outcomes.take_report.Goals as goal
+
+pub returns : goal.returns
+returns c =
+    let told = ap (reported c.args.message c.args.at c.args.asked.now.attempt)
+    (sym c.as_slice-outcomes.ensures) ∙ c.in-Ok-Done.ensures ∙ ap
+    (λ x. Ok (x, c.report.new.message)) c.in-Ok-Done.field-0-is in
+    subst (λ r. IfOk c.carry_out.result
+    (λ decision. decision ≡ outcome_with c.args.host.now c.args.entry.now c.args.at c.args.head
+    c.args.message r)) (sym told)
+    (subst (λ plan. IfOk c.carry_out.result
+    (λ decision. decision ≡ carried_out c.args.host.now c.args.entry.now c.args.at plan))
+    c.in_ok-plan-in-Ok-Done.ensures c.carry_out.ensures)

@@ -1,0 +1,7 @@
+use Rattle.std.proofs.Common.{◌≡◌, map, take}
+use Rattle.hq_calls.specs.Sweeps.{last_told}
+use Rattle.hq_decisions.proofs.sweeps.all_told.Given as goal
+
+abbrev pub invariant-loop-recipient : goal.invariant-loop-recipient
+invariant-loop-recipient l = l.told.items ≡ map (last_told l.kind)
+    (take l.recipient-index l.pending)

@@ -1,0 +1,84 @@
+//! Histories told: a page, and what is found in one. Nothing is read or written here.
+
+ghost use Rattle.std.specs.Prelude.{◌≡◌, IfOk, filter};
+ghost use Rattle.hq_calls.specs.Histories as rules;
+
+use hq_access::{Class, Pattern, keys_of, keys_of_address};
+use hq_calls::Answer;
+use hq_calls::decision::{Decision, PAGE, SEARCH, tell};
+use hq_store::End;
+use hq_values::Items;
+use std::alloc::{AllocError, Global};
+
+/// The first hundred of the ends, of which one more than that was asked for.
+pub fn history_page(alloc: Global, ends: Items<End>) -> Decision
+    ensures { result ≡ rules.history_page ends }
+{
+    let mut ends = ends.into_vec();
+    let more = ends.len() > PAGE;
+    ends.truncate(PAGE);
+    tell(alloc, Answer::HistoryListed(Items::from_vec(ends), more))
+}
+
+/// Whether a line of this pattern could be found for the address of an end.
+fn is_meant(alloc: Global, pattern: &Pattern, end: &End) -> Result<bool, AllocError>
+    ensures { IfOk result (λ meant. meant ≡ rules.is_meant pattern.now end.now) }
+{
+    let keys = match pattern.class() {
+        Class::SenderSide => keys_of(alloc, &end.ended.sender)?,
+        Class::RecipientSide => keys_of_address(alloc, &end.ended.recipient)?,
+    };
+    Ok(pattern.is_among(keys.as_slice()))
+}
+
+/// Those of the ends that are meant.
+fn meant(alloc: Global, pattern: &Pattern, ends: Vec<End>) -> Result<Vec<End>, AllocError>
+    ensures { IfOk result (λ found. found.items
+        ≡ filter (rules.is_meant pattern.now) ends.items) }
+{
+    let mut found = Vec::new(alloc);
+    for end in ends {
+        if is_meant(alloc, pattern, &end)? {
+            found.push(end)?;
+        }
+    }
+    Ok(found)
+}
+
+/// The number of the last of these.
+pub fn last_number(ends: &[End]) -> Option<u64>
+    ensures { result ≡ rules.last_number ends.now }
+{
+    match ends.last() {
+        None => None,
+        Some(end) => Some(end.number),
+    }
+}
+
+/// Of the first thousand of the ends those that are meant, the first hundred of them, and where the
+/// search goes on; one more than a thousand was asked for.
+pub fn find_history(
+    alloc: Global,
+    pattern: &Pattern,
+    ends: Items<End>,
+) -> Result<Decision, AllocError>
+    ensures { IfOk result (λ decision. decision ≡ rules.find_history pattern.now ends) }
+{
+    let mut ends = ends.into_vec();
+    let more = ends.len() > SEARCH;
+    ends.truncate(SEARCH);
+    let behind = if more {
+        last_number(ends.as_slice())
+    } else {
+        None
+    };
+    let mut found = meant(alloc, pattern, ends)?;
+    let many = found.len() > PAGE;
+    found.truncate(PAGE);
+    let next = if many {
+        last_number(found.as_slice())
+    } else {
+        behind
+    };
+    Ok(tell(alloc, Answer::HistoryFound(Items::from_vec(found), next)))
+}

@@ -1,0 +1,186 @@
+//! Notices that calls make: who gets one, under which number, and which of all are kept; and
+//! notices told. Nothing is read or written here.
+
+ghost use Rattle.std.specs.Prelude.{◌≡◌, ◌∷◌, ◌++◌, ◌+◌, ◌≤◌, ◌^◌, IfOk, OnErr, OnOk, length};
+ghost use Rattle.std.specs.Prelude.{nat_lt};
+ghost use Rattle.hq_queue.specs.Admission.{spent};
+ghost use Rattle.hq_calls.specs.Notices as rules;
+ghost use Rattle.hq_store.specs.declared.change.Change.TheVariants.{PutHead};
+
+use hq_calls::decision::{Decision, PAGE, refuse, tell};
+use hq_calls::histories::keep_history;
+use hq_calls::{Answer, Draft, Plan};
+use hq_queue::{Entry, Head, Kind, Message, Told};
+use hq_store::{Change, Notice};
+use hq_text::{human_text, status_text};
+use hq_values::{Address, Host, Items, Moment, Refusal, Sender, TryCopy, WrittenText};
+use std::alloc::{AllocError, Global};
+
+/// The number that no notice has: it says that all numbers are spent.
+const SPENT: u64 = 1 << 40;
+
+/// Drafts a notice to the sender of a message that tells of these recipients: none to the null
+/// sender, and none of nobody. The only error is want of memory, and then nothing is drafted.
+pub fn draft_notice(
+    alloc: Global,
+    drafts: &mut Vec<Draft>,
+    message: &Message,
+    kind: Kind,
+    told: Items<Told>,
+) -> Result<(), AllocError>
+    ensures drafted { OnOk result (drafts.new.items
+        ≡ drafts.old.items ++ rules.drafted message.now kind told) }
+    ensures kept { OnErr result (drafts.new.items ≡ drafts.old.items) }
+{
+    if told.is_empty() {
+        return Ok(());
+    }
+    if let Sender::From(to) = &message.sender {
+        drafts.push(Draft {
+            message: message.copy(alloc)?,
+            to: to.copy(alloc)?,
+            kind,
+            told,
+        })?;
+    }
+    Ok(())
+}
+
+/// Writes a notice under a number.
+fn notice(
+    alloc: Global,
+    host: &Host,
+    at: Moment,
+    number: u64,
+    draft: Draft,
+) -> Result<Notice, AllocError>
+    ensures { IfOk result (λ notice. notice ≡ rules.noticed host.now at number draft) }
+{
+    let Draft {
+        message,
+        to,
+        kind,
+        told,
+    } = draft;
+    let human = human_text(alloc, host, &message, kind, told.as_slice())?;
+    let status = status_text(alloc, host, &message, kind, told.as_slice())?;
+    Ok(Notice {
+        number,
+        kind,
+        serial: message.serial,
+        at,
+        to,
+        human: WrittenText::new(human),
+        status: WrittenText::new(status),
+    })
+}
+
+/// Adds notices, under the numbers from `first` on.
+fn add_from(
+    alloc: Global,
+    changes: &mut Vec<Change>,
+    host: &Host,
+    at: Moment,
+    first: u64,
+    drafts: Vec<Draft>,
+) -> Result<(), AllocError>
+    requires { first + length drafts.items ≤ 2 ^ 40 }
+    ensures { OnOk result (changes.new.items
+        ≡ changes.old.items ++ rules.added_from host.now at first drafts.items) }
+{
+    let mut number = first;
+    for draft in drafts {
+        let notice = notice(alloc, host, at, number, draft)?;
+        changes.push(Change::AddNotice(notice))?;
+        number += 1;
+    }
+    Ok(())
+}
+
+/// The changes of a plan with those that number and keep its notices.
+fn with_numbers(
+    alloc: Global,
+    host: &Host,
+    quota: u64,
+    at: Moment,
+    changes: Items<Change>,
+    head: Head,
+    drafts: Items<Draft>,
+) -> Result<Vec<Change>, AllocError>
+    requires { head.next_notice + length drafts ≤ 2 ^ 40 }
+    ensures { IfOk result (λ all. all.items ≡ changes
+        ++ PutHead (rules.with_notices (length drafts) head)
+        ∷ (rules.added_from host.now at head.next_notice drafts
+        ++ rules.kept_below quota (head.next_notice + length drafts) drafts)) }
+{
+    let mut head = head;
+    let first = head.next_notice;
+    let count = drafts.len() as u64;
+    head.next_notice = first + count;
+    let oldest = head.next_notice.saturating_sub(quota);
+    let mut changes = changes.into_vec();
+    changes.push(Change::PutHead(head))?;
+    add_from(alloc, &mut changes, host, at, first, drafts.into_vec())?;
+    if count > 0 {
+        changes.push(Change::DropNoticesBelow(oldest))?;
+    }
+    Ok(changes)
+}
+
+/// Whether too few numbers are left for so many notices.
+fn is_spent(first: u64, count: u64) -> bool
+    ensures { result ≡ nat_lt spent (first + count) }
+{
+    first > SPENT || count > SPENT - first
+}
+
+/// Carries a plan out: its notices get the next numbers, and where there are any, the newest are
+/// kept, as many as the customer's quota says. The recipients that left the queue go into its
+/// history. Where too few numbers are left it is 44 `NoticesSpent`, and nothing is changed.
+pub fn carry_out(
+    alloc: Global,
+    host: &Host,
+    entry: &Entry,
+    at: Moment,
+    plan: Plan,
+) -> Result<Decision, AllocError>
+    ensures { IfOk result (λ decision. decision
+        ≡ rules.carried_out host.now entry.now at plan) }
+{
+    if is_spent(plan.head.next_notice, plan.drafts.len() as u64) {
+        return Ok(refuse(alloc, Refusal::NoticesSpent));
+    }
+    let Plan {
+        answer,
+        changes,
+        head,
+        drafts,
+        ended,
+    } = plan;
+    let mut changes = with_numbers(alloc, host, entry.quota.notices, at, changes, head, drafts)?;
+    keep_history(alloc, &mut changes, entry, at, &head, ended.as_slice())?;
+    Ok(Decision {
+        answer,
+        changes: Items::from_vec(changes),
+    })
+}
+
+/// Shows the notice that was found.
+pub fn show_notice(alloc: Global, found: Option<Notice>) -> Decision
+    ensures { result ≡ rules.show_notice found }
+{
+    match found {
+        None => refuse(alloc, Refusal::NoNotice),
+        Some(notice) => tell(alloc, Answer::NoticeShown(notice)),
+    }
+}
+
+/// The first hundred of the notices, of which one more than that was asked for.
+pub fn notice_page(alloc: Global, notices: Items<Notice>) -> Decision
+    ensures { result ≡ rules.notice_page notices }
+{
+    let mut notices = notices.into_vec();
+    let more = notices.len() > PAGE;
+    notices.truncate(PAGE);
+    tell(alloc, Answer::NoticesListed(Items::from_vec(notices), more))
+}

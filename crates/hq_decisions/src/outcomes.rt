@@ -1,0 +1,109 @@
+//! What is answered and changed on the report of a delivery attempt, and which messages may be
+//! tried. Nothing is read or written here.
+
+ghost use Rattle.std.specs.Prelude.{◌≡◌, IfOk, Some, filter};
+ghost use Rattle.hq_queue.specs.Moves.{is_due};
+ghost use Rattle.hq_calls.specs.Outcomes as rules;
+
+use crate::notices::{carry_out, draft_notice};
+use hq_calls::decision::{Decision, PAGE, refuse, tell};
+use hq_calls::{Answer, AttemptCounts, AttemptReport, Plan};
+use hq_queue::{Ended, Entry, Head, Kind, Message, Reported, Told, due, report};
+use hq_store::Change;
+use hq_values::{Fail, Host, Items, Moment};
+use std::alloc::{AllocError, Global};
+
+/// A message stays in the queue as long as somebody is left of it.
+fn put_or_drop(message: Message) -> Change
+    ensures { result ≡ rules.put_or_dropped message message.pending }
+{
+    if message.pending.is_empty() {
+        Change::DropMessage(message.serial)
+    } else {
+        Change::PutMessage(message)
+    }
+}
+
+/// What an attempt does where the message is this after it.
+fn attempted(
+    alloc: Global,
+    mut head: Head,
+    message: Message,
+    delivered: u64,
+    deferred: u64,
+    failed: Items<Told>,
+    ended: Items<Ended>,
+) -> Result<Plan, AllocError>
+    ensures { IfOk result (λ plan. plan
+        ≡ rules.attempted head message delivered deferred failed ended) }
+{
+    let counts = AttemptCounts {
+        deferred,
+        delivered,
+        failed: failed.len() as u64,
+        left: message.pending.len() as u64,
+    };
+    head.tally.delivered = head.tally.delivered.saturating_add(counts.delivered);
+    head.tally.failed = head.tally.failed.saturating_add(counts.failed);
+    let mut drafts = Vec::new(alloc);
+    draft_notice(alloc, &mut drafts, &message, Kind::Failure, failed)?;
+    let changes = vec![in alloc; put_or_drop(message)]?;
+    Ok(Plan {
+        answer: Answer::Attempted(counts),
+        changes: Items::from_vec(changes),
+        head,
+        drafts: Items::from_vec(drafts),
+        ended,
+    })
+}
+
+/// Takes the report of an attempt to deliver a message: the first refusal of `report`, then 44
+/// `NoticesSpent`; and a repeat changes nothing.
+pub fn take_report(
+    alloc: Global,
+    host: &Host,
+    entry: &Entry,
+    at: Moment,
+    head: Head,
+    mut message: Message,
+    asked: &AttemptReport,
+) -> Result<Decision, AllocError>
+    ensures { IfOk result (λ decision. decision
+        ≡ rules.outcome host.now entry.now at head asked.now (Some message)) }
+{
+    let outcomes = asked.outcomes.as_slice();
+    match report(alloc, &mut message, at, asked.attempt, outcomes) {
+        Err(Fail::Refused(refusal)) => Ok(refuse(alloc, refusal)),
+        Err(Fail::Fault(_)) => Err(AllocError),
+        Ok(Reported::Repeat) => Ok(tell(alloc, Answer::AttemptRepeated(message.attempts))),
+        Ok(
+            Reported::Done {
+                delivered,
+                deferred,
+                failed,
+                ended,
+            },
+        ) => {
+            let plan = attempted(alloc, head, message, delivered, deferred, failed, ended)?;
+            carry_out(alloc, host, entry, at, plan)
+        }
+    }
+}
+
+/// Those of the messages that may be tried.
+fn keep_due(messages: &mut Vec<Message>, at: Moment)
+    ensures { messages.new.items ≡ filter (is_due at) messages.old.items }
+{
+    messages.retain(|message| due(message, at));
+}
+
+/// The first hundred of the messages that may be tried, of all these.
+pub fn due_page(alloc: Global, at: Moment, messages: Items<Message>) -> Decision
+    ensures { result ≡ rules.due_page (filter (is_due at) messages) }
+{
+    let mut messages = messages.into_vec();
+    keep_due(&mut messages, at);
+    let more = messages.len() > PAGE;
+    messages.truncate(PAGE);
+    tell(alloc, Answer::DueListed(Items::from_vec(messages), more))
+}

@@ -1,5 +1,0 @@
-use Rattle.std.proofs.Common.{◌≡◌, None, map}
-use Rattle.hq_desk.proofs.submit.unmatched.Given as goal
-
-abbrev pub invariant-loop-recipient : goal.invariant-loop-recipient
-invariant-loop-recipient l = l.found.items ≡ map (λ a. (a, None)) l.yielded

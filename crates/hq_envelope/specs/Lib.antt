@@ -1,3 +1,0 @@
-pub mod Addresses
-pub mod Senders
-pub mod Words

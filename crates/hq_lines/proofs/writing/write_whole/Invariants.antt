@@ -1,0 +1,8 @@
+use Rattle.std.proofs.Common.{◌≤◌, length, take}
+use Rattle.std.specs.Io.KnownBytes.{Appends}
+use Rattle.hq_lines.proofs.writing.write_whole.Given as goal
+
+-- so much of the bytes was appended
+abbrev pub invariant-loop : goal.invariant-loop
+invariant-loop g l = (l.done ≤ length l.bytes) × Appends (g.W.Write.contents l.fn.writer)
+    (g.W.Write.contents l.writer) (take l.done l.bytes)

@@ -1,9 +1,0 @@
-use Rattle.std.proofs.Common.{◌≡◌, take}
-use Rattle.std.specs.List.{filter_map}
-use Rattle.hq_rows.specs.Lookups.{AreDealt, message_at}
-use Rattle.hq_list_tables.proofs.messages.messages_at.Given as goal
-
-abbrev pub invariant-loop-serial : goal.invariant-loop-serial
-invariant-loop-serial l = AreDealt l.recipients →
-    l.page.items ≡ filter_map (message_at l.customer l.messages l.recipients l.holds)
-    (take l.serial-index l.serials)

@@ -1,6 +1,0 @@
-use Rattle.std.proofs.Common.{◌≡◌, take}
-use Rattle.hq_rows.specs.Lookups.{pending_in}
-use Rattle.hq_list_tables.proofs.recipients.pending_in.Given as goal
-
-abbrev pub invariant-loop-row : goal.invariant-loop-row
-invariant-loop-row l = l.pending.items ≡ pending_in l.customer l.serial (take l.row-index l.rows)

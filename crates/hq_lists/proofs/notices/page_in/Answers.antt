@@ -1,0 +1,21 @@
+use Rattle.std.proofs.Common.{◌≡◌, IsPermutation, subst, ap, ◌∙◌, take, rules}
+use Rattle.std.specs.Ordering.{is_lt}
+use Rattle.std.specs.Cmp.{nat_cmp_total}
+use Rattle.std.proofs.lemmas.Fn.{always_returns_same}
+use Rattle.std.proofs.lemmas.List.MinMax.{ranks_by}
+use Rattle.hq_store.specs.declared.notice.Notice.{Notice}
+use Rattle.hq_rows.proofs.NoticePages.{notices_are, by_number}
+use Rattle.hq_lists.proofs.notices.page_in.Goals as goal
+
+pub returns : goal.returns
+returns c u =
+    c.from_vec.ensures ∙ c.truncate.ensures.items
+    ∙ ap (take c.args.limit)
+    (notices_are c.args.customer.now c.args.after c.args.rows.now
+    c.sort_unstable_by.new.self.items u
+    (subst (λ xs. IsPermutation xs c.sort_unstable_by.new.self.items) c.in_ok-notices.ensures
+    c.sort_unstable_by.ensures.permutation)
+    (c.sort_unstable_by.ensures.sorted (λ a b. is_lt (by_number a b))
+    (ranks_by nat_cmp_total (λ (n : Notice). n.number))
+    (always_returns_same _ (λ a r. is_lt r ≡ is_lt (by_number a.0.now a.1.0.now)) _
+    (λ a r f' k. search rules))))

@@ -1,0 +1,8 @@
+use Rattle.std.proofs.Common.{rules}
+use Rattle.std.proofs.lemmas.Fn.{filter_same}
+use Rattle.hq_rows.specs.Lookups.{is_kept_notice}
+use Rattle.hq_lists.proofs.notices.retain_from.Goals as goal
+
+pub returns : goal.returns
+returns c = filter_same _ (is_kept_notice c.args.customer.now c.args.number) _
+    (λ x b f' k. search rules) _ _ c.retain.ensures.filtered

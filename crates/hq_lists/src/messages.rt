@@ -1,0 +1,312 @@
+//! The rows of messages: look-up, put, drop, counts and pages, and messages joined with their
+//! recipients.
+
+ghost use Rattle.std.specs.Prelude.{◌≡◌, ℕ, not, IfOk, OnOk, [], ◌++◌, filter, map, option_map};
+ghost use Rattle.std.specs.Prelude.{slice_get};
+ghost use Rattle.std.specs.List as list;
+ghost use Rattle.std.specs.List.{filter_map, cons_option};
+ghost use Rattle.std.specs.FinMap as maps;
+ghost use Rattle.hq_queue.specs.declared.message.Message.{Message};
+ghost use Rattle.hq_store.specs.Tables.{Row, row_of, message_of, reason_of, joined};
+ghost use Rattle.hq_store.specs.Readings.{page_of, with_spool};
+ghost use Rattle.hq_rows.specs.Listed.{messages_of, recipients_of, holds_of, message_value};
+ghost use Rattle.hq_rows.specs.Lookups.{is_message, is_past, message_row, pending_in};
+ghost use Rattle.hq_rows.specs.Lookups.{serials_where, serials_after, serials_with_spool};
+ghost use Rattle.hq_rows.specs.Lookups.{rows_with, has_spool, message_at, AreUnique, AreDealt};
+
+use crate::{holds, recipients};
+use hq_queue::Message;
+use hq_rows::{HoldRow, MessageRow, RecipientRow};
+use hq_values::{Items, Name, Serial, Spool, TryCopy};
+use std::alloc::{AllocError, Global};
+
+fn find_message<'a>(
+    rows: &'a [MessageRow],
+    customer: &Name,
+    serial: Serial,
+) -> Option<&'a MessageRow>
+    ensures { option_map (λ row. row.now) result ≡ list.find
+        (is_message customer.now serial) rows.now }
+{
+    rows.iter().find(|row| row.is_at(customer, serial))
+}
+
+fn drop_row(rows: &mut Vec<MessageRow>, customer: &Name, serial: Serial)
+    ensures { rows.new.items ≡ filter
+        (λ row. not (is_message customer.now serial row)) rows.old.items }
+{
+    rows.retain(|row| row.is_other(customer, serial));
+}
+
+/// Drops the message, without its recipients.
+pub fn drop_message(rows: &mut Vec<MessageRow>, customer: &Name, serial: Serial)
+    ensures table { messages_of rows.new.items ≡ maps.remove (messages_of rows.old.items)
+        (customer.now, serial) }
+    ensures unique { AreUnique rows.old.items → AreUnique rows.new.items }
+{
+    drop_row(rows, customer, serial);
+}
+
+fn message_row(alloc: Global, customer: &Name, message: &Message) -> Result<MessageRow, AllocError>
+    ensures { IfOk result (λ row. row ≡ message_row customer.now message.now) }
+{
+    let customer = customer.copy(alloc)?;
+    let sender = message.sender.copy(alloc)?;
+    let spool = message.spool.copy(alloc)?;
+    Ok(MessageRow {
+        customer,
+        serial: message.serial,
+        sender,
+        spool,
+        size: message.size,
+        arrival: message.arrival,
+        state: message.state,
+        next_try: message.next_try,
+        attempts: message.attempts,
+        warned: message.warned,
+    })
+}
+
+/// Sets the message, without its recipients.
+pub fn put_message(
+    alloc: Global,
+    rows: &mut Vec<MessageRow>,
+    customer: &Name,
+    message: &Message,
+) -> Result<(), AllocError>
+    ensures table { OnOk result
+        (messages_of rows.new.items ≡ maps.insert (messages_of rows.old.items)
+        (customer.now, message.now.serial) (row_of message.now)) }
+    ensures unique { AreUnique rows.old.items → OnOk result (AreUnique rows.new.items) }
+{
+    let row = message_row(alloc, customer, message)?;
+    drop_row(rows, customer, message.serial);
+    rows.push(row)?;
+    Ok(())
+}
+
+/// The message of a row, with its reason and its recipients.
+fn joined(
+    alloc: Global,
+    row: &MessageRow,
+    recipients: &[RecipientRow],
+    holds: &[HoldRow],
+    customer: &Name,
+    serial: Serial,
+) -> Result<Message, AllocError>
+    ensures { IfOk result (λ message. message ≡ message_of serial (message_value row.now)
+        (reason_of customer.now serial (holds_of holds.now))
+        (pending_in customer.now serial recipients.now)) }
+{
+    let sender = row.sender.copy(alloc)?;
+    let spool = row.spool.copy(alloc)?;
+    let reason = holds::reason_in(alloc, holds, customer, serial)?;
+    let pending = recipients::pending_in(alloc, recipients, customer, serial)?;
+    Ok(Message {
+        serial,
+        sender,
+        spool,
+        size: row.size,
+        arrival: row.arrival,
+        state: row.state,
+        reason,
+        next_try: row.next_try,
+        attempts: row.attempts,
+        warned: row.warned,
+        pending,
+    })
+}
+
+/// The customer's message of this serial, with its recipients.
+pub fn message_in(
+    alloc: Global,
+    messages: &[MessageRow],
+    recipients: &[RecipientRow],
+    holds: &[HoldRow],
+    customer: &Name,
+    serial: Serial,
+) -> Result<Option<Message>, AllocError>
+    ensures { AreDealt recipients.now → IfOk result
+        (λ found. found ≡ message_at customer.now messages.now recipients.now holds.now serial) }
+{
+    match find_message(messages, customer, serial) {
+        Some(row) => Ok(Some(joined(alloc, row, recipients, holds, customer, serial)?)),
+        None => Ok(None),
+    }
+}
+
+/// The size of the customer's message of this serial.
+pub fn size_in(rows: &[MessageRow], customer: &Name, serial: Serial) -> Option<u32>
+    ensures { result ≡ option_map (λ (r : Row). r.size)
+        (maps.get (messages_of rows.now) (customer.now, serial)) }
+{
+    match find_message(rows, customer, serial) {
+        Some(row) => Some(row.size),
+        None => None,
+    }
+}
+
+/// The number of a serial, where there is one.
+fn number_of(serial: Option<Serial>) -> Option<u64>
+    ensures { result ≡ serial }
+{
+    match serial {
+        None => None,
+        Some(serial) => Some(serial.get()),
+    }
+}
+
+fn serials_past(
+    alloc: Global,
+    rows: &[MessageRow],
+    customer: &Name,
+    after: Option<u64>,
+) -> Result<Vec<Serial>, AllocError>
+    ensures { IfOk result (λ serials. serials.items ≡ serials_where
+        (is_past customer.now after) rows.now) }
+{
+    let mut serials = Vec::new(alloc);
+    for row in rows {
+        if row.is_past(customer, after) {
+            serials.push(row.serial)?;
+        }
+    }
+    Ok(serials)
+}
+
+/// The serials of the customer's messages after a serial, in order.
+fn sorted_serials(
+    alloc: Global,
+    rows: &[MessageRow],
+    customer: &Name,
+    after: Option<u64>,
+) -> Result<Vec<Serial>, AllocError>
+    ensures { AreUnique rows.now → IfOk result
+        (λ serials. serials.items ≡ serials_after after (rows_with customer.now rows.now)) }
+{
+    let mut serials = serials_past(alloc, rows, customer, after)?;
+    serials.sort_unstable();
+    Ok(serials)
+}
+
+fn push_found(page: &mut Vec<Message>, found: Option<Message>) -> Result<(), AllocError>
+    ensures { OnOk result (page.new.items ≡ page.old.items ++ cons_option found []) }
+{
+    if let Some(message) = found {
+        page.push(message)?;
+    }
+    Ok(())
+}
+
+fn messages_at(
+    alloc: Global,
+    messages: &[MessageRow],
+    recipients: &[RecipientRow],
+    holds: &[HoldRow],
+    customer: &Name,
+    serials: &[Serial],
+) -> Result<Vec<Message>, AllocError>
+    ensures { AreDealt recipients.now → IfOk result
+        (λ page. page.items ≡ filter_map
+        (message_at customer.now messages.now recipients.now holds.now) serials.now) }
+{
+    let mut page = Vec::new(alloc);
+    for serial in serials {
+        let found = message_in(alloc, messages, recipients, holds, customer, *serial)?;
+        push_found(&mut page, found)?;
+    }
+    Ok(page)
+}
+
+/// The customer's messages in order of serial: the first `limit` after the serial, or of all.
+pub fn page_in(
+    alloc: Global,
+    messages: &[MessageRow],
+    recipients: &[RecipientRow],
+    holds: &[HoldRow],
+    customer: &Name,
+    after: Option<Serial>,
+    limit: usize,
+) -> Result<Items<Message>, AllocError>
+    ensures { AreUnique messages.now → AreDealt recipients.now → IfOk result
+        (λ page. page ≡ page_of after limit
+        (map (λ e. joined customer.now (recipients_of recipients.now) (holds_of holds.now) e.0 e.1)
+        (rows_with customer.now messages.now))) }
+{
+    let mut serials = sorted_serials(alloc, messages, customer, number_of(after))?;
+    serials.truncate(limit);
+    let page = messages_at(
+        alloc,
+        messages,
+        recipients,
+        holds,
+        customer,
+        serials.as_slice(),
+    )?;
+    Ok(Items::from_vec(page))
+}
+
+fn serials_having(
+    alloc: Global,
+    rows: &[MessageRow],
+    customer: &Name,
+    spool: &Spool,
+) -> Result<Vec<Serial>, AllocError>
+    ensures { IfOk result (λ serials. serials.items ≡ serials_where
+        (has_spool customer.now spool.now) rows.now) }
+{
+    let mut serials = Vec::new(alloc);
+    for row in rows {
+        if row.has_spool(customer, spool) {
+            serials.push(row.serial)?;
+        }
+    }
+    Ok(serials)
+}
+
+/// The serials of the customer's messages with this spool name, in order.
+fn sorted_having(
+    alloc: Global,
+    rows: &[MessageRow],
+    customer: &Name,
+    spool: &Spool,
+) -> Result<Vec<Serial>, AllocError>
+    ensures { AreUnique rows.now → IfOk result
+        (λ serials. serials.items
+        ≡ serials_with_spool spool.now (rows_with customer.now rows.now)) }
+{
+    let mut serials = serials_having(alloc, rows, customer, spool)?;
+    serials.sort_unstable();
+    Ok(serials)
+}
+
+fn first_of(serials: &[Serial]) -> Option<Serial>
+    ensures { result ≡ slice_get serials.now 0 }
+{
+    serials.first().copied()
+}
+
+/// The customer's message with this spool name, the one of the smallest serial where several have
+/// it.
+pub fn by_spool_in(
+    alloc: Global,
+    messages: &[MessageRow],
+    recipients: &[RecipientRow],
+    holds: &[HoldRow],
+    customer: &Name,
+    spool: &Spool,
+) -> Result<Option<Message>, AllocError>
+    ensures { AreUnique messages.now → AreDealt recipients.now → IfOk result
+        (λ found. found ≡ with_spool spool.now
+        (map (λ e. joined customer.now (recipients_of recipients.now) (holds_of holds.now) e.0 e.1)
+        (rows_with customer.now messages.now))) }
+{
+    let serials = sorted_having(alloc, messages, customer, spool)?;
+    match first_of(serials.as_slice()) {
+        None => Ok(None),
+        Some(serial) => {
+            let found = message_in(alloc, messages, recipients, holds, customer, serial)?;
+            Ok(found)
+        }
+    }
+}

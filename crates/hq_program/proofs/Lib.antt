@@ -1,3 +1,0 @@
-pub mod Customers
-pub mod Ends
-pub mod Printed

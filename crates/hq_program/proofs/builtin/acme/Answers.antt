@@ -1,6 +1,0 @@
-use Rattle.std.proofs.Common.{rules}
-use Rattle.hq_program.proofs.Customers.{same_customer}
-use Rattle.hq_program.proofs.builtin.acme.Goals as goal
-
-pub returns : goal.returns
-returns c = same_customer _ _ _ _ _ _ _ _ _ _ _ _ _ (search rules) (search rules)

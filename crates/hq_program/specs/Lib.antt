@@ -1,3 +1,0 @@
-pub mod Builtin
-pub mod Printing
-pub mod Runs

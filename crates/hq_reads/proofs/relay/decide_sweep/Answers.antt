@@ -1,0 +1,21 @@
+use Rattle.std.proofs.Common.{◌≡◌, None, ◌∙◌}
+use Rattle.hq_store.specs.Readings.{read_tables}
+use Rattle.hq_reads.proofs.Then.{finds_on}
+use Rattle.hq_calls.specs.Sweeps.{sweep}
+use Rattle.hq_reads.proofs.Whole.{whole}
+use Rattle.hq_reads.proofs.relay.decide_sweep.Goals as goal
+
+pub returns-clause-found : goal.returns-clause-found
+returns-clause-found g c = λ clean ours sound.
+    let name = c.args.entry.now.name in
+    let sight = g.S.Shelf.sight in
+    let rows = read_tables name (sight.tables c.args.shelf.now) in
+    let first = c.in_ok-messages.ensures in
+    let then = c.in_ok-head.ensures in
+    let head : c.in_ok-head.head ≡ rows.head = finds_on sight _ _ _ _ _ name (λ rows. rows.head)
+    first.kept then.kept then.found clean ours in
+    let messages : c.in_ok-messages.messages ≡ rows.messages =
+    first.found (then.kept.quiet clean) ours ∙ whole name (sight.tables c.args.shelf.now) None
+    sound in
+    c.in_ok-decision.ensures ∙ (λ i. sweep c.args.host.now c.args.entry.now c.args.at (head i)
+    (messages i))

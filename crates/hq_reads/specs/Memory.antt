@@ -1,0 +1,12 @@
+-- What is said of calls that may want memory beside what a shelf answers.
+-- Inner: it serves proofs alone, and no promise rests on it.
+use Rattle.std.specs.Prelude.{◌≡◌, ◌⊎◌}
+use Rattle.hq_values.specs.Refusals.{no_memory}
+use Rattle.hq_store.specs.Shelves.{Sight}
+
+-- what is seen of a shelf, by a call that may want memory whichever the shelf
+abbrev pub with_memory : {S : Type 0} → Sight S → Sight S
+with_memory sight = record sight {
+  may_answer = λ fault. (fault ≡ no_memory)
+      ⊎ sight.may_answer fault;
+}

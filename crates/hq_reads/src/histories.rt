@@ -1,0 +1,47 @@
+//! What the calls on a customer's history read through a shelf.
+
+ghost use Rattle.std.specs.Prelude.{◌≡◌};
+ghost use Rattle.hq_store.specs.Readings.{before_end};
+ghost use Rattle.hq_store.specs.Shelves.{Finds, Keeps};
+ghost use Rattle.hq_calls.specs.Histories as histories;
+ghost use Rattle.hq_reads.specs.Memory.{with_memory};
+
+use hq_access::Pattern;
+use hq_calls::decision::{Decision, PAGE, SEARCH};
+use hq_decisions::histories::{find_history, history_page};
+use hq_queue::Entry;
+use hq_store::Shelf;
+use hq_values::Fault;
+use std::alloc::Global;
+
+/// The answer to a page of the history.
+pub(crate) fn decide_history<S: Shelf>(
+    shelf: &mut S,
+    alloc: Global,
+    entry: &Entry,
+    before: Option<u64>,
+) -> Result<Decision, Fault>
+    ensures found { Finds S.sight shelf.old shelf.new result entry.now.name
+        (λ rows. histories.history_page (before_end before rows.ends)) }
+    ensures kept { Keeps (with_memory S.sight) shelf.old shelf.new result }
+{
+    let found = shelf.ends(&entry.name, before, PAGE + 1)?;
+    Ok(history_page(alloc, found))
+}
+
+/// The answer to a search in the history.
+pub(crate) fn decide_find_history<S: Shelf>(
+    shelf: &mut S,
+    alloc: Global,
+    entry: &Entry,
+    pattern: &Pattern,
+    before: Option<u64>,
+) -> Result<Decision, Fault>
+    ensures found { Finds S.sight shelf.old shelf.new result entry.now.name
+        (λ rows. histories.find_history pattern.now (before_end before rows.ends)) }
+    ensures kept { Keeps (with_memory S.sight) shelf.old shelf.new result }
+{
+    let found = shelf.ends(&entry.name, before, SEARCH + 1)?;
+    let decision = find_history(alloc, pattern, found)?;
+    Ok(decision)
+}

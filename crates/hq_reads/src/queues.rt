@@ -1,0 +1,88 @@
+//! What the calls on all messages of a customer that are selected, and the call for its usage, read
+//! through a shelf.
+
+ghost use Rattle.std.specs.Prelude.{◌≡◌, filter, option_map};
+ghost use Rattle.hq_store.specs.Shelves.{Finds, FindsSound, Keeps};
+ghost use Rattle.hq_calls.specs.Queues as queues;
+ghost use Rattle.hq_calls.specs.Selections.{is_selected};
+ghost use Rattle.hq_reads.specs.Memory.{with_memory};
+
+use crate::relay::MOST_MESSAGES;
+use hq_access::Pattern;
+use hq_calls::Move;
+use hq_calls::decision::Decision;
+use hq_decisions::queues::{delete_all, limits, move_all, usage};
+use hq_decisions::selections::select;
+use hq_queue::Entry;
+use hq_store::Shelf;
+use hq_values::{Fault, Moment};
+use std::alloc::Global;
+
+/// The answer to a move of all messages that are selected, and its changes.
+pub(crate) fn decide_move_all<S: Shelf>(
+    shelf: &mut S,
+    alloc: Global,
+    entry: &Entry,
+    by: Move,
+    which: Option<&Pattern>,
+) -> Result<Decision, Fault>
+    ensures found { FindsSound S.sight shelf.old shelf.new result entry.now.name
+        (λ rows. queues.move_all by
+        (filter (is_selected (option_map (λ p. p.now) which.entry)) rows.messages)) }
+    ensures kept { Keeps (with_memory S.sight) shelf.old shelf.new result }
+{
+    let messages = shelf.messages(&entry.name, None, MOST_MESSAGES)?;
+    let selected = select(alloc, which, messages)?;
+    let decision = move_all(alloc, by, selected)?;
+    Ok(decision)
+}
+
+/// The answer to the deletion of all messages that are selected, and its changes.
+pub(crate) fn decide_delete_all<S: Shelf>(
+    shelf: &mut S,
+    alloc: Global,
+    at: Moment,
+    entry: &Entry,
+    which: Option<&Pattern>,
+) -> Result<Decision, Fault>
+    ensures found { FindsSound S.sight shelf.old shelf.new result entry.now.name
+        (λ rows. queues.delete_all entry.now at rows.head
+        (filter (is_selected (option_map (λ p. p.now) which.entry)) rows.messages)) }
+    ensures kept { Keeps (with_memory S.sight) shelf.old shelf.new result }
+{
+    let messages = shelf.messages(&entry.name, None, MOST_MESSAGES)?;
+    let head = shelf.head(&entry.name)?;
+    let selected = select(alloc, which, messages)?;
+    let decision = delete_all(alloc, entry, at, head, selected.as_slice())?;
+    Ok(decision)
+}
+
+/// The answer to the question what the customer has on the desk.
+pub(crate) fn decide_usage<S: Shelf>(
+    shelf: &mut S,
+    alloc: Global,
+    entry: &Entry,
+) -> Result<Decision, Fault>
+    ensures found { FindsSound S.sight shelf.old shelf.new result entry.now.name
+        (λ rows. queues.usage rows.head rows.counts rows.messages) }
+    ensures kept { Keeps (with_memory S.sight) shelf.old shelf.new result }
+{
+    let head = shelf.head(&entry.name)?;
+    let counts = shelf.counts(&entry.name)?;
+    Ok(usage(alloc, &head, counts))
+}
+
+/// The answer to the question how much the customer may keep. The shelf is asked although
+/// nothing is read for it, since a closed one answers 93 alone.
+pub(crate) fn decide_limits<S: Shelf>(
+    shelf: &mut S,
+    alloc: Global,
+    entry: &Entry,
+) -> Result<Decision, Fault>
+    ensures found { Finds S.sight shelf.old shelf.new result entry.now.name
+        (λ rows. queues.limits entry.now) }
+    ensures kept { Keeps (with_memory S.sight) shelf.old shelf.new result }
+{
+    shelf.head(&entry.name)?;
+    Ok(limits(alloc, entry))
+}

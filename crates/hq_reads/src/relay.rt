@@ -1,0 +1,78 @@
+//! What the calls of relay workers on a customer's queue read through a shelf: the report of an
+//! attempt, what may be tried, and a sweep.
+
+ghost use Rattle.std.specs.Prelude.{◌≡◌, filter};
+ghost use Rattle.hq_queue.specs.Moves.{is_due};
+ghost use Rattle.hq_store.specs.Readings.{after_serial};
+ghost use Rattle.hq_store.specs.Shelves.{Finds, FindsSound, Keeps};
+ghost use Rattle.hq_calls.specs.Outcomes as outcomes;
+ghost use Rattle.hq_calls.specs.Sweeps as sweeps;
+ghost use Rattle.hq_reads.specs.Memory.{with_memory};
+
+use hq_calls::AttemptReport;
+use hq_calls::decision::{Decision, refuse};
+use hq_decisions::outcomes::{due_page, take_report};
+use hq_decisions::sweeps::sweep;
+use hq_queue::Entry;
+use hq_store::Shelf;
+use hq_values::{Fault, Host, Moment, Refusal, Serial};
+use std::alloc::Global;
+
+/// The most messages that a customer can have.
+pub(crate) const MOST_MESSAGES: usize = 1000;
+
+/// The answer to the report of an attempt, and its changes.
+pub(crate) fn decide_outcome<S: Shelf>(
+    shelf: &mut S,
+    host: &Host,
+    alloc: Global,
+    at: Moment,
+    entry: &Entry,
+    report: &AttemptReport,
+) -> Result<Decision, Fault>
+    ensures found { Finds S.sight shelf.old shelf.new result entry.now.name
+        (λ rows. outcomes.outcome host.now entry.now at rows.head report.now
+        (rows.message report.now.serial)) }
+    ensures kept { Keeps (with_memory S.sight) shelf.old shelf.new result }
+{
+    let Some(message) = shelf.message(&entry.name, report.serial)? else {
+        return Ok(refuse(alloc, Refusal::NoMessage));
+    };
+    let head = shelf.head(&entry.name)?;
+    let decision = take_report(alloc, host, entry, at, head, message, report)?;
+    Ok(decision)
+}
+
+/// The answer to the question which messages may be tried.
+pub(crate) fn decide_due<S: Shelf>(
+    shelf: &mut S,
+    alloc: Global,
+    at: Moment,
+    entry: &Entry,
+    after: Option<Serial>,
+) -> Result<Decision, Fault>
+    ensures found { FindsSound S.sight shelf.old shelf.new result entry.now.name
+        (λ rows. outcomes.due_page (filter (is_due at) (after_serial after rows.messages))) }
+    ensures kept { Keeps (with_memory S.sight) shelf.old shelf.new result }
+{
+    let messages = shelf.messages(&entry.name, after, MOST_MESSAGES)?;
+    Ok(due_page(alloc, at, messages))
+}
+
+/// The answer to a sweep, and its changes.
+pub(crate) fn decide_sweep<S: Shelf>(
+    shelf: &mut S,
+    host: &Host,
+    alloc: Global,
+    at: Moment,
+    entry: &Entry,
+) -> Result<Decision, Fault>
+    ensures found { FindsSound S.sight shelf.old shelf.new result entry.now.name
+        (λ rows. sweeps.sweep host.now entry.now at rows.head rows.messages) }
+    ensures kept { Keeps (with_memory S.sight) shelf.old shelf.new result }
+{
+    let messages = shelf.messages(&entry.name, None, MOST_MESSAGES)?;
+    let head = shelf.head(&entry.name)?;
+    let decision = sweep(alloc, host, entry, at, head, messages)?;
+    Ok(decision)
+}

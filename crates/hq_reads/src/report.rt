@@ -1,0 +1,87 @@
+//! The queue report, which reads the messages of a customer page by page: no more than a page of
+//! them is ever held.
+
+ghost use Rattle.std.specs.Prelude.{◌≡◌, ◌++◌, ◌+◌, ◌*◌, ◌≤◌, List, OnOk, filter, length};
+ghost use Rattle.std.specs.Prelude.{option_map};
+ghost use Rattle.hq_queue.specs.declared.message.Message.{Message};
+ghost use Rattle.hq_store.specs.Readings.{read_tables, after_serial};
+ghost use Rattle.hq_store.specs.Shelves.{FindsSound, Keeps, OnSound};
+ghost use Rattle.hq_text.specs.Reports.{written};
+ghost use Rattle.hq_calls.specs.Queues as queues;
+ghost use Rattle.hq_calls.specs.Selections.{is_selected};
+ghost use Rattle.hq_reads.specs.Memory.{with_memory};
+ghost use Rattle.hq_reads.specs.Reports.{last_serial};
+
+use crate::relay::MOST_MESSAGES;
+use hq_access::Pattern;
+use hq_calls::Answer;
+use hq_calls::decision::{Decision, PAGE, tell};
+use hq_decisions::selections::select;
+use hq_queue::{Entry, Message};
+use hq_store::Shelf;
+use hq_text::Report;
+use hq_values::{Fault, Serial, WrittenText};
+use std::alloc::Global;
+
+/// Pages behind the first, as many as a customer can have.
+pub(crate) const MORE_PAGES: usize = MOST_MESSAGES / PAGE - 1;
+
+/// The serial of the last of these messages.
+pub(crate) fn last_serial(messages: &[Message]) -> Option<Serial>
+    ensures { result ≡ last_serial messages.now }
+{
+    match messages.last() {
+        None => None,
+        Some(message) => Some(message.serial),
+    }
+}
+
+/// Adds the messages after a serial, or from the start, that are selected: those of a page, and of
+/// at most so many more.
+fn add_pages<S: Shelf>(
+    shelf: &mut S,
+    alloc: Global,
+    entry: &Entry,
+    which: Option<&Pattern>,
+    report: &mut Report,
+    after: Option<Serial>,
+    more: usize,
+) -> Result<(), Fault>
+    ensures added { OnSound S.sight shelf.old shelf.new ((before : List Message)
+        → (let all = after_serial after
+        (read_tables entry.now.name (S.sight.tables shelf.old)).messages in
+        report.old ≡ written before → length all ≤ 100 * (more + 1)
+        → OnOk result (report.new ≡ written (before
+        ++ filter (is_selected (option_map (λ p. p.now) which.entry)) all)))) }
+    ensures kept { Keeps (with_memory S.sight) shelf.old shelf.new result }
+{
+    let page = shelf.messages(&entry.name, after, PAGE)?;
+    let last = last_serial(page.as_slice());
+    let selected = select(alloc, which, page)?;
+    report.add_all(selected.as_slice())?;
+    let Some(last) = last else {
+        return Ok(());
+    };
+    if more == 0 {
+        return Ok(());
+    }
+    add_pages(shelf, alloc, entry, which, report, Some(last), more - 1)
+}
+
+/// The answer to the call for the queue report: of the messages that are selected.
+pub(crate) fn decide_report<S: Shelf>(
+    shelf: &mut S,
+    alloc: Global,
+    entry: &Entry,
+    which: Option<&Pattern>,
+) -> Result<Decision, Fault>
+    ensures found { FindsSound S.sight shelf.old shelf.new result entry.now.name
+        (λ rows. queues.report
+        (filter (is_selected (option_map (λ p. p.now) which.entry)) rows.messages)) }
+    ensures kept { Keeps (with_memory S.sight) shelf.old shelf.new result }
+{
+    let mut report = Report::new(alloc);
+    add_pages(shelf, alloc, entry, which, &mut report, None, MORE_PAGES)?;
+    let text = WrittenText::new(report.finish()?);
+    Ok(tell(alloc, Answer::Reported(text)))
+}

@@ -1,0 +1,108 @@
+//! What a submission reads through a shelf: a repeat of it, what the customer keeps, and its lines.
+
+ghost use Rattle.std.specs.Prelude.{◌≡◌, IfOk, None, map};
+ghost use Rattle.hq_access.specs.Verdicts.{verdict};
+ghost use Rattle.hq_store.specs.Shelves.{FindsSound, Keeps};
+ghost use Rattle.hq_reads.specs.Memory.{with_memory};
+ghost use Rattle.hq_reads.specs.ShelfLines.{FindsOpen, KeepsOpen};
+ghost use Rattle.hq_calls.specs.Submissions as rules;
+
+use crate::customer_lines::{action_for, with_actions};
+use hq_access::{Action, Class, Verdict, decide as decide_verdict};
+use hq_calls::decision::{Decision, tell};
+use hq_calls::{Answer, Submission};
+use hq_decisions::distinct::distinct;
+use hq_decisions::submissions::settle;
+use hq_queue::{Entry, admit as admitted};
+use hq_store::Shelf;
+use hq_values::{Address, Fault, Moment, Name, Sender, TryCopy};
+use std::alloc::{AllocError, Global};
+
+/// Recipients of a customer that has no line: nothing is found for them.
+fn unmatched(
+    alloc: Global,
+    recipients: Vec<Address>,
+) -> Result<Vec<(Address, Option<Action>)>, AllocError>
+    ensures { IfOk result (λ found. found.items ≡ map (λ a. (a, None)) recipients.items) }
+{
+    let mut found = Vec::with_capacity(alloc, recipients.len())?;
+    for recipient in recipients {
+        found.push((recipient, None))?;
+    }
+    Ok(found)
+}
+
+/// The verdict on a submission to a customer that has no line. Nothing is looked up.
+fn judge_without_lines(
+    alloc: Global,
+    sender: &Sender,
+    recipients: Vec<Address>,
+) -> Result<Verdict, AllocError>
+    ensures { IfOk result (λ judged. judged
+        ≡ verdict None sender.now (map (λ a. (a, None)) recipients.items)) }
+{
+    let recipients = unmatched(alloc, recipients)?;
+    decide_verdict(alloc, None, sender, recipients.as_slice())
+}
+
+/// The verdict on a submission, whose sender and recipients are looked up. The shelf is open before
+/// it.
+fn judge<S: Shelf>(
+    shelf: &mut S,
+    alloc: Global,
+    customer: &Name,
+    sender: &Sender,
+    recipients: Vec<Address>,
+) -> Result<Verdict, Fault>
+    ensures found { FindsOpen S.sight shelf.old shelf.new result customer.now
+        (λ rows. rules.judged rows sender.now recipients.items) }
+    ensures kept { KeepsOpen S.sight shelf.old shelf.new result }
+{
+    let found = action_for(shelf, alloc, customer, Class::SenderSide, sender)?;
+    let recipients = with_actions(shelf, alloc, customer, recipients)?;
+    let verdict = decide_verdict(alloc, found.as_ref(), sender, recipients.as_slice())?;
+    Ok(verdict)
+}
+
+/// The answer to a submission of a new spool name, and its changes.
+fn decide_new<S: Shelf>(
+    shelf: &mut S,
+    alloc: Global,
+    at: Moment,
+    entry: &Entry,
+    submission: Submission,
+) -> Result<Decision, Fault>
+    ensures found { FindsSound S.sight shelf.old shelf.new result entry.now.name
+        (λ rows. rules.submit entry.now rows at submission None) }
+    ensures kept { Keeps (with_memory S.sight) shelf.old shelf.new result }
+{
+    let head = shelf.head(&entry.name)?;
+    let counts = shelf.counts(&entry.name)?;
+    let recipients = distinct(alloc, submission.recipients.copy(alloc)?.into_vec())?;
+    let verdict = if counts.lines == 0 {
+        judge_without_lines(alloc, &submission.sender, recipients)?
+    } else {
+        judge(shelf, alloc, &entry.name, &submission.sender, recipients)?
+    };
+    let serial = admitted(&head, &entry.quota, &counts, submission.size);
+    let decision = settle(alloc, head, at, submission, serial, verdict)?;
+    Ok(decision)
+}
+
+/// The answer to a submission, and its changes.
+pub(crate) fn decide_submit<S: Shelf>(
+    shelf: &mut S,
+    alloc: Global,
+    at: Moment,
+    entry: &Entry,
+    submission: Submission,
+) -> Result<Decision, Fault>
+    ensures found { FindsSound S.sight shelf.old shelf.new result entry.now.name
+        (λ rows. rules.submit entry.now rows at submission (rows.by_spool submission.spool)) }
+    ensures kept { Keeps (with_memory S.sight) shelf.old shelf.new result }
+{
+    match shelf.by_spool(&entry.name, &submission.spool)? {
+        Some(known) => Ok(tell(alloc, Answer::Repeated(known.serial))),
+        None => decide_new(shelf, alloc, at, entry, submission),
+    }
+}

@@ -1,6 +1,0 @@
-pub mod Places
-pub mod Reading
-pub mod Refused
-pub mod Rows
-pub mod Texts
-pub mod Told

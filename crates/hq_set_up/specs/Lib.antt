@@ -1,2 +1,0 @@
-pub mod SettingUp
-pub mod Steps

@@ -1,0 +1,19 @@
+use Rattle.std.proofs.Common.{◌≡◌, rules, Ok, Err}
+use Rattle.hq_values.specs.Readers.{Fails}
+use Rattle.hq_import.specs.Directories.{customers_in}
+use Rattle.hq_settings.specs.declared.trouble.Trouble.TheVariants.{Desk}
+use Rattle.hq_settings.proofs.files.customers_of.Goals as goal
+
+pub returns-in_err-file : goal.returns-in_err-file
+returns-in_err-file c = (Err c.in_err-file.field-0.0, c.in_err-file.ensures, search rules)
+
+pub returns-in_err-directory_of : goal.returns-in_err-directory_of
+returns-in_err-directory_of c =
+    let told : c.from_residual-in_err-directory_of.result ≡ Err
+    (Desk c.in_err-directory_of.field-0.0) = search rules in
+    let fails : Fails c.in_err-directory_of.field-0.0 (customers_in c.in_ok-file.file.items) =
+    search rules in
+    (Ok c.in_ok-file.file.items, tt, rw told fails)
+
+pub returns : goal.returns
+returns c = (Ok c.in_ok-file.file.items, tt, search rules)

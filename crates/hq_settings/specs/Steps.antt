@@ -1,0 +1,42 @@
+-- Steps, each of which may end all in trouble, and the first of them: files that words name.
+use Rattle.std.specs.Prelude.{ℕ, ◌≡◌, ⊤, List, Result, Ok, Err}
+use Rattle.hq_values.specs.Readers.{Reads}
+use Rattle.hq_values.specs.Refusals.{no_memory}
+use Rattle.hq_values.specs.declared.failure.Fail.TheVariants.{Fault as AsFault}
+use Rattle.hq_values.specs.declared.failure.Refusal.{Refusal}
+use Rattle.hq_import.specs.Directories.{customers_in}
+use Rattle.hq_queue.specs.declared.account.Customer.{Customer}
+use Rattle.hq_settings.specs.declared.trouble.Trouble.{Trouble}
+use Rattle.hq_settings.specs.declared.trouble.Trouble.TheVariants.{File, Desk}
+
+-- what comes after a step: the next one with its value, or its trouble
+abbrev pub Goes : {A B : Type 0} → (A → Result B Trouble → Type 0) → Result A Trouble →
+    Result B Trouble → Type 0
+Goes next (Ok value) result = next value result
+Goes next (Err trouble) result = result ≡ Err trouble
+
+-- a step, and what comes after it
+abbrev pub Then : {A B : Type 0} → (Result A Trouble → Type 0) → (A → Result B Trouble → Type 0) →
+    Result B Trouble → Type 0
+Then {A} first next result = (found : Result A Trouble) × first found × Goes next found result
+
+-- a value that is read, or its refusal, or want of memory
+abbrev pub IsRead : {A : Type 0} → Result A Refusal → Result A Trouble → Type 0
+IsRead reading (Ok value) = Reads (Ok value) reading
+IsRead reading (Err (Desk fail)) = Reads (Err fail) reading
+IsRead reading (Err _) = ⊥
+
+-- no file was read: it could not be, or memory ran out
+abbrev pub IsUnread : Trouble → Type 0
+IsUnread File = ⊤
+IsUnread (Desk (AsFault fault)) = fault ≡ no_memory
+IsUnread _ = ⊥
+
+-- the bytes of some file, or that it cannot be read, or want of memory
+abbrev pub IsFile : Result (List ℕ) Trouble → Type 0
+IsFile (Ok bytes) = ⊤
+IsFile (Err trouble) = IsUnread trouble
+
+-- the customers of some file
+abbrev pub HasCustomers : Result (List Customer) Trouble → Type 0
+HasCustomers = Then IsFile (λ file. IsRead (customers_in file))

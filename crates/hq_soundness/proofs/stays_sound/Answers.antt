@@ -1,5 +1,0 @@
-use Rattle.hq_soundness.proofs.Soundness.{shared_sound}
-use Rattle.hq_soundness.proofs.stays_sound.Goals as goal
-
-pub returns : goal.returns
-returns c = shared_sound

@@ -1,0 +1,13 @@
+-- What sessions are asked and reply, as the code has it.
+use Rattle.std.specs.Prelude.{List, Vec}
+use Rattle.std.specs.Global.{Global}
+use Rattle.hq_wire.specs.declared.reply.Reply.{Reply}
+use Rattle.hq_sql_across.specs.Stopped.{Visit}
+use Rattle.hq_sql_across.specs.declared.histories.Visit.{Visit as Given}
+
+abbrev pub replies_in : Vec Reply Global → List Reply
+replies_in v = v.items
+
+-- its directory, and its exchanges in order
+abbrev pub visit_of : Given → Visit
+visit_of v = record { directory = v.directory; exchanges = v.exchanges.items }

@@ -1,0 +1,35 @@
+use Rattle.std.proofs.Common.{rules, Ok, Err}
+use Rattle.hq_settings.specs.declared.trouble.Trouble.TheVariants.{Desk}
+use Rattle.hq_sql_admin.proofs.requests.history_request.Goals as goal
+
+pub returns-in_err-host : goal.returns-in_err-host
+returns-in_err-host c = (Err (Desk c.in_err-host.field-0.0), c.in_err-host.ensures, search rules)
+
+pub returns-in_err-entry : goal.returns-in_err-entry
+returns-in_err-entry c = (
+  Ok c.in_ok-host.host,
+  c.in_ok-host.ensures,
+  (Err c.in_err-entry.field-0.0, c.in_err-entry.ensures, search rules),
+)
+
+pub returns-in_err-pattern : goal.returns-in_err-pattern
+returns-in_err-pattern c = (
+  Ok c.in_ok-host.host,
+  c.in_ok-host.ensures,
+  (
+    Ok c.in_ok-entry.entry,
+    c.in_ok-entry.ensures,
+    (Err c.in_err-pattern.field-0.0, c.in_err-pattern.ensures, search rules),
+  ),
+)
+
+pub returns : goal.returns
+returns c = (
+  Ok c.in_ok-host.host,
+  c.in_ok-host.ensures,
+  (
+    Ok c.in_ok-entry.entry,
+    c.in_ok-entry.ensures,
+    (Ok c.in_ok-pattern.pattern, c.in_ok-pattern.ensures, search rules),
+  ),
+)

@@ -1,0 +1,120 @@
+//! The table of holds: the reasons of the messages on hold of all customers.
+
+ghost use Rattle.std.specs.Prelude.{option_map, slice_get};
+ghost use Rattle.std.specs.FinMap.{get};
+ghost use Rattle.sqlite.specs.Held.{state};
+ghost use Rattle.hq_store.specs.Tables.{reason_of};
+ghost use Rattle.hq_rows.specs.Listed.{hold_value};
+ghost use Rattle.hq_sql.specs.Kept.{Shows, Yields, Writes, Inserts, Intact};
+ghost use Rattle.hq_sql.specs.Kept.{KeepsCommitted};
+ghost use Rattle.hq_sql.specs.Rows.{hold_shown};
+ghost use Rattle.hq_sql_messages.specs.Holds.{hold_row, with_hold, without_hold, with_reason};
+
+use crate::{hold_rows, hold_values};
+use hq_sql::bind::message_key;
+use hq_values::{Name, Serial, Text};
+use sqlite::{Alter, Connection, Error, Row};
+use std::alloc::Global;
+
+fn query<S: Alter>(
+    conn: &mut Connection<S>,
+    customer: &Name,
+    key: Serial,
+) -> Result<Vec<Row>, Error>
+    ensures found { Shows (state S.Store conn.old) (state S.Store conn.new) result
+        (λ rows. option_map (λ r. hold_value (hold_shown r)) (slice_get rows.items 0))
+        (λ t. get t.holds (customer.now, key)) }
+    ensures kept { Intact (state S.Store conn.old) (state S.Store conn.new) result }
+{
+    let params = message_key(customer, key);
+    let rows = conn.query_all(
+        "SELECT customer, serial, hold_reason FROM holds \
+         WHERE customer = ?1 AND serial = ?2",
+        &params,
+    )?;
+    Ok(rows)
+}
+
+/// The reason of the customer's message; empty where it is not on hold.
+#[tactic(auto, unfolding(hq_store::specs::Tables::reason_of))]
+pub fn reason<S: Alter>(
+    alloc: Global,
+    conn: &mut Connection<S>,
+    customer: &Name,
+    key: Serial,
+) -> Result<Text, Error>
+    ensures found { Yields (state S.Store conn.old) (state S.Store conn.new) result
+        (λ t. reason_of customer.now key t.holds) }
+    ensures kept { Intact (state S.Store conn.old) (state S.Store conn.new) result }
+{
+    let rows = query(conn, customer, key)?;
+    hold_rows::first_reason(alloc, rows.as_slice())
+}
+
+/// Drops the reason of a message; nothing where there is none.
+pub fn remove<S: Alter>(conn: &mut Connection<S>, customer: &Name, key: Serial) -> Result<(), Error>
+    ensures made { Writes (state S.Store conn.old) (state S.Store conn.new) result
+        (without_hold (customer.now, key)) }
+    ensures kept { KeepsCommitted (state S.Store conn.old) (state S.Store conn.new) }
+{
+    let params = message_key(customer, key);
+    conn.execute(
+        "DELETE FROM holds WHERE customer = ?1 AND serial = ?2",
+        &params,
+    )?;
+    Ok(())
+}
+
+/// Adds the reason of a message that has none.
+fn insert<S: Alter>(
+    conn: &mut Connection<S>,
+    customer: &Name,
+    key: Serial,
+    reason: &Text,
+) -> Result<(), Error>
+    ensures made { Inserts (state S.Store conn.old) (state S.Store conn.new) result
+        (λ t. get t.holds (customer.now, key))
+        (with_hold (hold_row customer.now key reason.now)) }
+    ensures kept { KeepsCommitted (state S.Store conn.old) (state S.Store conn.new) }
+{
+    let params = hold_values::hold(customer, key, reason);
+    conn.execute(
+        "INSERT INTO holds (customer, serial, hold_reason) VALUES (?1, ?2, ?3)",
+        &params,
+    )?;
+    Ok(())
+}
+
+/// Sets the reason of a message, in a new row.
+fn set<S: Alter>(
+    conn: &mut Connection<S>,
+    customer: &Name,
+    key: Serial,
+    reason: &Text,
+) -> Result<(), Error>
+    ensures made { Writes (state S.Store conn.old) (state S.Store conn.new) result
+        (with_hold (hold_row customer.now key reason.now)) }
+    ensures kept { KeepsCommitted (state S.Store conn.old) (state S.Store conn.new) }
+{
+    remove(conn, customer, key)?;
+    insert(conn, customer, key, reason)?;
+    Ok(())
+}
+
+/// Sets the reason of a message; an empty one is not kept.
+#[tactic(auto, unfolding(hq_store::specs::Tables::give_reason))]
+pub fn put<S: Alter>(
+    conn: &mut Connection<S>,
+    customer: &Name,
+    key: Serial,
+    reason: &Text,
+) -> Result<(), Error>
+    ensures made { Writes (state S.Store conn.old) (state S.Store conn.new) result
+        (with_reason customer.now key reason.now) }
+    ensures kept { KeepsCommitted (state S.Store conn.old) (state S.Store conn.new) }
+{
+    if reason.as_str().is_empty() {
+        return remove(conn, customer, key);
+    }
+    set(conn, customer, key, reason)
+}

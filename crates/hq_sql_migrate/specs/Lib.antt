@@ -1,3 +1,0 @@
-pub mod Lifted
-pub mod Stores
-pub mod Migration

@@ -1,0 +1,21 @@
+use Rattle.std.proofs.Common.{refl}
+use Rattle.sqlite.specs.Held.{state}
+use Rattle.hq_sql.proofs.Keeping.{write_done, write_failed}
+use Rattle.hq_sql_notices.proofs.OnEnds.{above_deleted}
+use Rattle.hq_sql_notices.proofs.EndTexts.{above_text, above_known}
+use Rattle.hq_sql_notices.proofs.ends.drop_above.Goals as goal
+
+pub returns-in_err-execute-clause-kept : goal.returns-in_err-execute-clause-kept
+returns-in_err-execute-clause-kept g c = write_failed _ _ above_text _ _ above_known refl
+    c.in_err-execute.ensures.survives _ c.in_err-execute.ensures.runs
+
+pub returns-clause-made : goal.returns-clause-made
+returns-clause-made g c clean desk =
+    above_deleted (state g.S.Store c.args.conn.now) (state g.S.Store c.execute.new.self)
+    (c.args.customer.now, c.args.number) _ desk
+    (rw (c.key-params.ensures c.args.number c.in_ok-column.ensures) at
+    (c.in_ok-execute.ensures.runs clean))
+
+pub returns-clause-kept : goal.returns-clause-kept
+returns-clause-kept g c = write_done _ _ above_text _ _ above_known refl
+    c.in_ok-execute.ensures.survives _ c.in_ok-execute.ensures.runs

@@ -1,0 +1,18 @@
+use Rattle.std.proofs.Common.{Ok, Err}
+use Rattle.sqlite.specs.Held.{state}
+use Rattle.hq_sql_open.proofs.Statements.{stamps, stamp_keeps}
+use Rattle.hq_sql_open.proofs.lifting.set_version.Goals as goal
+
+pub returns-in_err-execute-clause-kept : goal.returns-in_err-execute-clause-kept
+returns-in_err-execute-clause-kept g c has within =
+    stamp_keeps _ _ (Err _) has within c.in_err-execute.ensures.survives
+    c.in_err-execute.ensures.runs
+
+pub returns-clause-made : goal.returns-clause-made
+returns-clause-made g c version has it clean =
+    stamps (state g.S.Store c.args.conn.now) (state g.S.Store c.execute.new.self) version _ has it
+    (c.in_ok-execute.ensures.runs clean)
+
+pub returns-clause-kept : goal.returns-clause-kept
+returns-clause-kept g c has within =
+    stamp_keeps _ _ (Ok _) has within c.in_ok-execute.ensures.survives c.in_ok-execute.ensures.runs

@@ -1,6 +1,0 @@
-use Rattle.hq_sql_program.proofs.Memory.{memory_ends}
-use Rattle.hq_sql_program.proofs.serve_memory.Goals as goal
-
-pub returns : goal.returns
-returns g c = memory_ends c.args.settings c.open_memory-opened.result _ _ _ c.serve_opened.result
-    c.open_memory-opened.ensures.ours c.open_memory-opened.ensures.empty c.serve_opened.ensures

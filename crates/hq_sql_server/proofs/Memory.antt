@@ -1,0 +1,89 @@
+-- What a batch over a shelf in memory does from empty tables.
+use Rattle.std.proofs.Common.{◌≡◌, inl, inr, ℕ, List, Option, Result, Ok, Err, IfOk, refl, sym, ap}
+use Rattle.std.proofs.Common.{◌∙◌, subst, map}
+use Rattle.std.specs.Bool.{⊤}
+use Rattle.sqlite.specs.Held.{Held, state}
+use Rattle.sqlite.specs.Steps.{over_memory}
+use Rattle.sqlite.proofs.Callers.{memory_is_clean}
+use Rattle.sqlite_trees.specs.declared.memory.MemStore.{MemStore}
+use Rattle.hq_values.specs.declared.failure.Fault.{Fault}
+use Rattle.hq_store.specs.Sound.{Sound}
+use Rattle.hq_store.specs.Tables.{no_tables}
+use Rattle.hq_store.proofs.Empty.{empty_sound}
+use Rattle.hq_sql.specs.Tables.{tables_in}
+use Rattle.hq_sql_open.specs.declared.transaction.Standing.{Standing}
+use Rattle.hq_sql_open.specs.declared.transaction.Standing.TheVariants.{Open, Gone, InDoubt, Lost}
+use Rattle.hq_sql_shelf.specs.Shelf.{IsOurs, Stands}
+use Rattle.hq_sql_shelf.specs.declared.shelf.SqlShelf.{SqlShelf}
+use Rattle.hq_desk.specs.Desks.{on, host_of, shelf_of}
+use Rattle.hq_desk.specs.declared.desk.Desk.{Desk}
+use Rattle.hq_settings.specs.declared.settings.Settings.{Settings}
+use Rattle.hq_wire.specs.Exchanges.{Ask}
+use Rattle.hq_wire.specs.Replies.{SeenReply}
+use Rattle.hq_wire.specs.Runs.{AllReplied, Alone, Served}
+use Rattle.hq_wire.proofs.Serving.{all_replied}
+use Rattle.hq_lines.specs.Fields.{LineRequest}
+use Rattle.hq_lines.specs.Lines.{Streams}
+use Rattle.hq_batch.specs.Batches.{ask_in}
+use Rattle.hq_batch.specs.Runs.{ServesOver}
+use Rattle.hq_settings.specs.declared.trouble.Trouble.{Trouble}
+use Rattle.hq_batch.proofs.Ends.{run_ends_as}
+use Rattle.hq_sql_server.specs.Stored.{memory, FromEmpty, ServesFromEmpty, OpenedEnds, MemoryEnds}
+
+-- a store in memory is always open
+stands_in_memory : (standing : Standing) (c : Held MemStore) → Stands standing (state over_memory c)
+stands_in_memory Open c = tt
+stands_in_memory Gone c = tt
+stands_in_memory InDoubt c = refl
+stands_in_memory Lost c = refl
+
+-- what a desk over a shelf in memory that is empty replied to
+pub from_empty : (settings : Settings) (shelf : SqlShelf MemStore) →
+    IsOurs (state over_memory shelf.conn) →
+    tables_in (state over_memory shelf.conn).committed ≡ no_tables
+    → (old new : Desk (SqlShelf MemStore)) → host_of old ≡ settings.host → shelf_of old ≡ shelf
+    → (asks : List Ask) (replies : List SeenReply) →
+    Served memory settings.directory old asks replies new → FromEmpty settings asks replies new
+from_empty settings shelf ours none old new named is asks replies p =
+    let d = settings.directory in
+    let empty = ap memory.tables is ∙ none in
+    let after = (on memory).tables new in
+    let sound = subst Sound (sym empty) empty_sound in
+    let clean : (on memory).is_clean new = (
+      memory_is_clean (shelf_of new).conn,
+      stands_in_memory (shelf_of new).standing (shelf_of new).conn,
+    ) in
+    let owned = subst memory.is_ours (sym is) ours in
+    record {
+      replied = λ stays.
+          let all = all_replied memory d old new asks replies p.each clean owned stays sound in
+          subst (λ n. AllReplied memory.may_answer n d no_tables asks replies after) named
+          (subst (λ t. AllReplied memory.may_answer (host_of old) d t asks replies after) empty
+          all);
+      alone = λ stays.
+          let alone = p.alone clean owned stays sound in
+          subst (λ n. Alone n d asks replies no_tables after) named
+          (subst (λ t. Alone (host_of old) d asks replies t after) empty alone);
+    }
+
+serves : (settings : Settings) (shelf : SqlShelf MemStore) → IsOurs (state over_memory shelf.conn) →
+    tables_in (state over_memory shelf.conn).committed ≡ no_tables
+    → (asked : List (Option LineRequest)) (lines : List (List ℕ)) →
+    ServesOver memory settings shelf asked lines → ServesFromEmpty settings asked lines
+serves settings shelf ours none asked lines it = record {
+  shelf = shelf;
+  over = it;
+  from_empty = from_empty settings shelf ours none it.old it.new it.host_is it.shelf_is
+      (map (ask_in settings.directory) asked) it.replied.0 it.replied.2;
+}
+
+pub memory_ends : (settings : Settings) (opened : Result (SqlShelf MemStore) Fault)
+    (untouched : Type 0) (old new : Streams) (result : Result ⊤ Trouble)
+    → IfOk opened (λ s. IsOurs (state over_memory s.conn)) →
+    IfOk opened (λ s. tables_in (state over_memory s.conn).committed ≡ no_tables)
+    → OpenedEnds memory settings opened untouched old new result →
+    MemoryEnds settings untouched old new result
+memory_ends settings (Ok shelf) untouched old new result ours none p =
+    inl (run_ends_as (ServesOver memory settings shelf) (ServesFromEmpty settings) untouched
+    (serves settings shelf ours none) old new result p)
+memory_ends settings (Err fault) untouched old new result ours none p = inr (fault, p)

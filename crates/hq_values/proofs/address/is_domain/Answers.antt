@@ -1,0 +1,11 @@
+use Rattle.std.proofs.Common.{lit<, rules, tests}
+use Rattle.std.proofs.lemmas.Iterator.Splits.{YieldsList-from_str_split}
+use Rattle.std.proofs.lemmas.Iterator.Search.{all_from_yields_List}
+use Rattle.hq_values.specs.Addresses.{is_domain_label}
+use Rattle.hq_values.proofs.address.is_domain.Goals as goal
+
+pub returns : goal.returns
+returns c =
+    all_from_yields_List is_domain_label _ _ _ c.all.ensures.ran
+    (YieldsList-from_str_split 46 c.args.text.now (lit< tt) c.split.ensures.text
+    c.split.ensures.has_more c.split.ensures.pattern) (λ x b q k. search (rules, tests))

@@ -1,0 +1,11 @@
+pub mod Decimals
+pub mod Limits
+pub mod Moments
+pub mod Options
+pub mod Readers
+pub mod Refusals
+pub mod Serials
+pub mod Turns
+pub mod Addresses
+pub mod Senders
+pub mod Words

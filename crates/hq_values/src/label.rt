@@ -1,0 +1,54 @@
+//! Labels: what an import goes by.
+
+ghost use Rattle.std.specs.Prelude.{◌≡◌};
+ghost use Rattle.hq_values.specs.Readers.{Reads};
+ghost use Rattle.hq_values.specs.Words.{is_spool, label_in};
+
+use crate::spool::is_spool;
+use crate::{Fail, Refusal, TryCopy};
+use std::alloc::{AllocError, Global};
+use std::marker::Model;
+
+/// What an import goes by: 1 to 64 letters, digits, `.`, `-`, `_`, as a spool name.
+#[derive(Debug, Drop)]
+pub struct Label {
+    text: String,
+}
+
+impl Model for Label {
+    ghost use Rattle.std.specs.Prelude.{List, ℕ, IsTrue, string_bytes};
+    ghost use Rattle.hq_values.specs.Words.{is_spool};
+
+    ghost Value = { List ℕ };
+
+    ghost view = { λ t. string_bytes t.text };
+
+    ghost invariant = { λ t. IsTrue (is_spool (string_bytes t.text)) };
+}
+
+impl Label {
+    /// Reads a label, or refuses it as 27 `BadLabel`.
+    pub fn parse(alloc: Global, text: &str) -> Result<Label, Fail>
+        ensures { Reads result (label_in text.now) }
+    {
+        if !is_spool(text.as_bytes()) {
+            return Err(Fail::Refused(Refusal::BadLabel));
+        }
+        let text = String::from_str(alloc, text)?;
+        Ok(Label { text })
+    }
+
+    /// The text, without taking memory.
+    pub fn as_str(&self) -> &str
+        ensures { result.now ≡ self.now }
+    {
+        self.text.as_str()
+    }
+}
+
+impl TryCopy for Label {
+    fn copy(&self, alloc: Global) -> Result<Label, AllocError> {
+        let text = String::from_str(alloc, self.text.as_str())?;
+        Ok(Label { text })
+    }
+}

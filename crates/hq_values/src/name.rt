@@ -1,0 +1,70 @@
+//! Customers' names.
+
+ghost use Rattle.std.specs.Prelude.{◌≡◌, ◌≤◌, length};
+ghost use Rattle.hq_values.specs.Readers.{Reads};
+ghost use Rattle.hq_values.specs.Words.{is_name_byte, is_name, name_in};
+
+use crate::{Fail, Refusal, TryCopy};
+use std::alloc::{AllocError, Global};
+use std::marker::Model;
+
+/// The most bytes of a name.
+const NAME_BYTES: usize = 32;
+
+/// Whether a byte may stand in a customer's name.
+fn is_name_byte(byte: u8) -> bool
+    ensures { result ≡ is_name_byte byte }
+{
+    byte.is_ascii_lowercase() || byte.is_ascii_digit() || byte == b'-'
+}
+
+fn is_name(text: &[u8]) -> bool
+    ensures { result ≡ is_name text.now }
+{
+    !text.is_empty() && text.len() <= NAME_BYTES && text.iter().all(|byte| is_name_byte(*byte))
+}
+
+/// A customer's name: 1 to 32 lower-case letters, digits, `-`.
+#[derive(Debug, Drop)]
+pub struct Name {
+    text: String,
+}
+
+impl Model for Name {
+    ghost use Rattle.std.specs.Prelude.{List, ℕ, IsTrue, string_bytes};
+    ghost use Rattle.hq_values.specs.Words.{is_name};
+
+    ghost Value = { List ℕ };
+
+    ghost view = { λ t. string_bytes t.text };
+
+    ghost invariant = { λ t. IsTrue (is_name (string_bytes t.text)) };
+}
+
+impl Name {
+    /// Reads a name, or refuses it as 8 `BadField`.
+    pub fn parse(alloc: Global, text: &str) -> Result<Name, Fail>
+        ensures { Reads result (name_in text.now) }
+    {
+        if !is_name(text.as_bytes()) {
+            return Err(Fail::Refused(Refusal::BadField));
+        }
+        let text = String::from_str(alloc, text)?;
+        Ok(Name { text })
+    }
+
+    /// The text, at most 32 bytes, without taking memory.
+    pub fn as_str(&self) -> &str
+        ensures text { result.now ≡ self.now }
+        ensures short { length result.now ≤ 32 }
+    {
+        self.text.as_str()
+    }
+}
+
+impl TryCopy for Name {
+    fn copy(&self, alloc: Global) -> Result<Name, AllocError> {
+        let text = String::from_str(alloc, self.text.as_str())?;
+        Ok(Name { text })
+    }
+}

@@ -1,0 +1,44 @@
+use Rattle.std.proofs.Common.{◌≡◌, ◌∙◌, rules, ap, ap₂, codes, ◌||◌, Bool, false}
+use Rattle.std.proofs.lemmas.Result.{IfOk-weaker}
+use Rattle.clap.specs.Simple.{App, app_of, app_of_fields, new_app, with_rule}
+use Rattle.clap.specs.Walk.{rule_of}
+use Rattle.clap.specs.declared.builder.command.Command.TheViews.{out-Command}
+use Rattle.hq_words.specs.Program.{needed, optional}
+use Rattle.hq_words.proofs.command.telling.Goals as goal
+
+pub returns-clause-shape : goal.returns-clause-shape
+returns-clause-shape c =
+    let bare : app_of c.after_help.result ≡ new_app c.args.name.now =
+    ap app_of_fields c.after_help.ensures ∙ ap app_of_fields c.about.ensures
+    ∙ c.new.ensures.app in
+    let directory : rule_of c.option.result ≡ needed (codes "directory") = search rules in
+    let store : rule_of c.option-2.result ≡ needed (codes "store") = search rules in
+    let customer : rule_of c.option-3.result ≡ needed (codes "customer") = search rules in
+    let sender : rule_of c.option-4.result ≡ optional (codes "sender") = search rules in
+    let recipient : rule_of c.option-5.result ≡ optional (codes "recipient") = search rules in
+    let one = c.in_ok-arg.ensures.shape c.option.ensures.local
+    ∙ ap₂ with_rule bare directory in
+    let two = c.in_ok-arg-2.ensures.shape c.option-2.ensures.local
+    ∙ ap₂ with_rule one store in
+    let three = c.in_ok-arg-3.ensures.shape c.option-3.ensures.local
+    ∙ ap₂ with_rule two customer in
+    let four = c.in_ok-arg-4.ensures.shape c.option-4.ensures.local
+    ∙ ap₂ with_rule three sender in
+    IfOk-weaker c.arg-5.result _ _ (λ made added. ap (λ (a : App). a.top)
+    (added.shape c.option-5.ensures.local ∙ ap₂ with_rule four recipient)) c.arg-5.ensures
+
+pub returns-clause-local : goal.returns-clause-local
+returns-clause-local c =
+    let bare : (out-Command c.after_help.result).has_globals ≡ false =
+    ap (λ f. f.has_globals) c.after_help.ensures ∙ ap (λ f. f.has_globals) c.about.ensures
+    ∙ c.new.ensures.local in
+    let one = c.in_ok-arg.ensures.globals
+    ∙ ap₂ (λ (x y : Bool). x || y) bare c.option.ensures.local in
+    let two = c.in_ok-arg-2.ensures.globals
+    ∙ ap₂ (λ (x y : Bool). x || y) one c.option-2.ensures.local in
+    let three = c.in_ok-arg-3.ensures.globals
+    ∙ ap₂ (λ (x y : Bool). x || y) two c.option-3.ensures.local in
+    let four = c.in_ok-arg-4.ensures.globals
+    ∙ ap₂ (λ (x y : Bool). x || y) three c.option-4.ensures.local in
+    IfOk-weaker c.arg-5.result _ _ (λ made added. added.globals
+    ∙ ap₂ (λ (x y : Bool). x || y) four c.option-5.ensures.local) c.arg-5.ensures

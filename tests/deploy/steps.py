@@ -1,0 +1,79 @@
+"""The procedures of docs/PRODUCTION.md, each run by the very lines that the page shows.
+
+What calls systemctl is done to the desks and the two nginx of the test; all else is run by a shell,
+with the folders and addresses of the test.
+"""
+import re
+import subprocess
+import time
+from pathlib import Path
+
+from deploying import DEPLOY
+from serving import LONGEST, Wrong, expect
+
+PAGE = Path(__file__).resolve().parents[2] / "docs/PRODUCTION.md"
+
+
+def lines_of(title):
+    """The lines that the page shows under a title."""
+    found = re.search(rf"(?ms)^### {re.escape(title)}\n.*?^```\n(.*?)^```$", PAGE.read_text())
+    expect(found, PAGE, "has no lines under", title)
+    return found[1].replace("\\\n", " ").rstrip("\n").split("\n")
+
+
+class Place:
+    """Where procedures are run: the desks by their names, and the nginx before them."""
+
+    def __init__(self, folder, program, desks, proxy):
+        self.proxy, self.desks = proxy, {it.name: it for it in desks}
+        there = {"/etc/hq": folder, "/var/lib/hqdesk": folder, "/opt/hq/deploy": DEPLOY,
+                 "/opt/hq/hq_main": program, "runuser -u hqdesk -- ": ""}
+        shown = {f"127.0.0.1:{825 + it}": desk.address for it, desk in enumerate(desks)}
+        self.here = {**there, **shown}
+
+    def run(self, title, after_stop=lambda: None, **names):
+        """Runs a procedure; when the desks were stopped, and how long they were away."""
+        stopped, paused = 0.0, 0.0
+        for line in lines_of(title):
+            if line.startswith("systemctl stop"):
+                stopped = time.monotonic()
+                self.step(line, names)
+                begun = time.monotonic()
+                after_stop()
+                paused = time.monotonic() - begun
+            else:
+                stopped = stopped or time.monotonic()
+                self.step(line, names)
+        return stopped, time.monotonic() - stopped - paused
+
+    def step(self, line, names):
+        if line == "nginx -t":
+            self.of_shell(f"nginx -t -p {self.proxy.folder} -c {self.proxy.folder}/nginx.conf", names)
+        elif line.startswith("systemctl "):
+            _, verb, *units = line.split()
+            if "nginx" in units:
+                self.of_nginx(verb, units)
+            else:
+                self.of_desks(verb, [self.desks[it.partition("@")[2]] for it in units])
+        else:
+            self.of_shell(line, names)
+
+    def of_nginx(self, verb, units):
+        expect(sorted(units) == ["hq-desk-workers", "nginx"], "one nginx of two is left out:", units)
+        expect(verb in ("reload", "restart"), "no such step:", verb)
+        (self.proxy.reload if verb == "reload" else self.proxy.restart)()
+
+    def of_desks(self, verb, desks):
+        expect(verb in ("stop", "start", "restart"), "no such step:", verb)
+        for it in desks if verb != "start" else []:
+            it.stop()
+        for it in desks if verb != "stop" else []:
+            it.start()
+
+    def of_shell(self, line, names):
+        for it, value in self.here.items():
+            line = line.replace(it, str(value))
+        found = subprocess.run(["sh", "-euc", line], stdin=subprocess.DEVNULL, capture_output=True,
+                               text=True, timeout=LONGEST, env={"PATH": "/usr/bin:/bin:/usr/sbin", **names})
+        if found.returncode:
+            raise Wrong(line, "ended with", found.returncode, found.stderr)

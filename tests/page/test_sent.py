@@ -1,0 +1,148 @@
+"""Of tests/page: what became of mail: the history, the notices and the usage, with the ways between them."""
+from page_desk import CEDAR
+from serving import ACME, BIRCH, expect
+from test_rules import KEEPS, KEPT
+
+# Of each part of the bar: its name, where it begins, how wide it is, and how wide it is drawn.
+WIDTHS = """[...document.querySelectorAll('#bar rect')].map((it) => [it.classList[1],
+  ...['x', 'width'].map((name) => Number(it.getAttribute(name))), it.getBoundingClientRect().width])"""
+ENDS = """[...document.querySelectorAll('#ends tbody tr')].filter((it) => !it.hidden).map(
+  (it) => [...it.cells].slice(1).map((one) => one.innerText.trim().replace(/\\s*\\n\\s*/, ' | ')))"""
+
+
+def find(visit, side, pattern):
+    visit.browser.choose("#ends-class", side)
+    visit.browser.write("#ends-pattern", pattern)
+    visit.browser.click("#ends-form [type=submit]")
+
+
+def test_the_history(visit):
+    """Each recipient that left stands there with the last answer, the newest first; a search, a filter,
+    a message's own; no markup of strangers; and what is downloaded is no formula."""
+    browser, desk = visit.browser, visit.desk
+    first = desk.submit("cedar", "ann@a.example", "a@far.example", "b@far.example", "c@near.example")
+    desk.report("cedar", first, delivered=["a@far.example"], failed=["b@far.example"])
+    second = desk.submit("cedar", "=cmd@a.example", "d@far.example")
+    desk.ask("DELETE", f"/v1/message/{second}", CEDAR)
+    visit.use(CEDAR)
+    visit.turn_to("sent")
+    wanted = [["d@far.example | From =cmd@a.example", "deleted", "", second],
+              ["b@far.example | From ann@a.example", "failed", "5.1.1 no such user <script>alert(1)</script>", first],
+              ["a@far.example | From ann@a.example", "delivered", "", first]]
+    browser.until(lambda: browser.run(ENDS)[:3] == wanted, "the history shows", browser.run(ENDS)[:3])
+    expect("The last 150 are kept." in browser.text("#sent"), "how many are kept is not told")
+    visit.picture("sent")
+    browser.run(KEEPS)
+    browser.click("#ends-csv")
+    rows = browser.run(KEPT).split("\r\n")
+    expect(rows[0] == '"at","id","number","recipient","result","sender","status","text"', "the file begins", rows[0])
+    expect('"\'=cmd@a.example"' in rows[1] and f'"{second}"' in rows[1], "the file has", rows[1])
+    browser.choose("#ends-result", "failed")
+    browser.until(lambda: browser.run(ENDS)[0] == wanted[1], "failed are", browser.run(ENDS))
+    browser.choose("#ends-result", "")
+    find(visit, "recipient", "b@far.example")
+    visit.says("#ends-shown", "1 recipient.")
+    browser.click("#ends-all")
+    browser.until(lambda: len(browser.run(ENDS)) >= 3, "not all are shown again")
+    # a message that is queued opens there, another shows its own history
+    browser.click(f"#ends tbody tr:nth-child(1) [aria-label='Open {second}, d@far.example']")
+    visit.says("#ends-shown", f"1 recipient of {second}.")
+    browser.click("#ends-all")
+    browser.until(lambda: len(browser.run(ENDS)) >= 3, "not all are shown again")
+    browser.click("#ends tbody tr:nth-child(2) button")
+    browser.until(lambda: browser.run("document.querySelector('#detail-ends').children.length") == 2, "the detail has no history")
+    expect(browser.texts("#detail-recipients strong") == ["c@near.example"], "waiting are",
+           browser.texts("#detail-recipients strong"))
+    visit.turn_to("sent")
+    find(visit, "recipient", "<>")
+    browser.until(lambda: visit.told() and visit.told()[0].endswith("(24 BadPattern)"), "told is", visit.told())
+
+
+def test_no_history(visit):
+    visit.use(BIRCH)
+    visit.turn_to("sent")
+    expect("Your provider keeps no history for you." in visit.browser.text("#sent"), "that none is kept is not told")
+
+
+def test_older_ends(visit):
+    """More than a page of the history is asked for by a button, down to the oldest that is kept."""
+    browser, desk = visit.browser, visit.desk
+    for it in range(2):
+        desk.submit("cedar", "ann@a.example", *(f"r{100 * it + at}@far.example" for at in range(80 + 20 * (1 - it))))
+    desk.empty(CEDAR)
+    visit.use(CEDAR)
+    visit.turn_to("sent")
+    visit.says("#ends-shown", "100 recipients, more below.")
+    browser.click("#ends-more")
+    visit.says("#ends-shown", "150 recipients.")
+    shown = browser.run("[...document.querySelectorAll('#ends .strong')].map((it) => it.textContent)")
+    expect(shown == [f"r{it}@far.example" for it in reversed(range(30, 180))], "shown are", shown)
+
+
+def test_notices_and_their_ways(visit):
+    """The newest first, both texts of one as they are, and the way to its message or its history."""
+    browser, desk = visit.browser, visit.desk
+    for number in range(12):
+        one = desk.submit("cedar", f"ann{number}@a.example", "bob@far.example", *(["cat@far.example"] if number == 11 else []))
+        desk.report("cedar", one, failed=["bob@far.example"])
+    visit.use(CEDAR)
+    visit.turn_to("notices")
+    listed = desk.ask("GET", "/v1/notices", CEDAR)["notices"]
+    expect(len(listed) == 10, "the desk has", listed)
+    script = "[...document.querySelectorAll('#notice-list tbody tr')].map((it) => [it.cells[4].innerText, it.cells[3].innerText])"
+    expect(browser.run(script) == [[it["id"], it["to"]] for it in reversed(listed)], "shown are", browser.run(script))
+    browser.click("#notice-list tbody tr:nth-child(2) button")
+    browser.one("#notice")
+    whole = desk.ask("GET", f"/v1/notice/{listed[-2]['number']}", CEDAR)
+    for part in ("human", "status", "subject", "to"):
+        found = browser.run("document.querySelector(arguments[0]).textContent", f"#notice-{part}")
+        expect(found == whole[part], part, "is shown as", found)
+    expect("<script>alert(1)</script>" in whole["human"], "the notice is", whole)
+    expect(browser.run("document.activeElement.id") == "notice", "the focus is not at what opened")
+    visit.picture("notices")
+    browser.click("#notice-ways button")
+    visit.says("#ends-shown", f"1 recipient of {listed[-2]['id']}.")
+    visit.turn_to("notices")
+    browser.click("#notice-list tbody tr:nth-child(1) button")
+    browser.until(lambda: f"Open message {listed[-1]['id']}" in browser.texts("#notice-ways button"),
+                  "no way leads to the message")
+    browser.click("#notice-ways button")
+    visit.says("#detail-title", "ann11@a.example")
+    browser.click("#detail-notices")
+    browser.until(lambda: browser.text("#notice-to") == "ann11@a.example", "no way leads from a message to its notice")
+    desk.report("cedar", desk.submit("cedar", "ann@a.example", "bob@far.example"), failed=["bob@far.example"])
+    visit.turn_to("notices")
+    desk.report("cedar", desk.submit("cedar", "ann@a.example", "bob@far.example"), failed=["bob@far.example"])
+    browser.click("#notice-list tbody tr:last-child button")
+    browser.tells("No such notice any more. The oldest go when there are too many. (12 NoNotice)")
+
+
+def test_the_usage_adds_up(visit):
+    """The parts of the bar are as wide as their counts, and end where it ends."""
+    browser, desk = visit.browser, visit.desk
+    ids = [desk.submit("acme", "ann@a.example", *(f"r{it}@far.example" for it in range(7)), size=1000) for _ in range(3)]
+    desk.report("acme", ids[0], delivered=["r0@far.example", "r1@far.example"], failed=["r2@far.example"],
+                deferred=["r3@far.example"])
+    desk.ask("DELETE", f"/v1/message/{ids[1]}", ACME)
+    visit.use(ACME)
+    visit.turn_to("usage")
+    usage = desk.ask("GET", "/v1/usage", ACME)
+    parts = ["pending", "delivered", "failed", "deleted", "expired"]
+    cells = dict(browser.rows("#counts", 0, 1))
+    expect(cells == {it: f"{usage[it]:,}" for it in [*parts, "accepted"]}, "shown are", cells, "of", usage)
+    end = 0
+    for name, begin, width, seen in browser.run(WIDTHS):
+        expect(abs(begin - end) < 1e-6 and abs(width - 1000 * usage[name] / usage["accepted"]) < 1e-6, "the bar is",
+               browser.run(WIDTHS))
+        expect((seen > 0) == (usage[name] > 0), name, "is drawn", seen, "wide")
+        end += width
+    expect(abs(end - 1000) < 1e-6, "the bar ends at", end)
+    label = browser.run("document.querySelector('#bar svg').getAttribute('aria-label')")
+    expect(label == f"{usage['accepted']:,} accepted: " + ", ".join(f"{it}: {usage[it]:,}" for it in parts),
+           "the bar is told as", label)
+    expect(browser.texts("#usage-amounts .amount") == ["2 of 1,000", "2.0 kB of 500.0 MB", f"{usage['lines']} of 1,000"],
+           "the amounts are",
+           browser.texts("#usage-amounts .amount"))
+    expect(browser.texts("#kept dd") == ["1,000 recipients", "100 notices", "after 4 h"], "what is kept is",
+           browser.texts("#kept dd"))
+    visit.picture("usage")

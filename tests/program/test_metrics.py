@@ -1,0 +1,184 @@
+"""Tries relay/metrics.
+
+1. Of a desk with two customers, one of which has mail and a line, it prints just the lines that are written here.
+2. A desk in whose place a stub of Python answers is asked by one POST with the relay's key. Texts that no name has are
+   escaped; a stop at a customer, a fault, a body that is no JSON, and a reply of nginx are told in one line, with status 1,
+   and nothing else is printed. So are a desk that is away and a key that the desk does not know.
+3. Bad settings and bad words are told with status 2.
+"""
+import json
+import subprocess
+import threading
+from http.server import BaseHTTPRequestHandler, HTTPServer
+from pathlib import Path
+
+from serving import ACME, BIRCH, DIRECTORY, LONGEST, RELAY, Server, expect, request, words
+import pytest
+
+METRICS = Path(__file__).resolve().parents[2] / "relay/metrics"
+SETTINGS = """\
+[desk]
+address = {}:{}
+key-file = relay.key
+directory = customers.csv
+timeout = 5
+[spool]
+folder = spool
+[intake]
+listen = 127.0.0.1:0
+[delivery]
+host = relay.example
+[notices]
+next-hop = 127.0.0.1:25
+from = MAILER-DAEMON@relay.example
+"""
+TOLD = """\
+# HELP desk_messages Queued messages.
+# TYPE desk_messages gauge
+desk_messages{customer="acme"} 2
+desk_messages{customer="birch"} 0
+# HELP desk_bytes Bytes of the queued messages.
+# TYPE desk_bytes gauge
+desk_bytes{customer="acme"} 1200
+desk_bytes{customer="birch"} 0
+# HELP desk_lines Lines of the access tables.
+# TYPE desk_lines gauge
+desk_lines{customer="acme"} 1
+desk_lines{customer="birch"} 0
+# HELP desk_recipients_pending Recipients that are pending.
+# TYPE desk_recipients_pending gauge
+desk_recipients_pending{customer="acme"} 3
+desk_recipients_pending{customer="birch"} 0
+# HELP desk_recipients_accepted_total Recipients that were accepted.
+# TYPE desk_recipients_accepted_total counter
+desk_recipients_accepted_total{customer="acme"} 7
+desk_recipients_accepted_total{customer="birch"} 1
+# HELP desk_recipients_delivered_total Recipients that were delivered.
+# TYPE desk_recipients_delivered_total counter
+desk_recipients_delivered_total{customer="acme"} 1
+desk_recipients_delivered_total{customer="birch"} 0
+# HELP desk_recipients_failed_total Recipients that failed.
+# TYPE desk_recipients_failed_total counter
+desk_recipients_failed_total{customer="acme"} 2
+desk_recipients_failed_total{customer="birch"} 0
+# HELP desk_recipients_deleted_total Recipients that were deleted.
+# TYPE desk_recipients_deleted_total counter
+desk_recipients_deleted_total{customer="acme"} 1
+desk_recipients_deleted_total{customer="birch"} 1
+# HELP desk_recipients_expired_total Recipients that expired.
+# TYPE desk_recipients_expired_total counter
+desk_recipients_expired_total{customer="acme"} 0
+desk_recipients_expired_total{customer="birch"} 0
+"""
+COUNTS = ("accepted", "bytes", "deleted", "delivered", "expired", "failed", "lines", "messages", "pending")
+
+
+def run(folder, address, *words_of):
+    """The script over the settings of a desk at this address: its status, output and errors."""
+    (folder / "relay.ini").write_text(SETTINGS.format(*address))
+    ended = subprocess.run([METRICS, *(words_of or ("relay.ini",))], cwd=folder, stdin=subprocess.DEVNULL,
+                           stdout=subprocess.PIPE, stderr=subprocess.PIPE, timeout=LONGEST)
+    return ended.returncode, ended.stdout.decode(), ended.stderr.decode()
+
+
+def expect_refusal(folder, address, reason):
+    status, printed, told = run(folder, address)
+    expect((status, printed, told.count("\n")) == (1, "", 1) and told.startswith("relay: the desk does not tell: ")
+           and reason in told, reason, "is told as", status, printed, told)
+
+
+# ---- the desk
+
+def mail(spool, recipients, size):
+    return {"spool": spool, "sender": "ann@a.example", "recipients": [f"{it}@far.example" for it in recipients], "size": size}
+
+
+def outcome(id, results):
+    outcomes = [{"recipient": f"{name}@far.example", "result": it, "status": "5.1.1", "text": "no such user"}
+                for name, it in results.items()]
+    return {"id": id, "attempt": 1, "outcomes": outcomes}
+
+
+CALLS = [("POST", "/v1/line-put", ACME, {"class": "sender", "pattern": "b.example", "action": "REJECT"}),
+         ("POST", "/relay/submit/acme", RELAY, mail("s1", "abcde", 700)),
+         ("POST", "/relay/submit/acme", RELAY, mail("s2", "a", 500)),
+         ("POST", "/relay/submit/acme", RELAY, mail("s3", "a", 300)),
+         ("POST", "/relay/submit/birch", RELAY, mail("s1", "a", 100)),
+         ("POST", "/relay/outcome/acme", RELAY, outcome("0000000001", {"a": "delivered", "b": "failed", "c": "failed"})),
+         ("DELETE", "/v1/message/0000000003", ACME, b""),
+         ("DELETE", "/v1/message/0000000001", BIRCH, b"")]
+
+
+def of_a_desk(program, folder):
+    with Server(words(program, "serve", "desk.db"), folder, len(CALLS) + 2) as server:
+        for method, path, key, body in CALLS:
+            server.body_of(request(method, path, key, body))
+        server.made += 2
+        found = run(folder, server.address)
+        expect(found == (0, TOLD, ""), "of a desk it tells", *found)
+        (folder / "relay.key").write_text(RELAY[::-1])
+        expect_refusal(folder, server.address, "2 NoKey")
+    expect_refusal(folder, server.address, "ConnectionRefusedError")
+
+
+# ---- a stub
+
+class Stub(BaseHTTPRequestHandler):
+    asked, reply = [], (200, "")
+
+    def do_POST(self):
+        self.asked.append((self.path, self.headers["X-Desk-Key"], self.rfile.read(int(self.headers["Content-Length"] or 0))))
+        status, body = self.reply
+        self.send_response(status)
+        self.send_header("Content-Length", str(len(body)))
+        self.end_headers()
+        self.wfile.write(body.encode())
+
+    def log_message(self, *_):
+        pass
+
+
+def of_a_stub(folder):
+    server = HTTPServer(("127.0.0.1", 0), Stub)
+    threading.Thread(target=server.serve_forever, daemon=True).start()
+    usage = {"customer": 'a"b\\c\nd', **{name: number for number, name in enumerate(COUNTS)}, "later": "a member"}
+    stop = {"customer": "birch", "error": 91, "name": "Disk"}
+    Stub.reply = 200, json.dumps({"done": [usage], "stopped": None})
+    status, printed, told = run(folder, server.server_address)
+    expect((status, told) == (0, "") and r'desk_messages{customer="a\"b\\c\nd"} 7' in printed.split("\n"),
+           "escaped", status, printed, told)
+    expect(printed.count("\n") == 27, "lines", printed)
+    for reply, reason in (((200, json.dumps({"done": [usage], "stopped": stop})), "'Disk'"),
+                          ((503, '{"error":90,"name":"WantOfMemory"}'), "WantOfMemory"),
+                          ((404, '{"name":"NoRoute","proxy":404}'), "404"),
+                          ((200, "<html>"), "JSONDecodeError")):
+        Stub.reply = reply
+        expect_refusal(folder, server.server_address, reason)
+    expect(set(Stub.asked) == {("/relay/usage", RELAY, b"")} and len(Stub.asked) == 5, "asked was", Stub.asked)
+    server.shutdown()
+    server.server_close()
+
+
+def of_words(folder):
+    for asked, reason in ((("relay.ini", "more"), "Prometheus"), (("nowhere.ini",), "nowhere.ini")):
+        status, printed, told = run(folder, ("127.0.0.1", 1), *asked)
+        expect((status, printed) == (2, "") and reason in told, asked, status, printed, told)
+
+
+@pytest.fixture
+def customers(folder):
+    (folder / "customers.csv").write_text(DIRECTORY)
+    (folder / "relay.key").write_text(RELAY)
+    return folder
+
+
+def test_of_a_stub(customers):
+    of_a_stub(customers)
+
+
+def test_of_words(customers):
+    of_words(customers)
+
+
+def test_of_a_desk(program, customers):
+    of_a_desk(program, customers)

@@ -1,0 +1,80 @@
+"""Of tests/server/test_clients.py: clients that are too slow, with their request or with its response, and those that wait behind them."""
+import select
+import socket
+import time
+
+from serving import ACME, BIRCH, LONGEST, RELAY, Server, expect, request, submission, words
+
+USED = '{"accepted":0,"bytes":0,"deleted":0,"delivered":0,"expired":0,"failed":0,"lines":0,"messages":0,"pending":0}'
+# Messages and their recipients, whose report is longer than the system keeps for a client that takes nothing.
+MESSAGES, RECIPIENTS = 400, [f"{it:0100}@{'d' * 60}.example" for it in range(100)]
+# In seconds: a read or a write, a whole request or response, and how much more a busy machine may take.
+IDLE, WHOLE, BUSY = 1, 2, 20
+
+
+def cut(server, least, dribble):
+    """A client that is too slow gets nothing, and its connection is closed; it took at least so many seconds."""
+    begun, told = time.monotonic(), b""
+    sent = iter(request("GET", "/v1/usage", ACME, b"", "X: " + "x" * 1000))
+    with server.connect() as client:
+        client.settimeout(dribble or LONGEST)
+        while time.monotonic() < begun + LONGEST:
+            try:
+                if dribble:
+                    client.send(bytes([next(sent)]))
+                told = client.recv(4096)
+                break
+            except socket.timeout:
+                expect(dribble, "a client that says nothing is not cut")
+            except OSError:
+                break
+    taken = time.monotonic() - begun
+    expect(told == b"", "a client that was too slow got", told)
+    expect(least - 0.1 <= taken < least + 20, "a client that was too slow was cut after", taken, "seconds")
+    server.told("hq: input")
+
+
+def wait_of_another(server):
+    """How long another client waits for its response, in seconds, that asks now."""
+    begun, other = time.monotonic(), server.connect()
+    sent = request("GET", "/v1/usage", BIRCH)
+    other.sendall(sent)
+    expect(select.select([other], [], [], LONGEST)[0], "nobody is served behind a client that is too slow")
+    taken = time.monotonic() - begun
+    server.receive(other, 200, USED, sent)
+    return taken
+
+
+def takes_nothing(server):
+    """A client that takes nothing of a long response is cut, and keeps no other waiting for longer than it may."""
+    for number in range(MESSAGES):
+        server.body_of(request("POST", "/relay/submit/acme", RELAY, {**submission(f"s{number}"), "recipients": RECIPIENTS}))
+    with server.connect() as client:
+        client.sendall(request("GET", "/v1/report", ACME))
+        taken = wait_of_another(server)
+    expect(IDLE - 0.1 <= taken < 2 * WHOLE + 1 + BUSY, "behind a client that takes nothing another waited", taken, "seconds")
+    server.told("hq: output")
+
+
+def keeps_its_connection(server):
+    """A client that has its response, and does not end its side, keeps no other waiting for longer than a second."""
+    with server.connect() as client:
+        client.sendall(request("GET", "/v1/usage", BIRCH))
+        expect(client.recv(4096).endswith(USED.encode()) and client.recv(4096) == b"", "a usage is not told whole")
+        taken = wait_of_another(server)
+    expect(taken < 1 + BUSY, "behind a client that keeps its connection another waited", taken, "seconds")
+    server.answered += 1
+
+
+def slow_clients(program, folder, listen):
+    """Each of them, at an address or at a path."""
+    asked = words(program, "serve", None, "--idle-timeout", str(IDLE), "--request-timeout", str(WHOLE))
+    with Server(asked, folder, MESSAGES + 9, listen) as server:
+        cut(server, IDLE, None)
+        server.ask(request("GET", "/v1/usage", ACME), 200, USED)
+        cut(server, WHOLE, 0.3)
+        server.ask(request("GET", "/v1/usage", ACME), 200, USED)
+        keeps_its_connection(server)
+        takes_nothing(server)
+        server.ask(request("GET", "/v1/usage", BIRCH), 200, USED)
+    return server.answered

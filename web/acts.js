@@ -1,0 +1,275 @@
+// What is done to messages: one, those that are marked, a group, those of a pattern, or all. One
+// thing at a time; what was done is told as a sum; a deletion waits some seconds for "Undo".
+
+import { call, changing } from "./api.js";
+import { desk, drop, now, refresh } from "./desk.js";
+import { answerOf } from "./report.js";
+import { address, ask, bad, button, by, element, say, sender } from "./parts.js";
+import { size, text } from "./texts.js";
+import { told } from "./words.js";
+
+const LANES = 4;
+export const UNDO_SECONDS = 8;
+const HELD = "held by customer";
+
+// What can be done to one message: the call, whether that changed it, and what is known of it then.
+const DOES = {
+  hold: {
+    call: (id) => call("POST", `/v1/hold/${id}`),
+    changed: (reply) => reply.changed > 0,
+    after: (it) => Object.assign(it, { state: "hold", reason: HELD }),
+  },
+  release: {
+    call: (id) => call("POST", `/v1/release/${id}`),
+    changed: (reply) => reply.changed > 0,
+    after: (it) => Object.assign(it, { state: answerOf(it) ? "deferred" : "waiting", reason: "" }),
+  },
+  requeue: {
+    call: (id) => call("POST", `/v1/requeue/${id}`),
+    changed: () => true,
+    after: (it, reply) => {
+      drop([it.id]);
+      const pending = it.pending.map((one) => ({ ...one, status: "", text: "" }));
+      const made = { ...it, id: reply.id, state: "waiting", reason: "", arrival: now(), pending };
+      desk.messages.push(made);
+      desk.byId.set(made.id, made);
+    },
+  },
+  delete: {
+    call: (id) => call("DELETE", `/v1/message/${id}`),
+    changed: () => true,
+    after: (it) => drop([it.id]),
+  },
+};
+
+// what is drawn anew when messages have changed, and the IDs of those whose deletion waits
+let draw = () => {};
+let findFocus = () => {};
+export const leaving = new Set();
+let stops = false;
+
+export function drawnBy(does, finds) {
+  draw = does;
+  findFocus = finds;
+}
+
+// ---- one after the other, and their sum
+
+async function one(id, name, sum) {
+  try {
+    const reply = await DOES[name].call(id);
+    const message = desk.byId.get(id);
+    if (!DOES[name].changed(reply)) sum.already += 1;
+    else {
+      sum.done += 1;
+      if (name === "requeue") sum.made = reply.id;
+      if (message) DOES[name].after(message, reply);
+    }
+  } catch (fault) {
+    if (!("number" in fault)) throw fault;
+    if (fault.number === 10) {
+      sum.gone += 1;
+      drop([id]);
+    } else {
+      sum.faults.set(told(fault), (sum.faults.get(told(fault)) ?? 0) + 1);
+      if (fault.isAway || fault.number === 2) sum.stopped = true;
+    }
+  }
+}
+
+// The sum in words: what was done, what needed nothing, and what went wrong.
+function linesOf(sum, name, ids) {
+  const only = ids.length === 1 && !sum.before ? ids[0] : "";
+  const parts = [];
+  const count = sum.done + sum.before;
+  if (count) {
+    parts.push(text(only ? `${name}One` : `${name}Sum`, { count, id: only, made: sum.made }));
+  }
+  if (sum.already) parts.push(text(`${name}Already`, { count: sum.already }));
+  if (sum.gone) parts.push(text("goneSum", { count: sum.gone }));
+  const lines = parts.length ? [`${parts.join(", ")}.`] : [];
+  for (const [words, times] of sum.faults) {
+    lines.push(bad(only ? words : text("faultSum", { count: times, words })));
+  }
+  const asked = sum.done + sum.already + sum.gone;
+  const rest = ids.length - asked - [...sum.faults.values()].reduce((all, it) => all + it, 0);
+  if (rest) lines.push(bad(text("notAsked", { count: rest })));
+  return lines;
+}
+
+function progress(name, all) {
+  const bar = element("progress", { max: all, "aria-label": text(`${name}Doing`, { count: all }) });
+  const stop = button(text("stop"), () => { stops = true; }, { id: "stop" });
+  say(element("div", { class: "doing" }, text(`${name}Doing`, { count: all }), bar, stop));
+  return (done) => { bar.value = done; };
+}
+
+// `before` is how many were done by calls that went before.
+async function each(ids, name, before = 0) {
+  const sum = { before, done: 0, already: 0, gone: 0, faults: new Map(), stopped: false, made: "" };
+  const tells = ids.length > 20 ? progress(name, ids.length) : () => {};
+  const waiting = [...ids];
+  let asked = 0;
+  stops = false;
+  const lane = async () => {
+    while (waiting.length && !sum.stopped && !stops) {
+      await one(waiting.shift(), name, sum);
+      tells(++asked);
+    }
+  };
+  await Promise.all(Array.from({ length: Math.min(LANES, ids.length) }, lane));
+  say(...linesOf(sum, name, ids));
+}
+
+// ---- one thing at a time
+
+// Does what may take long, and nothing else of that kind meanwhile.
+export async function alone(does) {
+  if (changing.count) return say(text("wait"));
+  const had = document.activeElement;
+  changing.count += 1;
+  changing.turns += 1;
+  by("views").ariaBusy = "true";
+  try {
+    await does();
+  } catch (fault) {
+    say(fault);
+  } finally {
+    changing.count -= 1;
+    changing.turns += 1;
+    by("views").ariaBusy = "false";
+  }
+  draw();
+  await refresh();
+  // (what had the focus may be gone with what was done to it)
+  if (document.activeElement !== document.body) return undefined;
+  return had.checkVisibility() ? had.focus() : findFocus();
+}
+
+// Holds a deletion back for some seconds. Nothing is asked of the desk before, so a page that is
+// closed meanwhile has deleted nothing. Answers whether it is to be done.
+function heldBack(ids, count) {
+  const undo = button(text("undo"), () => {}, { id: "undo" });
+  const soon = button(text("deleteNow"), () => {}, { id: "delete-now", class: "link" });
+  const left = element("span", { "aria-hidden": "true" });
+  const words = text("willDelete", { count });
+  const held = element("div", { class: "doing", id: "held-back" }, words, left, undo, soon);
+  say(held);
+  for (const it of ids) leaving.add(it);
+  draw();
+  undo.focus();
+  return new Promise((answer) => {
+    let seconds = UNDO_SECONDS;
+    const tick = () => { left.textContent = text("inSeconds", { count: seconds }); };
+    const end = (yes) => {
+      clearInterval(timer);
+      leaving.clear();
+      held.remove();
+      draw();
+      say(text(yes ? "deleteBegun" : "undone", { count }));
+      answer(yes);
+    };
+    const timer = setInterval(() => (--seconds ? tick() : end(true)), 1000);
+    undo.onclick = () => end(false);
+    soon.onclick = () => end(true);
+    tick();
+  });
+}
+
+// ---- what may be asked for
+
+// What a question shows of one message.
+const factsOf = (it) => [
+  [text("from"), sender(it.sender)],
+  [text("to"), element("span", {}, ...someOf(it))],
+  [text("size"), size(it.size)],
+  [text("queueId"), it.id],
+];
+
+function someOf({ pending }) {
+  const shown = pending.slice(0, 3).flatMap((it) => [address(it.address), element("br")]);
+  const rest = pending.length - 3;
+  return rest > 0 ? [...shown, text("andMore", { count: rest })] : shown.slice(0, -1);
+}
+
+async function mayDelete(ids) {
+  const messages = ids.map((id) => desk.byId.get(id)).filter(Boolean);
+  const count = ids.length;
+  const facts = messages.length === 1 && count === 1 ? factsOf(messages[0]) : [];
+  const [title, words] = [text("deleteTitle", { count }), text("deleteText", { count })];
+  return ask(title, words, text("deleteYes", { count }), { isDanger: true, facts });
+}
+
+// Does it to messages by their IDs.
+export function act(name, ids) {
+  if (!ids.length) return undefined;
+  return alone(async () => {
+    if (name === "delete") {
+      if (!(await mayDelete(ids)) || !(await heldBack(ids, ids.length))) return;
+    }
+    await each(ids, name);
+  });
+}
+
+// Does it to all that a pattern is for, by one call: also what comes in until then.
+export function actMatching(name, pattern, words, count, ids) {
+  return alone(async () => {
+    const title = text(`${name}GroupTitle`, { count, words });
+    const isDanger = name === "delete";
+    if (!(await ask(title, text("groupText"), text(`${name}Yes`, { count }), { isDanger }))) return;
+    if (name === "delete" && !(await heldBack(ids, count))) return;
+    const { changed } = await call("POST", `/v1/${name}-matching`, pattern);
+    say(`${text(`${name}Sum`, { count: changed })}.`);
+  });
+}
+
+// Holds or releases a group by as few calls as there are: the patterns whose messages are all of
+// the group, then those that are left, one by one.
+export function actGroup(name, messages, words) {
+  const ids = new Set(messages.map((it) => it.id));
+  // a deletion cannot be taken back, so it is of those messages alone that were seen
+  if (name === "delete" || ids.size < 2 * LANES) return act(name, [...ids]);
+  return alone(async () => {
+    const count = ids.size;
+    const title = text(`${name}GroupTitle`, { count, words });
+    if (!(await ask(title, text("groupText"), text(`${name}Yes`, { count })))) return;
+    let done = 0;
+    for (const domain of wholeDomains(ids)) {
+      const pattern = { class: "recipient", pattern: domain };
+      done += (await call("POST", `/v1/${name}-matching`, pattern)).changed;
+      for (const it of desk.messages) if (it.domains.includes(domain)) ids.delete(it.id);
+    }
+    if (ids.size) await each([...ids], name, done);
+    else say(`${text(`${name}Sum`, { count: done })}.`);
+  });
+}
+
+// The domains all of whose messages are among these, where that saves calls.
+function wholeDomains(ids) {
+  const counts = new Map();
+  for (const { id, domains } of desk.messages) {
+    for (const it of domains) {
+      const found = counts.get(it) ?? { inside: 0, all: 0 };
+      found.all += 1;
+      found.inside += ids.has(id);
+      counts.set(it, found);
+    }
+  }
+  const whole = [...counts].filter(([, it]) => it.inside === it.all && it.all > LANES);
+  return whole.sort((a, b) => b[1].all - a[1].all).slice(0, 10).map(([domain]) => domain);
+}
+
+// Does it to all of the queue, by one call.
+export function actAll(name) {
+  return alone(async () => {
+    const { messages: count } = await call("GET", "/v1/usage");
+    if (!count) return say(text("emptyQueue"));
+    const title = text(`${name}AllTitle`, { count });
+    const yes = text(`${name}Yes`, { count });
+    if (!(await ask(title, text("allText"), yes, { isDanger: name === "delete" }))) return;
+    const ids = desk.messages.map((it) => it.id);
+    if (name === "delete" && !(await heldBack(ids, count))) return;
+    const { changed } = await call("POST", `/v1/${name}-all`);
+    say(`${text(`${name}Sum`, { count: changed })}.`);
+  });
+}

@@ -1,0 +1,150 @@
+// The overview: whether all is well, how full it is, why mail waits, and how old it is.
+
+import { actGroup, actMatching } from "./acts.js";
+import { agesChart, fullness } from "./chart.js";
+import { desk, now } from "./desk.js";
+import { byAge, byDomain, byReason, byState, STATES } from "./groups.js";
+import { by, button, chip, element, foreign, menu } from "./parts.js";
+import { show } from "./queue.js";
+import { count, size, span, text } from "./texts.js";
+
+// Of each list of groups, until more are asked for.
+const FEW = 6;
+// From this age on what is not on hold is late, in seconds; a mail server that asks for patience
+// has taken the mail within the hour.
+const LONG = 4 * 3600;
+const NEARLY_FULL = 0.9;
+const every = { reasons: false, domains: false };
+
+// ---- all is well, or not
+
+// (no list of 10,000 arguments: some browsers have not so many)
+const oldest = (messages) => messages.reduce((least, it) => Math.min(least, it.arrival), Infinity);
+
+function trouble() {
+  const states = byState(desk.messages);
+  const { usage, limits } = desk;
+  const full = Math.max(usage.messages / limits.messages, usage.bytes / limits.bytes);
+  if (full >= NEARLY_FULL) return ["bad", text("wellFull", { count: Math.floor(full * 100) })];
+  if (!desk.messages.length) return ["good", text("wellEmpty")];
+  const late = desk.messages.filter((it) => it.state !== "hold" && now() - it.arrival >= LONG);
+  if (late.length) {
+    const age = span(now() - oldest(late));
+    return ["warn", text("wellLate", { count: late.length, age })];
+  }
+  if (states.hold) return ["warn", text("wellHeld", { count: states.hold })];
+  return ["good", text("wellGood", { count: desk.messages.length })];
+}
+
+function tile(state, number, words) {
+  const figure = element("span", { class: "number" }, count(number));
+  const attributes = { class: `tile ${state}`, "data-state": state };
+  const made = button("", () => show({ state }), attributes);
+  made.append(chip(state), figure, element("span", { class: "quiet" }, words));
+  return made;
+}
+
+function drawTiles() {
+  const states = byState(desk.messages);
+  const old = (state) => {
+    const some = desk.messages.filter((it) => it.state === state);
+    return some.length ? text("oldest", { age: span(now() - oldest(some)) }) : text("none");
+  };
+  by("tiles").replaceChildren(...STATES.map((it) => tile(it, states[it], old(it))));
+}
+
+// ---- groups
+
+// What a group is called.
+export function nameOf({ kind, name }) {
+  if (kind === "waiting") return text("notTried");
+  if (kind === "hold") return name ? text("heldFor", { reason: name }) : text("hold");
+  return name;
+}
+
+// Which actions make sense for a group: a hold where something is not on hold, and so on.
+function choicesOf(group) {
+  const held = group.messages.filter((it) => it.state === "hold").length;
+  const names = ["delete"];
+  if (held) names.unshift("release");
+  if (held < group.messages.length) names.unshift("hold");
+  const words = nameOf(group);
+  const ids = group.messages.map((it) => it.id);
+  const pattern = { class: "recipient", pattern: group.name };
+  return names.map((name) => [
+    text(`do_${name}`),
+    () => (group.kind === "domain"
+      ? actMatching(name, pattern, words, ids.length, ids)
+      : actGroup(name, group.messages, words)),
+    { "data-group": name, ...(name === "delete" ? { class: "danger" } : {}) },
+  ]);
+}
+
+function drawGroup(group, most) {
+  const name = nameOf(group);
+  const { length } = group.messages;
+  const bar = element("progress", { max: most, "aria-hidden": "true" });
+  bar.value = length;
+  const choose = group.kind === "domain" ? { domain: group.name } : { group };
+  const shows = button("", () => show(choose), {
+    class: "group-name", title: name, "aria-label": text("showGroup", { count: length, name }),
+  });
+  shows.append(foreign(name));
+  const label = text("actionsOf", { name });
+  return element("li", { class: `group ${group.kind}` },
+    element("span", { class: "number" }, count(length)), shows,
+    menu(text("actions"), label, choicesOf(group)), bar);
+}
+
+function drawGroups(id, groups) {
+  const shown = every[id] ? groups : groups.slice(0, FEW);
+  const most = groups[0]?.messages.length ?? 1;
+  const rows = shown.map((it) => drawGroup(it, most));
+  by(id).replaceChildren(...rows);
+  const rest = groups.length - shown.length;
+  by(`${id}-more`).hidden = !rest;
+  by(`${id}-more`).textContent = text("showRest", { count: rest });
+  by(`${id}-none`).hidden = groups.length > 0;
+}
+
+// ---- all of it
+
+export function drawFullness(at) {
+  const { usage, limits } = desk;
+  at.replaceChildren(
+    fullness(text("messages"), usage.messages, limits.messages),
+    fullness(text("sizeTogether"), usage.bytes, limits.bytes, size),
+    fullness(text("rules"), usage.lines, limits.lines),
+  );
+}
+
+export function draw() {
+  if (!desk.at) return;
+  const [level, words] = trouble();
+  by("well").className = level;
+  by("well").textContent = words;
+  drawTiles();
+  drawFullness(by("amounts"));
+  by("ages").replaceChildren(agesChart(byAge(desk.messages, now())));
+  // (a menu that somebody has open is not to vanish under the hand)
+  if (by("overview").querySelector("details[open]")) return;
+  const focused = document.activeElement?.closest?.(".group") ? document.activeElement : null;
+  const label = focused?.getAttribute("aria-label");
+  drawGroups("reasons", byReason(desk.messages));
+  drawGroups("domains", byDomain(desk.messages));
+  if (focused) {
+    const same = [...by("overview").querySelectorAll(".group [aria-label]")]
+      .find((it) => it.getAttribute("aria-label") === label);
+    (same ?? by("well")).focus();
+  }
+}
+
+export const open = draw;
+
+for (const id of ["reasons", "domains"]) {
+  by(`${id}-more`).addEventListener("click", () => {
+    every[id] = true;
+    draw();
+    by(id).children[FEW]?.querySelector("button").focus();
+  });
+}
