@@ -29,6 +29,8 @@ ADDRESS = re.compile(r'(?s)(.*?<(?:"(?:[^"\\]|\\.)*"|[^">])*>)(.*)')
 CLIENT = re.compile(r"[A-Za-z0-9.:_\[\]-]{1,255}")
 # So many sessions may wait to be taken.
 BACKLOG = 128
+# How many seconds pass before a session is taken again where the system had no room for one.
+NOT_TAKEN = 1
 GOING_DOWN = "421 4.3.2 going down"
 # (its own lines tell each command of each client)
 logging.getLogger("mail.log").setLevel(logging.CRITICAL)
@@ -185,18 +187,39 @@ class Server:
         self.settings, self.intake = settings, intake
         self.sessions, self.is_ending, self.answers = set(), False, 0
         self.pool = ThreadPoolExecutor(settings.connections)
-        self.loop = asyncio.new_event_loop()
-        self.listening = [self.loop.run_until_complete(self.takes_from(it)) for it in listening]
+        self.loop, self.listening, self.beginning = asyncio.new_event_loop(), listening, set()
+        for it in listening:
+            it.setblocking(False)
+            self.loop.add_reader(it, self.take, it)
 
     def start(self) -> None:
         threading.Thread(target=self.loop.run_forever, daemon=True).start()
 
-    async def takes_from(self, listening: socket.socket) -> asyncio.AbstractServer:
-        """Takes one session at a time: other processes take theirs from the same socket."""
-        server = await self.loop.create_server(lambda: Session(self), sock=listening, backlog=1)
-        # (so many may wait all the same)
-        listening.listen(BACKLOG)
-        return server
+    def take(self, listening: socket.socket) -> None:
+        """Takes one session: other processes take theirs from the same socket.
+
+        (A server of asyncio takes as many at once as may wait. Fewer may not wait, not even for a
+        moment: the system drops what does not fit, and a client that already holds itself for
+        connected hears nothing when the processes are killed.)
+        """
+        try:
+            client, _ = listening.accept()
+        except (BlockingIOError, ConnectionAbortedError):
+            return  # another process was first, or the client has gone
+        except OSError as error:  # no more files, or no memory
+            log.error("no session taken", why=error, again=f"in {NOT_TAKEN} s")
+            self.loop.remove_reader(listening)
+            self.loop.call_later(NOT_TAKEN, self.take_again, listening)
+            return
+        begun = self.loop.create_task(
+            self.loop.connect_accepted_socket(lambda: Session(self), client))
+        # (the loop itself keeps no task)
+        self.beginning.add(begun)
+        begun.add_done_callback(self.beginning.discard)
+
+    def take_again(self, listening: socket.socket) -> None:
+        if not self.is_ending:
+            self.loop.add_reader(listening, self.take, listening)
 
     def admits(self, session: Session) -> bool:
         if len(self.sessions) < self.settings.connections:
@@ -247,6 +270,7 @@ class Server:
     async def end(self) -> None:
         self.is_ending = True
         for it in self.listening:
+            self.loop.remove_reader(it)
             it.close()
         while self.answers:
             await asyncio.sleep(0.02)

@@ -236,15 +236,15 @@ class Relay:
 
     # ---- the worker
 
-    def run(self, *asked, killed=None, errors=None):
+    def run(self, *asked, killed=None, errors=None, under=()):
         """Begins a command of the worker; `killed` names the step, when and the count at which it
-        kills itself, and `errors` a file for its standard error."""
+        kills itself, `errors` a file for its standard error, and `under` the program that runs it."""
         way = [str(WORKER), "relay.ini", *asked]
         if killed:
             way = [str(HERE / "killed.py"), str(WORKER), *(str(it) for it in killed),
                    "relay.ini", *asked]
         self.count += 1
-        begun = Running([PYTHON, "-B", *way], self.folder,
+        begun = Running([*under, PYTHON, "-B", *way], self.folder,
                         self.folder / f"{asked[0]}.{self.count}.log", errors)
         self.begun.append(begun)
         return begun
@@ -254,9 +254,9 @@ class Relay:
         subprocess.run([PYTHON, "-B", "-c", script, str(WORKER.parent), *words], cwd=self.folder,
                        check=True, timeout=LONGEST)
 
-    def intake(self, killed=None):
+    def intake(self, killed=None, under=()):
         """Begins the intake, and waits until it listens."""
-        begun = self.run("intake", killed=killed)
+        begun = self.run("intake", killed=killed, under=under)
 
         def listens():
             expect(begun.process.poll() is None, "the intake has ended", begun.log.read_text())

@@ -3,9 +3,16 @@
 A step is killed at its first and at its second call. All mail goes to one destination by one
 session. No message comes twice; only a notice does that was just being mailed.
 """
+import os
+import re
+import signal
+
+import needs
 import pytest
 from machine import WIDE, Relay
 from serving import expect
+
+import postfix_lines
 
 INTAKE = ["spool.Spool.keep", "desk.Desk.submit", "book.Book.taken", "intake.Incoming.end"]
 DELIVERY = ["handed.Handed.about", "instance.Session.send", "handed.Handed.over",
@@ -83,3 +90,21 @@ def test_killed(program, shared, step):
     for when in MOMENTS:
         for count in COUNTS:
             try_it(program, shared, step, when, count)
+
+
+def test_waiting_clients_hear_of_a_kill(program, shared):
+    """As many may wait at the intake's socket at each moment as Postfix can bring. One more would
+    believe that it is connected, and hear nothing when the intake is killed."""
+    needs.command("strace")
+    with Relay(program, shared, ONE_CUSTOMER, ONE_SESSION) as it:
+        calls = it.folder / "calls"
+        begun = it.intake(under=("strace", "-f", "-qq", "-e", "trace=listen", "-o", str(calls)))
+        it.take("acme", *at_one("a", "b"))
+        it.postfix.empty()
+        # (strace hands no signal on)
+        for number in begun.others():
+            os.kill(number, signal.SIGTERM)
+        begun.ends()
+        rooms = [int(one) for one in re.findall(r"listen\(\d+, (\d+)\)", calls.read_text())]
+        most = postfix_lines.MOST_TO_THE_WORKER
+        expect(rooms and min(rooms) >= most, "of", most, "clients might wait", rooms)
