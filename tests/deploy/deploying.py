@@ -69,7 +69,7 @@ class Desk:
 
     def of_the_place(self, words, settings):
         """The words of a unit, with this place and these settings."""
-        places = {"/opt/hq/hq_main": self.program, "/opt/hq/deploy": DEPLOY, "/etc/hq": self.folder,
+        places = {"/usr/bin/hq": self.program, "/usr/libexec/hq-desk": DEPLOY, "/etc/hq": self.folder,
                   "/var/lib/hqdesk": self.folder, "/var/log/hqdesk": self.folder, "%i": self.name,
                   **{f"${{{it}}}": value for it, value in settings.items()}}
         for it, value in places.items():
@@ -246,7 +246,7 @@ class Proxy:
             "  include /etc/nginx/conf.d/*.conf;\n": f"{temporary}  include {folder}/hq-desk.conf;\n"})
         self.put("nginx.conf", "hq-desk.conf", {
             "listen 443": f"listen {self.public}", "127.0.0.1:825": first, "/etc/hq": folder,
-            "/var/log/nginx": folder, "/srv/desk/web": f"{folder}/web"})
+            "/var/log/nginx": folder, "/usr/share/hq-desk/web": f"{folder}/web"})
         self.put("nginx-workers.conf", "nginx-workers.conf", {
             # (its unit has another user)
             "worker_processes 1;\n": f"{as_user}worker_processes 1;\n", "127.0.0.1:825": first,

@@ -26,8 +26,10 @@ class Place:
 
     def __init__(self, folder, program, desks, proxy):
         self.proxy, self.desks = proxy, {it.name: it for it in desks}
-        there = {"/etc/hq": folder, "/var/lib/hqdesk": folder, "/opt/hq/deploy": DEPLOY,
-                 "/opt/hq/hq_main": program, "runuser -u hqdesk -- ": ""}
+        # (the program is called `hq`, as the package has it, and an upgrade writes over it)
+        there = {"/etc/hq": folder, "/var/lib/hqdesk": folder, "/usr/libexec/hq-desk": DEPLOY, "/usr/bin/hq": program,
+                 "apt-get install -y \"$NEW\"": f"install -m 755 \"$NEW\" {program}", "runuser -u hqdesk -- ": ""}
+        self.path = f"{Path(program).parent}:/usr/bin:/bin:/usr/sbin"
         shown = {f"127.0.0.1:{825 + it}": desk.address for it, desk in enumerate(desks)}
         self.here = {**there, **shown}
 
@@ -74,6 +76,6 @@ class Place:
         for it, value in self.here.items():
             line = line.replace(it, str(value))
         found = subprocess.run(["sh", "-euc", line], stdin=subprocess.DEVNULL, capture_output=True,
-                               text=True, timeout=LONGEST, env={"PATH": "/usr/bin:/bin:/usr/sbin", **names})
+                               text=True, timeout=LONGEST, env={"PATH": self.path, **names})
         if found.returncode:
             raise Wrong(line, "ended with", found.returncode, found.stderr)

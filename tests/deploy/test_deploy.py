@@ -22,7 +22,8 @@ from serving import ACME, BIRCH, HEADER, LONGEST, RELAY, Wrong, answered, expect
 USAGE = "GET", "/v1/usage"
 CLOSED = 503, {"error": 93, "name": "Closed"}
 SERVICES = "hq-desk@.service", "hq-desk-check@.service", "hq-desk-workers.service"
-UNITS = *SERVICES, "hq-desk-check@.timer"
+WORKER = "hq-relay-intake.service", "hq-relay-deliver.service"
+UNITS = *SERVICES, "hq-desk-check@.timer", *WORKER
 # The greatest exposure of a unit, in tenths.
 EXPOSED = 20
 LOW_PORT = "CAP_NET_BIND_SERVICE"
@@ -36,13 +37,15 @@ def test_units(folder, program):
     needs.command("systemd-analyze")
     for name in UNITS:
         text = (DEPLOY / name).read_text()
-        text = text.replace("/opt/hq/hq_main", program).replace("/opt/hq/deploy", str(DEPLOY))
+        for it, here in (("/usr/bin/hq ", f"{program} "), ("/usr/libexec/hq-desk/relay", DEPLOY.parent / "relay"),
+                         ("/usr/libexec/hq-desk", DEPLOY)):
+            text = text.replace(it, str(here))
         (folder / name).write_text(text)
     names = [it.replace("@", "@north") for it in UNITS]
     for lines in ("", lines_of_unit()):
         (folder / f"{names[0]}.d").mkdir(exist_ok=True)
         (folder / f"{names[0]}.d" / "path.conf").write_text(lines)
-        found = run("systemd-analyze", "verify", *names, SYSTEMD_UNIT_PATH=f"{folder}:")
+        found = run("systemd-analyze", "verify", "--man=no", *names, SYSTEMD_UNIT_PATH=f"{folder}:")
         expect(found.returncode == 0 and not found.stderr, "systemd-analyze verify:", found.stderr)
     for name in SERVICES:
         found = run("systemd-analyze", "security", "--offline=true", f"--threshold={EXPOSED}",
@@ -50,10 +53,10 @@ def test_units(folder, program):
         expect(found.returncode == 0, "systemd-analyze security:", name, found.stdout[-200:],
                found.stderr)
         unit = all_settings_of(DEPLOY / name)
-        expect(unit["LimitCORE"] == ["0"], name, "may leave a core, in which keys stand")
         wanted = [] if "check" in name else [LOW_PORT]
         expect(unit.get("AmbientCapabilities", []) == wanted, name, "has other capabilities")
-    expect("\nLimitCORE=0\n" in (DEPLOY.parent / "docs/RELAY.md").read_text(), "the worker may leave a core")
+    for name in (*SERVICES, *WORKER):
+        expect(all_settings_of(DEPLOY / name)["LimitCORE"] == ["0"], name, "may leave a core, in which keys stand")
 
 
 def run(*words, **more):

@@ -273,7 +273,8 @@ def upgraded(place, program, used, proxy, served):
 @pytest.fixture(scope="module")
 def used(program, place):
     """A copy of the program, since an upgrade writes over it."""
-    return Path(shutil.copy2(program, place / "hq_main"))
+    (place / "bin").mkdir()
+    return Path(shutil.copy2(program, place / "bin/hq"))
 
 
 @pytest.fixture(scope="module")

@@ -44,7 +44,7 @@ def proxy(folder, address, by_cookie=False):
     folder.mkdir()
     shutil.copytree(ROOT / "web", folder / "web")
     serves = SERVES.replace("127.0.0.1:8025", named(address))
-    serves = serves.replace("/srv/desk/web", f"{folder}/web")
+    serves = serves.replace("/usr/share/hq-desk/web", f"{folder}/web")
     if by_cookie:
         serves = serves.replace("proxy_pass", f"{TAKES_KEY.strip()} proxy_pass")
     return Nginx(folder, serves, keeps_alive=True, before=MAPS if by_cookie else "")

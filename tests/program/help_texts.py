@@ -7,7 +7,7 @@ own access tables, as postqueue(1), postsuper(1) and access(5) have them.
 Without a command it replies to the lines of standard input for two built-in customers, acme and
 birch, from an empty desk in memory.
 
-Usage: hq_main [COMMAND]
+Usage: hq [COMMAND]
 
 Commands:
   serve    Serve the customers of a directory over HTTP/1.1
@@ -28,13 +28,13 @@ Options:
   -V, --version  Print version
 
 Examples:
-  hq_main < lines
-  hq_main serve --help
-  hq_main serve --directory customers.csv --host relay.example --relay-key relaykey00000001
-  hq_main batch --directory customers.csv --host relay.example --relay-key relaykey00000001 < lines
-  hq_main check --directory customers.csv --host relay.example
-  hq_main queue --directory customers.csv --store desk.db --customer acme
-  hq_main usage --directory customers.csv --store desk.db
+  hq < lines
+  hq serve --help
+  hq serve --directory customers.csv --host relay.example --relay-key relaykey00000001
+  hq batch --directory customers.csv --host relay.example --relay-key relaykey00000001 < lines
+  hq check --directory customers.csv --host relay.example
+  hq queue --directory customers.csv --store desk.db --customer acme
+  hq usage --directory customers.csv --store desk.db
 
 The exit status is 0 when done; 1 for a refusal or a fault, which is told in one line on standard
 error, as `hq: 53 BadDirectory row 3`; 2 for words that are not taken.
@@ -42,7 +42,7 @@ error, as `hq: 53 BadDirectory row 3`; 2 for words that are not taken.
 SERVE_HELP = b"""\
 Serve the customers of a directory over HTTP/1.1
 
-Usage: hq_main serve [OPTIONS] --directory <FILE> --host <HOST>
+Usage: hq serve [OPTIONS] --directory <FILE> --host <HOST>
 
 Options:
       --directory <FILE>           The customers: a CSV file of 1 to 1,000 rows under the header
@@ -87,14 +87,14 @@ Example of a request:
   curl -H 'X-Desk-Key: acmekey000000001' http://127.0.0.1:8025/v1/messages
 
 Examples:
-  hq_main serve --directory customers.csv --host relay.example --relay-key relaykey00000001
-  hq_main serve --directory customers.csv --host relay.example --relay-key-file relay.key \\
+  hq serve --directory customers.csv --host relay.example --relay-key relaykey00000001
+  hq serve --directory customers.csv --host relay.example --relay-key-file relay.key \\
     --store desk.db --listen 127.0.0.1:0 --count 100 --log desk.log
 """
 BATCH_HELP = b"""\
 Reply to the lines of standard input, for the customers of a directory
 
-Usage: hq_main batch [OPTIONS] --directory <FILE> --host <HOST>
+Usage: hq batch [OPTIONS] --directory <FILE> --host <HOST>
 
 Options:
       --directory <FILE>       The customers: a CSV file of 1 to 1,000 rows under the header
@@ -128,14 +128,14 @@ Example of a line:
   1767225600 GET /v1/messages acmekey000000001
 
 Examples:
-  hq_main batch --directory customers.csv --host relay.example --relay-key relaykey00000001 < lines
-  hq_main batch --directory customers.csv --host relay.example --relay-key-file relay.key \\
+  hq batch --directory customers.csv --host relay.example --relay-key relaykey00000001 < lines
+  hq batch --directory customers.csv --host relay.example --relay-key-file relay.key \\
     --store desk.db < lines
 """
 CHECK_HELP = b"""\
 Check a relay's name, its key and its directory, as a start would
 
-Usage: hq_main check [OPTIONS] --directory <FILE> --host <HOST>
+Usage: hq check [OPTIONS] --directory <FILE> --host <HOST>
 
 Options:
       --directory <FILE>       The customers: a CSV file of 1 to 1,000 rows under the header
@@ -159,13 +159,13 @@ as `hq: 53 BadDirectory row 3`, and, where a row of the directory is not good, t
 but the key is checked.
 
 Examples:
-  hq_main check --directory customers.csv --host relay.example
-  hq_main check --directory customers.csv --host relay.example --relay-key-file relay.key
+  hq check --directory customers.csv --host relay.example
+  hq check --directory customers.csv --host relay.example --relay-key-file relay.key
 """
 QUEUE_HELP = b"""\
 Print the queue report of a customer
 
-Usage: hq_main queue [OPTIONS] --directory <FILE> --store <FILE> --customer <NAME>
+Usage: hq queue [OPTIONS] --directory <FILE> --store <FILE> --customer <NAME>
 
 Options:
       --directory <FILE>     The customers: a CSV file of 1 to 1,000 rows under the header
@@ -187,13 +187,13 @@ queue is empty. With a pattern it lists those that the pattern is for, by the ke
 or of a pending recipient.
 
 Examples:
-  hq_main queue --directory customers.csv --store desk.db --customer acme
-  hq_main queue --directory customers.csv --store desk.db --customer acme --recipient far.example
+  hq queue --directory customers.csv --store desk.db --customer acme
+  hq queue --directory customers.csv --store desk.db --customer acme --recipient far.example
 """
 HISTORY_HELP = b"""\
 Print what became of a customer's recipients
 
-Usage: hq_main history [OPTIONS] --directory <FILE> --store <FILE> --customer <NAME>
+Usage: hq history [OPTIONS] --directory <FILE> --store <FILE> --customer <NAME>
 
 Options:
       --directory <FILE>     The customers: a CSV file of 1 to 1,000 rows under the header
@@ -222,14 +222,14 @@ from there. Where the row has no history, or a smaller one than before, what was
 as the next recipient leaves.
 
 Examples:
-  hq_main history --directory customers.csv --store desk.db --customer acme
-  hq_main history --directory customers.csv --store desk.db --customer acme \\
+  hq history --directory customers.csv --store desk.db --customer acme
+  hq history --directory customers.csv --store desk.db --customer acme \\
     --recipient far.example
 """
 HOLD_HELP = b"""\
 Put the messages of a customer on hold that a pattern is for
 
-Usage: hq_main hold [OPTIONS] --directory <FILE> --store <FILE> --customer <NAME> --at <AT>
+Usage: hq hold [OPTIONS] --directory <FILE> --store <FILE> --customer <NAME> --at <AT>
 
 Options:
       --directory <FILE>     The customers: a CSV file of 1 to 1,000 rows under the header
@@ -252,17 +252,17 @@ A pattern is one of the access tables. It is for a message whose sender is looke
 of whose pending recipients is. It prints how many messages were changed: `changed 3`.
 
 Examples:
-  hq_main hold --directory customers.csv --store desk.db --customer acme \\
+  hq hold --directory customers.csv --store desk.db --customer acme \\
     --sender bob@acme.example --at 1767225700
-  hq_main release --directory customers.csv --store desk.db --customer acme \\
+  hq release --directory customers.csv --store desk.db --customer acme \\
     --recipient far.example --at 1767225700
-  hq_main delete --directory customers.csv --store desk.db --customer acme \\
+  hq delete --directory customers.csv --store desk.db --customer acme \\
     --sender bob@acme.example --at 1767225700
 """
 USAGE_HELP = b"""\
 Print what each customer uses
 
-Usage: hq_main usage --directory <FILE> --store <FILE>
+Usage: hq usage --directory <FILE> --store <FILE>
 
 Options:
       --directory <FILE>  The customers: a CSV file of 1 to 1,000 rows under the header
@@ -283,12 +283,12 @@ expired 0
 It reads only. A fault ends it, and the exit status is 1.
 
 Example:
-  hq_main usage --directory customers.csv --store desk.db
+  hq usage --directory customers.csv --store desk.db
 """
 IMPORT_HELP = b"""\
 Set lines of a customer's access tables by the rows of a file
 
-Usage: hq_main import --directory <FILE> --store <FILE> --customer <NAME> --label <LABEL> --file <FILE>
+Usage: hq import --directory <FILE> --store <FILE> --customer <NAME> --label <LABEL> --file <FILE>
 
 Options:
       --directory <FILE>  The customers: a CSV file of 1 to 1,000 rows under the header
@@ -315,13 +315,13 @@ Example of a file, lines.csv:
   recipient,far.example,HOLD
 
 Example:
-  hq_main import --directory customers.csv --store desk.db --customer acme --label january \\
+  hq import --directory customers.csv --store desk.db --customer acme --label january \\
     --file lines.csv
 """
 SWEEP_HELP = b"""\
 Give up messages that are too old, and warn of late ones
 
-Usage: hq_main sweep [OPTIONS] --directory <FILE> --host <HOST> --store <FILE> --at <AT>
+Usage: hq sweep [OPTIONS] --directory <FILE> --host <HOST> --store <FILE> --at <AT>
 
 Options:
       --directory <FILE>  The customers: a CSV file of 1 to 1,000 rows under the header
@@ -347,14 +347,14 @@ as `hq: 44 NoticesSpent customer acme`, and the next one is swept; a fault ends 
 is 1 where either was met.
 
 Examples:
-  hq_main sweep --directory customers.csv --host relay.example --store desk.db --at 1767657600
-  hq_main sweep --directory customers.csv --host relay.example --store desk.db --customer acme \\
+  hq sweep --directory customers.csv --host relay.example --store desk.db --at 1767657600
+  hq sweep --directory customers.csv --host relay.example --store desk.db --customer acme \\
     --at 1767657600
 """
 MIGRATE_HELP = b"""\
 Make a store of an earlier release one of this release
 
-Usage: hq_main migrate --store <FILE>
+Usage: hq migrate --store <FILE>
 
 Options:
       --store <FILE>  The file that keeps what is done, a database of SQLite.
@@ -370,9 +370,9 @@ file is refused as `hq: 92 BadSchema` and stays as it is.
 It is done whole or not at all. Stop the desk and copy the file before: the copy is the way back.
 
 Example:
-  hq_main migrate --store desk.db
+  hq migrate --store desk.db
 """
 # Those of the other two differ in their first lines.
-HOLDS = b"Put the messages of a customer on hold that a pattern is for\n\nUsage: hq_main hold "
-RELEASE_HELP = HOLD_HELP.replace(HOLDS, b"Release the messages of a customer that a pattern is for\n\nUsage: hq_main release ")
-DELETE_HELP = HOLD_HELP.replace(HOLDS, b"Delete the messages of a customer that a pattern is for\n\nUsage: hq_main delete ")
+HOLDS = b"Put the messages of a customer on hold that a pattern is for\n\nUsage: hq hold "
+RELEASE_HELP = HOLD_HELP.replace(HOLDS, b"Release the messages of a customer that a pattern is for\n\nUsage: hq release ")
+DELETE_HELP = HOLD_HELP.replace(HOLDS, b"Delete the messages of a customer that a pattern is for\n\nUsage: hq delete ")

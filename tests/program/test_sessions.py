@@ -1,12 +1,12 @@
 """Tries the sessions that README.md and docs/OPERATIONS.md show.
 
-In a block between three backquotes `$ cat > FILE <<END` writes a file, of the lines up to END, and `$ ./run WORDS` runs the
+In a block between three backquotes `$ cat > FILE <<END` writes a file, of the lines up to END, and `$ hq WORDS` runs the
 program: each line that begins with a moment is one of its input, and every other one is a line of its output, in a batch
 the reply to the line before it. (`</dev/null` says that there is none of the first kind.) A command goes on in the next
 line where it ends in `\\`. The sessions are run in one folder, in the order of the documents, and the output must be the
 one that is shown, byte for byte.
 
-`$ ./run serve WORDS &` is a server, which runs until `$ kill %1`: it listens on a free port, and its line tells that one in
+`$ hq serve WORDS &` is a server, which runs until `$ kill %1`: it listens on a free port, and its line tells that one in
 the place of the one that is shown. `$ curl WORDS` asks it, there too, and the lines below are what curl prints, a last line
 without an end and those of `-i` with LF. Where there is no curl, the request is made here, by the options -X, -H, -d and -i.
 """
@@ -126,12 +126,12 @@ def session(program, folder):
         for (word, *words), shown in (it for page in PAGES for it in commands((ROOT / page).read_text())):
             if word == "cat" and words[:1] + words[2:] == [">", "<<END"] and shown[-1:] == ["END"]:
                 Path(folder, words[1]).write_text("".join(f"{line}\n" for line in shown[:-1]))
-            elif word == "./run" and words[-1:] == ["&"]:
+            elif word == "hq" and words[-1:] == ["&"]:
                 if server:
                     pytest.fail(f"{words}: the server before it was not stopped")
                 server = Served(program, words[:-1], shown, folder)
                 count += 1
-            elif word == "./run":
+            elif word == "hq":
                 count += run(program, [it for it in words if it != "</dev/null"], shown, folder)
             elif (word, words, shown) == ("kill", ["%1"], []) and server:
                 server.end()

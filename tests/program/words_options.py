@@ -1,5 +1,6 @@
 """Of tests/program/test_words.py: what `clap` tells of the words, before any value of theirs is looked at."""
 import json
+import re
 from pathlib import Path
 
 from help_texts import (BATCH_HELP, CHECK_HELP, DELETE_HELP, HELP, HISTORY_HELP, HOLD_HELP, IMPORT_HELP, MIGRATE_HELP,
@@ -32,14 +33,16 @@ def help_is_shown(runs):
 
 
 def version_is_shown(runs):
-    """That of the calls, which docs/openapi.json describes."""
-    described = json.loads((Path(__file__).resolve().parents[2] / "docs" / "openapi.json").read_text())
+    """The release, and the version of the calls, which docs/openapi.json describes."""
+    root = Path(__file__).resolve().parents[2]
+    calls = json.loads((root / "docs/openapi.json").read_text())["info"]["version"]
+    release = re.match(r"hq-desk \((.+?)\)", (root / "packaging/debian/changelog").read_text())[1]
     for words in (["--version"], ["-V"], ["-V", "serve"]):
-        runs.expect(words, 0, f"hq_main {described['info']['version']}\n".encode())
+        runs.expect(words, 0, f"hq {release} (calls {calls})\n".encode())
 
 
 def refused(runs, words, fault, usage):
-    told = f"error: {fault}\n\nUsage: hq_main {usage}\n\nFor more information, try '--help'.\n"
+    told = f"error: {fault}\n\nUsage: hq {usage}\n\nFor more information, try '--help'.\n"
     runs.expect(words, 2, b"", told.encode())
 
 
@@ -51,7 +54,7 @@ def words_are_refused(runs):
         refused(runs, [word], similar, "[COMMAND]")
     for option in ("--store", "--directory", "-v", "-x"):
         refused(runs, [option], f"unexpected argument '{option}' found", "[COMMAND]")
-    told = ("'hq_main' requires a subcommand but one was not provided\n  [subcommands: serve, batch, check, queue, history, "
+    told = ("'hq' requires a subcommand but one was not provided\n  [subcommands: serve, batch, check, queue, history, "
             "hold, release, delete, usage, import, sweep, migrate]")
     refused(runs, ["--"], told, "[COMMAND]")
 

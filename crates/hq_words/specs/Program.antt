@@ -121,8 +121,8 @@ upkeep_words = usage_shape ∷ import_shape ∷ sweep_shape ∷ migrate_shape �
 -- The program, whose version is told: its words stand behind its name, and one of them is there, or
 -- help or the version is asked for.
 abbrev pub bare_program : App
-bare_program = record (new_app (codes "hq_main")) {
-  top = record (new_shape (codes "hq_main")) {
+bare_program = record (new_app (codes "hq")) {
+  top = record (new_shape (codes "hq")) {
     no_binary_name = true;
     disable_help_subcommand = true;
     subcommand_required = true;

@@ -1,13 +1,14 @@
 //! What the help of the program and of its words tells.
 
-/// The program's name.
-pub(crate) const NAME: &str = "hq_main";
+/// The program's name, as packages install it.
+pub(crate) const NAME: &str = "hq";
 
-/// Its version: that of the calls which docs/openapi.json describes.
-pub(crate) const VERSION: &str = "1";
+/// Its release, as packaging/debian/changelog names it, and the version of the calls, as
+/// docs/openapi.json does.
+pub(crate) const VERSION: &str = "1.0.0 (calls 1)";
 
 /// How it is called.
-pub(crate) const SYNOPSIS: &str = "hq_main [COMMAND]";
+pub(crate) const SYNOPSIS: &str = "hq [COMMAND]";
 
 /// What is told where the relay's key is asked for and not given, or given twice.
 pub(crate) const ONE_KEY: &str = "\
@@ -41,13 +42,13 @@ birch, from an empty desk in memory.";
 /// Examples of its calls, and how it ends.
 pub(crate) const AFTER_ABOUT: &str = "\
 Examples:
-  hq_main < lines
-  hq_main serve --help
-  hq_main serve --directory customers.csv --host relay.example --relay-key relaykey00000001
-  hq_main batch --directory customers.csv --host relay.example --relay-key relaykey00000001 < lines
-  hq_main check --directory customers.csv --host relay.example
-  hq_main queue --directory customers.csv --store desk.db --customer acme
-  hq_main usage --directory customers.csv --store desk.db
+  hq < lines
+  hq serve --help
+  hq serve --directory customers.csv --host relay.example --relay-key relaykey00000001
+  hq batch --directory customers.csv --host relay.example --relay-key relaykey00000001 < lines
+  hq check --directory customers.csv --host relay.example
+  hq queue --directory customers.csv --store desk.db --customer acme
+  hq usage --directory customers.csv --store desk.db
 
 The exit status is 0 when done; 1 for a refusal or a fault, which is told in one line on standard
 error, as `hq: 53 BadDirectory row 3`; 2 for words that are not taken.";
@@ -70,8 +71,8 @@ Example of a request:
   curl -H 'X-Desk-Key: acmekey000000001' http://127.0.0.1:8025/v1/messages
 
 Examples:
-  hq_main serve --directory customers.csv --host relay.example --relay-key relaykey00000001
-  hq_main serve --directory customers.csv --host relay.example --relay-key-file relay.key \\
+  hq serve --directory customers.csv --host relay.example --relay-key relaykey00000001
+  hq serve --directory customers.csv --host relay.example --relay-key-file relay.key \\
     --store desk.db --listen 127.0.0.1:0 --count 100 --log desk.log";
 
 /// What `batch` does.
@@ -91,8 +92,8 @@ Example of a line:
   1767225600 GET /v1/messages acmekey000000001
 
 Examples:
-  hq_main batch --directory customers.csv --host relay.example --relay-key relaykey00000001 < lines
-  hq_main batch --directory customers.csv --host relay.example --relay-key-file relay.key \\
+  hq batch --directory customers.csv --host relay.example --relay-key relaykey00000001 < lines
+  hq batch --directory customers.csv --host relay.example --relay-key-file relay.key \\
     --store desk.db < lines";
 
 /// What `check` does.
@@ -107,8 +108,8 @@ as `hq: 53 BadDirectory row 3`, and, where a row of the directory is not good, t
 but the key is checked.
 
 Examples:
-  hq_main check --directory customers.csv --host relay.example
-  hq_main check --directory customers.csv --host relay.example --relay-key-file relay.key";
+  hq check --directory customers.csv --host relay.example
+  hq check --directory customers.csv --host relay.example --relay-key-file relay.key";
 
 pub(crate) const DIRECTORY: &str = "\
 The customers: a CSV file of 1 to 1,000 rows under the header
@@ -172,8 +173,8 @@ queue is empty. With a pattern it lists those that the pattern is for, by the ke
 or of a pending recipient.
 
 Examples:
-  hq_main queue --directory customers.csv --store desk.db --customer acme
-  hq_main queue --directory customers.csv --store desk.db --customer acme --recipient far.example";
+  hq queue --directory customers.csv --store desk.db --customer acme
+  hq queue --directory customers.csv --store desk.db --customer acme --recipient far.example";
 
 /// What `history` does.
 pub(crate) const HISTORY: &str = "Print what became of a customer's recipients";
@@ -192,8 +193,8 @@ from there. Where the row has no history, or a smaller one than before, what was
 as the next recipient leaves.
 
 Examples:
-  hq_main history --directory customers.csv --store desk.db --customer acme
-  hq_main history --directory customers.csv --store desk.db --customer acme \\
+  hq history --directory customers.csv --store desk.db --customer acme
+  hq history --directory customers.csv --store desk.db --customer acme \\
     --recipient far.example";
 
 /// What `hold` does.
@@ -211,11 +212,11 @@ A pattern is one of the access tables. It is for a message whose sender is looke
 of whose pending recipients is. It prints how many messages were changed: `changed 3`.
 
 Examples:
-  hq_main hold --directory customers.csv --store desk.db --customer acme \\
+  hq hold --directory customers.csv --store desk.db --customer acme \\
     --sender bob@acme.example --at 1767225700
-  hq_main release --directory customers.csv --store desk.db --customer acme \\
+  hq release --directory customers.csv --store desk.db --customer acme \\
     --recipient far.example --at 1767225700
-  hq_main delete --directory customers.csv --store desk.db --customer acme \\
+  hq delete --directory customers.csv --store desk.db --customer acme \\
     --sender bob@acme.example --at 1767225700";
 
 /// What `usage` does.
@@ -233,7 +234,7 @@ expired 0
 It reads only. A fault ends it, and the exit status is 1.
 
 Example:
-  hq_main usage --directory customers.csv --store desk.db";
+  hq usage --directory customers.csv --store desk.db";
 
 /// What `import` does.
 pub(crate) const IMPORT: &str = "Set lines of a customer's access tables by the rows of a file";
@@ -250,7 +251,7 @@ Example of a file, lines.csv:
   recipient,far.example,HOLD
 
 Example:
-  hq_main import --directory customers.csv --store desk.db --customer acme --label january \\
+  hq import --directory customers.csv --store desk.db --customer acme --label january \\
     --file lines.csv";
 
 /// What `sweep` does.
@@ -267,8 +268,8 @@ as `hq: 44 NoticesSpent customer acme`, and the next one is swept; a fault ends 
 is 1 where either was met.
 
 Examples:
-  hq_main sweep --directory customers.csv --host relay.example --store desk.db --at 1767657600
-  hq_main sweep --directory customers.csv --host relay.example --store desk.db --customer acme \\
+  hq sweep --directory customers.csv --host relay.example --store desk.db --at 1767657600
+  hq sweep --directory customers.csv --host relay.example --store desk.db --customer acme \\
     --at 1767657600";
 
 /// What `migrate` does.
@@ -285,7 +286,7 @@ file is refused as `hq: 92 BadSchema` and stays as it is.
 It is done whole or not at all. Stop the desk and copy the file before: the copy is the way back.
 
 Example:
-  hq_main migrate --store desk.db";
+  hq migrate --store desk.db";
 
 pub(crate) const STORE: &str = "\
 The file that keeps what is done, a database of SQLite, made

@@ -1,0 +1,103 @@
+"""The files that ./release makes, before anything is installed."""
+import hashlib
+import os
+import re
+import subprocess
+import tarfile
+from pathlib import Path
+
+import help_texts
+import needs
+from releasing import ROOT, package_in, version
+from serving import expect
+
+# It prints what the program prints for --version, and is small, where only what stands around the program is tried.
+STAND_IN = "#!/bin/sh\necho 'hq {} (calls 1)'\n"
+
+
+def run(*words, **more):
+    return subprocess.run(words, capture_output=True, text=True, stdin=subprocess.DEVNULL, timeout=300, **more)
+
+
+def stand_in(folder, version):
+    path = folder / "program"
+    path.write_text(STAND_IN.format(version))
+    path.chmod(0o755)
+    return path
+
+
+def test_lintian(releases):
+    """lintian finds nothing, down to what it is least sure of, and each override is one that is needed."""
+    needs.command("lintian")
+    found = run("lintian", "--info", "--display-info", "--display-experimental", "--pedantic", "--no-tag-display-limit",
+                "--fail-on", "error,warning,info,pedantic,experimental", package_in(releases.now))
+    expect(found.returncode == 0 and not re.search(r"(?m)^[A-Z]: ", found.stdout), "lintian:", found.stdout, found.stderr)
+
+
+def test_evidence(releases, program):
+    """The sums are those of the files, and PROVED names the program that is in the package."""
+    now = releases.now
+    found = run("sha256sum", "--check", "--strict", "SHA256SUMS", cwd=now)
+    names = {it.name for it in now.iterdir()} - {"SHA256SUMS"}
+    expect(found.returncode == 0 and len(names) == found.stdout.count(": OK") == 3, "sums:", found.stdout, found.stderr)
+    told = (now / "PROVED").read_text()
+    its_sum = hashlib.sha256(Path(program).read_bytes()).hexdigest()
+    commit = run("git", "rev-parse", "HEAD", cwd=ROOT).stdout.strip()
+    for it in (f"hq-desk {releases.version}\n", f"sha256    {its_sum}\n", f"commit    {commit}", "\nkit       "):
+        expect(it in told, "PROVED lacks", it, "and has", told)
+    with tarfile.open(next(now.glob("*.tar.gz"))) as tar:
+        inside = {it.name: it for it in tar}
+        for name, wanted in (("./usr/bin/hq", Path(program).read_bytes()), ("./usr/share/doc/hq-desk/PROVED", told.encode())):
+            expect(tar.extractfile(name).read() == wanted, "the tarball has another", name)
+    listed = {line.split(None, 5)[5].split(" -> ")[0] for line in run("dpkg-deb", "-c", package_in(now)).stdout.splitlines()}
+    expect({it.rstrip("/") for it in inside} == {it.rstrip("/") for it in listed}, "the tarball has other files")
+    expect(all(it.uname == it.gname == "root" for it in inside.values()), "the tarball has files of others")
+
+
+def test_not_proved(folder, releases):
+    """Of a program that was handed over, and is not the one that was proved, nothing is said of a proof."""
+    ended = run(ROOT / "release", "--program", stand_in(folder, releases.version), folder / "made")
+    expect(ended.returncode == 0, "./release:", ended)
+    told = (folder / "made/PROVED").read_text()
+    expect("Nothing is said of a proof." in told and "The kit proved" not in told, "of a stand-in PROVED says", told)
+
+
+def test_same_to_the_byte(folder, releases):
+    """Made twice, with other settings around it, a release is the same to the byte."""
+    program = stand_in(folder, releases.version)
+    (folder / "elsewhere").mkdir()
+    others = {**os.environ, "TZ": "Asia/Tokyo", "LC_ALL": "C", "HOME": "/", "TMPDIR": str(folder / "elsewhere")}
+    for name, how, mask in (("one", dict(os.environ), 0o022), ("two", others, 0o077)):
+        ended = run(ROOT / "release", "--program", program, folder / name, env=how, umask=mask)
+        expect(ended.returncode == 0, "./release:", ended)
+    for it in sorted((folder / "one").iterdir()):
+        expect(it.read_bytes() == (folder / "two" / it.name).read_bytes(), it.name, "is another one the second time")
+
+
+def test_refused(folder, releases):
+    """A program of another release, none, and what is no version."""
+    for words, told in ((["--program", stand_in(folder, "0.0.1")], "the program prints 'hq 0.0.1 (calls 1)'"),
+                        (["--program", folder / "none"], "none is no file"),
+                        (["--program", stand_in(folder, releases.version), "--as", "../x"], "../x is no version")):
+        ended = run(ROOT / "release", *words, folder / "refused")
+        expect(ended.returncode == 1 and told in ended.stderr, words, "are told", ended)
+    expect(not (folder / "refused").exists(), "something was made")
+
+
+def test_one_version():
+    """The program's sources, the changelog of the package and that for users name one release."""
+    text = (ROOT / "crates/hq_words/src/texts.rt").read_text()
+    expect(f'VERSION: &str = "{version()} (calls ' in text, "the program has another release than", version())
+    first = re.search(r"(?m)^## (.*)$", (ROOT / "CHANGELOG.md").read_text())[1]
+    expect(first == version(), "CHANGELOG.md begins with", first)
+
+
+def test_manual_page():
+    """The manual page of the program has each command and option that its help tells."""
+    page = (ROOT / "packaging/man/hq.1").read_text().replace("\\-", "-")
+    texts = {name: text.decode() for name, text in vars(help_texts).items() if name.endswith("HELP")}
+    commands = re.findall(r"(?m)^  ([a-z]+) +[A-Z]", texts["HELP"].partition("Commands:")[2].partition("Options:")[0])
+    options = {it for text in texts.values() for it in re.findall(r"(?m)^ +(?:-\w, )?(--[a-z-]+)", text)}
+    expect(len(commands) > 10 and len(options) > 12, "the help has only", commands, options)
+    for it in (*commands, *options):
+        expect(re.search(rf"(?m)^\.(B|BI|BR)\b.*(?<![a-z-]){it}(?![a-z-])", page), "packaging/man/hq.1 lacks", it)
