@@ -80,6 +80,10 @@ class Desk:
     def messages(self, customer: str, after: Optional[str] = None) -> Iterator[dict]:
         return self.pages("messages", customer, "messages", "id", after)
 
+    def first_messages(self, customer: str) -> List[dict]:
+        """The first page of a customer's messages."""
+        return self.ask(f"/relay/messages/{customer}", {"after": None})["messages"]
+
     def notices(self, customer: str, after: Optional[int] = None) -> Iterator[dict]:
         return self.pages("notices", customer, "notices", "number", after)
 

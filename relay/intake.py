@@ -8,7 +8,7 @@ import hashlib
 import re
 import sqlite3
 import threading
-from dataclasses import dataclass
+from dataclasses import dataclass, replace
 from email.utils import formatdate
 from typing import Optional, Set, Tuple
 
@@ -170,6 +170,11 @@ class Intake:
                  unsettled: Set[str]):
         self.settings, self.desk, self.spool, self.book = settings, desk, spool, book
         self.names, self.guard, self.unsettled = Names(desk, spool, book), threading.Lock(), unsettled
+
+    def take_up(self, settings: Settings) -> None:
+        """From now on mail is of these customers, by these logins and domains; all else stays."""
+        self.settings = replace(self.settings, customers=settings.customers, logins=settings.logins,
+                                domains=settings.domains)
 
     def answered(self, name: str) -> Optional[str]:
         """What was answered when this name was taken."""

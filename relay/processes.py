@@ -19,7 +19,7 @@ class Processes:
     """
 
     def __init__(self, count: int, work: Callable[[int], None]):
-        signal.pthread_sigmask(signal.SIG_BLOCK, {*ENDS, signal.SIGCHLD})
+        signal.pthread_sigmask(signal.SIG_BLOCK, {*ENDS, signal.SIGCHLD, signal.SIGHUP})
         self.parent = os.getpid()
         self.left = {self.begin(number, work) for number in range(count)}
 
@@ -40,10 +40,15 @@ class Processes:
             os._exit(status)
 
     def wait(self) -> int:
-        """Waits for a signal to end, hands it on, and returns 0 when all have ended. Where one ends
-        by itself the others end too, and it returns 1."""
+        """Waits for a signal to end, hands it on, and returns 0 when all have ended. SIGHUP is handed on
+        too. Where one ends by itself the others end too, and it returns 1."""
         ended: Dict[int, int] = {}
-        while not ended and signal.sigwait({*ENDS, signal.SIGCHLD}) not in ENDS:
+        while not ended:
+            told = signal.sigwait({*ENDS, signal.SIGCHLD, signal.SIGHUP})
+            if told in ENDS:
+                break
+            for it in self.left if told == signal.SIGHUP else ():
+                os.kill(it, signal.SIGHUP)
             ended = self.ended(os.WNOHANG)
         for how in ended.values():
             log.error("a process has ended", by=told(how), help="start it again")

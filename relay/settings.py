@@ -6,7 +6,7 @@ import shlex
 import sys
 from dataclasses import dataclass
 from pathlib import Path
-from typing import Dict, List, Optional, Tuple
+from typing import Callable, Dict, List, Optional, Tuple
 
 Address = Tuple[str, int]
 
@@ -19,6 +19,7 @@ USER = re.compile(r"[a-z_][a-z0-9_-]{0,30}")
 COLUMNS = ["name", "key", "messages", "bytes", "lines", "notices", "delay"]
 # (a directory may have one column more)
 FURTHER = "history"
+SENDERS = ["kind", "name", "customer"]
 REQUIRED = object()
 
 
@@ -39,11 +40,13 @@ class Customer:
     """A row of the desk's directory, as far as the worker wants it."""
     name: str
     messages: int
+    bytes: int
     notices: int
 
 
 @dataclass(frozen=True)
 class Settings:
+    file: Path
     desk: Address
     desk_timeout: float
     key: str
@@ -153,7 +156,26 @@ def customers_of(path: Path) -> Dict[str, Customer]:
     for number, row in enumerate(filter(None, rows[1:]), 1):
         if len(row) != len(rows[0]) or not CUSTOMER.fullmatch(row[0]) or row[0] in found:
             raise ValueError(f"row {number} is not a customer")
-        found[row[0]] = Customer(row[0], count(row[2]), count(row[5]))
+        found[row[0]] = Customer(row[0], count(row[2]), count(row[3]), count(row[5]))
+    return found
+
+
+def senders_of(path: Path, customer: Callable[[str], str]) -> Dict[str, Dict[str, str]]:
+    """By `login` and `domain` the customers of a table, as `hq-customers` writes it."""
+    found: Dict[str, Dict[str, str]] = {"login": {}, "domain": {}}
+    try:
+        with open(path, newline="", encoding="utf-8") as file:
+            rows = list(csv.reader(file))
+    except (OSError, ValueError, csv.Error) as error:
+        raise ValueError(f"cannot be read: {error}") from None
+    if not rows or rows[0] != SENDERS:
+        raise ValueError(f"has not the header {','.join(SENDERS)}")
+    for number, row in enumerate(rows[1:], 1):
+        kind, name, its_customer = row if len(row) == len(SENDERS) else ("", "", "")
+        name = name.lower() if kind == "domain" else name
+        if kind not in found or not name or name in found[kind]:
+            raise ValueError(f"row {number} is not one of a login or a domain")
+        found[kind][name] = customer(its_customer)
     return found
 
 
@@ -196,6 +218,12 @@ class Reader:
             found[name_of(name)] = self.read(section, name, kind)
         return found
 
+    def joined(self, section: str, found: dict, more: dict) -> dict:
+        """What a section has and what a table has; no name stands in both."""
+        for it in found.keys() & more.keys():
+            self.faults.append(f"[{section}] {it}: stands in the file of `senders` too")
+        return {**found, **more}
+
     def end(self) -> None:
         for section in self.parser.sections():
             for name in self.parser[section]:
@@ -215,8 +243,10 @@ def load(name: str) -> Settings:
             raise ValueError(f"{text} is not in the directory")
         return text
 
+    senders = reader.read("intake", "senders", lambda it: senders_of(reader.path(it), customer), {}) or {}
     folder = reader.read("spool", "folder", reader.path)
     found = Settings(
+        file=Path(name).absolute(),
         desk=reader.read("desk", "address", address),
         desk_timeout=reader.read("desk", "timeout", wait, 60.0),
         key=reader.read("desk", "key-file", lambda it: key_of(reader.path(it))),
@@ -230,8 +260,8 @@ def load(name: str) -> Settings:
         processes=reader.read("intake", "processes", count, 2),
         front=reader.read("intake", "postfix", reader.path, Path("/etc/postfix")),
         customers_at=reader.read("intake", "customers", address, None),
-        logins=reader.table("logins", customer),
-        domains=reader.table("domains", customer, str.lower),
+        logins=reader.joined("logins", reader.table("logins", customer), senders.get("login", {})),
+        domains=reader.joined("domains", reader.table("domains", customer, str.lower), senders.get("domain", {})),
         host=reader.read("delivery", "host", domain),
         instance=reader.read("delivery", "instance", address, ("127.0.0.1", 10026)),
         delivering=reader.read("delivery", "postfix", reader.path, Path("/etc/postfix-desk")),

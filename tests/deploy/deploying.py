@@ -17,6 +17,7 @@ from pathlib import Path
 from serving import ACME, HEADER, LONGEST, RELAY, Wrong, asked, expect, free_address, listens, named, until
 
 DEPLOY = Path(__file__).resolve().parents[2] / "deploy"
+HAS_IPV6 = Path("/proc/net/if_inet6").exists()
 TEMPORARY = "client_body", "proxy", "fastcgi", "uwsgi", "scgi"
 
 # The directories of two desks, and a session that stands for a key.
@@ -200,7 +201,7 @@ class Proxy:
 
     def __init__(self, folder, desks, without_limits=False, sessions=""):
         self.folder, self.desks, self.sessions = Path(folder), desks, sessions
-        self.public, self.inner = named(free_address()), named(free_address())
+        self.public, self.inner, self.plain = (named(free_address()) for _ in range(3))
         self.front = self.back = None
         self.folder.mkdir(exist_ok=True)
         # (its worker is another user where it is begun by root)
@@ -235,6 +236,12 @@ class Proxy:
             text = text.replace(old, new)
         (self.folder / to).write_text(text)
 
+    @staticmethod
+    def of_ipv6(address):
+        """A line for the same port of IPv6; where the machine has none, for the same address once more, as a comment."""
+        port = address.rpartition(":")[2]
+        return f"listen [::1]:{port}" if HAS_IPV6 else f"# no IPv6: {port}"
+
     def configure(self, without_limits):
         folder = str(self.folder)
         first = self.desks[0].address if self.desks else named(free_address())
@@ -245,7 +252,8 @@ class Proxy:
             "/run/nginx.pid": f"{folder}/nginx.pid", "/var/log/nginx": folder,
             "  include /etc/nginx/conf.d/*.conf;\n": f"{temporary}  include {folder}/hq-desk.conf;\n"})
         self.put("nginx.conf", "hq-desk.conf", {
-            "listen 443": f"listen {self.public}", "127.0.0.1:825": first, "/etc/hq": folder,
+            "listen 443": f"listen {self.public}", "listen [::]:443": self.of_ipv6(self.public),
+            "listen 80;": f"listen {self.plain};", "listen [::]:80;": f"{self.of_ipv6(self.plain)};", "127.0.0.1:825": first, "/etc/hq": folder,
             "/var/log/nginx": folder, "/usr/share/hq-desk/web": f"{folder}/web"})
         self.put("nginx-workers.conf", "nginx-workers.conf", {
             # (its unit has another user)

@@ -22,8 +22,8 @@ from serving import ACME, BIRCH, HEADER, LONGEST, RELAY, Wrong, answered, expect
 USAGE = "GET", "/v1/usage"
 CLOSED = 503, {"error": 93, "name": "Closed"}
 SERVICES = "hq-desk@.service", "hq-desk-check@.service", "hq-desk-workers.service"
-WORKER = "hq-relay-intake.service", "hq-relay-deliver.service"
-UNITS = *SERVICES, "hq-desk-check@.timer", *WORKER
+OTHERS_OF_US = "hq-relay-intake.service", "hq-relay-deliver.service", "hq-desk-metrics.service"
+UNITS = *SERVICES, "hq-desk-check@.timer", *OTHERS_OF_US, "hq-desk-metrics.timer"
 # The greatest exposure of a unit, in tenths.
 EXPOSED = 20
 LOW_PORT = "CAP_NET_BIND_SERVICE"
@@ -55,7 +55,7 @@ def test_units(folder, program):
         unit = all_settings_of(DEPLOY / name)
         wanted = [] if "check" in name else [LOW_PORT]
         expect(unit.get("AmbientCapabilities", []) == wanted, name, "has other capabilities")
-    for name in (*SERVICES, *WORKER):
+    for name in (*SERVICES, *OTHERS_OF_US):
         expect(all_settings_of(DEPLOY / name)["LimitCORE"] == ["0"], name, "may leave a core, in which keys stand")
 
 

@@ -13,7 +13,7 @@ import time
 from contextlib import ExitStack
 from concurrent.futures import ThreadPoolExecutor
 
-from deploying import DEPLOY, done
+from deploying import DEPLOY, HAS_IPV6, done
 import needs
 import pytest
 from serving import ACME, BIRCH, LONGEST, RELAY, answered, expect, until
@@ -228,6 +228,40 @@ def test_headers(proxy):
         for it in wanted:
             expect(response.getheader(it), path, "has no", it)
         expect(not re.search("nginx/", str(response.getheader("Server"))), "nginx tells its release")
+
+
+def test_ways_in(proxy):
+    """IPv6, HTTP/2, and the port without TLS, which sends browsers to the page at its own name, and refuses calls."""
+    needs.command("curl")
+    _, _, port = proxy.public.rpartition(":")
+    curl = ["curl", "-sS", "--noproxy", "*", "--cacert", proxy.folder / "tls.crt", "-H", f"X-Desk-Key: {ACME}"]
+    hosts = [f"127.0.0.1:{port}", *([f"desk.example:{port}"] if HAS_IPV6 else [])]
+    for host in hosts:
+        more = ["--connect-to", f"{host}:[::1]:{port}", "-k"] if "desk" in host else []
+        found = subprocess.run([*curl, *more, "--http2", "-w", " %{http_version} %{http_code}", f"https://{host}/v1/usage"],
+                               capture_output=True, text=True, timeout=LONGEST)
+        expect(found.stdout.endswith(" 2 200"), "over HTTP/2 at", host, "got", found.stdout, found.stderr)
+    expect(len(hosts) == 2 or not HAS_IPV6, "IPv6 was not tried")
+    for line, status, location in (("GET /any/thing?x HTTP/1.1", 308, "location: https://desk.example/\r\n"),
+                                   ("GET /v1/usage HTTP/1.1", 403, ""), ("GET /relay/sweep HTTP/1.1", 404, "")):
+        with socket.create_connection(proxy.plain.split(":"), LONGEST) as client:
+            client.sendall(f"{line}\r\nHost: evil.example\r\nX-Desk-Key: {ACME}\r\nConnection: close\r\n\r\n".encode())
+            text = b"".join(iter(lambda: client.recv(65536), b"")).decode()
+        fields, _, body = text.partition("\r\n\r\n")
+        expect(f" {status} " in fields.split("\r\n")[0] and location in fields.lower() + "\r\n", line, "without TLS gets", text)
+        expect("evil" not in text and (status == 308 or json.loads(body)["proxy"] == status), line, "without TLS gets", text)
+
+
+def test_networks(proxy):
+    """Strangers of one network of IPv6 share its limit, however many of its addresses they take; those of others do not."""
+    proxy.with_text("server_tokens off;\n  access_log", "server_tokens off;\n  set_real_ip_from 127.0.0.1;\n"
+                    "  real_ip_header X-From;\n  access_log")
+    try:
+        for network, alone in (("2001:db8:1:2:{:x}::7", True), ("2001:db8::a:{:x}:c:d", True), ("2001:db8:1:{:x}::7", False)):
+            found = [ask(proxy, "GET /v1/usage HTTP/1.1", f"X-From: {network.format(it + 0x100)}")[0] for it in range(40)]
+            expect((found.count(429) > 10) == alone, network, "gets", found)
+    finally:
+        proxy.with_text("  set_real_ip_from 127.0.0.1;\n  real_ip_header X-From;\n", "")
 
 
 # ---- what stands beside nginx

@@ -7,8 +7,10 @@
 3. Bad settings and bad words are told with status 2.
 """
 import json
+import re
 import subprocess
 import threading
+import time
 from http.server import BaseHTTPRequestHandler, HTTPServer
 from pathlib import Path
 
@@ -69,14 +71,43 @@ desk_recipients_deleted_total{customer="birch"} 1
 # TYPE desk_recipients_expired_total counter
 desk_recipients_expired_total{customer="acme"} 0
 desk_recipients_expired_total{customer="birch"} 0
+# HELP desk_messages_limit Messages that may be queued.
+# TYPE desk_messages_limit gauge
+desk_messages_limit{customer="acme"} 1000
+desk_messages_limit{customer="birch"} 100
+# HELP desk_bytes_limit Bytes that queued messages may have together.
+# TYPE desk_bytes_limit gauge
+desk_bytes_limit{customer="acme"} 500000000
+desk_bytes_limit{customer="birch"} 1000000
+# HELP desk_oldest_message_seconds Age of the first message of the queue that is not on hold.
+# TYPE desk_oldest_message_seconds gauge
+desk_oldest_message_seconds{customer="acme"} AGE
+desk_oldest_message_seconds{customer="birch"} 0
+"""
+EVENTS = """\
+level=info event=queued customer=acme
+level=error event="lost notices" customer=acme numbers=1-3
+level=error event="desk away" customer=acme why="a \\"level=error event=none\\" b"
+level=error event="lost notices" customer=birch numbers=4
+level=info event=refused sender="level=error event=forged "
+level=error event=plain
+level=error event="a \\" quote"
+level=error event=%s
+""" + "level=info event=refused why=".ljust(4096, "x") + "level=error event=forged\n"
+OF_EVENTS = """\
+# HELP desk_worker_errors Lines of the level error that the worker wrote, by event.
+# TYPE desk_worker_errors gauge
+desk_worker_errors{event="desk away"} 1
+desk_worker_errors{event="lost notices"} 2
+desk_worker_errors{event="plain"} 1
 """
 COUNTS = ("accepted", "bytes", "deleted", "delivered", "expired", "failed", "lines", "messages", "pending")
 
 
-def run(folder, address, *words_of):
+def run(folder, address, *words_of, lines=""):
     """The script over the settings of a desk at this address: its status, output and errors."""
     (folder / "relay.ini").write_text(SETTINGS.format(*address))
-    ended = subprocess.run([METRICS, *(words_of or ("relay.ini",))], cwd=folder, stdin=subprocess.DEVNULL,
+    ended = subprocess.run([METRICS, *(words_of or ("relay.ini",))], cwd=folder, input=lines.encode(),
                            stdout=subprocess.PIPE, stderr=subprocess.PIPE, timeout=LONGEST)
     return ended.returncode, ended.stdout.decode(), ended.stderr.decode()
 
@@ -110,12 +141,21 @@ CALLS = [("POST", "/v1/line-put", ACME, {"class": "sender", "pattern": "b.exampl
 
 
 def of_a_desk(program, folder):
-    with Server(words(program, "serve", "desk.db"), folder, len(CALLS) + 2) as server:
+    with Server(words(program, "serve", "desk.db"), folder, len(CALLS) + 8) as server:
         for method, path, key, body in CALLS:
             server.body_of(request(method, path, key, body))
-        server.made += 2
-        found = run(folder, server.address)
-        expect(found == (0, TOLD, ""), "of a desk it tells", *found)
+        time.sleep(1.1)
+        # (a usage and a page of acme's each of three times, and a usage that is refused; a hold counts itself)
+        server.made += 7
+        at = "{}:{}".format(*server.address)
+        for address, more in ((server.address, ()), (("127.0.0.1", 1), ("relay.ini", at))):
+            status, printed, errors = run(folder, address, *more)
+            age = re.search(r'desk_oldest_message_seconds{customer="acme"} (\d+)\n', printed)
+            expect(age and 0 < int(age[1]) < LONGEST, "the age is", age)
+            expect((status, printed, errors) == (0, TOLD.replace("AGE", age[1]), ""), "of a desk it tells", status, printed, errors)
+        server.body_of(request("POST", "/v1/hold-all", ACME))
+        status, printed, _ = run(folder, server.address)
+        expect('desk_oldest_message_seconds{customer="acme"} 0\n' in printed and status == 0, "with all on hold it tells", printed)
         (folder / "relay.key").write_text(RELAY[::-1])
         expect_refusal(folder, server.address, "2 NoKey")
     expect_refusal(folder, server.address, "ConnectionRefusedError")
@@ -147,7 +187,7 @@ def of_a_stub(folder):
     status, printed, told = run(folder, server.server_address)
     expect((status, told) == (0, "") and r'desk_messages{customer="a\"b\\c\nd"} 7' in printed.split("\n"),
            "escaped", status, printed, told)
-    expect(printed.count("\n") == 27, "lines", printed)
+    expect(printed.count("\n") == 9 * 3 + 2 * 2 + 3, "lines", printed)
     for reply, reason in (((200, json.dumps({"done": [usage], "stopped": stop})), "'Disk'"),
                           ((503, '{"error":90,"name":"WantOfMemory"}'), "WantOfMemory"),
                           ((404, '{"name":"NoRoute","proxy":404}'), "404"),
@@ -160,7 +200,10 @@ def of_a_stub(folder):
 
 
 def of_words(folder):
-    for asked, reason in ((("relay.ini", "more"), "Prometheus"), (("nowhere.ini",), "nowhere.ini")):
+    told = run(folder, ("127.0.0.1", 1), "--events", lines=EVENTS % ("x" * 9000))
+    expect(told == (0, OF_EVENTS, ""), "of events it tells", told)
+    for asked, reason in ((("relay.ini", "more"), "more is not HOST:PORT"), (("relay.ini", "127.0.0.1:1", "x"), "Prometheus"),
+                          (("nowhere.ini",), "nowhere.ini")):
         status, printed, told = run(folder, ("127.0.0.1", 1), *asked)
         expect((status, printed) == (2, "") and reason in told, asked, status, printed, told)
 

@@ -34,10 +34,10 @@ def lmtp(it, identity):
         yield client
 
 
-def answer_to(it, identity, recipient, text=TEXT):
+def answer_to(it, identity, recipient, text=TEXT, sender="ann@a.example"):
     """The code and the status of the first refusal on the way of one message, or of its end."""
     with lmtp(it, identity) as client:
-        for told in (lambda: client.mail("ann@a.example"), lambda: client.rcpt(recipient),
+        for told in (lambda: client.mail(sender), lambda: client.rcpt(recipient),
                      lambda: client.data(text)):
             code, words = told()
             if code >= 400:

@@ -85,7 +85,8 @@ class Root:
     def alone(self):
         """From now on its network is loopback alone, and systemctl is that of this folder."""
         self.release()
-        shutil.copy(HERE / "systemctl", self.folder / "usr/local/sbin/systemctl")
+        # (apt gives what it runs a path of its own)
+        shutil.copy(HERE / "systemctl", self.folder / "usr/bin/systemctl")
         (self.folder / "usr/sbin/policy-rc.d").unlink()
         self.hold("--net")
 

@@ -8,8 +8,10 @@ import re
 import shutil
 import subprocess
 import tempfile
+import time
 from pathlib import Path
 
+import needs
 import pytest
 from releasing import ROOT, package_in
 from rooted import Root
@@ -18,6 +20,22 @@ from serving import expect, until
 PRODUCTION, RELAY, README = "docs/PRODUCTION.md", "docs/RELAY.md", "README.md"
 NAMES = {"TLS": "/root/tls"}
 OURS = ("/etc/hq", "/var/lib/hqdesk", "/var/lib/hqrelay", "/var/log/hqdesk", "/usr/share/hq-desk", "/usr/libexec/hq-desk")
+HERE = Path(__file__).resolve().parent
+# A host of recipients: it keeps each message, and waits while the file `waits` is there.
+SINK = """exec /usr/bin/python3 -c '
+import asyncio, os, signal, time, uuid
+from aiosmtpd.controller import Controller
+class Kept:
+    async def handle_DATA(self, server, session, envelope):
+        while os.path.exists("/tmp/waits") and b"waiting" in envelope.content:
+            open("/tmp/waiting", "w").close()
+            await asyncio.sleep(0.05)
+        with open(f"/tmp/taken/{uuid.uuid4()}", "wb") as file:
+            file.write(envelope.content)
+        return "250 kept"
+os.makedirs("/tmp/taken", exist_ok=True)
+Controller(Kept(), "127.0.0.1", 2525).start()
+signal.pause()'"""
 OLD_STORES = ROOT / "tests/examples/migration"
 
 
@@ -60,6 +78,21 @@ def usage(root, name):
     return json.loads(told)
 
 
+def send(root, sender, text):
+    root.put("/root/send.py", f"import smtplib\nsmtplib.SMTP('127.0.0.1', 10025).sendmail("
+             f"{sender!r}, 'bob@far.example', 'Subject: a mail\\r\\n\\r\\n{text}\\r\\n')\n")
+    root.run("python3 send.py")
+
+
+def taken(root, text):
+    """How many messages with this text the host of recipients has."""
+    return sum(text.encode() in it.read_bytes() for it in root.path("/tmp/taken").iterdir())
+
+
+def pid_of(root, unit):
+    return root.run(f"cat /run/units/{unit}.service.pid")
+
+
 # ---- as it comes
 
 def test_nothing_runs(root):
@@ -69,7 +102,7 @@ def test_nothing_runs(root):
                "/var/lib/hqdesk hqdesk:hqdesk 700", "/var/log/hqdesk hqdesk:hqdesk 700", "/var/lib/hqrelay hqrelay:hqrelay 700"):
         expect(it in found.splitlines(), "not", it, "but", found)
     enabled = [str(it) for it in root.path("/etc/systemd/system").rglob("hq-*")]
-    expect(not enabled and not root.path("/run/units").exists(), "something is to start:", enabled)
+    expect(not enabled and "units" not in root.run("ls /run").split(), "something is to start:", enabled)
     expect(not re.search("hq|nginx", root.run("cat /proc/[0-9]*/comm")), "something runs")
     expect(not [*root.path("/etc/hq").glob("*.csv")] and not [*root.path("/etc/hq").glob("*.key")], "it brings a key")
 
@@ -110,7 +143,7 @@ def test_set_up(root, folder):
     until(lambda: usage(root, "acme").get("messages") == 0, "acme is not answered")
     modes = root.run("stat -c '%n %U:%G %a' /etc/hq/north.csv /etc/hq/north.key /etc/hq/tls.key /etc/hq/keys.map "
                      "/var/lib/hqdesk/north.db /var/log/hqdesk/north.log")
-    for it in ("north.csv root:hqdesk 640", "north.key root:hqdesk 640", "tls.key root:root 600", "keys.map root:hqdesk 600",
+    for it in ("north.csv root:hqdesk 640", "north.key root:hqdesk 640", "tls.key root:root 600", "keys.map root:root 600",
                "north.db hqdesk:hqdesk 600", "north.log hqdesk:hqdesk 600"):
         expect(f"/{it}\n" in modes, "not", it, "but", modes)
     root.run("/usr/libexec/hq-desk/desk-check 127.0.0.1:825 /etc/hq/north.csv")
@@ -125,49 +158,133 @@ def test_first_mail(root):
     """The lines of RELAY's "Units", and a mail that goes from a customer to a host of its recipient."""
     for it in blocks(RELAY, "Units"):
         root.run(it)
-    root.run("sed -i 's/^\\[domains\\]$/[domains]\\na.example = acme/; s/^listen = .*/&\\ncustomers = 127.0.0.1:10025/; "
+    root.run("sed -i 's/^listen = .*/&\\ncustomers = 127.0.0.1:10025/; "
              "s/^\\[delivery\\]$/[delivery]\\npause = 1/' /etc/hq/relay.ini")
     root.run("hq-relay /etc/hq/relay.ini install")
     root.run("systemctl restart hq-relay-intake hq-relay-deliver")
     root.run("postconf -c /etc/postfix-desk -e 'transport_maps = inline:{far.example=smtp:[127.0.0.1]:2525}' && "
              "postfix -c /etc/postfix-desk reload")
-    sink = root.begin("echo $$ >/tmp/sink.pid; exec /usr/bin/python3 -m aiosmtpd -n -l 127.0.0.1:2525 -c aiosmtpd.handlers.Mailbox /tmp/taken",
-                      "/tmp/sink.log")
-    try:
-        root.run("python3 -c 'import smtplib; smtplib.SMTP(\"127.0.0.1\", 10025).sendmail("
-                 "\"ann@a.example\", \"bob@far.example\", \"Subject: first\\r\\n\\r\\nhello\\r\\n\")'")
-        until(lambda: usage(root, "acme").get("delivered") == 1, "the mail is not delivered", 60)
-        expect("hello" in root.run("cat /tmp/taken/new/*"), "the mail is another one")
-    finally:
-        root.run("kill $(cat /tmp/sink.pid)")
-        sink.wait(30)
+    root.begin(SINK, "/tmp/sink.log")
+    send(root, "ann@a.example", "hello")
+    until(lambda: usage(root, "acme").get("delivered") == 1, "the mail is not delivered", 60)
+    expect(taken(root, "hello") == 1, "the mail is another one")
+
+
+# ---- customers
+
+def test_no_call_refused(root):
+    """While limits change, for which the desk is started again, no call of a worker or a customer gets anything but 200."""
+    for it in ("load.py", "half.py"):
+        root.take(HERE / it)
+    load = root.begin(f"exec python3 load.py /etc/hq/north.key acme {key_of(root, 'acme')} >load.json", "/tmp/load.log")
+    until(lambda: root.path("/root/begun").exists(), "the load does not begin")
+    pids = {pid_of(root, "hq-desk@north")}
+    while len(pids) < 5 or not root.path("/root/enough").exists():
+        root.run(f"hq-customers set acme --messages {900 + len(pids)}")
+        pids.add(pid_of(root, "hq-desk@north"))
+        expect(len(pids) < 60, "a thousand calls take too long")
+        time.sleep(1)
+    root.run("touch stop")
+    expect(load.wait(60) == 0, "the load ended", root.run("cat /tmp/load.log"))
+    found = json.loads(root.run("cat load.json"))
+    expect(found["good"] > 1000 and not found["others"] and found["longest"] < 10, "of the calls", found)
+
+
+def test_mail_under_way(root):
+    """Mail of a new customer is taken at once. A message that is half handed over meanwhile, and one that a host has half taken,
+    are neither lost nor doubled."""
+    half = root.begin("python3 half.py >half.told", "/tmp/half.log")
+    until(lambda: root.path("/root/half").exists(), "half a message is not taken")
+    root.run("touch /tmp/waits")
+    send(root, "ann@a.example", "waiting")
+    until(lambda: root.path("/tmp/waiting").exists(), "the host is not asked", 60)
+    root.run("hq-customers add birch --domain b.example")
+    send(root, "ann@b.example", "of birch")
+    until(lambda: usage(root, "birch").get("accepted") == 1, "birch's mail is not taken", 60)
+    root.run("rm /tmp/waits; touch go")
+    expect(half.wait(60) == 0 and root.run("cat half.told") == "250\n", "the rest got", root.run("cat half.told /tmp/half.log"))
+    until(lambda: usage(root, "acme").get("delivered") == 3 and usage(root, "birch").get("delivered") == 1, "mail is lost", 90)
+    for it in ("hello", "waiting", "of birch", "second half"):
+        expect(taken(root, it) == 1, it, "came", taken(root, it), "times")
+    root.run("rm /tmp/waiting; touch /tmp/waits")
+    send(root, "ann@b.example", "waiting too")
+    until(lambda: root.path("/tmp/waiting").exists(), "the host is not asked", 60)
+    ended = root.run("hq-customers drop birch", status=1)
+    expect("takes no mail any more, and 1 of its messages are queued" in ended, "drop tells", ended)
+    expect("birch" in root.path("/etc/hq/north.csv").read_text() and "b.example" not in root.run("cat /etc/hq/senders.csv"), "half")
+    root.run("rm /tmp/waits")
+    until(lambda: usage(root, "birch").get("delivered") == 2, "birch's last mail is not delivered", 60)
+    expect(root.run("hq-customers drop birch") == "" and "birch" not in root.run("hq-customers list; cat /etc/hq/*.csv"), "birch stays")
+    for it in ("intake", "deliver"):
+        log = root.run(f"cat /run/units/hq-relay-{it}.service.log")
+        expect("settings taken" in log and "level=error" not in log, it, "tells", log)
+
+
+def test_customers_of_the_page(root):
+    """The lines of PRODUCTION's "Customers", one after another."""
+    for it in blocks(PRODUCTION, "Customers"):
+        told = root.run(it)
+    keys = re.findall(r"(?m)^[0-9a-f]{40}$", told)
+    expect(len(set(keys)) == 2 and "birch north: messages 200," in told and "login birch@b.example" in told, "they tell", told)
+    expect("birch" not in root.run("cat /etc/hq/*.csv /etc/hq/*.map"), "birch is left")
+
+
+def test_alerts_of_the_page(root):
+    """The lines of PRODUCTION's "Firewall and alerts", and what desk-metrics writes."""
+    for it in ("/etc/fail2ban/filter.d", "/etc/fail2ban/jail.d", "/var/lib/prometheus/node-exporter"):
+        root.path(it).mkdir(parents=True, exist_ok=True)
+    root.put("/usr/local/bin/journalctl", "#!/bin/sh\necho 'level=error event=\"lost notices\" customer=acme numbers=1'\n", 0o755)
+    for it in blocks(PRODUCTION, "Firewall and alerts"):
+        root.run(it)
+    expect("hq_desk" in root.run("nft list tables"), "the firewall has no rules")
+    expect("hq-desk-metrics.timer" in root.run("cat /run/units/done"), "no timer runs")
+    root.run("/usr/libexec/hq-desk/desk-metrics /var/lib/prometheus/node-exporter")
+    told = root.run("cat /var/lib/prometheus/node-exporter/*.prom")
+    for it in ('desk_messages_limit{customer="acme"} ', 'desk_recipients_delivered_total{customer="acme"} 3\n',
+               'desk_worker_errors{event="lost notices"} 1\n'):
+        expect(it in told, "nothing tells", it, "but", told)
+    root.run("systemctl stop hq-desk@north; /usr/libexec/hq-desk/desk-metrics /var/lib/prometheus/node-exporter && exit 9 || true")
+    expect(root.run("cat /var/lib/prometheus/node-exporter/hq-desk-north.prom") in told, "the file of before is lost")
+    root.run("systemctl start hq-desk@north")
+    until(lambda: "acme" in root.run("cat /etc/hq/keys.map") and usage(root, "acme").get("delivered") == 3, "acme is not answered")
 
 
 # ---- later releases
 
+def installed(root, package, *words):
+    return root.run(f"apt-get install -y {' '.join(words)} \"$NEW\"", longest=240, NEW=package)
+
+
 def test_upgrade(root, releases):
-    """It keeps settings and stores and starts again what runs; a store of an earlier schema is named, and left alone."""
-    before = usage(root, "acme")
-    root.run("cp /etc/hq/north.env.example /etc/hq/south.env && sed -i s/825/826/ /etc/hq/south.env && "
-             "cp -p /etc/hq/north.csv /etc/hq/south.csv && cp -p /etc/hq/north.key /etc/hq/south.key")
-    root.run("echo '// ours' >>/etc/hq/firm.js; systemctl start hq-desk@south")
-    pids = {it: root.run(f"cat /run/units/hq-desk@{it}.service.pid") for it in ("north", "south")}
-    # (what runs has its store open, so that another file in its place is left alone meanwhile)
-    shutil.copy(OLD_STORES / "version-2.db", root.path("/var/lib/hqdesk/south.db"))
-    root.path("/var/lib/hqdesk/south.db-wal").unlink()
-    told = root.run("apt-get install -y \"$NEW\"", longest=240, NEW=root.take(package_in(releases.now)))
-    expect("the store of the desk south has version 2" in told and "hq migrate --store /var/lib/hqdesk/south.db" in told
-           and "desk north" not in told, "apt tells", told[-1500:])
+    """It keeps settings and stores, and starts again what runs."""
+    before, first = usage(root, "acme"), pid_of(root, "hq-desk@north")
+    root.run("echo '// ours' >>/etc/hq/firm.js")
+    told = installed(root, root.take(package_in(releases.now)))
+    expect("migrate" not in told, "apt tells", told)
     expect(root.run("dpkg-query -W -f '${Version}' hq-desk") == releases.version, "another release is there")
-    now = {it: root.run(f"cat /run/units/hq-desk@{it}.service.pid") for it in ("north", "south")}
-    expect(now["north"] != pids["north"] and now["south"] == pids["south"], "started again:", pids, now)
+    expect(pid_of(root, "hq-desk@north") != first, "the desk was not started again")
     until(lambda: usage(root, "acme") == before, "what acme has is another thing")
     expect(root.path("/etc/hq/firm.js").read_text().endswith("// ours\n"), "a changed setting is lost")
-    root.run("systemctl stop hq-desk@south")
-    lines = [it.strip() for it in told.splitlines() if it.startswith("  ") and "BACKUP" not in it and "south" in it]
-    expect(len(lines) == 3 and lines[1].endswith("south.db"), "the lines for it are", lines)
-    root.run("; ".join(lines[1:]))
-    expect(root.run("/usr/libexec/hq-desk/desk-stores /var/lib/hqdesk") == "", "south was not migrated")
+
+
+def test_migrated(root, releases):
+    """Behind a release of another schema no desk is started again, and the lines that are told make its store one of now."""
+    root.run("systemctl stop hq-desk@north; cp -p /var/lib/hqdesk/north.db* /root")
+    old = root.take(OLD_STORES / "version-2.db")
+    root.run(f"rm /var/lib/hqdesk/north.db*; install -m 600 -o hqdesk -g hqdesk {old} /var/lib/hqdesk/north.db")
+    root.run("sed -i s/3/2/ /usr/share/hq-desk/schema; systemctl start hq-desk@north; mkdir backup")
+    done = root.run("wc -l </run/units/done")
+    told = installed(root, f"/root/{package_in(releases.now).name}", "--reinstall")
+    expect("the desk north was not started again: its store has schema 2." in told, "apt tells", told)
+    expect("hq-desk@north" not in root.run(f"tail -n +$(({done} + 1)) /run/units/done"), "the desk was started again")
+    lines = re.findall(r"(?m)^  (.*north.*)$", told)
+    expect(len(lines) == 4, "the lines are", lines)
+    root.run("\n".join(it.replace("BACKUP", "backup") for it in lines))
+    until(lambda: "listening" in root.run("tail -n 1 /run/units/hq-desk@north.service.log"), "the migrated desk does not start")
+    expect(root.path("/root/backup/north.db").exists(), "nothing was copied")
+    root.run("systemctl stop hq-desk@north; rm /var/lib/hqdesk/north.db*; cp -p north.db* /var/lib/hqdesk; "
+             "systemctl start hq-desk@north")
+    until(lambda: usage(root, "acme").get("delivered") == 3, "acme is not answered")
 
 
 def test_removed(root):
@@ -193,3 +310,25 @@ def test_purged(root):
     left = root.run("find / -xdev -path /proc -prune -o -path /root -prune -o -path /tmp -prune -o -path /run -prune -o "
                     "-name '*hq-*' -print -o -name 'hq' -print | grep -v '^/var/lib/hq\\|^/var/log/apt\\|^/usr/local' || true")
     expect(left == "", "a purge left", left)
+    root.run("nginx -t")
+
+
+def test_container(root, releases, folder):
+    """The image of packaging/Containerfile, over this Debian, runs the program."""
+    needs.command("podman")
+    limits = ["--ulimit=nofile=1024:1024", "--ulimit=nproc=2048:2048"]
+    tar = subprocess.run(f"tar -C {root.folder} -c --exclude=./proc/* --exclude=./dev/* . | podman import - localhost/hq-base:test",
+                         shell=True, capture_output=True, timeout=120)
+    needs.that(not tar.returncode, "podman that imports an image")
+    try:
+        run = ["podman", "run", "--rm", "--network=none", *limits]
+        tried = subprocess.run([*run, "localhost/hq-base:test", "/bin/true"], capture_output=True, text=True, timeout=120)
+        needs.that(not tried.returncode, f"podman that runs here: {tried.stderr[-200:]}")
+        shutil.copy(package_in(releases.now), folder)
+        made = subprocess.run(["podman", "build", *limits, "--network=host", "--build-arg=BASE=localhost/hq-base:test", "--tag=hq-desk:test",
+                               f"--file={ROOT}/packaging/Containerfile", folder], capture_output=True, text=True, timeout=240)
+        expect(made.returncode == 0, "podman build:", made.stdout[-500:], made.stderr[-500:])
+        told = subprocess.run([*run, "hq-desk:test", "--version"], capture_output=True, text=True, timeout=60)
+        expect(told.stdout.startswith(f"hq {releases.version} "), "the container tells", told)
+    finally:
+        subprocess.run(["podman", "rmi", "--force", "hq-desk:test", "localhost/hq-base:test"], capture_output=True)

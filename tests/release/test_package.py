@@ -92,6 +92,14 @@ def test_one_version():
     expect(first == version(), "CHANGELOG.md begins with", first)
 
 
+def test_one_schema():
+    """The package and the script that moves customers name the schema of the program's stores."""
+    schema = (ROOT / "packaging/schema").read_text().strip()
+    of_program = re.search(r"(?m)^//! Schema (\d+):", (ROOT / "crates/hq_schema/src/lib.rt").read_text())
+    expect(of_program and of_program[1] == schema, "the program has the schema", of_program)
+    expect(f"\nVERSION = {schema}\n" in (ROOT / "deploy/move-customer").read_text(), "move-customer has another than", schema)
+
+
 def test_manual_page():
     """The manual page of the program has each command and option that its help tells."""
     page = (ROOT / "packaging/man/hq.1").read_text().replace("\\-", "-")

@@ -1,0 +1,248 @@
+"""The files of /etc/hq that say who is a customer, for hq-customers: read, tried, and written all or none.
+
+`NAME.csv` of each desk is the directory that it serves, and `senders.csv` has the logins and domains of the
+worker. Made of these are the worker's copy of the directories, which has no key (`relay.csv`), and the maps
+of nginx. What is to be written stands beside each file first, synced; a file `.customers.whole` then says
+that all of it is there, and each takes its place. Whoever comes next ends what was stopped between.
+"""
+import contextlib
+import csv
+import fcntl
+import grp
+import http.client
+import io
+import json
+import os
+import shutil
+import subprocess
+import tempfile
+import time
+from pathlib import Path
+from typing import Dict, Iterator, List, Optional, Tuple
+
+COLUMNS = ["name", "key", "messages", "bytes", "lines", "notices", "delay"]
+FURTHER = "history"
+SENDERS = ["kind", "name", "customer"]
+LOCK, WHOLE, BESIDE, TRIAL = ".customers.lock", ".customers.whole", ".customers-new", ".customers-trial-"
+# In seconds: how long another one may have the lock, and what a command may take.
+PATIENCE, LONGEST = 60, 120
+# So many seconds a `deliver` that has little under way takes to go by other tables.
+SETTLES = 2
+
+
+class Refused(Exception):
+    """Nothing was changed; the text says why."""
+
+
+@contextlib.contextmanager
+def locked(folder: Path) -> Iterator[None]:
+    """Nobody else changes these files meanwhile. What an earlier one was stopped in is ended first."""
+    end = time.monotonic() + PATIENCE
+    with open(os.open(folder / LOCK, os.O_RDWR | os.O_CREAT, 0o600), "r+") as file:
+        while True:
+            try:
+                fcntl.flock(file, fcntl.LOCK_EX | fcntl.LOCK_NB)
+                break
+            except BlockingIOError:
+                if time.monotonic() > end:
+                    raise Refused("another one has been at work for a minute") from None
+                time.sleep(0.05)
+        finish(folder)
+        yield
+
+
+def finish(folder: Path) -> None:
+    """Puts what was written whole in its place, and removes what was not."""
+    is_whole = (folder / WHOLE).exists()
+    for it in sorted(folder.glob(f"*{BESIDE}")):
+        if is_whole:
+            it.rename(it.with_name(it.name[:-len(BESIDE)]))
+        else:
+            it.unlink()
+    for it in folder.glob(f"{TRIAL}*/"):
+        shutil.rmtree(it)
+    sync(folder)
+    (folder / WHOLE).unlink(missing_ok=True)
+
+
+def sync(folder: Path) -> None:
+    opened = os.open(folder, os.O_RDONLY)
+    try:
+        os.fsync(opened)
+    finally:
+        os.close(opened)
+
+
+def put_beside(path: Path, text: str, mode: int, group: int) -> None:
+    """The text, synced, in a file beside this one, which has the owner and the mode of the one that is there."""
+    beside = path.with_name(path.name + BESIDE)
+    with open(os.open(beside, os.O_WRONLY | os.O_CREAT | os.O_EXCL, 0o600), "w", encoding="utf-8", newline="") as file:
+        file.write(text)
+        before = path.stat() if path.exists() else None
+        os.fchown(file.fileno(), before.st_uid if before else -1, before.st_gid if before else group)
+        os.fchmod(file.fileno(), before.st_mode & 0o777 if before else mode)
+        file.flush()
+        os.fsync(file.fileno())
+
+
+def rows_of(path: Path) -> List[List[str]]:
+    with open(path, encoding="utf-8-sig", newline="") as file:
+        return [it for it in csv.reader(file) if it]
+
+
+def text_of(rows: List[List[str]]) -> str:
+    made = io.StringIO()
+    csv.writer(made, lineterminator="\n").writerows(rows)
+    return made.getvalue()
+
+
+class Desk:
+    """A desk of this machine: its settings, and its customers."""
+
+    def __init__(self, settings: Path):
+        self.name, self.folder = settings.stem, settings.parent
+        lines = [it.split("=", 1) for it in settings.read_text().splitlines() if "=" in it and not it.startswith("#")]
+        self.settings = dict(lines)
+        if not {"HOST", "LISTEN"} <= self.settings.keys():
+            raise Refused(f"{settings} has no line for HOST or LISTEN")
+        self.path = self.folder / f"{self.name}.csv"
+        if not self.path.exists():
+            raise Refused(f"{self.path} is missing: copy /etc/hq/north.csv.example")
+        header, *rows = rows_of(self.path) or [[]]
+        if header not in (COLUMNS, [*COLUMNS, FURTHER]) or any(len(it) != len(header) for it in rows):
+            raise Refused(f"{self.path} is no directory of customers: see `hq check`")
+        self.columns = header
+        self.rows = [dict(zip(header, it)) for it in rows]
+
+    def text(self) -> str:
+        return text_of([self.columns, *([row[it] for it in self.columns] for row in self.rows)])
+
+    def queued(self, key: str) -> int:
+        """How many messages of a customer are queued there."""
+        kind, _, path = self.settings["LISTEN"].partition(":")
+        if kind == "unix":
+            raise Refused(f"the desk {self.name} listens at a path, {path}: see for yourself, and use --queued")
+        host, _, port = self.settings["LISTEN"].rpartition(":")
+        client = http.client.HTTPConnection(host.strip("[]"), int(port), timeout=LONGEST)
+        try:
+            client.request("GET", "/v1/usage", headers={"X-Desk-Key": key})
+            response = client.getresponse()
+            told = json.loads(response.read(65536))
+        except (OSError, ValueError, http.client.HTTPException) as fault:
+            raise Refused(f"the desk {self.name} does not tell what is queued: {fault}") from None
+        finally:
+            client.close()
+        if response.status != 200:
+            raise Refused(f"the desk {self.name} does not tell what is queued: {response.status}")
+        return told["messages"]
+
+
+class Folder:
+    """The settings of all desks of a machine, as they are to be."""
+
+    def __init__(self, path: Path):
+        self.path = path
+        self.desks = [Desk(it) for it in sorted(path.glob("*.env"))]
+        self.senders: Dict[Tuple[str, str], str] = {}
+        # what is printed once all is written: a key, and why something is left to do; and whether it is tried again
+        self.told: Optional[str] = None
+        self.left: Optional[str] = None
+        self.is_again = False
+        table = path / "senders.csv"
+        header, *rows = (rows_of(table) or [[]]) if table.exists() else [SENDERS]
+        if header != SENDERS or any(len(it) != len(SENDERS) for it in rows):
+            raise Refused(f"{table} has not the header {','.join(SENDERS)}")
+        self.senders = {(kind, name): customer for kind, name, customer in rows}
+
+    def of_worker(self) -> str:
+        """The directories of all desks, without a key."""
+        rows = [[it[name] if name != "key" else "" for name in COLUMNS] for desk in self.desks for it in desk.rows]
+        return text_of([COLUMNS, *rows])
+
+    def write(self, scripts: Path) -> None:
+        """Tries all files, and puts all of them in their places, or none."""
+        finish(self.path)
+        try:
+            self.put_all(scripts)
+            (self.path / WHOLE).touch(0o600)
+            sync(self.path)
+        except BaseException:
+            (self.path / WHOLE).unlink(missing_ok=True)
+            finish(self.path)
+            raise
+        finish(self.path)
+
+    def put_all(self, scripts: Path) -> None:
+        desks, workers = group_of("hqdesk"), group_of("hqrelay")
+        for it in self.desks:
+            put_beside(it.path, it.text(), 0o640, desks)
+            self.check(it)
+        senders = [SENDERS, *([*it, name] for it, name in sorted(self.senders.items()))]
+        put_beside(self.path / "senders.csv", text_of(senders), 0o640, workers)
+        put_beside(self.path / "relay.csv", self.of_worker(), 0o640, workers)
+        with tempfile.TemporaryDirectory(dir=self.path, prefix=TRIAL) as made:
+            given = [f"{it.settings['LISTEN']}={it.path}{BESIDE}" for it in self.desks]
+            tried([scripts / "desk-maps", made, *given])
+            for name, mode in (("keys.map", 0o600), ("names.map", 0o640)):
+                put_beside(self.path / name, Path(made, name).read_text(), mode, desks)
+            self.check_worker(Path(made))
+
+    def check(self, desk: Desk) -> None:
+        """What a start of the desk would say of its new directory."""
+        tried(["hq", "check", "--directory", f"{desk.path}{BESIDE}", "--host", desk.settings["HOST"], "--relay-key-file",
+               self.path / f"{desk.name}.key"])
+
+
+    def check_worker(self, made: Path) -> None:
+        """What the worker would say of its settings, with the new tables beside them."""
+        for name in ("relay.ini", "relay.key"):
+            if not (self.path / name).exists():
+                return
+            shutil.copy(self.path / name, made)
+        for name in ("relay.csv", "senders.csv"):
+            shutil.copy(self.path / f"{name}{BESIDE}", made / name)
+        tried(["hq-relay", made / "relay.ini", "settings"])
+
+
+def group_of(name: str) -> int:
+    """The number of a group; none where there is no such group."""
+    with contextlib.suppress(KeyError):
+        return grp.getgrnam(name).gr_gid
+    return -1
+
+
+def tried(words: list) -> None:
+    ended = subprocess.run(words, stdin=subprocess.DEVNULL, capture_output=True, text=True, timeout=LONGEST)
+    if ended.returncode:
+        told = " / ".join(ended.stderr.strip().splitlines()) or f"status {ended.returncode}"
+        raise Refused(f"{Path(words[0]).name} refuses it, and nothing was changed: {told}")
+
+
+# ---- the programs
+
+def is_active(unit: str) -> bool:
+    return not subprocess.run(["systemctl", "is-active", "--quiet", unit], stdin=subprocess.DEVNULL).returncode
+
+
+def take_up(scripts: Path, desks: List[Desk], is_gone: bool) -> None:
+    """Has what runs go by the files: desks first, so that nobody speaks to them of a customer whom they do not know; and last
+    where a customer is gone."""
+    def restart() -> None:
+        for it in desks:
+            if is_active(f"hq-desk@{it.name}"):
+                done([scripts / "desk-restart", it.name])
+
+    if not is_gone:
+        restart()
+    running = [it for it in ("nginx", "hq-desk-workers", "hq-relay-intake", "hq-relay-deliver") if is_active(it)]
+    for it in running:
+        done(["systemctl", "reload", it])
+    if is_gone:
+        time.sleep(SETTLES if "hq-relay-deliver" in running else 0)
+        restart()
+
+
+def done(words: list) -> None:
+    ended = subprocess.run(words, stdin=subprocess.DEVNULL, stderr=subprocess.PIPE, text=True, timeout=LONGEST)
+    if ended.returncode:
+        raise Refused(f"the files are written, and not taken up: {' '.join(map(str, words))}: {ended.stderr.strip()}")

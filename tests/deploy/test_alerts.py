@@ -1,0 +1,61 @@
+"""The rules for Prometheus and the dashboard for Grafana: promtool reads and tries them, and each metric that they name is one
+that is told."""
+import json
+import re
+import shutil
+import subprocess
+from pathlib import Path
+
+import needs
+from deploying import DEPLOY
+from serving import LONGEST, expect
+
+TESTS = Path(__file__).resolve().parent / "rules_test.yml"
+# What node_exporter tells of the files that it reads.
+OF_OTHERS = {"node_textfile_mtime_seconds"}
+
+
+def promtool(folder, *words):
+    found = subprocess.run(["promtool", *words], cwd=folder, capture_output=True, text=True, timeout=LONGEST)
+    expect(found.returncode == 0, "promtool", *words, "tells", found.stdout[-1500:], found.stderr[-1500:])
+    return found.stdout
+
+
+def test_rules(folder):
+    """promtool takes the rules, and each alert comes just when its test says."""
+    needs.command("promtool")
+    for it in (DEPLOY / "prometheus-rules.yml", TESTS):
+        shutil.copy(it, folder)
+    count = int(re.search(r"(\d+) rules found", promtool(folder, "check", "rules", "prometheus-rules.yml"))[1])
+    promtool(folder, "test", "rules", TESTS.name)
+    names = set(re.findall(r"alert: (\w+)", (DEPLOY / "prometheus-rules.yml").read_text()))
+    tried = set(re.findall(r"alertname: (\w+)\n +exp_alerts:\n", TESTS.read_text()))
+    expect(len(names) == count and names == tried, "of the alerts are not tried", names - tried)
+
+
+def expressions():
+    board = json.loads((DEPLOY / "grafana-dashboard.json").read_text())
+    return [it["expr"] for panel in board["panels"] for it in panel["targets"]]
+
+
+def test_dashboard(folder):
+    """promtool takes each expression of the dashboard; panels stand beside each other."""
+    needs.command("promtool")
+    told = expressions()
+    rules = [{"record": f"panel:{number}", "expr": re.sub(r"\$\w+", ".*", it)} for number, it in enumerate(told)]
+    (folder / "panels.yml").write_text(json.dumps({"groups": [{"name": "panels", "rules": rules}]}))
+    expect(f"{len(told)} rules found" in promtool(folder, "check", "rules", "panels.yml"), "panels are left out")
+    taken = set()
+    for panel in json.loads((DEPLOY / "grafana-dashboard.json").read_text())["panels"]:
+        at = panel["gridPos"]
+        cells = {(x, y) for x in range(at["x"], at["x"] + at["w"]) for y in range(at["y"], at["y"] + at["h"])}
+        expect(not cells & taken and at["x"] + at["w"] <= 24, panel["title"], "stands on another")
+        taken |= cells
+
+
+def test_metrics_are_told():
+    """What rules and panels ask for is what relay/metrics tells."""
+    told = set(re.findall(r'"(desk_\w+)"', (DEPLOY.parent / "relay/metrics").read_text())) | OF_OTHERS
+    rules = "\n".join(re.findall(r"(?s)expr: (.*?)\n +(?:for|labels):", (DEPLOY / "prometheus-rules.yml").read_text()))
+    asked = set(re.findall(r"\b(?:desk|node)_\w+", rules + "\n".join(expressions())))
+    expect(len(asked) > 8 and not asked - told, "nobody tells", asked - told)

@@ -1,0 +1,273 @@
+"""hq-customers over the files of a folder: what it writes, what it refuses, and what a stop at any moment leaves.
+
+`hq`, the worker and `desk-maps` are the real ones. systemctl is a stand-in here; how the programs take up what was
+written is tried in tests/release.
+"""
+import csv
+import fcntl
+import os
+import stat
+import subprocess
+import sys
+import threading
+import time
+
+import pytest
+from deploying import DEPLOY
+from serving import HEADER, LONGEST, RELAY, expect
+from small_disk import fill, small_disk
+
+SCRIPT = DEPLOY / "hq-customers"
+ACME = "acme,acmekey000000001,1000,500000000,1000,1000,14400\n"
+RELAY_INI = """\
+[desk]
+address = 127.0.0.1:824
+key-file = relay.key
+directory = relay.csv
+
+[spool]
+folder = spool
+
+[intake]
+listen = 127.0.0.1:10024
+senders = senders.csv
+
+[delivery]
+host = relay.example
+
+[notices]
+from = MAILER-DAEMON@relay.example
+"""
+# Ends the process, as a kill does, at its N-th call that changes a folder or syncs.
+STOPPED = """\
+import os, runpy, sys
+left, script, sys.argv = int(sys.argv[1]), sys.argv[2], sys.argv[2:]
+def stops(name):
+    call = getattr(os, name)
+    def counted(*given, **named):
+        global left
+        left -= 1
+        if not left:
+            os._exit(9)
+        return call(*given, **named)
+    return counted
+for name in ("rename", "fsync", "unlink", "mkdir", "rmdir", "fchown"):
+    setattr(os, name, stops(name))
+sys.path.insert(0, os.path.dirname(script))
+runpy.run_path(script, run_name="__main__")
+"""
+
+
+class Place:
+    """A folder of settings with the desk north, and the commands that the script calls."""
+
+    def __init__(self, folder, program, rows=ACME):
+        self.folder, self.bin = folder / "etc", folder / "bin"
+        self.folder.mkdir(exist_ok=True)
+        self.bin.mkdir()
+        (self.bin / "hq").symlink_to(program)
+        (self.bin / "hq-relay").symlink_to(DEPLOY.parent / "relay/worker")
+        self.desk("north", 825, rows)
+        for name, text, mode in (("relay.ini", RELAY_INI, 0o640), ("relay.key", f"{RELAY}\n", 0o640)):
+            (self.folder / name).write_text(text)
+            (self.folder / name).chmod(mode)
+        self.systemctl("exit 3")
+
+    def desk(self, name, port, rows):
+        for end, text in (("env", f"HOST=relay.example\nLISTEN=127.0.0.1:{port}\n"), ("key", f"{RELAY}\n"), ("csv", HEADER + rows)):
+            (self.folder / f"{name}.{end}").write_text(text)
+            (self.folder / f"{name}.{end}").chmod(0o640)
+
+    def systemctl(self, line):
+        (self.bin / "systemctl").write_text(f'#!/bin/sh\necho "$*" >>{self.bin}/called\n{line}\n')
+        (self.bin / "systemctl").chmod(0o755)
+
+    def words(self, *given):
+        return [SCRIPT, "--folder", self.folder, *given]
+
+    def run(self, *given, script=()):
+        env = {**os.environ, "PATH": f"{self.bin}:{os.environ['PATH']}"}
+        return subprocess.run([*script, *self.words(*given)], capture_output=True, text=True, timeout=LONGEST, env=env,
+                              stdin=subprocess.DEVNULL)
+
+    def done(self, *given):
+        ended = self.run(*given)
+        expect((ended.returncode, ended.stderr) == (0, ""), given, "ended with", ended)
+        return ended.stdout
+
+    def files(self):
+        """What stands in the folder, but for the lock."""
+        return {it.name: it.read_bytes() for it in self.folder.iterdir() if it.is_file() and it.name != ".customers.lock"}
+
+    def rows(self, name="north.csv"):
+        with open(self.folder / name, newline="") as file:
+            return {it["name"]: it for it in csv.DictReader(file)}
+
+
+@pytest.fixture
+def place(folder, program):
+    return Place(folder, program)
+
+
+def mode(path):
+    return stat.S_IMODE(path.stat().st_mode)
+
+
+def test_added(place):
+    """A customer stands in all files, with a key that is told once, and whose files are closed to others."""
+    key = place.done("add", "birch", "--messages", "50", "--domain", "B.example", "--login", "birch@b.example").strip()
+    expect(len(key) == 40 and key.isalnum(), "the key is", key)
+    row = place.rows()["birch"]
+    expect((row["key"], row["messages"], row["delay"]) == (key, "50", "14400"), "the row is", row)
+    expect(place.rows("relay.csv")["birch"] == {**row, "key": ""}, "the worker's row is", place.rows("relay.csv"))
+    texts = {name: text.decode() for name, text in place.files().items()}
+    expect(texts["senders.csv"] == "kind,name,customer\ndomain,b.example,birch\nlogin,birch@b.example,birch\n", texts["senders.csv"])
+    expect(f"{key} birch;\n" in texts["keys.map"] and "birch 127.0.0.1:825;\n" in texts["names.map"], "the maps lack it")
+    expect([it for it, text in texts.items() if key in text] == [it for it in texts if it in ("north.csv", "keys.map")], "its key")
+    for name, wanted in (("north.csv", 0o640), ("relay.csv", 0o640), ("senders.csv", 0o640), ("keys.map", 0o600), ("names.map", 0o640)):
+        expect(mode(place.folder / name) == wanted, name, "has the mode", oct(mode(place.folder / name)))
+    listed = place.done("list")
+    expect("birch north: messages 50, bytes 500000000" in listed and "domain b.example" in listed and key not in listed, listed)
+    expect(ACME.strip() in texts["north.csv"], "acme's row is another one")
+    expect(not (place.bin / "called").exists() or "reload" not in (place.bin / "called").read_text(), "something was reloaded")
+
+
+def test_changed(place):
+    """Limits, a key, logins and domains change, and nothing else; a history is a column more for all."""
+    place.done("set", "acme", "--messages", "7", "--history", "9", "--domain", "a.example")
+    row = place.rows()["acme"]
+    expect((row["messages"], row["history"], row["key"]) == ("7", "9", "acmekey000000001"), "the row is", row)
+    key = place.done("key", "acme").strip()
+    expect(place.rows()["acme"]["key"] == key != "acmekey000000001", "the key is", key)
+    place.done("set", "acme", "--no-domain", "a.example")
+    expect(place.files()["senders.csv"] == b"kind,name,customer\n", "the domain is there")
+    expect(place.rows()["acme"]["history"] == "9" and place.rows()["acme"]["key"] == key, "a later change loses something")
+
+
+def test_dropped(place):
+    """First its mail ends; its row goes where nothing is queued, or nobody waits for that."""
+    place.done("add", "birch", "--domain", "b.example")
+    before = place.files()
+    ended = place.run("drop", "birch")
+    expect(ended.returncode == 1 and "does not tell what is queued" in ended.stderr and place.files() == before, "no desk:", ended)
+    place.done("drop", "birch", "--queued")
+    expect("birch" not in b"".join(place.files().values()).decode(), "birch is left in", place.files())
+
+
+BAD = [
+    (["add", "Birch"], "no name"), (["add", "b" * 33], "no name"), (["add", ""], "no name"), (["add", "../b"], "no name"),
+    (["add", "b\n"], "no name"), (["add", "acme"], "already"), (["add", "birch", "--desk", "south"], "has to be one of: north"),
+    (["add", "birch", "--messages", "0"], "column messages"), (["add", "birch", "--bytes", "many"], "column bytes"),
+    (["add", "birch", "--lines", "9\nx,y"], "hq refuses"), (["set", "acme", "--delay", "-1"], "column delay"),
+    (["set", "nobody", "--lines", "9"], "no customer nobody"), (["key", "nobody"], "no customer nobody"),
+    (["drop", "nobody"], "no customer nobody"), (["set", "acme", "--domain", "a b"], "no domain"),
+    (["set", "acme", "--login", "a,b"], "no login"), (["set", "acme", "--no-domain", "b.example"], "has no domain"),
+    (["add", "birch", "--domain", "a.example"], "that of acme"),
+]
+
+
+@pytest.mark.parametrize("words, told", BAD, ids=range(len(BAD)))
+def test_refused(place, words, told):
+    """Whatever is refused leaves each file as it was, and tells no key."""
+    place.done("set", "acme", "--domain", "a.example")
+    before = place.files()
+    ended = place.run(*words)
+    expect(ended.returncode == 1 and told in ended.stderr and not ended.stdout, words, "got", ended)
+    expect(ended.stderr.startswith("hq-customers: ") and ended.stderr.count("\n") == 1, words, "is told as", ended.stderr)
+    expect("acmekey" not in ended.stderr and RELAY not in ended.stderr, "a key is told:", ended.stderr)
+    expect(place.files() == before and not [*place.folder.glob(".customers-*")], "files were changed:", place.folder)
+
+
+def test_refused_files(place):
+    """A key that stands twice, in one directory or in two, and a worker that does not take its table."""
+    north, relay = place.folder / "north.csv", place.folder / "relay.ini"
+    for text, path, told in ((HEADER + ACME + ACME.replace("acme,", "elm,"), north, "55 DoubledKey"),
+                             (HEADER + ACME.replace("acme,", "Elm,"), north, "53 BadDirectory"),
+                             (HEADER + "acme\n", north, "no directory of customers"), ("", north, "no directory of customers"),
+                             (RELAY_INI + "[logins]\nann = gone\n", relay, "gone is not in the directory")):
+        good = path.read_bytes()
+        path.write_text(text)
+        before = place.files()
+        ended = place.run("add", "birch")
+        expect(ended.returncode == 1 and told in ended.stderr and place.files() == before, text, "got", ended)
+        path.write_bytes(good)
+    place.desk("south", 826, ACME.replace("acme,", "fir,").replace("acmekey", "ACMEKEY"))
+    before = place.files()
+    ended = place.run("add", "birch", "--desk", "north")
+    expect(ended.returncode == 1 and "desk-maps refuses" in ended.stderr and place.files() == before, "two desks:", ended)
+
+
+def test_full_disk(folder, program):
+    """With each size of room that is left all is as it was, or all is written."""
+    place = None
+    (folder / "there").mkdir()
+    with small_disk(folder / "there/etc"):
+        place = Place(folder / "there", program, ACME + "".join(
+            f"c{it},key{it:013d},1000,500000000,1000,1000,14400\n" for it in range(900)))
+        place.done("set", "acme", "--domain", "a.example")
+        before, full, whole = place.files(), place.folder / "full", 0
+        for room in range(0, 60, 4):
+            fill(full)
+            os.truncate(full, max(0, full.stat().st_size - 4096 * room))
+            ended = place.run("set", "acme", "--lines", str(900 + room))
+            full.unlink()
+            now = place.files()
+            if ended.returncode == 0:
+                whole += 1
+                expect(place.rows()["acme"]["lines"] == place.rows("relay.csv")["acme"]["lines"] == str(900 + room), "half is written")
+                before = now
+            else:
+                expect(now == before and "acmekey" not in ended.stderr, "room for", room, "left", ended)
+        expect(0 < whole < 15, "of 15 were done", whole)
+
+
+def test_two_at_once(place):
+    """Who comes while another is at work waits, and none undoes another."""
+    names = [f"c{it}" for it in range(8)]
+    them = [threading.Thread(target=place.run, args=("add", it, "--domain", f"{it}.example")) for it in names]
+    for it in them:
+        it.start()
+    for it in them:
+        it.join(LONGEST)
+    expect(set(place.rows()) == {"acme", *names} == set(place.rows("relay.csv")), "there are", place.rows())
+    expect(place.files()["senders.csv"].count(b"domain") == len(names), "of the domains there are", place.files()["senders.csv"])
+    with open(place.folder / ".customers.lock", "r+") as lock:
+        fcntl.flock(lock, fcntl.LOCK_EX)
+        waiting = threading.Thread(target=place.run, args=("add", "late"))
+        waiting.start()
+        time.sleep(1)
+        expect("late" not in place.rows(), "the lock is no lock")
+        fcntl.flock(lock, fcntl.LOCK_UN)
+        waiting.join(LONGEST)
+    expect("late" in place.rows(), "who waited has not come")
+
+
+def test_stopped(place):
+    """Killed at each of its steps it leaves the files of before or, behind the next start, those of behind."""
+    place.done("set", "acme", "--domain", "a.example", "--messages", "500")
+    before, left = place.rows()["acme"]["messages"], set()
+    for number in range(1, 200):
+        ended = place.run("set", "acme", "--messages", str(number), script=[sys.executable, "-c", STOPPED, str(number)])
+        expect(ended.returncode in (0, 9), "step", number, "ended with", ended)
+        place.done("list")
+        found = {place.rows(it)["acme"]["messages"] for it in ("north.csv", "relay.csv")}
+        expect(len(found) == 1 and found <= {before, str(number)}, "step", number, "left", found, "and before", before)
+        expect(not [it for it in place.files() if it.startswith(".customers")], "step", number, "left", place.files().keys())
+        left.add(found != {before})
+        before = found.pop()
+        if ended.returncode == 0:
+            break
+    expect(number > 20 and left == {True, False}, "it was stopped", number, "times, and left", left)
+
+
+def test_taken_up(place):
+    """What runs is told, the desk before nginx and the worker, and nothing where no file is for it."""
+    place.systemctl("exit 0")
+    (place.bin / "nft").write_text("#!/bin/sh\nexit 1\n")
+    (place.bin / "nft").chmod(0o755)
+    place.done("--files", "set", "acme", "--domain", "a.example")
+    expect(not (place.bin / "called").exists(), "with --files systemctl was called")
+    place.done("set", "acme", "--domain", "c.example")
+    called = (place.bin / "called").read_text().splitlines()
+    wanted = [f"reload {it}" for it in ("nginx", "hq-desk-workers", "hq-relay-intake", "hq-relay-deliver")]
+    expect([it for it in called if "is-active" not in it] == wanted, "a domain has", called)
