@@ -6,6 +6,7 @@ processes. Nothing of systemd runs: `systemctl` of this folder starts the lines 
 import os
 import shutil
 import subprocess
+import tempfile
 import urllib.request
 from pathlib import Path
 
@@ -37,6 +38,12 @@ def mirror():
     except OSError as fault:
         needs.that(False, f"network to {address}: {fault}")
     return address, name
+
+
+def place():
+    """A folder for one, on a disk that takes devices and runs programs."""
+    kept = os.statvfs(tempfile.gettempdir()).f_flag & (os.ST_NODEV | os.ST_NOEXEC)
+    return tempfile.TemporaryDirectory(dir="/var/tmp" if kept else None)
 
 
 class Root:

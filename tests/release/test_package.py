@@ -20,7 +20,7 @@ def run(*words, **more):
 
 
 def stand_in(folder, version):
-    path = folder / "program"
+    path = folder / f"program-{version}"
     path.write_text(STAND_IN.format(version))
     path.chmod(0o755)
     return path
