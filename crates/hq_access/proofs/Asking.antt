@@ -2,10 +2,10 @@
 use Rattle.std.proofs.Common.{◌≡◌, ℕ, List, [], ◌∷◌, ◌++◌, Option, Some, None, length, Result, Ok}
 use Rattle.std.proofs.Common.{Err, IfOk, OnOk, refl, arith, sym, ap, ◌∙◌, subst, inl, inr}
 use Rattle.hq_values.specs.declared.failure.Fault.{Fault}
-use Rattle.hq_access.specs.declared.action.Action.{Action}
-use Rattle.hq_access.specs.declared.pattern.Class.{Class}
-use Rattle.hq_access.specs.Lookups.{Found, Gets, AsksOn, LooksUp, Looks, TellsLines, first_match}
-use Rattle.hq_access.specs.Lookups.{or_next}
+use Rattle.hq_kept.specs.declared.action.Action.{Action}
+use Rattle.hq_kept.specs.declared.pattern.Class.{Class}
+use Rattle.hq_rules.specs.Lookups.{Found, Gets, AsksOn, LooksUp, Looks, TellsLines, first_match}
+use Rattle.hq_rules.specs.Lookups.{or_next}
 
 module _ {S : Type 0} (gets : Gets S) (class : Class) where
   -- the keys were asked for, and none had a line

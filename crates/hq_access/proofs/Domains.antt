@@ -7,7 +7,7 @@ use Rattle.std.specs.List.{slice_split}
 use Rattle.std.proofs.lemmas.List.Splits.{join_with_byte-slice_split, length-slice_split}
 use Rattle.std.proofs.lemmas.List.Splits.{slice_split_first}
 use Rattle.hq_values.specs.Addresses.{is_dot}
-use Rattle.hq_access.specs.Keys.{parents}
+use Rattle.hq_kept.specs.Keys.{parents}
 
 -- the labels of a domain
 abbrev pub labels_of : List ℕ → List (List ℕ)

@@ -6,13 +6,13 @@ use Rattle.std.specs.Option.{option_or}
 use Rattle.std.specs.List.{cons_option, filter_map, last_or, list_any}
 use Rattle.std.proofs.lemmas.List.{take_more, map-append}
 use Rattle.std.proofs.lemmas.List.Elements.{filter-append, filter_map-append}
-use Rattle.hq_access.specs.declared.action.Action.{Action}
-use Rattle.hq_access.specs.declared.action.Action.TheVariants.{Okay, Reject, Defer, Dunno, Discard}
-use Rattle.hq_access.specs.declared.action.Action.TheVariants.{Hold, Redirect}
-use Rattle.hq_access.specs.declared.verdicts.Refused.{Refused}
-use Rattle.hq_access.specs.Verdicts.{refuses, discards, redirection, holding, refused_one}
-use Rattle.hq_access.specs.Verdicts.{refused_in, not_refused, found_in, first_of, redirect_of}
-use Rattle.hq_access.specs.Verdicts.{held_by}
+use Rattle.hq_kept.specs.declared.action.Action.{Action}
+use Rattle.hq_kept.specs.declared.action.Action.TheVariants.{Okay, Reject, Defer, Dunno, Discard}
+use Rattle.hq_kept.specs.declared.action.Action.TheVariants.{Hold, Redirect}
+use Rattle.hq_rules.specs.declared.verdict.Refused.{Refused}
+use Rattle.hq_rules.specs.Verdicts.{refuses, discards, redirection, holding, refused_one}
+use Rattle.hq_rules.specs.Verdicts.{refused_in, not_refused, found_in, first_of, redirect_of}
+use Rattle.hq_rules.specs.Verdicts.{held_by}
 
 -- a recipient, with what was found for it
 abbrev pub Recipient : Type 0

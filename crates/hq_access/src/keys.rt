@@ -4,51 +4,11 @@ ghost use Rattle.std.specs.Prelude.{◌≡◌, ◌++◌, ◌∷◌, [], IfOk, On
 ghost use Rattle.std.specs.List.{slice_split};
 ghost use Rattle.hq_values.specs.Addresses.{is_dot};
 ghost use Rattle.hq_values.specs.declared.address.Sender.TheVariants.{From};
-ghost use Rattle.hq_access.specs.Keys as rules;
+ghost use Rattle.hq_kept.specs.Keys as rules;
 
+use hq_kept::{LookupKey, NULL_KEY};
 use hq_values::{Address, Sender, TryCopy};
 use std::alloc::{AllocError, Global};
-use std::marker::Model;
-
-/// The key of the null sender.
-pub(crate) const NULL_KEY: &str = "<>";
-
-/// The text under which a line is looked up.
-#[derive(Debug, Drop)]
-pub struct LookupKey {
-    text: String,
-}
-
-impl Model for LookupKey {
-    ghost use Rattle.std.specs.Prelude.{List, ℕ, string_bytes};
-
-    ghost Value = { List ℕ };
-
-    ghost view = { λ k. string_bytes k.text };
-}
-
-impl LookupKey {
-    /// The key of a text.
-    pub(crate) fn new(text: String) -> LookupKey
-        ensures { result ≡ string_bytes text }
-    {
-        LookupKey { text }
-    }
-
-    /// The text, without taking memory.
-    pub fn as_str(&self) -> &str
-        ensures { result.now ≡ self.now }
-    {
-        self.text.as_str()
-    }
-}
-
-impl TryCopy for LookupKey {
-    fn copy(&self, alloc: Global) -> Result<LookupKey, AllocError> {
-        let text = String::from_str(alloc, self.text.as_str())?;
-        Ok(LookupKey { text })
-    }
-}
 
 /// The base of a local part: what stands before its first `+`, where at least one byte does.
 fn base_of(local: &str) -> Option<&str>

@@ -2,14 +2,13 @@
 
 ghost use Rattle.std.specs.Prelude.{◌≡◌, ℕ, List, Option, Result, IfOk, OnOk};
 ghost use Rattle.hq_values.specs.declared.failure.Fault.{Fault};
-ghost use Rattle.hq_access.specs.declared.action.Action.{Action};
-ghost use Rattle.hq_access.specs.declared.pattern.Class.{Class};
-ghost use Rattle.hq_access.specs.Keys as rules;
-ghost use Rattle.hq_access.specs.Lookups.{first_match, Looks, TellsLines};
+ghost use Rattle.hq_kept.specs.declared.action.Action.{Action};
+ghost use Rattle.hq_kept.specs.declared.pattern.Class.{Class};
+ghost use Rattle.hq_kept.specs.Keys as rules;
+ghost use Rattle.hq_rules.specs.Lookups.{first_match, Looks, TellsLines};
 
-use crate::action::Action;
-use crate::keys::{LookupKey, keys_of};
-use crate::pattern::Class;
+use crate::keys::keys_of;
+use hq_kept::{Action, Class, LookupKey};
 use hq_values::{Fault, Sender};
 use std::alloc::Global;
 

@@ -2,9 +2,10 @@
 
 ghost use Rattle.std.specs.Prelude.{◌≡◌, IfOk, map, option_map};
 ghost use Rattle.std.specs.List.{list_any};
-ghost use Rattle.hq_access.specs.Verdicts as rules;
+ghost use Rattle.hq_rules.specs.Verdicts as rules;
 
-use crate::action::Action;
+use hq_kept::Action;
+use hq_rules::{Refused, Verdict};
 use hq_values::{Address, Items, Sender, Text, TryCopy};
 use std::alloc::{AllocError, Global};
 
@@ -16,55 +17,6 @@ const DEFER_CODE: u16 = 450;
 
 /// What a rejection says whose line has no text.
 const DENIED: &str = "Access denied";
-
-/// A sender or a recipient that is refused.
-#[derive(Debug, Drop)]
-pub struct Refused {
-    /// Who is refused.
-    pub address: Sender,
-    /// The code of the reply (RFC 5321, 4.2).
-    pub code: u16,
-    /// Its text.
-    pub text: Text,
-}
-
-impl TryCopy for Refused {
-    fn copy(&self, alloc: Global) -> Result<Refused, AllocError> {
-        let address = self.address.copy(alloc)?;
-        let text = self.text.copy(alloc)?;
-        Ok(Refused {
-            address,
-            code: self.code,
-            text,
-        })
-    }
-}
-
-/// What becomes of a submission.
-#[derive(Drop)]
-pub enum Verdict {
-    /// Nothing of it is taken.
-    Rejected {
-        /// The sender alone, or all recipients.
-        refused: Items<Refused>,
-    },
-    /// It is taken, and nobody gets it.
-    Discarded {
-        /// The recipients that are refused.
-        refused: Items<Refused>,
-    },
-    /// It is queued.
-    Queue {
-        /// The recipients that are not refused: at least one.
-        kept: Items<Address>,
-        /// The recipients that are.
-        refused: Items<Refused>,
-        /// Who gets it in place of all that are kept.
-        redirect: Option<Address>,
-        /// The reason of the first hold, where it is put on hold: not empty.
-        held: Option<Text>,
-    },
-}
 
 /// The text of a rejection, or `Access denied` where its line has none.
 fn or_denied(alloc: Global, text: &Text) -> Result<Text, AllocError>

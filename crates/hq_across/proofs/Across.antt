@@ -6,13 +6,13 @@ use Rattle.std.specs.Cmp.Lexicographic.{nat_list_cmp_total}
 use Rattle.std.proofs.lemmas.Map.Lookups.{exact_bytes}
 use Rattle.std.proofs.lemmas.Map.Views.{tells_apart}
 use Rattle.std.proofs.lemmas.Bool.{both_ways}
-use Rattle.hq_queue.specs.declared.account.Entry.{Entry}
-use Rattle.hq_store.specs.Sound.{Sound}
-use Rattle.hq_store.specs.Tables.{Tables, State, text_cmp, own}
+use Rattle.hq_kept.specs.declared.account.Entry.{Entry}
+use Rattle.hq_tables.specs.Sound.{Sound}
+use Rattle.hq_tables.specs.Tables.{Tables, State, text_cmp, own}
 use Rattle.hq_owned.proofs.Parts.{tied_true}
-use Rattle.hq_calls.specs.Machine.{step, shared, state_after}
-use Rattle.hq_calls.specs.declared.call.Call.{Call}
-use Rattle.hq_calls.proofs.Isolation.{caller, others}
+use Rattle.hq_rules.specs.Machine.{step, shared, state_after}
+use Rattle.hq_rules.specs.declared.call.Call.{Call}
+use Rattle.hq_isolation.proofs.Isolation.{caller, others}
 use Rattle.hq_soundness.proofs.Soundness.{shared_sound}
 use Rattle.hq_requests.specs.Directories.{entry_of}
 use Rattle.hq_requests.specs.declared.directory.Directory.{Directory}

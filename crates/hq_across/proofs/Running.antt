@@ -1,24 +1,23 @@
 -- Exchanges of a desk up to a stop are a session.
-use Rattle.std.proofs.Common.{◌≡◌, ◌⊎◌, inl, inr, ⊎_elim, ℕ, zero, suc, true, false, length}
-use Rattle.std.proofs.Common.{List, [], ◌∷◌, ◌++◌, map, take, drop, Result, Ok, Err}
+use Rattle.std.proofs.Common.{◌≡◌, ◌⊎◌, inl, inr, ⊎_elim, ℕ, true, false, length}
+use Rattle.std.proofs.Common.{List, [], ◌∷◌, ◌++◌, take, drop, Result, Ok, Err}
 use Rattle.std.proofs.Common.{sym, refl, ap, ◌∙◌, subst}
 use Rattle.hq_values.specs.Refusals.{no_memory}
 use Rattle.hq_values.specs.Turns.{InTurn}
 use Rattle.hq_values.specs.declared.failure.Fault.TheVariants.{Closed}
 use Rattle.hq_values.specs.declared.failure.Refusal.{Refusal}
-use Rattle.hq_store.specs.Shelves.{Sight, StopLeaves, StopLeavesNoMore}
-use Rattle.hq_store.specs.Sound.{Sound}
-use Rattle.hq_store.specs.Tables.{Tables}
-use Rattle.hq_desk.specs.Desks.{host_of, on}
-use Rattle.hq_desk.specs.declared.desk.Desk.{Desk}
-use Rattle.hq_calls.specs.Machine.{shared}
+use Rattle.hq_tables.specs.Shelves.{Sight, StopLeaves, StopLeavesNoMore}
+use Rattle.hq_tables.specs.Sound.{Sound}
+use Rattle.hq_tables.specs.Tables.{Tables}
+use Rattle.hq_rules.specs.Desks.{DeskSight}
+use Rattle.hq_rules.specs.Machine.{shared}
 use Rattle.hq_soundness.proofs.Soundness.{shared_sound}
 use Rattle.hq_requests.specs.Calls.{Asked, CallOf, CallOfAll}
 use Rattle.hq_requests.specs.Directories.{entry_of, names_of}
 use Rattle.hq_requests.specs.declared.directory.Directory.{Directory}
 use Rattle.hq_wire.specs.Exchanges.{AllDone, Ask, Deed, Exchanged, RepliesAnyway, StopMayLeave}
 use Rattle.hq_wire.specs.Exchanges.{StopsClosed, TellsClosed, Unheard, after_calls, calls_asked}
-use Rattle.hq_wire.specs.Exchanges.{deeds_of, next_call, of_part, unheard_call}
+use Rattle.hq_wire.specs.Exchanges.{deeds_of, next_call}
 use Rattle.hq_wire.specs.Replies.{SeenReply, reply_of_fault}
 use Rattle.hq_wire.specs.Runs.{deeds}
 use Rattle.hq_wire.proofs.Alone.{all_done_on, done_once, seen}
@@ -32,12 +31,8 @@ once : {A : Type 0} (xs : List A) → take 1 (take 1 xs) ≡ take 1 xs
 once [] = refl
 once (x ∷ xs) = refl
 
-none_next : {A : Type 0} (n : ℕ) (xs : List A) → xs ≡ [] → take 1 (drop n xs) ≡ []
-none_next zero xs none = ap (take 1) none
-none_next (suc n) xs none = ap (λ ys. take 1 (drop (suc n) ys)) none
-
 -- an exchange behind which the store is closed tells so, or the store was closed before it
-told_closed : {S : Type 0} (sight : Sight (Desk S)) (d : Directory) (old new : Desk S) (at : ℕ)
+told_closed : {D : Type 0} (sight : Sight D) (d : Directory) (old new : D) (at : ℕ)
     (called : Result Asked Refusal) (r : SeenReply) → sight.is_closed new ≡ true →
     RepliesAnyway sight d old called r new →
     TellsClosed r ⊎ (sight.is_closed old ≡ true)
@@ -125,32 +120,32 @@ differ e = absurd (not_so e) where
 
 -- ---- exchanges in turn
 
-module _ {S : Type 0} (sight : Sight S) (d : Directory) where
-  abbrev tables : Desk S → Tables
-  tables = (on sight).tables
+module _ {D : Type 0} (sight : DeskSight D) (d : Directory) where
+  abbrev tables : D → Tables
+  tables = sight.store.tables
 
-  still_closed : (old new : Desk S) (a : Ask) (r : SeenReply) → Exchanged sight d old a r new →
-      (on sight).is_closed old ≡ true → (on sight).is_closed new ≡ true
-  still_closed old new a r one closed = elim ((on sight).is_closed new) as (λ b.
-      (on sight).is_closed new ≡ b → (on sight).is_closed new ≡ true) [
+  still_closed : (old new : D) (a : Ask) (r : SeenReply) → Exchanged sight d old a r new →
+      sight.store.is_closed old ≡ true → sight.store.is_closed new ≡ true
+  still_closed old new a r one closed = elim (sight.store.is_closed new) as (λ b.
+      sight.store.is_closed new ≡ b → sight.store.is_closed new ≡ true) [
         | true ↦ λ is. is
         | false ↦ λ is. differ (sym closed ∙ one.stays.stays_open is)
       ] refl
 
   -- a closed desk does nothing, and leaves no more than before
-  record Rested (old : Desk S) (asks : List Ask) (rs : List SeenReply) (new : Desk S) : Type 0 where
+  record Rested (old : D) (asks : List Ask) (rs : List SeenReply) (new : D) : Type 0 where
     pub nothing : deeds asks rs ≡ []
-    pub leaves : StopLeavesNoMore (on sight) old new
-    pub clean : (on sight).is_clean old
+    pub leaves : StopLeavesNoMore sight.store old new
+    pub clean : sight.store.is_clean old
 
-  rested : (old new : Desk S) (asks : List Ask) (rs : List SeenReply) →
-      InTurn (Exchanged sight d) old asks rs new → (on sight).is_closed old ≡ true →
-      (on sight).is_clean new → Rested old asks rs new
+  rested : (old new : D) (asks : List Ask) (rs : List SeenReply) →
+      InTurn (Exchanged sight d) old asks rs new → sight.store.is_closed old ≡ true →
+      sight.store.is_clean new → Rested old asks rs new
   rested old new [] [] h closed clean = record {
     nothing = refl;
-    leaves = subst (λ n. StopLeavesNoMore (on sight) old n) (sym h)
+    leaves = subst (λ n. StopLeavesNoMore sight.store old n) (sym h)
         (λ desk. desk, λ t leaves. leaves);
-    clean = subst (on sight).is_clean h clean;
+    clean = subst sight.store.is_clean h clean;
   }
   rested old new [] (r ∷ rs) h closed clean = absurd h
   rested old new (a ∷ asks) [] h closed clean = absurd h
@@ -170,26 +165,26 @@ module _ {S : Type 0} (sight : Sight S) (d : Directory) where
       }
 
   -- the store is open behind an exchange, and the rest is a session
-  goes_on : (old mid : Desk S) (a : Ask) (r : SeenReply) (asks : List Ask) (rs : List SeenReply)
+  goes_on : (old mid : D) (a : Ask) (r : SeenReply) (asks : List Ask) (rs : List SeenReply)
       (t' : Tables) → Exchanged sight d old a r mid →
-      AllDone (host_of old) d (tables old) (deeds_of a.at a.called r) (tables mid) →
-      (TellsClosed r → ⊥) → Ran (host_of mid) d asks rs (tables mid) t' →
-      Ran (host_of old) d (a ∷ asks) (r ∷ rs) (tables old) t'
+      AllDone (sight.host old) d (tables old) (deeds_of a.at a.called r) (tables mid) →
+      (TellsClosed r → ⊥) → Ran (sight.host mid) d asks rs (tables mid) t' →
+      Ran (sight.host old) d (a ∷ asks) (r ∷ rs) (tables old) t'
   goes_on old mid a r asks rs t' one did open_ later =
-      let rest : Ran (host_of old) d asks rs (tables mid) t' =
+      let rest : Ran (sight.host old) d asks rs (tables mid) t' =
       subst (λ host. Ran host d asks rs (tables mid) t') one.stays.host later in
       record {
         under_way = rest.under_way;
         stopped_at = inr (inl (open_, rest.stopped_at));
         last = rest.last;
-        done = all_done_on (host_of old) d (tables old) (tables mid) rest.last
+        done = all_done_on (sight.host old) d (tables old) (tables mid) rest.last
             (deeds_of a.at a.called r) (deeds asks rs) did rest.done;
         found = rest.found;
       }
 
-  was_clean : (old new : Desk S) (asks : List Ask) (rs : List SeenReply) →
-      InTurn (Exchanged sight d) old asks rs new → (on sight).is_clean new →
-      (on sight).is_clean old
+  was_clean : (old new : D) (asks : List Ask) (rs : List SeenReply) →
+      InTurn (Exchanged sight d) old asks rs new → sight.store.is_clean new →
+      sight.store.is_clean old
   was_clean old new asks rs h clean = (served sight d old new asks rs h).stays.quiet clean
 
   -- nothing is under way where nothing was done
@@ -199,10 +194,10 @@ module _ {S : Type 0} (sight : Sight S) (d : Directory) where
   idle (a ∷ asks) (r ∷ rs) none = inr (inr (none, refl))
 
   -- nothing was done over a desk that was closed
-  shut_ran : (old new : Desk S) (asks : List Ask) (rs : List SeenReply) →
+  shut_ran : (old new : D) (asks : List Ask) (rs : List SeenReply) →
       InTurn (Exchanged sight d) old asks rs new → IsJustOpened sight old →
-      (on sight).is_closed old ≡ true → (on sight).is_clean new →
-      StopLeaves (on sight) new (Ran (host_of old) d asks rs (tables old))
+      sight.store.is_closed old ≡ true → sight.store.is_clean new →
+      StopLeaves sight.store new (Ran (sight.host old) d asks rs (tables old))
   shut_ran old new asks rs h opened closed clean =
       let all = rested old new asks rs h closed clean in (
         all.leaves.0 opened.rests.0,
@@ -210,18 +205,18 @@ module _ {S : Type 0} (sight : Sight S) (d : Directory) where
           under_way = [];
           stopped_at = idle asks rs all.nothing;
           last = tables old;
-          done = subst (λ (done : List Deed). AllDone (host_of old) d (tables old) done
+          done = subst (λ (done : List Deed). AllDone (sight.host old) d (tables old) done
               (tables old)) (sym all.nothing) refl;
           found = (0, opened.rests.1 t' (all.leaves.1 t' leaves));
         },
       )
 
-  ran : (old new : Desk S) (asks : List Ask) (rs : List SeenReply) →
+  ran : (old new : D) (asks : List Ask) (rs : List SeenReply) →
       InTurn (Exchanged sight d) old asks rs new → IsJustOpened sight old →
-      (on sight).is_clean new →
-      StopLeaves (on sight) new (Ran (host_of old) d asks rs (tables old))
+      sight.store.is_clean new →
+      StopLeaves sight.store new (Ran (sight.host old) d asks rs (tables old))
   ran old new [] [] h opened clean = subst
-      (λ n. StopLeaves (on sight) n (Ran (host_of old) d [] [] (tables old))) (sym h) (
+      (λ n. StopLeaves sight.store n (Ran (sight.host old) d [] [] (tables old))) (sym h) (
         opened.rests.0,
         λ t' leaves. record {
           under_way = [];
@@ -235,28 +230,29 @@ module _ {S : Type 0} (sight : Sight S) (d : Directory) where
   ran old new (a ∷ asks) [] h opened clean = absurd h
   ran old new (a ∷ asks) (r ∷ rs) h opened clean = further h.0 h.1 h.2
       (λ now. ran h.0 new asks rs h.2 now clean) where
-        further : (mid : Desk S) → Exchanged sight d old a r mid →
+        further : (mid : D) → Exchanged sight d old a r mid →
             InTurn (Exchanged sight d) mid asks rs new →
-            (IsJustOpened sight mid → StopLeaves (on sight) new
-            (Ran (host_of mid) d asks rs (tables mid))) →
-            StopLeaves (on sight) new (Ran (host_of old) d (a ∷ asks) (r ∷ rs) (tables old))
-        further mid one later next = elim ((on sight).is_closed mid) as (λ b.
-            (on sight).is_closed mid ≡ b →
-            StopLeaves (on sight) new (Ran (host_of old) d (a ∷ asks) (r ∷ rs) (tables old))) [
+            (IsJustOpened sight mid → StopLeaves sight.store new
+            (Ran (sight.host mid) d asks rs (tables mid))) →
+            StopLeaves sight.store new (Ran (sight.host old) d (a ∷ asks) (r ∷ rs) (tables old))
+        further mid one later next = elim (sight.store.is_closed mid) as (λ b.
+            sight.store.is_closed mid ≡ b →
+            StopLeaves sight.store new (Ran (sight.host old) d (a ∷ asks) (r ∷ rs) (tables old))) [
               | true ↦ λ closed.
                   let rest = rested mid new asks rs later closed clean in
                   let left = one.stops rest.clean opened.ours opened.sound opened.rests in
                   ⊎_elim (λ (told : TellsClosed r). (
                     rest.leaves.0 left.0,
-                    λ t' leaves. closing (host_of old) d a r asks rs (tables old) t' told
+                    λ t' leaves. closing (sight.host old) d a r asks rs (tables old) t' told
                         rest.nothing (left.1 t' (rest.leaves.1 t' leaves)),
-                  )) (λ (was : (on sight).is_closed old ≡ true).
+                  )) (λ (was : sight.store.is_closed old ≡ true).
                   shut_ran old new (a ∷ asks) (r ∷ rs) (mid, one, later) opened was clean)
-                  (told_closed (on sight) d old mid a.at a.called r closed one.anyway)
+                  (told_closed sight.store d old mid a.at a.called r closed one.anyway)
               | false ↦ λ stays.
                   let before = was_clean mid new asks rs later clean in
-                  let did = done_once sight.may_answer (host_of old) d (tables old) (tables mid)
-                  a.at a.called r (one.replied before opened.ours stays opened.sound) in
+                  let may = sight.store.may_answer in
+                  let did = done_once may (sight.host old) d (tables old) (tables mid) a.at
+                  a.called r (one.replied before opened.ours stays opened.sound) in
                   let rest = next (record {
                     ours = one.stays.ours before opened.ours stays;
                     sound = one.sound before opened.ours stays opened.sound;
@@ -268,22 +264,22 @@ module _ {S : Type 0} (sight : Sight S) (d : Directory) where
                   )
             ] refl
 
-  pub is_session : (old new : Desk S) (asks : List Ask) (rs : List SeenReply) →
+  pub is_session : (old new : D) (asks : List Ask) (rs : List SeenReply) →
       InTurn (Exchanged sight d) old asks rs new → IsJustOpened sight old →
-      (on sight).is_clean new →
-      StopLeaves (on sight) new (IsSession (host_of old) d asks rs (tables old))
+      sight.store.is_clean new →
+      StopLeaves sight.store new (IsSession (sight.host old) d asks rs (tables old))
   is_session old new asks rs h opened clean =
       let all = ran old new asks rs h opened clean in (
         all.0,
-        λ t' leaves. session_of (host_of old) d asks rs (tables old) t' (all.1 t' leaves),
+        λ t' leaves. session_of (sight.host old) d asks rs (tables old) t' (all.1 t' leaves),
       )
 
   -- where the desk is open, nothing is under way
-  pub is_whole : (old new : Desk S) (asks : List Ask) (rs : List SeenReply) →
+  pub is_whole : (old new : D) (asks : List Ask) (rs : List SeenReply) →
       InTurn (Exchanged sight d) old asks rs new → IsJustOpened sight old →
-      (on sight).is_clean new →
-      (on sight).is_closed new ≡ false →
-      StopLeaves (on sight) new (Passed (host_of old) (uncut d asks rs) (tables old))
+      sight.store.is_clean new →
+      sight.store.is_closed new ≡ false →
+      StopLeaves sight.store new (Passed (sight.host old) (uncut d asks rs) (tables old))
   is_whole old new asks rs h opened clean open_ =
       let all = served sight d old new asks rs h in
       let left = all.stays.rests clean opened.ours open_ opened.rests in (

@@ -2,11 +2,11 @@
 -- was closed or the machine stopped.
 use Rattle.std.specs.Prelude.{◌≡◌, ℕ, suc, List, [], ◌∷◌, ◌++◌, map, filter, take}
 use Rattle.std.specs.Ordering.{eq_by_cmp}
-use Rattle.hq_queue.specs.declared.account.Entry.{Entry}
-use Rattle.hq_store.specs.Sound.{Sound}
-use Rattle.hq_store.specs.Tables.{State, Tables, text_cmp, own}
-use Rattle.hq_calls.specs.Machine.{answers, state_after}
-use Rattle.hq_calls.specs.declared.call.Call.{Call}
+use Rattle.hq_kept.specs.declared.account.Entry.{Entry}
+use Rattle.hq_tables.specs.Sound.{Sound}
+use Rattle.hq_tables.specs.Tables.{State, Tables, text_cmp, own}
+use Rattle.hq_rules.specs.Machine.{answers, state_after}
+use Rattle.hq_rules.specs.declared.call.Call.{Call}
 use Rattle.hq_requests.specs.Directories.{entry_of}
 use Rattle.hq_requests.specs.declared.directory.Directory.{Directory}
 use Rattle.hq_wire.specs.Exchanges.{Ask, Told, Unheard, calls_asked, after_calls}

@@ -1,10 +1,9 @@
 -- What was asked of a desk up to a stop, as a session.
 use Rattle.std.specs.Prelude.{◌≡◌, ◌⊎◌, ℕ, List, [], ◌∷◌}
-use Rattle.hq_store.specs.Shelves.{Sight, StopLeavesTables}
-use Rattle.hq_store.specs.Sound.{Sound}
-use Rattle.hq_store.specs.Tables.{Tables}
-use Rattle.hq_desk.specs.Desks.{on}
-use Rattle.hq_desk.specs.declared.desk.Desk.{Desk}
+use Rattle.hq_tables.specs.Shelves.{StopLeavesTables}
+use Rattle.hq_tables.specs.Sound.{Sound}
+use Rattle.hq_tables.specs.Tables.{Tables}
+use Rattle.hq_rules.specs.Desks.{DeskSight}
 use Rattle.hq_requests.specs.declared.directory.Directory.{Directory}
 use Rattle.hq_wire.specs.Exchanges.{Ask, TellsClosed, Unheard, next_call}
 use Rattle.hq_wire.specs.Replies.{SeenReply}
@@ -13,10 +12,10 @@ use Rattle.hq_across.specs.Histories.{Passed}
 
 -- A desk as it was opened: its rows are those of its tables, which are sound, and a stop leaves
 -- these. `sight` is what is seen of its shelf.
-pub record IsJustOpened {S : Type 0} (sight : Sight S) (desk : Desk S) : Type 0 where
-  pub ours : (on sight).is_ours desk
-  pub sound : Sound ((on sight).tables desk)
-  pub rests : StopLeavesTables (on sight) desk
+pub record IsJustOpened {D : Type 0} (sight : DeskSight D) (desk : D) : Type 0 where
+  pub ours : sight.store.is_ours desk
+  pub sound : Sound (sight.store.tables desk)
+  pub rests : StopLeavesTables sight.store desk
 
 -- The store was closed in this exchange, and 93 told: under way is its first call that the reply
 -- does not tell of, and what was asked behind it did nothing.

@@ -2,11 +2,9 @@
 
 ghost use Rattle.std.specs.Prelude.{◌≡◌, ℕ, false, List};
 ghost use Rattle.hq_values.specs.Turns.{InTurn};
-ghost use Rattle.hq_store.specs.Shelves.{StopLeaves};
-ghost use Rattle.hq_store.specs.Sound.{Sound};
-ghost use Rattle.hq_store.specs.Tables.{Tables};
-ghost use Rattle.hq_desk.specs.Desks.{host_of, on};
-ghost use Rattle.hq_desk.specs.declared.desk.Desk.{Desk};
+ghost use Rattle.hq_tables.specs.Shelves.{StopLeaves};
+ghost use Rattle.hq_tables.specs.Sound.{Sound};
+ghost use Rattle.hq_tables.specs.Tables.{Tables};
 ghost use Rattle.hq_wire.specs.Exchanges.{Ask, Exchanged, MayReply};
 ghost use Rattle.hq_wire.specs.Replies.{SeenReply};
 ghost use Rattle.hq_wire.specs.Runs.{AllReplied};
@@ -15,7 +13,7 @@ ghost use Rattle.hq_across.specs.Histories.{Session, Passed, InSessions, AloneAc
 ghost use Rattle.hq_across.specs.Histories.{uncut, cut_with};
 ghost use Rattle.hq_across.specs.Sessions.{IsJustOpened, IsSession};
 
-use hq_store::Shelf;
+use hq_rules::Acts;
 
 /// Whatever the other customers do and whenever the machine stops: to every customer a history of
 /// sessions is its own machine on its own calls, in each session by its entry in the directory of
@@ -32,24 +30,24 @@ pub fn alone_across_stops()
 /// What was asked of a desk up to a stop is a session, whichever tables the next opening finds. At
 /// most one call is under way then, the one at which the store was closed; and none, where the desk
 /// is open.
-pub fn exchanges_are_a_session<S: Shelf>()
-    ensures stopped { (d : Directory) (old new : Desk S) (asks : List Ask) (rs : List SeenReply)
-        → InTurn (Exchanged S.sight d) old asks rs new → IsJustOpened S.sight old
-        → (on S.sight).is_clean new → StopLeaves (on S.sight) new
-        (IsSession (host_of old) d asks rs ((on S.sight).tables old)) }
-    ensures open { (d : Directory) (old new : Desk S) (asks : List Ask) (rs : List SeenReply)
-        → InTurn (Exchanged S.sight d) old asks rs new → IsJustOpened S.sight old
-        → (on S.sight).is_clean new → (on S.sight).is_closed new ≡ false
-        → StopLeaves (on S.sight) new
-        (Passed (host_of old) (uncut d asks rs) ((on S.sight).tables old)) }
+pub fn exchanges_are_a_session<D: Acts>()
+    ensures stopped { (d : Directory) (old new : D) (asks : List Ask) (rs : List SeenReply)
+        → InTurn (Exchanged D.sight d) old asks rs new → IsJustOpened D.sight old
+        → D.sight.store.is_clean new → StopLeaves D.sight.store new
+        (IsSession (D.sight.host old) d asks rs (D.sight.store.tables old)) }
+    ensures open { (d : Directory) (old new : D) (asks : List Ask) (rs : List SeenReply)
+        → InTurn (Exchanged D.sight d) old asks rs new → IsJustOpened D.sight old
+        → D.sight.store.is_clean new → D.sight.store.is_closed new ≡ false
+        → StopLeaves D.sight.store new
+        (Passed (D.sight.host old) (uncut d asks rs) (D.sight.store.tables old)) }
 {}
 
 /// An exchange whose reply never came is under way, also where it was done: a process that dies
 /// between its commit and its reply.
-pub fn lost_reply_is_under_way<S: Shelf>()
+pub fn lost_reply_is_under_way<D: Acts>()
     ensures { (host : List ℕ) (d : Directory) (asks : List Ask) (rs : List SeenReply) (a : Ask)
         (r : SeenReply) (t last t' : Tables)
-        → AllReplied S.sight.may_answer host d t asks rs last → (Sound t → Sound last)
-        → MayReply S.sight.may_answer host d last a r t'
+        → AllReplied D.sight.store.may_answer host d t asks rs last → (Sound t → Sound last)
+        → MayReply D.sight.store.may_answer host d last a r t'
         → Passed host (cut_with d asks rs a) t t' }
 {}

@@ -1,6 +1,6 @@
 //! A history of customers that come and leave, and what they are replied.
 
-use hq_queue::{Customer, Entry, Quota};
+use hq_kept::{Customer, Entry, Quota};
 use hq_sql_across::{Visit, history};
 use hq_values::{Fail as Failure, Host, Key, Moment, Name};
 use hq_wire::{Directory, Exchange, Reply, are_customers};
@@ -141,7 +141,7 @@ fn asked(alloc: Global, line: &str) -> Result<Exchange, Fail> {
 }
 
 /// A reply as a line `STATUS BODY`.
-fn line_of(alloc: Global, reply: &Reply) -> Result<String, Fail> {
+fn line_of(alloc: Global, reply: &Reply<'_>) -> Result<String, Fail> {
     let body = str::from_utf8(reply.body.as_bytes())?;
     Ok(format!(in alloc; "{} {body}", reply.status)?)
 }
@@ -177,11 +177,11 @@ fn connected(alloc: Global) -> Result<Connection<FileStore<Memory>>, Fail> {
 
 /// The replies of each session, over any store: its callers need nothing of the contract of a
 /// history, which is dear to read over a store of two files.
-fn replied<S: Alter + Reopen + Drop>(
+fn replied<'v, S: Alter + Reopen + Drop>(
     alloc: Global,
     conn: Connection<S>,
-    visits: &[Visit],
-) -> Result<(Vec<Vec<Reply>>, bool), Fail> {
+    visits: &'v [Visit],
+) -> Result<(Vec<Vec<Reply<'v>>>, bool), Fail> {
     let host = Host::parse(alloc, "relay.example")?;
     let served = history(alloc, conn, &host, visits)?;
     Ok((served.replies, served.in_doubt))

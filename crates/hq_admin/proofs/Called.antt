@@ -4,14 +4,13 @@ use Rattle.std.proofs.Common.{drop, length, get_or, Ok, refl, sym, ap, ◌∙◌
 use Rattle.std.proofs.Common.{subst, arith, length-append}
 use Rattle.hq_values.specs.Turns.{InTurn}
 use Rattle.hq_values.proofs.Turns.{turns_on, one_turn}
-use Rattle.hq_queue.specs.declared.account.Entry.{Entry}
-use Rattle.hq_store.specs.Shelves.{Sight, KeepsOnErr, OnSound, OnOpenSound}
-use Rattle.hq_store.specs.Sound.{Sound}
-use Rattle.hq_store.specs.Tables.{Tables}
-use Rattle.hq_calls.specs.declared.call.Call.{Call}
-use Rattle.hq_desk.specs.Desks.{Stays, IsRendered, host_of, on, stepped}
-use Rattle.hq_desk.specs.declared.desk.Desk.{Desk}
-use Rattle.hq_desk.specs.declared.desk.Rendered.{Rendered}
+use Rattle.hq_kept.specs.declared.account.Entry.{Entry}
+use Rattle.hq_tables.specs.Shelves.{KeepsOnErr, OnSound, OnOpenSound}
+use Rattle.hq_tables.specs.Sound.{Sound}
+use Rattle.hq_tables.specs.Tables.{Tables}
+use Rattle.hq_rules.specs.declared.call.Call.{Call}
+use Rattle.hq_rules.specs.Desks.{DeskSight, IsRendered, Stays, or_memory, stepped}
+use Rattle.hq_rules.specs.declared.render.Rendered.{Rendered}
 use Rattle.hq_admin.specs.Rounds.{IsCalled, printed_of}
 
 differ : {A : Type 0} → false ≡ true → A
@@ -19,22 +18,22 @@ differ e = absurd (not_so e) where
   not_so : false ≡ true → ⊥
   not_so e = cc
 
-module _ {S : Type 0} (sight : Sight S) (at : ℕ) (asked : Call) where
-  abbrev tables : Desk S → Tables
-  tables = (on sight).tables
+module _ {D : Type 0} (sight : DeskSight D) (at : ℕ) (asked : Call) where
+  abbrev tables : D → Tables
+  tables = sight.store.tables
 
   -- the calls of these are done, and so it was told
-  pub record SoFar (old : Desk S) (called : List Entry) (told : List Rendered) (new : Desk S) : Type
+  pub record SoFar (old : D) (called : List Entry) (told : List Rendered) (new : D) : Type
       0 where
     pub counted : length told ≡ length called
-    pub each : OnOpenSound (on sight) old new
-        (InTurn (IsCalled (host_of old) at asked) (tables old) called told (tables new))
-    pub sound : OnOpenSound (on sight) old new (Sound (tables new))
-    pub stays : Stays (on sight) old new
-    pub standing : (on sight).is_closed new ≡ (on sight).is_closed old
-    pub untold : (on sight).fault_count new ≡ (on sight).fault_count old
+    pub each : OnOpenSound sight.store old new
+        (InTurn (IsCalled (sight.host old) at asked) (tables old) called told (tables new))
+    pub sound : OnOpenSound sight.store old new (Sound (tables new))
+    pub stays : Stays sight old new
+    pub standing : sight.store.is_closed new ≡ sight.store.is_closed old
+    pub untold : sight.store.fault_count new ≡ sight.store.fault_count old
 
-  pub none_yet : (old : Desk S) → SoFar old [] [] old
+  pub none_yet : (old : D) → SoFar old [] [] old
   none_yet old = record {
     counted = refl;
     each = λ clean ours open_ sound. refl;
@@ -52,16 +51,16 @@ module _ {S : Type 0} (sight : Sight S) (at : ℕ) (asked : Call) where
   }
 
   -- what is closed stays so
-  still_closed : (old mid : Desk S) → Stays (on sight) old mid → (on sight).is_closed old ≡ true →
-      (on sight).is_closed mid ≡ true
-  still_closed old mid first closed = elim ((on sight).is_closed mid) as (λ b.
-      (on sight).is_closed mid ≡ b → (on sight).is_closed mid ≡ true) [
+  still_closed : (old mid : D) → Stays sight old mid → sight.store.is_closed old ≡ true →
+      sight.store.is_closed mid ≡ true
+  still_closed old mid first closed = elim (sight.store.is_closed mid) as (λ b.
+      sight.store.is_closed mid ≡ b → sight.store.is_closed mid ≡ true) [
         | true ↦ λ is. is
         | false ↦ λ is. differ (sym (first.stays_open is) ∙ closed)
       ] refl
 
-  keeps_on : (old mid new : Desk S) → Stays (on sight) old mid → Stays (on sight) mid new →
-      Stays (on sight) old new
+  keeps_on : (old mid new : D) → Stays sight old mid → Stays sight mid new →
+      Stays sight old new
   keeps_on old mid new first next = record {
     ours = λ clean ours open_. next.ours clean
         (first.ours (next.quiet clean) ours (next.stays_open open_)) open_;
@@ -78,15 +77,15 @@ module _ {S : Type 0} (sight : Sight S) (at : ℕ) (asked : Call) where
         (λ desk. after.0 (before.0 desk), λ t leaves. before.1 t (after.1 t leaves));
   }
 
-  pub one_more : (old mid new : Desk S) (called : List Entry) (told : List Rendered) (entry : Entry)
+  pub one_more : (old mid new : D) (called : List Entry) (told : List Rendered) (entry : Entry)
       (rendered : Rendered)
       → SoFar old called told mid
-      → OnSound (on sight) mid new (IsRendered (printed_of entry.name)
-      (stepped (on sight) mid entry at asked).0 rendered)
-      → OnSound (on sight) mid new (tables new ≡ (stepped (on sight) mid entry at asked).1)
-      → OnOpenSound (on sight) mid new (Sound (tables new))
-      → KeepsOnErr (on sight) mid new (Ok rendered)
-      → host_of new ≡ host_of mid
+      → OnSound sight.store mid new (IsRendered (printed_of entry.name)
+      (stepped sight mid entry at asked).0 rendered)
+      → OnSound sight.store mid new (tables new ≡ (stepped sight mid entry at asked).1)
+      → OnOpenSound sight.store mid new (Sound (tables new))
+      → KeepsOnErr (or_memory sight.store) mid new (Ok rendered)
+      → sight.host new ≡ sight.host mid
       → SoFar old (called ++ entry ∷ []) (told ++ rendered ∷ []) new
   one_more old mid new called told entry rendered before answer made sound kept host =
       let was = kept.tally.0 in
@@ -103,9 +102,9 @@ module _ {S : Type 0} (sight : Sight S) (at : ℕ) (asked : Call) where
             let then = kept.quiet clean in
             let rows = before.stays.ours then ours was in
             let good = before.sound then ours was fit in
-            turns_on (IsCalled (host_of old) at asked) (tables old) (tables mid) (tables new) called
-            (entry ∷ []) told (rendered ∷ []) (before.each then ours was fit)
-            (one_turn (IsCalled (host_of old) at asked) (tables mid) (tables new) entry rendered
+            turns_on (IsCalled (sight.host old) at asked) (tables old) (tables mid) (tables new)
+            called (entry ∷ []) told (rendered ∷ []) (before.each then ours was fit)
+            (one_turn (IsCalled (sight.host old) at asked) (tables mid) (tables new) entry rendered
             (subst step before.stays.host (answer clean rows good, made clean rows good)));
         sound = λ clean ours open_ fit.
             let then = kept.quiet clean in

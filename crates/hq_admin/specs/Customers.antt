@@ -5,9 +5,9 @@ use Rattle.hq_values.specs.Readers.{◌>>=◌}
 use Rattle.hq_values.specs.declared.failure.Refusal.{Refusal}
 use Rattle.hq_values.specs.declared.failure.Refusal.TheVariants.{NoCustomer}
 use Rattle.hq_import.specs.Directories.{customers_in}
-use Rattle.hq_queue.specs.Customers.{has_name}
-use Rattle.hq_queue.specs.declared.account.Customer.{Customer}
-use Rattle.hq_queue.specs.declared.account.Entry.{Entry}
+use Rattle.hq_kept.specs.Customers.{has_name}
+use Rattle.hq_kept.specs.declared.account.Customer.{Customer}
+use Rattle.hq_kept.specs.declared.account.Entry.{Entry}
 
 -- what the desk knows of a customer that was found, or 13
 abbrev pub found : Option Customer → Result Entry Refusal

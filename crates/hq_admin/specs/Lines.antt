@@ -3,13 +3,13 @@ use Rattle.std.specs.Prelude.{ℕ, ◌++◌, List, [], codes, decimal, Option, N
 use Rattle.std.specs.Prelude.{if◌then◌else◌}
 use Rattle.std.specs.List.{flat_map}
 use Rattle.hq_values.specs.Serials.{serial_text}
-use Rattle.hq_calls.specs.Histories.{last_number}
+use Rattle.hq_rules.specs.Histories.{last_number}
 use Rattle.hq_values.specs.declared.address.Sender.{Sender}
 use Rattle.hq_values.specs.declared.address.Sender.TheVariants.{Null, From}
-use Rattle.hq_queue.specs.declared.outcome.Ended.{Ended}
-use Rattle.hq_queue.specs.declared.outcome.Fate.{Fate}
-use Rattle.hq_queue.specs.declared.outcome.Fate.TheVariants.{Delivered, Failed, Deleted, Expired}
-use Rattle.hq_store.specs.declared.end.End.{End}
+use Rattle.hq_kept.specs.declared.outcome.Ended.{Ended}
+use Rattle.hq_kept.specs.declared.outcome.Fate.{Fate}
+use Rattle.hq_kept.specs.declared.outcome.Fate.TheVariants.{Delivered, Failed, Deleted, Expired}
+use Rattle.hq_kept.specs.declared.end.End.{End}
 
 abbrev pub fate_word : Fate → List ℕ
 fate_word Delivered = codes "delivered"

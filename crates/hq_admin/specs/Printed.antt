@@ -1,15 +1,15 @@
 -- What an administrator reads of an answer.
 use Rattle.std.specs.Prelude.{ℕ, ◌++◌, List, [], codes, decimal}
 use Rattle.hq_values.specs.Refusals.{refusal_shown}
-use Rattle.hq_calls.specs.declared.answer.Answer.{Answer}
-use Rattle.hq_calls.specs.declared.answer.Answer.TheVariants.{Refused, Reported, Imported, Swept}
-use Rattle.hq_calls.specs.declared.answer.Answer.TheVariants.{Used, Changed, HistoryListed}
-use Rattle.hq_calls.specs.declared.answer.Answer.TheVariants.{HistoryFound}
-use Rattle.hq_calls.specs.declared.answer.ImportCounts.{ImportCounts}
-use Rattle.hq_calls.specs.declared.answer.SweepCounts.{SweepCounts}
-use Rattle.hq_calls.specs.declared.answer.Usage.{Usage}
-use Rattle.hq_queue.specs.declared.account.Counts.{Counts}
-use Rattle.hq_queue.specs.declared.account.Tally.{Tally}
+use Rattle.hq_rules.specs.declared.answer.Answer.{Answer}
+use Rattle.hq_rules.specs.declared.answer.Answer.TheVariants.{Refused, Reported, Imported, Swept}
+use Rattle.hq_rules.specs.declared.answer.Answer.TheVariants.{Used, Changed, HistoryListed}
+use Rattle.hq_rules.specs.declared.answer.Answer.TheVariants.{HistoryFound}
+use Rattle.hq_rules.specs.declared.answer.ImportCounts.{ImportCounts}
+use Rattle.hq_rules.specs.declared.answer.SweepCounts.{SweepCounts}
+use Rattle.hq_rules.specs.declared.answer.Usage.{Usage}
+use Rattle.hq_kept.specs.declared.account.Counts.{Counts}
+use Rattle.hq_kept.specs.declared.account.Tally.{Tally}
 use Rattle.hq_admin.specs.Lines.{history_lines, more_from}
 
 -- what an import set, on a line

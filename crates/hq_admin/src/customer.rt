@@ -3,11 +3,11 @@
 ghost use Rattle.std.specs.Prelude.{◌≡◌};
 ghost use Rattle.std.specs.List.{find};
 ghost use Rattle.hq_values.specs.Readers.{Reads};
-ghost use Rattle.hq_queue.specs.Customers.{has_name};
+ghost use Rattle.hq_kept.specs.Customers.{has_name};
 ghost use Rattle.hq_admin.specs.Customers.{entry_named};
 
 use hq_import::directory_of;
-use hq_queue::{Customer, Entry};
+use hq_kept::{Customer, Entry};
 use hq_values::{Fail, Refusal};
 use std::alloc::Global;
 

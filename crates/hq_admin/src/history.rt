@@ -5,8 +5,7 @@ ghost use Rattle.std.specs.List.{flat_map};
 ghost use Rattle.hq_admin.specs.Lines as lines;
 
 use hq_decisions::histories::last_number;
-use hq_queue::{Ended, Fate, Status};
-use hq_store::End;
+use hq_kept::{End, Ended, Fate, Status};
 use hq_text::queue_id;
 use hq_values::Sender;
 use std::alloc::{AllocError, Global};

@@ -10,6 +10,6 @@ mod printed;
 mod rounds;
 
 pub use customer::customer_in;
-pub use performing::{Request, perform};
+pub use performing::{AdminCall, perform};
 pub use printed::Printed;
 pub use rounds::{ToldAll, call_each};

@@ -3,15 +3,16 @@
 ghost use Rattle.hq_admin.specs.Performs.{Performs};
 
 use crate::printed::Printed;
-use hq_desk::{Call, Desk, Rendered};
-use hq_queue::Entry;
-use hq_store::Shelf;
+use hq_desk::Desk;
+use hq_kept::Entry;
+use hq_rules::{Acts, Call, Rendered};
+use hq_tables::Shelf;
 use hq_values::{Fault, Host, Moment};
 use std::alloc::Global;
 
 /// A call that an administrator asks for.
 #[derive(Drop)]
-pub struct Request {
+pub struct AdminCall {
     /// The relay's name.
     pub host: Host,
     /// When it is done.
@@ -28,11 +29,11 @@ pub struct Request {
 pub fn perform<S: Shelf + Drop>(
     alloc: Global,
     shelf: S,
-    request: Request,
+    request: AdminCall,
 ) -> (S, Result<Rendered, Fault>)
     ensures { Performs S.sight shelf result.0 request result.1 }
 {
-    let Request {
+    let AdminCall {
         host,
         at,
         entry,

@@ -4,8 +4,8 @@ ghost use Rattle.std.specs.Prelude.{◌≡◌, ◌++◌, OnOk, string_bytes};
 ghost use Rattle.hq_admin.specs.Printed as texts;
 
 use crate::history::{more_from, put_history};
-use hq_desk::{Answer, ImportCounts, Render, SweepCounts, Usage};
-use hq_queue::{Counts, Tally};
+use hq_kept::{Counts, Tally};
+use hq_rules::{Answer, ImportCounts, Render, SweepCounts, Usage};
 use std::alloc::{AllocError, Global};
 use std::fmt::Write;
 
@@ -139,7 +139,7 @@ impl Render for Printed {
 
     ghost text = { λ _ answer. printed answer };
 
-    ghost fits = { λ _ _. ⊤ };
+    ghost fits = { λ _ _ _. ⊤ };
 
     fn render(&self, alloc: Global, answer: &Answer) -> Result<Vec<u8>, AllocError> {
         let mut text = String::new(alloc);

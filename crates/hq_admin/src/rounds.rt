@@ -1,13 +1,11 @@
-//! A round over a shelf: one call of each customer of a directory.
+//! A round: one call of each customer of a directory.
 
 ghost use Rattle.std.specs.Prelude.{◌≡◌, string_bytes, IfOk, OnErr};
 ghost use Rattle.hq_admin.specs.Rounds.{CallsEach, printed_of};
 
 use crate::printed::put_answer;
-use hq_calls::EachCall;
-use hq_desk::{Answer, Desk, Render, Rendered};
-use hq_queue::Customer;
-use hq_store::Shelf;
+use hq_kept::Customer;
+use hq_rules::{Acts, Answer, EachCall, Render, Rendered};
 use hq_values::{Fault, Moment, Name};
 use std::alloc::{AllocError, Global};
 use std::fmt::Write;
@@ -49,7 +47,7 @@ impl Render for PrintedOf<'_> {
 
     ghost text = { λ by answer. printed_of by.name.now answer };
 
-    ghost fits = { λ _ _. ⊤ };
+    ghost fits = { λ _ _ _. ⊤ };
 
     fn render(&self, alloc: Global, answer: &Answer) -> Result<Vec<u8>, AllocError> {
         let text = text_of(alloc, self.name, answer)?;
@@ -60,14 +58,14 @@ impl Render for PrintedOf<'_> {
 /// Makes this call of the customers of a directory at a moment, in their order, and stops at the
 /// first fault. A refusal does not stop it. It takes the room for all answers first; where that is
 /// refused, the desk stays as it is.
-pub fn call_each<S: Shelf + Drop>(
+pub fn call_each<D: Acts>(
     alloc: Global,
-    desk: &mut Desk<S>,
+    desk: &mut D,
     at: Moment,
     each: EachCall,
     customers: &[Customer],
 ) -> Result<ToldAll, AllocError>
-    ensures done { IfOk result (CallsEach S.sight desk.old desk.new at each customers.now) }
+    ensures done { IfOk result (CallsEach D.sight desk.old desk.new at each customers.now) }
     ensures none { OnErr result (desk.new ≡ desk.old) }
 {
     let mut told = Vec::with_capacity(alloc, customers.len())?;

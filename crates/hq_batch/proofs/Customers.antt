@@ -1,8 +1,8 @@
 -- Customers are the same where their names, their numbers and their keys are.
 use Rattle.std.proofs.Common.{◌≡◌, ℕ, List, IsTrue}
 use Rattle.hq_values.proofs.Truths.{one_proof}
-use Rattle.hq_queue.specs.Limits.{is_quota, is_delay, is_history}
-use Rattle.hq_queue.specs.declared.account.Customer.{Customer}
+use Rattle.hq_kept.specs.Limits.{is_quota, is_delay, is_history}
+use Rattle.hq_kept.specs.declared.account.Customer.{Customer}
 
 pub same_customer : (m b l n d w : ℕ) (h k : IsTrue (is_quota m b l n)) (x y : IsTrue (is_delay d))
     (p q : IsTrue (is_history w)) (name named key keyed : List ℕ) → name ≡ named → key ≡ keyed

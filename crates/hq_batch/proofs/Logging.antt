@@ -2,24 +2,24 @@
 use Rattle.std.specs.Io.KnownBytes.{Appends}
 use Rattle.std.proofs.Common.{◌≡◌, ◌∙◌, ℕ, Bool, List, Option, None, Some, refl, sym, subst}
 use Rattle.std.proofs.Common.{inl, inr}
-use Rattle.hq_desk.specs.declared.desk.Desk.{Desk}
-use Rattle.hq_store.specs.Shelves.{Sight}
+use Rattle.hq_rules.specs.Desks.{DeskSight}
 use Rattle.hq_lines.specs.Fields.{LineRequest}
-use Rattle.hq_log.specs.Entries as entries
-use Rattle.hq_log.specs.Entries.{IsTold, customer_named}
+use Rattle.hq_log.specs.Entries.{IsTold}
 use Rattle.hq_log.specs.Lines.{LogEntry, log_line_behind}
 use Rattle.hq_log.specs.declared.keeping.Answered.{Answered}
+use Rattle.hq_log.proofs.Told.{asked_entry, told_as}
+use Rattle.hq_requests.specs.Named.{customer_named}
 use Rattle.hq_requests.specs.declared.directory.Directory.{Directory}
 use Rattle.hq_requests.specs.declared.exchanges.Exchange.{Exchange}
 use Rattle.hq_wire.specs.Replies.{SeenReply}
 use Rattle.hq_batch.specs.Steps.{HoldsLine, IsLineLogged, IsLineToLog, SendsLine, moment_of}
 use Rattle.hq_batch.specs.declared.front.Replied.{Replied}
 
-module _ {S : Type 0} (d : Directory) (request : Option LineRequest) (before after : Desk S)
+module _ {D : Type 0} (d : Directory) (request : Option LineRequest) (before after : D)
     (r : SeenReply) (lost : Bool) (old new : Option (List ℕ)) (milliseconds : Option ℕ) where
   of_line : (asked : Option Exchange) → HoldsLine request before r after asked →
       Appends old new (log_line_behind lost
-      (entries.exchange_entry d (moment_of request) asked r.status r.body milliseconds)) →
+      (asked_entry d (moment_of request) asked r.status r.body milliseconds)) →
       IsLineLogged d request before after r lost old new
   of_line (Some x) (q, is_request, is) told = record {
     known = Some q;
@@ -49,22 +49,17 @@ module _ {S : Type 0} (d : Directory) (request : Option LineRequest) (before aft
   }
 
 -- what the log was told of, once it was begun, is what the line asks for, and its reply
-pub logged_as : {S : Type 0} (sight : Sight S) (d : Directory) (request : Option LineRequest)
-    (before after : Desk S) (lost begun_lost : Bool) (old begun new : Option (List ℕ))
+pub logged_as : {D : Type 0} (sight : DeskSight D) (d : Directory) (request : Option LineRequest)
+    (before after : D) (lost begun_lost : Bool) (old begun new : Option (List ℕ))
     (told : Answered) (replied : Replied) → begun_lost ≡ lost → begun ≡ old →
     IsLineToLog told replied → (sends : SendsLine sight d before request replied after) →
-    IsTold d told begun_lost begun new →
+    IsTold told begun_lost begun new →
     IsLineLogged d request before after sends.told lost old new
 logged_as sight d request before after lost begun_lost old begun new told replied same_lost same is
     sends line =
-    let at = is.0 ∙ sends.moment in
-    let status = is.2 ∙ sym sends.sent.0 in
-    let body = is.3 ∙ sym sends.sent.1 in
+    let entry = told_as d told (moment_of request) replied.asked replied.reply sends.told.status
+    sends.told.body line.0 (is.0 ∙ sends.moment) is.1 is.2 sends.customer (sym sends.sent.0)
+    (sym sends.sent.1) in
     of_line d request before after sends.told lost old new line.0 replied.asked sends.holds
     (subst (λ (t : Bool × Option (List ℕ) × LogEntry). Appends t.1 new (log_line_behind t.0 t.2))
-    (λ i. (
-      same_lost i,
-      same i,
-      entries.exchange_entry d (at i) (is.1 i) (status i) (body i) line.0,
-    ))
-    line.1)
+    (λ i. (same_lost i, same i, entry i)) line.1)

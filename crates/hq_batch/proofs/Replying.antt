@@ -3,8 +3,7 @@ use Rattle.std.proofs.Common.{◌≡◌, ℕ, Bool, List, [], ◌∷◌, map, Op
 use Rattle.std.proofs.Common.{◌∙◌, subst}
 use Rattle.std.specs.Bool.{⊤}
 use Rattle.hq_values.specs.Turns.{InTurn}
-use Rattle.hq_store.specs.Shelves.{Sight}
-use Rattle.hq_desk.specs.declared.desk.Desk.{Desk}
+use Rattle.hq_rules.specs.Desks.{DeskSight}
 use Rattle.hq_wire.specs.Exchanges.{Exchanged}
 use Rattle.hq_wire.specs.Replies.{SeenReply}
 use Rattle.hq_requests.specs.declared.directory.Directory.{Directory}
@@ -19,15 +18,15 @@ use Rattle.hq_batch.specs.Batches.{ask_in, reply_line, Replied}
 use Rattle.hq_batch.specs.Steps.{LineStep}
 use Rattle.hq_batch.specs.declared.front.Front.{Front}
 
-module _ {S : Type 0} (sight : Sight S) where
+module _ {D : Type 0} (sight : DeskSight D) where
   -- what the lines got one after the other, as the replies of exchanges
-  abbrev Turns : Directory → Desk S → List (Option LineRequest) → List (List ℕ) → Desk S → Type 0
+  abbrev Turns : Directory → D → List (Option LineRequest) → List (List ℕ) → D → Type 0
   Turns d old asked lines new = (rs : List SeenReply) × (lines ≡ map reply_line rs)
       × InTurn (Exchanged sight d) old (map (ask_in d) asked) rs new
 
-module _ {S L : Type 0} (sight : Sight S) (is_losing : L → Bool)
+module _ {D L : Type 0} (sight : DeskSight D) (is_losing : L → Bool)
     (contents : L → Option (List ℕ)) where
-  turns : (old new : Front S L) (asked : List (Option LineRequest)) (lines : List (List ℕ)) →
+  turns : (old new : Front D L) (asked : List (Option LineRequest)) (lines : List (List ℕ)) →
       InTurn (LineStep sight is_losing contents) old asked lines new →
       Turns sight old.directory.now old.desk.now asked lines new.desk.now
   turns old new [] [] p = ([], refl, ap (λ f. f.desk.now) p)
@@ -40,7 +39,7 @@ module _ {S L : Type 0} (sight : Sight S) (is_losing : L → Bool)
       (p.1.reply ∷ rest.0, (λ i. p.1.line_is i ∷ rest.1 i), (p.0.desk.now, p.1.done, later))
 
   -- they are served together
-  pub replied : (old new : Front S L) (asked : List (Option LineRequest)) (lines : List (List ℕ)) →
+  pub replied : (old new : Front D L) (asked : List (Option LineRequest)) (lines : List (List ℕ)) →
       InTurn (LineStep sight is_losing contents) old asked lines new →
       Replied sight old.directory.now old.desk.now asked lines new.desk.now
   replied old new asked lines p =
@@ -51,7 +50,7 @@ module _ {S L : Type 0} (sight : Sight S) (is_losing : L → Bool)
             (map (ask_in old.directory.now) asked) all.0 all.2,
       )
 
-  same_desk : (old new : Front S L) (asked : List (Option LineRequest)) (lines : List (List ℕ)) →
+  same_desk : (old new : Front D L) (asked : List (Option LineRequest)) (lines : List (List ℕ)) →
       InTurn (LineStep sight is_losing contents) old asked lines new →
       new.desk.ghost_name ≡ old.desk.ghost_name
   same_desk old new [] [] p = ap (λ f. f.desk.ghost_name) p
@@ -60,7 +59,7 @@ module _ {S L : Type 0} (sight : Sight S) (is_losing : L → Bool)
   same_desk old new (q ∷ asked) (line ∷ lines) p = same_desk p.0 new asked lines p.2 ∙ p.1.same_desk
 
   -- however the loop ends, the desk is the one that was lent
-  pub lent_desk : {X : Type 0} (old new : Front S L) → (X → new ≡ old) →
+  pub lent_desk : {X : Type 0} (old new : Front D L) → (X → new ≡ old) →
       (start end : Streams) (result : Result ⊤ EngineFault) →
       InputEnds (λ asked lines. InTurn (LineStep sight is_losing contents) old asked lines new) X
       start end result →

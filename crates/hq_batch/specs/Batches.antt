@@ -2,8 +2,7 @@
 use Rattle.std.specs.Prelude.{◌≡◌, ℕ, ◌+◌, ◌/◌, ◌%◌, List, [], ◌∷◌, ◌++◌, map, Option, None, Some}
 use Rattle.std.specs.Prelude.{Err}
 use Rattle.hq_values.specs.declared.failure.Refusal.TheVariants.{BadRequest}
-use Rattle.hq_store.specs.Shelves.{Sight}
-use Rattle.hq_desk.specs.declared.desk.Desk.{Desk}
+use Rattle.hq_rules.specs.Desks.{DeskSight}
 use Rattle.hq_requests.specs.Calls.{call_from}
 use Rattle.hq_wire.specs.Exchanges.{Ask}
 use Rattle.hq_wire.specs.Replies.{SeenReply}
@@ -26,7 +25,7 @@ reply_line r = three_digits r.status ++ 32 ∷ r.body ++ 10 ∷ []
 
 -- What a batch does with what lines ask for: each is served as an exchange, and the replies are
 -- written as lines.
-abbrev pub Replied : {S : Type 0} → Sight S → Directory → Desk S → List (Option LineRequest) →
-    List (List ℕ) → Desk S → Type 0
+abbrev pub Replied : {D : Type 0} → DeskSight D → Directory → D → List (Option LineRequest) →
+    List (List ℕ) → D → Type 0
 Replied sight d old asked lines new = (replies : List SeenReply) × (lines ≡ map reply_line replies)
     × Served sight d old (map (ask_in d) asked) replies new

@@ -1,6 +1,6 @@
 -- What the program serves without words: a relay with two customers.
 use Rattle.std.specs.Prelude.{[], ◌∷◌, true, codes}
-use Rattle.hq_queue.specs.declared.account.Customer.{Customer}
+use Rattle.hq_kept.specs.declared.account.Customer.{Customer}
 use Rattle.hq_settings.specs.Settings.{Named, Set}
 
 abbrev pub relay : Named

@@ -7,7 +7,7 @@ use Rattle.hq_values.specs.declared.failure.Fail.TheVariants.{Fault as AsFault}
 use Rattle.hq_values.specs.declared.failure.Refusal.{Refusal}
 use Rattle.hq_values.specs.Words.{host_in}
 use Rattle.hq_import.specs.Directories.{customers_in}
-use Rattle.hq_desk.specs.declared.desk.Rendered.{Rendered}
+use Rattle.hq_rules.specs.declared.render.Rendered.{Rendered}
 use Rattle.hq_settings.specs.Settings.{Named, settings_of}
 use Rattle.hq_words.specs.Given.{CheckGiven, KeyGiven}
 use Rattle.hq_batch.specs.Printing.{IsPrinted}

@@ -1,7 +1,7 @@
 -- What a run of a program does, however it ends.
 use Rattle.std.specs.Prelude.{◌≡◌, ⊤, ℕ, List, Option, Result, Ok, Err}
-use Rattle.hq_store.specs.Shelves.{Sight}
-use Rattle.hq_desk.specs.Desks.{host_of, shelf_of}
+use Rattle.hq_tables.specs.Shelves.{Sight}
+use Rattle.hq_desk.specs.Desks.{host_of, on, shelf_of}
 use Rattle.hq_desk.specs.declared.desk.Desk.{Desk}
 use Rattle.hq_settings.specs.declared.settings.Settings.{Settings}
 use Rattle.hq_lines.specs.Ends.{InputEnds}
@@ -20,7 +20,7 @@ pub record ServesOver {S : Type 0} (sight : Sight S) (settings : Settings) (shel
   pub host_is : host_of old ≡ settings.host
   pub shelf_is : shelf_of old ≡ shelf
   pub new : Desk S
-  pub replied : Replied sight settings.directory old asked lines new
+  pub replied : Replied (on sight) settings.directory old asked lines new
 
 -- how a run ends: as a batch does, with a fault of it told
 abbrev pub RunEnds : (List (Option LineRequest) → List (List ℕ) → Type 0) → Type 0 → Streams →

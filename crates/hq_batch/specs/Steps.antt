@@ -4,15 +4,14 @@
 use Rattle.std.specs.Prelude.{◌≡◌, ◌⊎◌, ℕ, Bool, false, List, Option, Some, None, string_bytes}
 use Rattle.std.specs.Prelude.{option_map, option_and_then}
 use Rattle.std.specs.Io.KnownBytes.{Appends}
-use Rattle.hq_log.specs.Entries.{customer_named}
+use Rattle.hq_requests.specs.Named.{customer_asked, customer_named, customer_told}
 use Rattle.hq_log.specs.Lines.{LogEntry, log_line_behind}
 use Rattle.hq_log.specs.declared.keeping.Answered.{Answered}
 use Rattle.hq_requests.specs.declared.directory.Directory.{Directory}
-use Rattle.hq_store.specs.Shelves.{Sight}
+use Rattle.hq_rules.specs.Desks.{DeskSight}
 use Rattle.hq_wire.specs.Exchanges.{Exchanged}
 use Rattle.hq_values.specs.Refusals.{no_memory}
-use Rattle.hq_desk.specs.declared.desk.Desk.{Desk}
-use Rattle.hq_wire.specs.Replies.{SeenReply, IsSent, body_bytes, reply_of_fault}
+use Rattle.hq_wire.specs.Replies.{SeenReply, IsSent, reply_of_fault}
 use Rattle.hq_requests.specs.declared.exchanges.Exchange.{Exchange}
 use Rattle.hq_lines.specs.Fields.{LineRequest}
 use Rattle.hq_batch.specs.Batches.{ask_in, reply_line}
@@ -29,30 +28,30 @@ moment_of request = option_map (λ (q : LineRequest). q.at) request
 
 -- no exchange was made of a line: it cannot be read; or there was no room for one, which is told,
 -- and nothing was done
-abbrev pub HasNoExchange : {S : Type 0} → Option LineRequest → Desk S → SeenReply → Desk S → Type 0
+abbrev pub HasNoExchange : {D : Type 0} → Option LineRequest → D → SeenReply → D → Type 0
 HasNoExchange request old r new = (request ≡ None)
     ⊎ ((r ≡ reply_of_fault no_memory) × (new ≡ old))
 
 -- the exchange that is there is what the line asks for
-abbrev pub HoldsLine : {S : Type 0} → Option LineRequest → Desk S → SeenReply → Desk S →
+abbrev pub HoldsLine : {D : Type 0} → Option LineRequest → D → SeenReply → D →
     Option Exchange → Type 0
 HoldsLine request old r new None = HasNoExchange request old r new
 HoldsLine request old r new (Some x) = (q : LineRequest) × (request ≡ Some q) × IsOfLine x q
 
 -- a line is replied to, as it is sent, and its moment and its exchange are at hand
-pub record SendsLine {S : Type 0} (sight : Sight S) (d : Directory) (old : Desk S)
-    (request : Option LineRequest) (replied : Replied) (new : Desk S) : Type 0 where
+pub record SendsLine {D : Type 0} (sight : DeskSight D) (d : Directory) (old : D)
+    (request : Option LineRequest) (replied : Replied) (new : D) : Type 0 where
   pub told : SeenReply
   pub sent : IsSent replied.reply told
   pub done : Exchanged sight d old (ask_in d request) told new
   pub moment : replied.at ≡ moment_of request
   pub holds : HoldsLine request old told new replied.asked
+  pub customer : customer_told replied.reply ≡ customer_asked d replied.asked
 
 -- what the log is told of
 abbrev pub IsLineToLog : Answered → Replied → Type 0
 IsLineToLog told replied = (told.at ≡ replied.at)
-    × (option_map (λ x. x.now) told.asked ≡ replied.asked) × (told.status ≡ replied.reply.status)
-    × (told.body.now ≡ body_bytes replied.reply.body)
+    × (option_map (λ x. x.now) told.asked ≡ replied.asked) × (told.reply.now ≡ replied.reply)
 
 -- what is told of a line, by what is known of it; where that is nothing, there is neither customer
 -- nor method nor path
@@ -69,8 +68,8 @@ batch_entry d at known r milliseconds = record {
 
 -- Its line is in the log; lines were lost before, or not. What the line asks for is known, unless
 -- there was no room for its exchange, which is told, and nothing was done.
-pub record IsLineLogged {S : Type 0} (d : Directory) (request : Option LineRequest)
-    (before after : Desk S) (r : SeenReply) (lost : Bool) (old new : Option (List ℕ)) : Type 0 where
+pub record IsLineLogged {D : Type 0} (d : Directory) (request : Option LineRequest)
+    (before after : D) (r : SeenReply) (lost : Bool) (old new : Option (List ℕ)) : Type 0 where
   pub known : Option LineRequest
   pub known_as : (known ≡ request)
       ⊎ ((known ≡ None) × (r ≡ reply_of_fault no_memory) × (after ≡ before))
@@ -80,9 +79,9 @@ pub record IsLineLogged {S : Type 0} (d : Directory) (request : Option LineReque
 
 -- The step of a line, and its reply as it is written; the directory stays, and so does the desk
 -- that is lent.
-pub record LineStep {S L : Type 0} (sight : Sight S) (is_losing : L → Bool)
-    (contents : L → Option (List ℕ)) (old : Front S L) (request : Option LineRequest)
-    (line : List ℕ) (new : Front S L) : Type 0 where
+pub record LineStep {D L : Type 0} (sight : DeskSight D) (is_losing : L → Bool)
+    (contents : L → Option (List ℕ)) (old : Front D L) (request : Option LineRequest)
+    (line : List ℕ) (new : Front D L) : Type 0 where
   pub directory : new.directory ≡ old.directory
   pub same_desk : new.desk.ghost_name ≡ old.desk.ghost_name
   pub reply : SeenReply

@@ -5,7 +5,7 @@ ghost use Rattle.hq_values.specs.Refusals.{no_memory_fail};
 ghost use Rattle.hq_batch.specs.Builtin as builtin;
 ghost use Rattle.hq_settings.specs.Seen.{settings_seen};
 
-use hq_queue::{Customer, Entry, Quota};
+use hq_kept::{Customer, Entry, Quota};
 use hq_settings::Settings;
 use hq_values::{Fail, Host, Key, Name};
 use hq_wire::Directory;

@@ -8,8 +8,8 @@ ghost use Rattle.hq_batch.specs.Checks.{HasRelay, CheckEnds, Checks, FileEnds, I
 ghost use Rattle.hq_batch.specs.Checks.{count_in};
 
 use crate::print;
-use hq_desk::Rendered;
 use hq_import::directory_of;
+use hq_rules::Rendered;
 use hq_settings::{Relay, Settings, Trouble, file_of, relay_of, wrong_in};
 use hq_values::{Fail, Fault, Host, Refusal};
 use hq_words::Check;

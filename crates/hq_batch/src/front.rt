@@ -5,10 +5,9 @@ ghost use Rattle.hq_lines.specs.Fields.{request_in, line_request};
 ghost use Rattle.hq_batch.specs.Steps.{IsOfLine, IsLineToLog, LineStep, SendsLine};
 
 use crate::writing::write_reply;
-use hq_desk::Desk;
 use hq_lines::{Answers, RequestLine, read_line};
 use hq_log::{Answered, Log};
-use hq_store::Shelf;
+use hq_rules::Acts;
 use hq_values::{Fault, Moment, Refusal};
 use hq_wire::{Directory, Exchange, Reply, exchange, fault_reply, refusal_reply};
 use std::alloc::{AllocError, Global};
@@ -39,13 +38,13 @@ fn exchange_of(alloc: Global, line: &RequestLine<'_>) -> Result<Exchange, AllocE
 
 /// What is replied to a line, with its moment and its exchange where these could be read.
 #[derive(Drop)]
-struct Replied {
+struct Replied<'d> {
     at: Option<Moment>,
     asked: Option<Exchange>,
-    reply: Reply,
+    reply: Reply<'d>,
 }
 
-impl Replied {
+impl Replied<'_> {
     /// What the log is told of.
     fn answered(&self) -> Answered<'_>
         ensures { IsLineToLog result self.now }
@@ -53,20 +52,19 @@ impl Replied {
         Answered {
             at: self.at,
             asked: self.asked.as_ref(),
-            status: self.reply.status,
-            body: self.reply.body.as_bytes(),
+            reply: &self.reply,
         }
     }
 }
 
 /// Replies to a line that can be read.
-fn request_reply<S: Shelf + Drop>(
+fn request_reply<'d, D: Acts>(
     alloc: Global,
-    desk: &mut Desk<S>,
-    directory: &Directory,
+    desk: &mut D,
+    directory: &'d Directory,
     line: &RequestLine<'_>,
-) -> Replied
-    ensures { SendsLine S.sight directory.now desk.old (Some (line_request line.now)) result
+) -> Replied<'d>
+    ensures { SendsLine D.sight directory.now desk.old (Some (line_request line.now)) result
         desk.new }
 {
     match exchange_of(alloc, line) {
@@ -81,46 +79,46 @@ fn request_reply<S: Shelf + Drop>(
         Err(_) => Replied {
             at: Some(line.at),
             asked: None,
-            reply: fault_reply(Fault::WantOfMemory),
+            reply: fault_reply(None, Fault::WantOfMemory),
         },
     }
 }
 
 /// Replies to a line.
-fn line_reply<S: Shelf + Drop>(
+fn line_reply<'d, D: Acts>(
     alloc: Global,
-    desk: &mut Desk<S>,
-    directory: &Directory,
+    desk: &mut D,
+    directory: &'d Directory,
     line: &[u8],
-) -> Replied
-    ensures { SendsLine S.sight directory.now desk.old (request_in line.now) result desk.new }
+) -> Replied<'d>
+    ensures { SendsLine D.sight directory.now desk.old (request_in line.now) result desk.new }
 {
     match read_line(line) {
         Some(line) => request_reply(alloc, desk, directory, &line),
         None => Replied {
             at: None,
             asked: None,
-            reply: refusal_reply(alloc, Refusal::BadRequest),
+            reply: refusal_reply(alloc, None, Refusal::BadRequest),
         },
     }
 }
 
 /// The desk with the directory of its customers, and a log.
 #[derive(Drop)]
-pub struct Front<'d, 'l, S, L> {
+pub struct Front<'d, 'l, D, L> {
     pub alloc: Global,
-    pub desk: &'d mut Desk<S>,
+    pub desk: &'d mut D,
     pub directory: &'d Directory,
     pub log: &'l mut L,
 }
 
-impl<S: Shelf + Drop, L: Log> Answers for Front<'_, '_, S, L> {
-    ghost steps = { LineStep S.sight L.is_losing L.contents };
+impl<D: Acts, L: Log> Answers for Front<'_, '_, D, L> {
+    ghost steps = { LineStep D.sight L.is_losing L.contents };
 
     fn answer<W: Write>(&mut self, line: &[u8], writer: &mut W) -> io::Result<()> {
         self.log.begin();
         let replied = line_reply(self.alloc, self.desk, self.directory, line);
-        self.log.replied(self.directory, &replied.answered());
+        self.log.replied(&replied.answered());
         write_reply(&replied.reply, writer)
     }
 }

@@ -4,7 +4,7 @@
 ghost use Rattle.std.specs.Prelude.{◌≡◌, ◌∷◌, ◌++◌, [], ℕ, true, List};
 ghost use Rattle.std.specs.List.{list_all};
 ghost use Rattle.hq_values.specs.Words.{is_name};
-ghost use Rattle.hq_store.specs.Tables.{Tables};
+ghost use Rattle.hq_tables.specs.Tables.{Tables};
 ghost use Rattle.hq_json.specs.OneLine.{is_one_line};
 ghost use Rattle.hq_requests.specs.Directories.{names_of};
 ghost use Rattle.hq_wire.specs.Exchanges.{Ask, MayReply};
@@ -12,12 +12,12 @@ ghost use Rattle.hq_wire.specs.Replies.{SeenReply};
 ghost use Rattle.hq_requests.specs.declared.directory.Directory.{Directory};
 ghost use Rattle.hq_batch.specs.Batches.{reply_line};
 
-use hq_store::Shelf;
+use hq_rules::Acts;
 
 /// A reply line has one LF, its last byte, whatever texts it tells of. So what a batch writes falls
 /// apart at its LFs into the replies.
-pub fn reply_lines_end_once<S: Shelf>()
+pub fn reply_lines_end_once<D: Acts>()
     ensures { (host : List ℕ) (d : Directory) (a : Ask) (r : SeenReply) (t t' : Tables)
-        → list_all is_name (names_of d) ≡ true → MayReply S.sight.may_answer host d t a r t'
+        → list_all is_name (names_of d) ≡ true → MayReply D.sight.store.may_answer host d t a r t'
         → (line : List ℕ) × (reply_line r ≡ line ++ 10 ∷ []) × (is_one_line line ≡ true) }
 {}

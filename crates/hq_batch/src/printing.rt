@@ -5,7 +5,7 @@ ghost use Rattle.std.specs.Io.KnownBytes.{Appends};
 ghost use Rattle.hq_batch.specs.Printing.{ArePrinted, AreShown, IsPrinted, IsPut, IsShown};
 
 use crate::telling::{DONE, FAILED, tell};
-use hq_desk::Rendered;
+use hq_rules::Rendered;
 use hq_settings::Trouble;
 use std::io::{self, Write};
 

@@ -7,7 +7,7 @@ use crate::batch;
 use hq_desk::Desk;
 use hq_log::Log;
 use hq_settings::{Settings, Trouble};
-use hq_store::Shelf;
+use hq_tables::Shelf;
 use std::alloc::Global;
 use std::io::{Read, Write};
 

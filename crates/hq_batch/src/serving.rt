@@ -5,31 +5,30 @@ ghost use Rattle.hq_lines.specs.Ends.{InputEnds};
 ghost use Rattle.hq_batch.specs.Batches.{Replied};
 
 use crate::front::Front;
-use hq_desk::Desk;
-use hq_lines::serve_lines;
+use hq_lines::answer_lines;
 use hq_log::Log;
-use hq_store::Shelf;
+use hq_rules::Acts;
 use hq_values::EngineFault;
 use hq_wire::Directory;
 use std::alloc::Global;
 use std::io::{Read, Write};
 
 /// Replies to the lines of an input with the desk that is lent to the front.
-fn serve_front<R: Read, W: Write, S: Shelf + Drop, L: Log>(
+fn serve_front<R: Read, W: Write, D: Acts + Drop, L: Log>(
     alloc: Global,
     reader: &mut R,
     writer: &mut W,
-    front: &mut Front<'_, '_, S, L>,
+    front: &mut Front<'_, '_, D, L>,
 ) -> Result<(), EngineFault>
     ensures same_reference { front.new.desk.ghost_name ≡ front.old.desk.ghost_name }
-    ensures ended { InputEnds (λ asked lines. Replied S.sight front.old.directory.now
+    ensures ended { InputEnds (λ asked lines. Replied D.sight front.old.directory.now
         front.old.desk.now asked lines front.new.desk.now)
         ((reader.new ≡ reader.old) × (writer.new ≡ writer.old)
         × (front.new.desk.now ≡ front.old.desk.now))
         (record { input = R.remaining reader.old; output = W.contents writer.old })
         (record { input = R.remaining reader.new; output = W.contents writer.new }) result }
 {
-    serve_lines(alloc, reader, writer, front)
+    answer_lines(alloc, reader, writer, front)
 }
 
 /// Replies to the lines of an input in order, one line `STATUS BODY` each.
@@ -52,15 +51,15 @@ fn serve_front<R: Read, W: Write, S: Shelf + Drop, L: Log>(
 /// before it are replied to. After a fault of writing the exchanges of the first lines are done, up
 /// to that whose reply could not be written, and no other; the replies before went out whole, and
 /// of this one a beginning.
-pub fn batch<R: Read, W: Write, S: Shelf + Drop, L: Log>(
+pub fn batch<R: Read, W: Write, D: Acts + Drop, L: Log>(
     alloc: Global,
     reader: &mut R,
     writer: &mut W,
-    desk: &mut Desk<S>,
+    desk: &mut D,
     directory: &Directory,
     log: &mut L,
 ) -> Result<(), EngineFault>
-    ensures { InputEnds (λ asked lines. Replied S.sight directory.now desk.old asked lines desk.new)
+    ensures { InputEnds (λ asked lines. Replied D.sight directory.now desk.old asked lines desk.new)
         ((reader.new ≡ reader.old) × (writer.new ≡ writer.old) × (desk.new ≡ desk.old))
         (record { input = R.remaining reader.old; output = W.contents writer.old })
         (record { input = R.remaining reader.new; output = W.contents writer.new }) result }

@@ -30,7 +30,7 @@ fn three_digits(status: u16) -> [u8; 3]
 
 /// Writes a reply as a line: its status, a space, its body and a line feed; and flushes. At an
 /// error a beginning of the line went out.
-pub(crate) fn write_reply<W: Write>(reply: &Reply, writer: &mut W) -> io::Result<()>
+pub(crate) fn write_reply<W: Write>(reply: &Reply<'_>, writer: &mut W) -> io::Result<()>
     ensures { GoesOut (W.contents writer.old) (W.contents writer.new)
         (reply_line (seen reply.now)) result }
 {

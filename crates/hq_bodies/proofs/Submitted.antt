@@ -10,8 +10,8 @@ use Rattle.hq_values.specs.Addresses.{is_address}
 use Rattle.hq_values.specs.Senders.{sender_in}
 use Rattle.hq_values.specs.Words.{spool_in}
 use Rattle.hq_values.specs.declared.address.Sender.{Sender}
-use Rattle.hq_calls.specs.Limits.{is_recipient_count, is_size}
-use Rattle.hq_calls.specs.declared.call.Submission.{Submission}
+use Rattle.hq_rules.specs.Limits.{is_recipient_count, is_size}
+use Rattle.hq_rules.specs.declared.call.Submission.{Submission}
 use Rattle.hq_bodies.specs.Reading.{texts_at}
 use Rattle.hq_bodies.specs.Submissions.{Fields, addresses_in, bytes_at, recipients_in, size_of}
 use Rattle.hq_bodies.specs.Submissions.{submission_of}

@@ -12,18 +12,18 @@ use Rattle.hq_values.specs.declared.failure.Refusal.{Refusal}
 use Rattle.hq_values.specs.declared.failure.Refusal.TheVariants.{BadJson, BadField, BadStatus}
 use Rattle.hq_values.specs.Addresses.{address_in}
 use Rattle.hq_values.specs.Words.{text_in}
-use Rattle.hq_queue.specs.Statuses.{status_in, first_digit}
-use Rattle.hq_queue.specs.declared.outcome.Delivery.{Delivery}
-use Rattle.hq_queue.specs.declared.outcome.Delivery.TheVariants as delivery
-use Rattle.hq_queue.specs.declared.outcome.Outcome.{Outcome}
-use Rattle.hq_calls.specs.declared.call.AttemptReport.{AttemptReport}
+use Rattle.hq_kept.specs.Statuses.{status_in, first_digit}
+use Rattle.hq_kept.specs.declared.outcome.Delivery.{Delivery}
+use Rattle.hq_kept.specs.declared.outcome.Delivery.TheVariants as delivery
+use Rattle.hq_kept.specs.declared.outcome.Outcome.{Outcome}
+use Rattle.hq_rules.specs.declared.call.AttemptReport.{AttemptReport}
 use Rattle.hq_bodies.specs.Reading.{json_of, has_only_members, text_at, number_at}
 use Rattle.hq_bodies.specs.declared.outcomes.AttemptTexts.{AttemptTexts}
 use Rattle.hq_bodies.specs.declared.outcomes.DeliveryTexts.{DeliveryTexts}
 use Rattle.hq_bodies.specs.declared.outcomes.DeliveryTexts.TheVariants.{Delivered, Deferred, Failed}
 use Rattle.hq_bodies.specs.declared.outcomes.OutcomeTexts.{OutcomeTexts}
 use Rattle.hq_bodies.specs.declared.outcomes.ReasonTexts.{ReasonTexts}
-use Rattle.hq_queue.specs.Limits.{most_recipients}
+use Rattle.hq_kept.specs.Limits.{most_recipients}
 
 -- ---- the members, each of its kind
 

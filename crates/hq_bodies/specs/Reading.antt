@@ -6,7 +6,7 @@ use Rattle.std.specs.List.{list_any}
 use Rattle.serde_json.specs.Data.{Data, Items, no_items, item, Members, no_members, member}
 use Rattle.serde_json.specs.Read.{read}
 use Rattle.serde_json.specs.Find.{get, as_str, as_number, as_u64, as_array}
-use Rattle.hq_queue.specs.Limits.{is_within}
+use Rattle.hq_kept.specs.Limits.{is_within}
 
 -- the value of a body that is UTF-8 and JSON
 abbrev pub json_of : List ℕ → Option Data

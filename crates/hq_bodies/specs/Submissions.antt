@@ -9,8 +9,8 @@ use Rattle.hq_values.specs.declared.failure.Refusal.TheVariants.{BadJson, BadFie
 use Rattle.hq_values.specs.Addresses.{address_in}
 use Rattle.hq_values.specs.Senders.{sender_in}
 use Rattle.hq_values.specs.Words.{spool_in}
-use Rattle.hq_calls.specs.Limits.{is_recipient_count, is_size}
-use Rattle.hq_calls.specs.declared.call.Submission.{Submission}
+use Rattle.hq_rules.specs.Limits.{is_recipient_count, is_size}
+use Rattle.hq_rules.specs.declared.call.Submission.{Submission}
 use Rattle.hq_bodies.specs.Reading.{json_of, has_only_members, text_at, number_at, texts_at}
 use Rattle.hq_bodies.specs.declared.members.MessageSize.{MessageSize}
 use Rattle.hq_bodies.specs.declared.members.RecipientTexts.{RecipientTexts}

@@ -13,11 +13,11 @@ use Rattle.hq_values.specs.Senders.{sender_in}
 use Rattle.hq_values.specs.Words.{label_in}
 use Rattle.hq_values.specs.declared.address.Sender.{Sender}
 use Rattle.hq_values.specs.declared.address.Sender.TheVariants.{From}
-use Rattle.hq_access.specs.Actions.{action_in}
-use Rattle.hq_access.specs.Patterns.{class_in, pattern_in}
-use Rattle.hq_access.specs.declared.pattern.Class.{Class}
-use Rattle.hq_access.specs.declared.pattern.Class.TheVariants.{SenderSide, RecipientSide}
-use Rattle.hq_access.specs.declared.pattern.Line.{Line}
+use Rattle.hq_kept.specs.Actions.{action_in}
+use Rattle.hq_kept.specs.Patterns.{class_in, pattern_in}
+use Rattle.hq_kept.specs.declared.pattern.Class.{Class}
+use Rattle.hq_kept.specs.declared.pattern.Class.TheVariants.{SenderSide, RecipientSide}
+use Rattle.hq_kept.specs.declared.pattern.Line.{Line}
 use Rattle.hq_bodies.specs.Queries.{after_in, before_at, id_at}
 use Rattle.hq_bodies.specs.Reading.{json_of, has_only_members, text_at}
 

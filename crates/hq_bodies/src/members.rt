@@ -1,7 +1,7 @@
 //! The members of a submission as they stand in its body, before their values are read.
 
 ghost use Rattle.std.specs.Prelude.{IsTrue, length, map, string_bytes};
-ghost use Rattle.hq_calls.specs.Limits.{is_recipient_count, is_size};
+ghost use Rattle.hq_rules.specs.Limits.{is_recipient_count, is_size};
 
 /// The texts of 1 to 100 recipients.
 #[derive(Drop)]

@@ -8,8 +8,8 @@ ghost use Rattle.hq_bodies.specs.Reading.{within, text_at};
 ghost use Rattle.hq_bodies.specs.Outcomes as bodies;
 
 use crate::reading::{has_only_members, json_value, text_member};
-use hq_calls::AttemptReport;
-use hq_queue::{Attempt, Delivery, Outcome, Status};
+use hq_kept::{Attempt, Delivery, Outcome, Status};
+use hq_rules::AttemptReport;
 use hq_values::{Address, Fail, Items, Refusal, Serial, Text};
 use serde_json::Value;
 use std::alloc::Global;

@@ -9,7 +9,7 @@ ghost use Rattle.hq_bodies.specs.Submissions.{shown_size, texts_shown};
 
 use crate::members::{MessageSize, RecipientTexts, SubmissionTexts};
 use crate::reading::{has_only, json_value, number_member, text_member, texts_member};
-use hq_calls::Submission;
+use hq_rules::Submission;
 use hq_values::{Address, Fail, Items, Refusal, Sender, Spool};
 use serde_json::Value;
 use std::alloc::Global;

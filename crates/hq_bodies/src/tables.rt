@@ -10,7 +10,7 @@ ghost use Rattle.hq_bodies.specs.Tables.{read_search};
 
 use crate::queries::{before_member, message_after};
 use crate::reading::{has_only_members, json_value, text_member};
-use hq_access::{Action, Class, Line, Pattern};
+use hq_kept::{Action, Class, Line, Pattern};
 use hq_values::{Address, Fail, Items, Label, Refusal, Sender, Serial};
 use serde_json::Value;
 use std::alloc::{AllocError, Global};

@@ -3,7 +3,7 @@ use Rattle.std.proofs.Common.{◌≡◌, ℕ, zero, suc, List, [], ◌∷◌, le
 use Rattle.std.proofs.Common.{ap}
 use Rattle.std.proofs.Common.{arith}
 use Rattle.std.specs.List.{last_or}
-use Rattle.hq_store.specs.declared.end.End.{End}
+use Rattle.hq_kept.specs.declared.end.End.{End}
 
 pub last_is : (n : ℕ) (es : List End) (e : End) (o : Option End) → length es ≡ suc n →
     e ≡ get_or es n e → last_or o es ≡ Some e

@@ -1,8 +1,8 @@
 -- Notices under numbers in a row.
 use Rattle.std.proofs.Common.{◌≡◌, ℕ, suc, ◌+◌, List, [], ◌∷◌, ◌++◌, length, ap, ◌∙◌, arith}
-use Rattle.hq_store.specs.declared.change.Change.TheVariants.{AddNotice}
-use Rattle.hq_calls.specs.Notices.{noticed, added_from}
-use Rattle.hq_calls.specs.declared.plan.Draft.{Draft}
+use Rattle.hq_tables.specs.declared.change.Change.TheVariants.{AddNotice}
+use Rattle.hq_rules.specs.Notices.{noticed, added_from}
+use Rattle.hq_rules.specs.declared.plan.Draft.{Draft}
 
 -- one more notice gets the number behind the last
 pub added_more : (host : List ℕ) (at number : ℕ) (ds : List Draft) (d : Draft) →

@@ -8,9 +8,9 @@ use Rattle.std.proofs.lemmas.List.Elements.{filter-append}
 use Rattle.std.proofs.lemmas.Map.Lookups.{exact_bytes}
 use Rattle.std.proofs.lemmas.Map.Views.{tells_apart, any-filter_same}
 use Rattle.hq_values.specs.Addresses.{folded}
-use Rattle.hq_store.specs.Tables.{text_cmp}
-use Rattle.hq_store.specs.Sound.{same_address}
-use Rattle.hq_calls.specs.Submissions.{distinct}
+use Rattle.hq_tables.specs.Tables.{text_cmp}
+use Rattle.hq_tables.specs.Sound.{same_address}
+use Rattle.hq_rules.specs.Submissions.{distinct}
 
 -- the same addresses are the same to a third
 alike : (x k a : List ℕ) → same_address k a ≡ true → not (same_address x k) ≡ not (same_address x a)

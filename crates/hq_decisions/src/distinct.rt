@@ -2,8 +2,8 @@
 
 ghost use Rattle.std.specs.Prelude.{◌≡◌, ◌++◌, ◌∷◌, [], IfOk, OnOk, if◌then◌else◌};
 ghost use Rattle.std.specs.List.{list_any};
-ghost use Rattle.hq_store.specs.Sound.{same_address};
-ghost use Rattle.hq_calls.specs.Submissions as rules;
+ghost use Rattle.hq_tables.specs.Sound.{same_address};
+ghost use Rattle.hq_rules.specs.Submissions as rules;
 
 use hq_values::Address;
 use std::alloc::{AllocError, Global};

@@ -1,12 +1,12 @@
 //! Histories told: a page, and what is found in one. Nothing is read or written here.
 
 ghost use Rattle.std.specs.Prelude.{◌≡◌, IfOk, filter};
-ghost use Rattle.hq_calls.specs.Histories as rules;
+ghost use Rattle.hq_rules.specs.Histories as rules;
 
-use hq_access::{Class, Pattern, keys_of, keys_of_address};
-use hq_calls::Answer;
-use hq_calls::decision::{Decision, PAGE, SEARCH, tell};
-use hq_store::End;
+use hq_access::{keys_of, keys_of_address};
+use hq_kept::{Class, End, Pattern};
+use hq_rules::Answer;
+use hq_rules::decision::{Decision, PAGE, SEARCH, tell};
 use hq_values::Items;
 use std::alloc::{AllocError, Global};
 

@@ -4,14 +4,14 @@
 ghost use Rattle.std.specs.Prelude.{◌≡◌, ◌++◌, ◌∷◌, [], IfOk};
 ghost use Rattle.std.specs.List.{flat_map};
 ghost use Rattle.sha2.specs.Sha256.{sha256};
-ghost use Rattle.hq_store.specs.declared.change.Change.TheVariants.{PutMark};
-ghost use Rattle.hq_calls.specs.Imports as rules;
+ghost use Rattle.hq_tables.specs.declared.change.Change.TheVariants.{PutMark};
+ghost use Rattle.hq_rules.specs.Imports as rules;
 
 use crate::lines::same_action;
-use hq_access::{Action, Line};
-use hq_calls::decision::{Decision, refuse, tell};
-use hq_calls::{Answer, ImportCounts, LinePut};
-use hq_store::{Change, Mark};
+use hq_kept::{Action, Line, Mark};
+use hq_rules::decision::{Decision, refuse, tell};
+use hq_rules::{Answer, ImportCounts, LinePut};
+use hq_tables::Change;
 use hq_values::{Items, Label, Refusal};
 use sha2::{Digest, Sha256};
 use std::alloc::{AllocError, Global};

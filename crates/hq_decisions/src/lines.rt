@@ -2,12 +2,12 @@
 //! Nothing is read or written here.
 
 ghost use Rattle.std.specs.Prelude.{◌≡◌, IfOk, None, Some};
-ghost use Rattle.hq_calls.specs.AccessLines as rules;
+ghost use Rattle.hq_rules.specs.AccessLines as rules;
 
-use hq_access::{Action, Line, Pattern};
-use hq_calls::decision::{Decision, PAGE, refuse, tell};
-use hq_calls::{Answer, LinePut};
-use hq_store::Change;
+use hq_kept::{Action, Line, Pattern};
+use hq_rules::decision::{Decision, PAGE, refuse, tell};
+use hq_rules::{Answer, LinePut};
+use hq_tables::Change;
 use hq_values::{Items, Refusal};
 use std::alloc::{AllocError, Global};
 

@@ -2,13 +2,14 @@
 //! read or written here.
 
 ghost use Rattle.std.specs.Prelude.{◌≡◌, ◌<◌, ◌≤◌, ◌^◌, IfOk, Some};
-ghost use Rattle.hq_calls.specs.Messages as rules;
+ghost use Rattle.hq_rules.specs.Messages as rules;
 
-use hq_calls::Answer;
-use hq_calls::decision::{Decision, PAGE, refuse, tell};
-use hq_calls::histories::keep_history;
-use hq_queue::{Entry, Fate, Head, Message, end_all, hold, release, requeue};
-use hq_store::Change;
+use hq_kept::{Entry, Fate, Head, Message};
+use hq_queue::{end_all, hold, release, requeue};
+use hq_rules::Answer;
+use hq_rules::decision::{Decision, PAGE, refuse, tell};
+use hq_rules::histories::keep_history;
+use hq_tables::Change;
 use hq_values::{Items, Moment, Refusal, Serial, Text};
 use std::alloc::{AllocError, Global};
 

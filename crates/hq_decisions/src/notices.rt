@@ -3,15 +3,15 @@
 
 ghost use Rattle.std.specs.Prelude.{◌≡◌, ◌∷◌, ◌++◌, ◌+◌, ◌≤◌, ◌^◌, IfOk, OnErr, OnOk, length};
 ghost use Rattle.std.specs.Prelude.{nat_lt};
-ghost use Rattle.hq_queue.specs.Admission.{spent};
-ghost use Rattle.hq_calls.specs.Notices as rules;
-ghost use Rattle.hq_store.specs.declared.change.Change.TheVariants.{PutHead};
+ghost use Rattle.hq_rules.specs.Admission.{spent};
+ghost use Rattle.hq_rules.specs.Notices as rules;
+ghost use Rattle.hq_tables.specs.declared.change.Change.TheVariants.{PutHead};
 
-use hq_calls::decision::{Decision, PAGE, refuse, tell};
-use hq_calls::histories::keep_history;
-use hq_calls::{Answer, Draft, Plan};
-use hq_queue::{Entry, Head, Kind, Message, Told};
-use hq_store::{Change, Notice};
+use hq_kept::{Entry, Head, Kind, Message, Notice, Told};
+use hq_rules::decision::{Decision, PAGE, refuse, tell};
+use hq_rules::histories::keep_history;
+use hq_rules::{Answer, Draft, Plan};
+use hq_tables::Change;
 use hq_text::{human_text, status_text};
 use hq_values::{Address, Host, Items, Moment, Refusal, Sender, TryCopy, WrittenText};
 use std::alloc::{AllocError, Global};

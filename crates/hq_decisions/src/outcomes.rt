@@ -2,14 +2,15 @@
 //! tried. Nothing is read or written here.
 
 ghost use Rattle.std.specs.Prelude.{◌≡◌, IfOk, Some, filter};
-ghost use Rattle.hq_queue.specs.Moves.{is_due};
-ghost use Rattle.hq_calls.specs.Outcomes as rules;
+ghost use Rattle.hq_rules.specs.Moves.{is_due};
+ghost use Rattle.hq_rules.specs.Outcomes as rules;
 
 use crate::notices::{carry_out, draft_notice};
-use hq_calls::decision::{Decision, PAGE, refuse, tell};
-use hq_calls::{Answer, AttemptCounts, AttemptReport, Plan};
-use hq_queue::{Ended, Entry, Head, Kind, Message, Reported, Told, due, report};
-use hq_store::Change;
+use hq_kept::{Ended, Entry, Head, Kind, Message, Reported, Told};
+use hq_queue::{due, report};
+use hq_rules::decision::{Decision, PAGE, refuse, tell};
+use hq_rules::{Answer, AttemptCounts, AttemptReport, Plan};
+use hq_tables::Change;
 use hq_values::{Fail, Host, Items, Moment};
 use std::alloc::{AllocError, Global};
 

@@ -3,19 +3,20 @@
 
 ghost use Rattle.std.specs.Prelude.{◌≡◌, ◌++◌, IfOk, OnOk, List, map};
 ghost use Rattle.std.specs.List.{flat_map};
-ghost use Rattle.hq_queue.specs.Ends.{all_ended};
-ghost use Rattle.hq_queue.specs.Moves.{MovesBy};
-ghost use Rattle.hq_queue.specs.declared.outcome.Fate.TheVariants.{Deleted};
-ghost use Rattle.hq_queue.specs.declared.message.Message.{Message};
-ghost use Rattle.hq_store.specs.Readings.{saturated};
-ghost use Rattle.hq_store.specs.Sound.{pending_count};
-ghost use Rattle.hq_calls.specs.Queues as rules;
+ghost use Rattle.hq_rules.specs.Leaving.{all_ended};
+ghost use Rattle.hq_rules.specs.Moves.{MovesBy};
+ghost use Rattle.hq_kept.specs.declared.outcome.Fate.TheVariants.{Deleted};
+ghost use Rattle.hq_kept.specs.declared.message.Message.{Message};
+ghost use Rattle.hq_tables.specs.Readings.{saturated};
+ghost use Rattle.hq_tables.specs.Sound.{pending_count};
+ghost use Rattle.hq_rules.specs.Queues as rules;
 
-use hq_calls::decision::{Decision, tell};
-use hq_calls::histories::keep_history;
-use hq_calls::{Allowance, Answer, Move, Usage};
-use hq_queue::{Counts, Ended, Entry, Fate, Head, Message, end_all, hold, release};
-use hq_store::Change;
+use hq_kept::{Counts, Ended, Entry, Fate, Head, Message};
+use hq_queue::{end_all, hold, release};
+use hq_rules::decision::{Decision, tell};
+use hq_rules::histories::keep_history;
+use hq_rules::{Allowance, Answer, Move, Usage};
+use hq_tables::Change;
 use hq_values::{Items, Moment, Text};
 use std::alloc::{AllocError, Global};
 

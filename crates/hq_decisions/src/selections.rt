@@ -3,13 +3,13 @@
 
 ghost use Rattle.std.specs.Prelude.{◌≡◌, ◌++◌, IfOk, OnOk, filter, option_map};
 ghost use Rattle.std.specs.List.{list_any};
-ghost use Rattle.hq_access.specs.Keys.{is_key_of};
+ghost use Rattle.hq_kept.specs.Keys.{is_key_of};
 ghost use Rattle.hq_values.specs.declared.address.Sender.TheVariants.{From};
-ghost use Rattle.hq_queue.specs.declared.message.Pending.{Pending};
-ghost use Rattle.hq_calls.specs.Selections as rules;
+ghost use Rattle.hq_kept.specs.declared.message.Pending.{Pending};
+ghost use Rattle.hq_rules.specs.Selections as rules;
 
-use hq_access::{Class, Pattern, keys_of, keys_of_address};
-use hq_queue::{Message, Pending};
+use hq_access::{keys_of, keys_of_address};
+use hq_kept::{Class, Message, Pattern, Pending};
 use hq_values::Items;
 use std::alloc::{AllocError, Global};
 

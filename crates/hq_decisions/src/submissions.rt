@@ -1,13 +1,12 @@
 //! What is answered and changed by a submission, by what was read. Nothing is read or written here.
 
 ghost use Rattle.std.specs.Prelude.{◌≡◌, IfOk, None, map, option_map};
-ghost use Rattle.hq_calls.specs.Submissions as rules;
+ghost use Rattle.hq_rules.specs.Submissions as rules;
 
-use hq_access::{Refused, Verdict};
-use hq_calls::decision::{Decision, refuse, tell};
-use hq_calls::{Answer, Submission};
-use hq_queue::{Head, Message, Pending, QueueState};
-use hq_store::Change;
+use hq_kept::{Head, Message, Pending, QueueState};
+use hq_rules::decision::{Decision, refuse, tell};
+use hq_rules::{Answer, Refused, Submission, Verdict};
+use hq_tables::Change;
 use hq_values::{Address, Items, Moment, Refusal, Serial, Text, TryCopy};
 use std::alloc::{AllocError, Global};
 

@@ -3,16 +3,15 @@
 
 ghost use Rattle.std.specs.Prelude.{◌≡◌, ◌++◌, IfOk, OnErr, OnOk, map, option_map};
 ghost use Rattle.std.specs.List.{sum_by, flat_map};
-ghost use Rattle.hq_store.specs.Readings.{saturated};
-ghost use Rattle.hq_calls.specs.Sweeps as rules;
+ghost use Rattle.hq_tables.specs.Readings.{saturated};
+ghost use Rattle.hq_rules.specs.Sweeps as rules;
 
 use crate::notices::{carry_out, draft_notice};
-use hq_calls::decision::{Decision, tell};
-use hq_calls::{Answer, Draft, Plan, SweepCounts};
-use hq_queue::{
-    Ended, Entry, Fate, Head, Kind, Message, Pending, Status, Swept, Told, end_all, sweep_one,
-};
-use hq_store::Change;
+use hq_kept::{Ended, Entry, Fate, Head, Kind, Message, Pending, Status, Told};
+use hq_queue::{end_all, sweep_one};
+use hq_rules::decision::{Decision, tell};
+use hq_rules::{Answer, Draft, Plan, SweepCounts, Swept};
+use hq_tables::Change;
 use hq_values::{Host, Items, Moment, TryCopy};
 use std::alloc::{AllocError, Global};
 

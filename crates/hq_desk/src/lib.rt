@@ -5,8 +5,4 @@
 
 mod desk;
 
-pub use desk::{Desk, Rendered};
-pub use hq_calls::{
-    Answer, AttemptCounts, AttemptReport, Call, Decision, ImportCounts, LinePut, Render,
-    Submission, SweepCounts, Usage,
-};
+pub use desk::Desk;

@@ -11,7 +11,7 @@ use hq_lists::ListShelf;
 use hq_log::NoLog;
 use hq_settings::{Settings, Trouble, set_up};
 use hq_sql_shelf::SqlShelf;
-use hq_store::Shelf;
+use hq_tables::Shelf;
 use hq_trial::{FailingShelf, Failure};
 use hq_values::Fault;
 use hq_words::RelayKey;

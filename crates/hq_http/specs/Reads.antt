@@ -7,8 +7,8 @@ use Rattle.hq_values.specs.declared.engine.EngineFault.TheVariants.{Read, TooMan
 use Rattle.hq_http.specs.Requests.{IsOpen, most_read_bytes}
 use Rattle.hq_http.specs.Stages.{LeavesOpen}
 use Rattle.hq_http.specs.declared.reads.Reads.{Reads}
-use Rattle.hq_http.specs.declared.reads.Told.{Told}
-use Rattle.hq_http.specs.declared.reads.Told.TheVariants.{Bytes, Interruption, End}
+use Rattle.hq_http.specs.declared.reads.ReadResult.{ReadResult}
+use Rattle.hq_http.specs.declared.reads.ReadResult.TheVariants.{Bytes, Interruption, End}
 
 -- the bytes that the last read gave
 abbrev pub last_given : {R : Type 0} → Reads R → List ℕ
@@ -26,7 +26,7 @@ pub record MakesOneRead {R : Type 0} (remaining : R → Option (List ℕ)) (old 
 -- What a read tells: that some bytes came; that it was interrupted, with no byte; that the end
 -- came; that it failed, or is not made behind one that did; or that none is left, and none is made.
 abbrev pub ReadIs : {R : Type 0} → (R → Option (List ℕ)) → Reads R → Reads R →
-    Result Told EngineFault → Type 0
+    Result ReadResult EngineFault → Type 0
 ReadIs remaining old new (Ok Bytes) = MakesOneRead remaining old new × (new.over ≡ false)
     × (0 < length (last_given new))
 ReadIs remaining old new (Ok Interruption) = MakesOneRead remaining old new × (new.over ≡ false)

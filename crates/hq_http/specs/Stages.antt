@@ -8,7 +8,7 @@ use Rattle.hq_values.specs.declared.engine.EngineFault.TheVariants as fault
 use Rattle.hq_http.specs.Requests as requests
 use Rattle.hq_http.specs.Requests.{IsOpen, ReadsHead, Determines, RequestOf, Received, HasNoRoom}
 use Rattle.hq_http.specs.Requests.{nothing, refused, request, most_head_bytes}
-use Rattle.hq_http.specs.declared.ends.Place.TheVariants.{Ended}
+use Rattle.hq_http.specs.declared.ends.HeadPlace.TheVariants.{Ended}
 use Rattle.hq_http.specs.declared.head.WholeHead.{WholeHead}
 use Rattle.hq_http.specs.declared.stages.Request.{Request}
 use Rattle.hq_http.specs.declared.stages.Stage.{Stage}

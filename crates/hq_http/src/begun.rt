@@ -3,7 +3,7 @@
 ghost use Rattle.std.specs.Prelude.{◌≡◌, ◌++◌, [], IfOk};
 ghost use Rattle.hq_http.specs.Ends as ends;
 
-use crate::ends::{Place, place_behind};
+use crate::ends::{HeadPlace, place_behind};
 use std::alloc::{AllocError, Global};
 
 /// The bytes so far, and where in a head they stop.
@@ -12,7 +12,7 @@ pub(crate) struct Begun {
     /// The bytes so far.
     pub bytes: Vec<u8>,
     /// Where in a head they stop.
-    pub place: Place,
+    pub place: HeadPlace,
     ghost known: { place ≡ ends.place_of bytes.items },
 }
 
@@ -23,7 +23,7 @@ impl Begun {
     {
         Begun {
             bytes: Vec::new(alloc),
-            place: Place::Before,
+            place: HeadPlace::Before,
         }
     }
 

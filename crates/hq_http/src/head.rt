@@ -34,7 +34,7 @@ pub(crate) struct WholeHead<'b> {
 
 /// What a head says.
 #[derive(Clone, Copy)]
-pub(crate) enum Head<'b> {
+pub(crate) enum ParsedHead<'b> {
     /// However the bytes go on, they are refused.
     Refused(Refusal),
     /// The body follows.
@@ -42,22 +42,22 @@ pub(crate) enum Head<'b> {
 }
 
 /// What a head of the grammar says.
-fn whole<'b>(buf: &'b [u8], headers: &[HeaderSpan], head: RequestSpans) -> Head<'b>
+fn whole<'b>(buf: &'b [u8], headers: &[HeaderSpan], head: RequestSpans) -> ParsedHead<'b>
     requires within { IsRequestWithin buf.now headers.now head }
     requires complete { IsRequestOf buf.now headers.now head }
     requires room { length headers.now ≤ 64 }
     ensures { HeadIs buf.now result }
 {
     if head.len > HEAD_BYTES {
-        return Head::Refused(Refusal::BadRequest);
+        return ParsedHead::Refused(Refusal::BadRequest);
     }
     let Some(framed) = framing_of(buf, &headers[..head.headers]) else {
-        return Head::Refused(Refusal::BadRequest);
+        return ParsedHead::Refused(Refusal::BadRequest);
     };
     if framed.length > BODY_BYTES {
-        return Head::Refused(Refusal::BodyTooLong);
+        return ParsedHead::Refused(Refusal::BodyTooLong);
     }
-    Head::Whole(WholeHead {
+    ParsedHead::Whole(WholeHead {
         method: text(head.method.of(buf)),
         path: text(head.path.of(buf)),
         key: framed.key,
@@ -68,14 +68,14 @@ fn whole<'b>(buf: &'b [u8], headers: &[HeaderSpan], head: RequestSpans) -> Head<
 
 /// What the head at the front of the bytes says, where an end of it has come: it does not wait for
 /// more.
-pub(crate) fn head_of(buf: &[u8]) -> Head<'_>
+pub(crate) fn head_of(buf: &[u8]) -> ParsedHead<'_>
     requires { HasEnd buf.now }
     ensures { HeadIs buf.now result }
 {
     let mut headers = [EMPTY_HEADER_SPAN; 64];
     match parse_request(buf, &mut headers) {
         Ok(Status::Complete(head)) => whole(buf, &headers, head),
-        Ok(Status::Partial) => Head::Refused(Refusal::BadRequest),
-        Err(_) => Head::Refused(Refusal::BadRequest),
+        Ok(Status::Partial) => ParsedHead::Refused(Refusal::BadRequest),
+        Err(_) => ParsedHead::Refused(Refusal::BadRequest),
     }
 }

@@ -8,7 +8,7 @@ ghost use Rattle.hq_http.specs.Turns.{IsUnderWay, MoreIs};
 ghost use Rattle.hq_http.specs.declared.reads.Reads.{Reads};
 
 use crate::begun::Begun;
-use crate::reads::{Reads, Told};
+use crate::reads::{ReadResult, Reads};
 use crate::stages::{Request, Stage, Step, advance};
 use hq_values::{EngineFault, Refusal};
 use std::alloc::Global;
@@ -76,9 +76,9 @@ fn read_more<R: Read>(
     ensures counted { OnOk result (reads.new.left < reads.old.left) }
 {
     match reads.read() {
-        Ok(Told::Bytes) => Ok(take_chunk(alloc, stage, reads.given())),
-        Ok(Told::Interruption) => Ok(Turn::Again(stage)),
-        Ok(Told::End) => Ok(Turn::Done(at_end(&stage))),
+        Ok(ReadResult::Bytes) => Ok(take_chunk(alloc, stage, reads.given())),
+        Ok(ReadResult::Interruption) => Ok(Turn::Again(stage)),
+        Ok(ReadResult::End) => Ok(Turn::Done(at_end(&stage))),
         Err(fault) => Err(fault),
     }
 }

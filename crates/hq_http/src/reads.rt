@@ -26,7 +26,7 @@ pub struct Reads<'r, R> {
 
 /// What a read tells.
 #[derive(Drop)]
-pub(crate) enum Told {
+pub(crate) enum ReadResult {
     /// Some bytes came.
     Bytes,
     /// It was interrupted.
@@ -64,7 +64,7 @@ impl<'r, R: Read> Reads<'r, R> {
     }
 
     /// Makes one read, unless none may be made.
-    pub(crate) fn read(&mut self) -> Result<Told, EngineFault>
+    pub(crate) fn read(&mut self) -> Result<ReadResult, EngineFault>
         ensures same_reference { self.new.reader.ghost_name ≡ self.old.reader.ghost_name }
         ensures once { ReadIs R.remaining self.old self.new result }
     {
@@ -79,13 +79,13 @@ impl<'r, R: Read> Reads<'r, R> {
         match self.reader.read(&mut self.room) {
             Ok(0) => {
                 self.over = true;
-                Ok(Told::End)
+                Ok(ReadResult::End)
             }
             Ok(count) => {
                 self.given = count;
-                Ok(Told::Bytes)
+                Ok(ReadResult::Bytes)
             }
-            Err(error) if error.kind() == ErrorKind::Interrupted => Ok(Told::Interruption),
+            Err(error) if error.kind() == ErrorKind::Interrupted => Ok(ReadResult::Interruption),
             Err(_) => {
                 self.over = true;
                 self.failed = true;

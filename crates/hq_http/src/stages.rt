@@ -6,8 +6,8 @@ ghost use Rattle.hq_http.specs.Ends.{HasEnd};
 ghost use Rattle.hq_http.specs.Stages.{BodyBegun, StageIs, StepIs, IsOf};
 
 use crate::begun::Begun;
-use crate::ends::Place;
-use crate::head::{HEAD_BYTES, Head, WholeHead, head_of};
+use crate::ends::HeadPlace;
+use crate::head::{HEAD_BYTES, ParsedHead, WholeHead, head_of};
 use hq_values::Refusal;
 use std::alloc::{AllocError, Global};
 
@@ -85,8 +85,8 @@ fn behind_end(alloc: Global, held: &[u8]) -> Result<Step, AllocError>
     ensures { IfOk result (StepIs held.now) }
 {
     match head_of(held) {
-        Head::Refused(refusal) => Ok(Step::Refused(refusal)),
-        Head::Whole(head) => {
+        ParsedHead::Refused(refusal) => Ok(Step::Refused(refusal)),
+        ParsedHead::Whole(head) => {
             let request = request_of(alloc, &head, &held[head.start..])?;
             Ok(with_body(request, head.length))
         }
@@ -97,7 +97,7 @@ fn behind_end(alloc: Global, held: &[u8]) -> Result<Step, AllocError>
 fn behind_begun(alloc: Global, begun: Begun) -> Result<Step, AllocError>
     ensures { begun.bytes.items ≢ [] → IfOk result (StepIs begun.bytes.items) }
 {
-    if begun.place == Place::Ended {
+    if begun.place == HeadPlace::Ended {
         return behind_end(alloc, begun.bytes.as_slice());
     }
     if begun.bytes.len() >= HEAD_BYTES {

@@ -7,8 +7,8 @@ use Rattle.std.proofs.lemmas.List.Recursion.{or_push}
 use Rattle.hq_values.specs.Readers.{◌>>=◌, guard, Reads, seen_by}
 use Rattle.hq_values.specs.declared.failure.Fail.{Fail}
 use Rattle.hq_values.specs.declared.failure.Refusal.{Refusal}
-use Rattle.hq_queue.specs.declared.account.Customer.{Customer}
-use Rattle.hq_queue.specs.Customers.{is_same_text, names_apart, keys_apart, are_customers}
+use Rattle.hq_kept.specs.declared.account.Customer.{Customer}
+use Rattle.hq_kept.specs.Customers.{is_same_text, names_apart, keys_apart, are_customers}
 use Rattle.hq_import.specs.Directories.{is_name_taken, is_taken, next_customer, customers_under}
 use Rattle.hq_import.proofs.Seeing.{same_either_way}
 

@@ -9,12 +9,12 @@ use Rattle.std.proofs.lemmas.Bool.Decides.{nat_tests}
 use Rattle.hq_values.specs.Readers.{◌>>=◌, checked, guard}
 use Rattle.hq_values.specs.declared.failure.Refusal.{Refusal}
 use Rattle.hq_values.specs.declared.failure.Refusal.TheVariants.{BadCsv, BadDirectory}
-use Rattle.hq_queue.specs.declared.account.Customer.{Customer}
+use Rattle.hq_kept.specs.declared.account.Customer.{Customer}
 use Rattle.hq_import.specs.Directories.{next_customer, customers_under, customers_in}
 use Rattle.hq_import.specs.Directories.{listed_customers, is_directory_header}
 use Rattle.hq_import.specs.First.{first_lines, first_customers}
-use Rattle.hq_import.specs.Records.{records_in, is_header, under_header}
-use Rattle.hq_import.specs.Tables.{next_line, lines_under, table_lines, table_header}
+use Rattle.hq_rules.specs.Records.{records_in, is_header, under_header}
+use Rattle.hq_rules.specs.TableFiles.{next_line, lines_under, table_lines, table_header}
 
 abbrev Row : Type 0
 Row = List (List ℕ)

@@ -1,8 +1,8 @@
-mod Apart
-mod Enough
-mod Headers
-mod Limits
-mod Patterns
-mod Reading
-mod Seeing
-mod Texts
+pub mod Apart
+pub mod Enough
+pub mod Headers
+pub mod Limits
+pub mod Patterns
+pub mod Reading
+pub mod Seeing
+pub mod Texts

@@ -4,9 +4,9 @@ use Rattle.std.proofs.Common.{◌∙◌}
 use Rattle.hq_values.proofs.Truths.{one_proof}
 use Rattle.hq_values.specs.Readers.{◌>>=◌, passes}
 use Rattle.hq_values.specs.declared.failure.Refusal.{Refusal}
-use Rattle.hq_queue.specs.Limits.{is_quota, is_delay, is_history}
-use Rattle.hq_queue.specs.declared.account.Entry.{Entry}
-use Rattle.hq_queue.specs.declared.account.Quota.{Quota}
+use Rattle.hq_kept.specs.Limits.{is_quota, is_delay, is_history}
+use Rattle.hq_kept.specs.declared.account.Entry.{Entry}
+use Rattle.hq_kept.specs.declared.account.Quota.{Quota}
 use Rattle.hq_import.specs.Directories.{quota_of, limited_entry}
 
 -- a test that holds passes, whichever proof is carried

@@ -4,11 +4,12 @@ use Rattle.std.proofs.Common.{IfOk, IsTrue, Vec, Global, refl, subst}
 use Rattle.hq_values.specs.Readers.{◌>>=◌, guard, Reads, seen_by}
 use Rattle.hq_values.specs.declared.failure.Fail.{Fail}
 use Rattle.hq_values.specs.declared.failure.Refusal.{Refusal}
-use Rattle.hq_access.specs.declared.pattern.Class.{Class}
-use Rattle.hq_access.specs.declared.pattern.Class.TheVariants.{SenderSide, RecipientSide}
-use Rattle.hq_access.specs.declared.pattern.Line.{Line}
-use Rattle.hq_import.specs.Tables.{is_same_class, is_same_pattern, is_repeated_line, patterns_apart}
-use Rattle.hq_import.specs.Tables.{next_line, lines_under}
+use Rattle.hq_kept.specs.declared.pattern.Class.{Class}
+use Rattle.hq_kept.specs.declared.pattern.Class.TheVariants.{SenderSide, RecipientSide}
+use Rattle.hq_kept.specs.declared.pattern.Line.{Line}
+use Rattle.hq_rules.specs.TableFiles.{is_same_class, is_same_pattern, is_repeated_line}
+use Rattle.hq_rules.specs.TableFiles.{patterns_apart}
+use Rattle.hq_rules.specs.TableFiles.{next_line, lines_under}
 use Rattle.hq_import.proofs.Apart.{err_ok, same_ok, apart_push}
 use Rattle.hq_import.proofs.Seeing.{same_either_way}
 

@@ -4,7 +4,7 @@ use Rattle.std.proofs.Common.{◌∙◌}
 use Rattle.std.specs.Bool.{one_answer}
 use Rattle.std.proofs.lemmas.Slice.Eq.{bytes_eq-Decides}
 use Rattle.std.proofs.lemmas.Map.Text.{is_eq-slice_cmp}
-use Rattle.hq_queue.specs.Customers.{is_same_text}
+use Rattle.hq_kept.specs.Customers.{is_same_text}
 
 -- which text is compared with which does not count
 swapped : (a b : List ℕ) → bytes_eq a b ≡ bytes_eq b a

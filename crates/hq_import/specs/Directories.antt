@@ -9,13 +9,13 @@ use Rattle.hq_values.specs.declared.failure.Refusal.{Refusal}
 use Rattle.hq_values.specs.declared.failure.Refusal.TheVariants.{BadDirectory, DoubledName}
 use Rattle.hq_values.specs.declared.failure.Refusal.TheVariants.{DoubledKey}
 use Rattle.hq_values.specs.Words.{name_in, key_in}
-use Rattle.hq_queue.specs.Limits.{is_quota, is_delay, is_history}
-use Rattle.hq_queue.specs.declared.account.Customer.{Customer}
-use Rattle.hq_queue.specs.declared.account.Entry.{Entry}
-use Rattle.hq_queue.specs.declared.account.Quota.{Quota}
-use Rattle.hq_queue.specs.Customers.{has_name, has_key}
-use Rattle.hq_import.specs.Fields.{text_field, number_field, refused_as}
-use Rattle.hq_import.specs.Records.{Record, most_rows, file_records, is_header}
+use Rattle.hq_kept.specs.Limits.{is_quota, is_delay, is_history}
+use Rattle.hq_kept.specs.declared.account.Customer.{Customer}
+use Rattle.hq_kept.specs.declared.account.Entry.{Entry}
+use Rattle.hq_kept.specs.declared.account.Quota.{Quota}
+use Rattle.hq_kept.specs.Customers.{has_name, has_key}
+use Rattle.hq_rules.specs.Fields.{text_field, number_field, refused_as}
+use Rattle.hq_rules.specs.Records.{Record, most_rows, file_records, is_header}
 
 -- four numbers, where they are within the limits of a quota
 abbrev pub quota_of : Refusal → ℕ → ℕ → ℕ → ℕ → Result Quota Refusal

@@ -5,11 +5,11 @@ use Rattle.std.specs.Prelude.{ℕ, nat_le, List, [], length, take, Result}
 use Rattle.hq_values.specs.Readers.{◌>>=◌, checked}
 use Rattle.hq_values.specs.declared.failure.Refusal.{Refusal}
 use Rattle.hq_values.specs.declared.failure.Refusal.TheVariants.{BadCsv, BadDirectory}
-use Rattle.hq_access.specs.declared.pattern.Line.{Line}
-use Rattle.hq_queue.specs.declared.account.Customer.{Customer}
+use Rattle.hq_kept.specs.declared.pattern.Line.{Line}
+use Rattle.hq_kept.specs.declared.account.Customer.{Customer}
 use Rattle.hq_import.specs.Directories.{listed_customers}
-use Rattle.hq_import.specs.Records.{Record, records_in, under_header}
-use Rattle.hq_import.specs.Tables.{lines_under, table_header}
+use Rattle.hq_rules.specs.Records.{Record, records_in, under_header}
+use Rattle.hq_rules.specs.TableFiles.{lines_under, table_header}
 use Rattle.hq_values.specs.Limits.{most_bytes}
 
 abbrev pub first_records : Refusal → List ℕ → Result (List Record) Refusal

@@ -3,13 +3,13 @@
 use Rattle.std.specs.Prelude.{◌≡◌, ℕ, Bool, ◌&&◌, List}
 use Rattle.std.specs.BTreeSet.{contains_text}
 use Rattle.std.specs.List.{list_any}
-use Rattle.hq_access.specs.declared.pattern.Class.{Class}
-use Rattle.hq_access.specs.declared.pattern.Class.TheVariants.{SenderSide, RecipientSide}
-use Rattle.hq_access.specs.declared.pattern.Line.{Line}
-use Rattle.hq_queue.specs.declared.account.Customer.{Customer}
-use Rattle.hq_queue.specs.Customers.{is_same_text}
+use Rattle.hq_kept.specs.declared.pattern.Class.{Class}
+use Rattle.hq_kept.specs.declared.pattern.Class.TheVariants.{SenderSide, RecipientSide}
+use Rattle.hq_kept.specs.declared.pattern.Line.{Line}
+use Rattle.hq_kept.specs.declared.account.Customer.{Customer}
+use Rattle.hq_kept.specs.Customers.{is_same_text}
 use Rattle.hq_import.specs.Directories.{is_name_taken, is_taken}
-use Rattle.hq_import.specs.Tables.{is_same_class, is_same_pattern}
+use Rattle.hq_rules.specs.TableFiles.{is_same_class, is_same_pattern}
 use Rattle.hq_import.specs.declared.seen.Seen.{Seen}
 use Rattle.hq_import.specs.declared.seen.SeenPatterns.{SeenPatterns}
 

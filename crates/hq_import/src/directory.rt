@@ -4,8 +4,8 @@ ghost use Rattle.std.specs.Prelude.{◌≡◌, ◌<◌, ◌≤◌, [], ◌∷◌
 ghost use Rattle.std.specs.Prelude.{map as map_list};
 ghost use Rattle.csv.specs.Records.{fields_of};
 ghost use Rattle.hq_values.specs.Readers.{Reads, seen_by};
-ghost use Rattle.hq_queue.specs.Limits.{is_quota};
-ghost use Rattle.hq_queue.specs.Customers.{are_customers};
+ghost use Rattle.hq_kept.specs.Limits.{is_quota};
+ghost use Rattle.hq_kept.specs.Customers.{are_customers};
 ghost use Rattle.hq_import.specs.First.{first_customers};
 ghost use Rattle.hq_import.specs.Seen.{KnowsNames, KnowsKeys};
 ghost use Rattle.hq_import.specs.Directories.{quota_of, quota_in, limited_entry, customer_in};
@@ -17,7 +17,7 @@ use crate::fields::{number_field, refused_as, text_field};
 use crate::records::{MOST_ROWS, file_records, is_header};
 use crate::seen::Seen;
 use csv::ByteRecord;
-use hq_queue::{Customer, Entry, Quota};
+use hq_kept::{Customer, Entry, Quota};
 use hq_values::{Fail, Key, Name, Refusal};
 use std::alloc::Global;
 

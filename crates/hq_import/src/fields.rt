@@ -4,7 +4,7 @@ ghost use Rattle.std.specs.Prelude.{◌≡◌, ℕ, option_map, Result};
 ghost use Rattle.csv.specs.Records.{fields_of};
 ghost use Rattle.hq_values.specs.Readers.{Reads};
 ghost use Rattle.hq_values.specs.declared.failure.Refusal.{Refusal as AnyRefusal};
-ghost use Rattle.hq_import.specs.Fields.{utf8_in, text_field, number_field, refused_as};
+ghost use Rattle.hq_rules.specs.Fields.{utf8_in, text_field, number_field, refused_as};
 
 use csv::ByteRecord;
 use hq_values::{Fail, Refusal, read_number};

@@ -4,7 +4,7 @@ ghost use Rattle.std.specs.Prelude.{◌≡◌, IfOk, bytes_eq, map as map_list, 
 ghost use Rattle.csv.specs.Records.{fields_of};
 ghost use Rattle.hq_values.specs.Readers.{Reads, seen_by};
 ghost use Rattle.hq_import.specs.First.{first_records};
-ghost use Rattle.hq_import.specs.Records.{records_in, is_header, under_header};
+ghost use Rattle.hq_rules.specs.Records.{records_in, is_header, under_header};
 
 use csv::{ByteRecord, ReaderBuilder};
 use hq_values::{Fail, Refusal};

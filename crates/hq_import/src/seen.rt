@@ -1,11 +1,11 @@
 //! Texts of the rows before, in an order that finds one of a thousand in ten steps.
 
 ghost use Rattle.std.specs.Prelude.{◌≡◌, ◌||◌, List, ℕ, IfOk, OnOk, not, false};
-ghost use Rattle.hq_access.specs.declared.pattern.Class.{Class as AnyClass};
-ghost use Rattle.hq_queue.specs.Customers.{is_same_text};
+ghost use Rattle.hq_kept.specs.declared.pattern.Class.{Class as AnyClass};
+ghost use Rattle.hq_kept.specs.Customers.{is_same_text};
 ghost use Rattle.hq_import.specs.Seen.{has, has_pattern, is_same};
 
-use hq_access::{Class, Pattern};
+use hq_kept::{Class, Pattern};
 use std::alloc::{AllocError, Global};
 use std::collections::BTreeSet;
 

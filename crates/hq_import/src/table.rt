@@ -6,14 +6,14 @@ ghost use Rattle.csv.specs.Records.{fields_of};
 ghost use Rattle.hq_values.specs.Readers.{Reads, seen_by};
 ghost use Rattle.hq_import.specs.First.{first_lines};
 ghost use Rattle.hq_import.specs.Seen.{KnowsPatterns};
-ghost use Rattle.hq_import.specs.Tables.{line_in, next_line, lines_under, table_lines};
-ghost use Rattle.hq_import.specs.Tables.{patterns_apart};
+ghost use Rattle.hq_rules.specs.TableFiles.{line_in, next_line, lines_under, table_lines};
+ghost use Rattle.hq_rules.specs.TableFiles.{patterns_apart};
 
 use crate::fields::{refused_as, text_field};
 use crate::records::{MOST_ROWS, file_records, under_header};
 use crate::seen::SeenPatterns;
 use csv::ByteRecord;
-use hq_access::{Action, Class, Line, Pattern};
+use hq_kept::{Action, Class, Line, Pattern};
 use hq_values::{Fail, Refusal};
 use std::alloc::Global;
 
@@ -21,7 +21,7 @@ use std::alloc::Global;
 const HEADER: [&str; 3] = ["class", "pattern", "action"];
 
 /// The line of a row.
-#[tactic(auto, unfolding(crate::specs::Tables::line_in))]
+#[tactic(auto, unfolding(hq_rules::specs::TableFiles::line_in))]
 fn line_in(alloc: Global, bad: Refusal, row: &ByteRecord) -> Result<Line, Fail>
     ensures { Reads result (line_in bad (fields_of row.now)) }
 {
@@ -37,7 +37,7 @@ fn line_in(alloc: Global, bad: Refusal, row: &ByteRecord) -> Result<Line, Fail>
 }
 
 /// The line of the row under these lines, whose patterns are noted; and notes its own.
-#[tactic(auto, unfolding(crate::specs::Tables::next_line))]
+#[tactic(auto, unfolding(hq_rules::specs::TableFiles::next_line))]
 fn next_line(
     alloc: Global,
     earlier: &[Line],
@@ -62,7 +62,7 @@ fn next_line(
 }
 
 /// The lines of the rows.
-#[tactic(auto, unfolding(crate::specs::Tables::lines_under))]
+#[tactic(auto, unfolding(hq_rules::specs::TableFiles::lines_under))]
 fn lines_under(alloc: Global, rows: &[ByteRecord]) -> Result<Vec<Line>, Fail>
     ensures { Reads (seen_by (λ v. v.items) result) (lines_under [] (map_list fields_of rows.now)) }
 {

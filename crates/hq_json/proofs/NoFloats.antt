@@ -8,12 +8,12 @@ use Rattle.hq_values.specs.declared.failure.Refusal.TheVariants.{AttemptAhead, B
 use Rattle.hq_values.specs.declared.failure.Refusal.TheVariants.{DoubledPattern}
 use Rattle.hq_values.specs.declared.failure.Refusal.TheVariants.{BadDirectory, DoubledName}
 use Rattle.hq_values.specs.declared.failure.Refusal.TheVariants.{DoubledKey}
-use Rattle.hq_queue.specs.declared.message.Message.{Message}
-use Rattle.hq_queue.specs.declared.message.Pending.{Pending}
-use Rattle.hq_store.specs.declared.end.End.{End}
-use Rattle.hq_store.specs.declared.notice.Notice.{Notice}
-use Rattle.hq_calls.specs.declared.answer.Answer.{Answer}
-use Rattle.hq_calls.specs.declared.answer.Answer.TheVariants as answer
+use Rattle.hq_kept.specs.declared.message.Message.{Message}
+use Rattle.hq_kept.specs.declared.message.Pending.{Pending}
+use Rattle.hq_kept.specs.declared.end.End.{End}
+use Rattle.hq_kept.specs.declared.notice.Notice.{Notice}
+use Rattle.hq_rules.specs.declared.answer.Answer.{Answer}
+use Rattle.hq_rules.specs.declared.answer.Answer.TheVariants as answer
 use Rattle.hq_json.specs.AttemptReplies.{due_entry, due_listed}
 use Rattle.hq_json.specs.HistoryReplies.{end_entry, history_listed, history_found}
 use Rattle.hq_json.specs.NoticeReplies.{notice_entry, notices_listed, notice_json}

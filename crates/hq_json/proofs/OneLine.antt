@@ -13,7 +13,7 @@ use Rattle.serde_json.specs.Data.{Num, unsigned, negative, float, Data, null, bo
 use Rattle.serde_json.specs.Data.{string, array, object, Items, no_items, item, Members, no_members}
 use Rattle.serde_json.specs.Data.{member}
 use Rattle.serde_json.specs.Written.{compact_text, items_text, members_text, number_text, comma_if}
-use Rattle.hq_calls.specs.declared.answer.Answer.{Answer}
+use Rattle.hq_rules.specs.declared.answer.Answer.{Answer}
 use Rattle.hq_json.specs.OneLine.{is_in_line, is_one_line}
 use Rattle.hq_json.specs.Replies.{answer_data, answer_text}
 

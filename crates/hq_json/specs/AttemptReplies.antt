@@ -4,9 +4,9 @@ use Rattle.std.specs.Prelude.{ℕ, ◌+◌, Bool, List, [], ◌∷◌, map, code
 use Rattle.serde_json.specs.Data.{Data, boolean, string, array}
 use Rattle.serde_json.specs.View.{items_of}
 use Rattle.hq_values.specs.Senders.{sender_text}
-use Rattle.hq_queue.specs.declared.message.Message.{Message}
-use Rattle.hq_calls.specs.declared.answer.AttemptCounts.{AttemptCounts}
-use Rattle.hq_calls.specs.declared.answer.SweepCounts.{SweepCounts}
+use Rattle.hq_kept.specs.declared.message.Message.{Message}
+use Rattle.hq_rules.specs.declared.answer.AttemptCounts.{AttemptCounts}
+use Rattle.hq_rules.specs.declared.answer.SweepCounts.{SweepCounts}
 use Rattle.hq_json.specs.Objects.{having, count, id, addresses}
 
 -- how many recipients of each kind, and how many are left

@@ -3,9 +3,9 @@ use Rattle.std.specs.Prelude.{ℕ, Bool, List, [], ◌∷◌, map, codes, Option
 use Rattle.serde_json.specs.Data.{Data, null, boolean, string, array}
 use Rattle.serde_json.specs.View.{items_of}
 use Rattle.hq_values.specs.Senders.{sender_text}
-use Rattle.hq_queue.specs.declared.outcome.Fate.{Fate}
-use Rattle.hq_queue.specs.declared.outcome.Fate.TheVariants.{Delivered, Failed, Deleted, Expired}
-use Rattle.hq_store.specs.declared.end.End.{End}
+use Rattle.hq_kept.specs.declared.outcome.Fate.{Fate}
+use Rattle.hq_kept.specs.declared.outcome.Fate.TheVariants.{Delivered, Failed, Deleted, Expired}
+use Rattle.hq_kept.specs.declared.end.End.{End}
 use Rattle.hq_json.specs.Objects.{having, count, id}
 
 abbrev pub fate_name : Fate → List ℕ

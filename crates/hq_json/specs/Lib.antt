@@ -4,5 +4,6 @@ pub mod NoticeReplies
 pub mod Objects
 pub mod OneLine
 pub mod QueueReplies
+pub mod ReadBack
 pub mod TableReplies
 pub mod Replies

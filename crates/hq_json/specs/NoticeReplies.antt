@@ -2,9 +2,9 @@
 use Rattle.std.specs.Prelude.{ℕ, Bool, List, [], ◌∷◌, map, codes}
 use Rattle.serde_json.specs.Data.{Data, boolean, string, array}
 use Rattle.serde_json.specs.View.{items_of}
-use Rattle.hq_queue.specs.declared.kind.Kind.{Kind}
-use Rattle.hq_queue.specs.declared.kind.Kind.TheVariants.{Failure, Delay}
-use Rattle.hq_store.specs.declared.notice.Notice.{Notice}
+use Rattle.hq_kept.specs.declared.kind.Kind.{Kind}
+use Rattle.hq_kept.specs.declared.kind.Kind.TheVariants.{Failure, Delay}
+use Rattle.hq_kept.specs.declared.notice.Notice.{Notice}
 use Rattle.hq_json.specs.Objects.{having, count, id}
 
 abbrev pub kind_name : Kind → List ℕ

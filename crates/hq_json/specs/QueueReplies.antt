@@ -2,8 +2,8 @@
 -- their names.
 use Rattle.std.specs.Prelude.{ℕ, List, [], ◌∷◌, codes}
 use Rattle.serde_json.specs.Data.{Data, string}
-use Rattle.hq_calls.specs.declared.answer.Allowance.{Allowance}
-use Rattle.hq_calls.specs.declared.answer.Usage.{Usage}
+use Rattle.hq_rules.specs.declared.answer.Allowance.{Allowance}
+use Rattle.hq_rules.specs.declared.answer.Usage.{Usage}
 use Rattle.hq_json.specs.Objects.{having, count}
 
 -- what it keeps, and its recipients by what became of them

@@ -11,13 +11,13 @@ use Rattle.hq_values.specs.declared.failure.Refusal.TheVariants.{AttemptAhead, B
 use Rattle.hq_values.specs.declared.failure.Refusal.TheVariants.{DoubledPattern}
 use Rattle.hq_values.specs.declared.failure.Refusal.TheVariants.{BadDirectory, DoubledName}
 use Rattle.hq_values.specs.declared.failure.Refusal.TheVariants.{DoubledKey}
-use Rattle.hq_access.specs.declared.verdicts.Refused.{Refused}
-use Rattle.hq_queue.specs.declared.message.Message.{Message}
-use Rattle.hq_queue.specs.declared.message.Pending.{Pending}
-use Rattle.hq_queue.specs.declared.message.QueueState.{QueueState}
-use Rattle.hq_queue.specs.declared.message.QueueState.TheVariants.{Incoming, Deferred, Hold}
-use Rattle.hq_calls.specs.declared.answer.Answer.{Answer}
-use Rattle.hq_calls.specs.declared.answer.Answer.TheVariants as answer
+use Rattle.hq_rules.specs.declared.verdict.Refused.{Refused}
+use Rattle.hq_kept.specs.declared.message.Message.{Message}
+use Rattle.hq_kept.specs.declared.message.Pending.{Pending}
+use Rattle.hq_kept.specs.declared.message.QueueState.{QueueState}
+use Rattle.hq_kept.specs.declared.message.QueueState.TheVariants.{Incoming, Deferred, Hold}
+use Rattle.hq_rules.specs.declared.answer.Answer.{Answer}
+use Rattle.hq_rules.specs.declared.answer.Answer.TheVariants as answer
 use Rattle.hq_json.specs.AttemptReplies.{attempt_json, attempt_repeated, due_listed, sweep_json}
 use Rattle.hq_json.specs.HistoryReplies.{history_listed, history_found}
 use Rattle.hq_json.specs.NoticeReplies.{notices_listed, notice_json}

@@ -4,14 +4,14 @@ use Rattle.std.specs.Prelude.{ℕ, Bool, List, [], ◌∷◌, map, codes, Option
 use Rattle.serde_json.specs.Data.{Data, null, boolean, string, array}
 use Rattle.serde_json.specs.View.{items_of}
 use Rattle.hq_values.specs.Senders.{sender_text}
-use Rattle.hq_access.specs.Actions.{action_text}
-use Rattle.hq_access.specs.Patterns.{class_name}
-use Rattle.hq_access.specs.declared.action.Action.{Action}
-use Rattle.hq_access.specs.declared.pattern.Line.{Line}
-use Rattle.hq_access.specs.declared.verdicts.Refused.{Refused}
-use Rattle.hq_calls.specs.declared.answer.ImportCounts.{ImportCounts}
-use Rattle.hq_calls.specs.declared.answer.LinePut.{LinePut}
-use Rattle.hq_calls.specs.declared.answer.LinePut.TheVariants.{Added, Changed, Same}
+use Rattle.hq_kept.specs.Actions.{action_text}
+use Rattle.hq_kept.specs.Patterns.{class_name}
+use Rattle.hq_kept.specs.declared.action.Action.{Action}
+use Rattle.hq_kept.specs.declared.pattern.Line.{Line}
+use Rattle.hq_rules.specs.declared.verdict.Refused.{Refused}
+use Rattle.hq_rules.specs.declared.answer.ImportCounts.{ImportCounts}
+use Rattle.hq_rules.specs.declared.answer.LinePut.{LinePut}
+use Rattle.hq_rules.specs.declared.answer.LinePut.TheVariants.{Added, Changed, Same}
 use Rattle.hq_json.specs.Objects.{having, count, texts}
 
 -- a sender or a recipient that is refused; the null sender is the empty text

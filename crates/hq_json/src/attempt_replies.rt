@@ -6,8 +6,8 @@ ghost use Rattle.serde_json.specs.View.{view, items_of};
 ghost use Rattle.hq_json.specs.AttemptReplies as replies;
 
 use crate::objects::{address_list, id_value};
-use hq_calls::{AttemptCounts, SweepCounts};
-use hq_queue::Message;
+use hq_kept::Message;
+use hq_rules::{AttemptCounts, SweepCounts};
 use serde_json::{Value, json};
 use std::alloc::{AllocError, Global};
 

@@ -6,8 +6,7 @@ ghost use Rattle.serde_json.specs.View.{view, items_of};
 ghost use Rattle.hq_json.specs.HistoryReplies as replies;
 
 use crate::objects::id_value;
-use hq_queue::{Fate, Status};
-use hq_store::End;
+use hq_kept::{End, Fate, Status};
 use serde_json::{Value, json};
 use std::alloc::{AllocError, Global};
 

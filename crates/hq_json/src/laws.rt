@@ -2,7 +2,7 @@
 //! contract is the law.
 
 ghost use Rattle.std.specs.Prelude.{◌≡◌, true};
-ghost use Rattle.hq_calls.specs.declared.answer.Answer.{Answer};
+ghost use Rattle.hq_rules.specs.declared.answer.Answer.{Answer};
 ghost use Rattle.hq_json.specs.OneLine.{is_one_line};
 ghost use Rattle.hq_json.specs.Replies.{answer_text};
 

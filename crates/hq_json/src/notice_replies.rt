@@ -6,8 +6,7 @@ ghost use Rattle.serde_json.specs.View.{view, items_of};
 ghost use Rattle.hq_json.specs.NoticeReplies as replies;
 
 use crate::objects::id_value;
-use hq_queue::Kind;
-use hq_store::Notice;
+use hq_kept::{Kind, Notice};
 use serde_json::{Value, json};
 use std::alloc::{AllocError, Global};
 

@@ -4,7 +4,7 @@ ghost use Rattle.std.specs.Prelude.{◌≡◌, IfOk};
 ghost use Rattle.serde_json.specs.View.{view};
 ghost use Rattle.hq_json.specs.Objects as objects;
 
-use hq_queue::Pending;
+use hq_kept::Pending;
 use hq_values::Serial;
 use serde_json::Value;
 use std::alloc::{AllocError, Global};

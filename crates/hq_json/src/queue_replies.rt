@@ -4,7 +4,7 @@ ghost use Rattle.std.specs.Prelude.{◌≡◌, IfOk};
 ghost use Rattle.serde_json.specs.View.{view};
 ghost use Rattle.hq_json.specs.QueueReplies as replies;
 
-use hq_calls::{Allowance, Usage};
+use hq_rules::{Allowance, Usage};
 use serde_json::{Value, json};
 use std::alloc::{AllocError, Global};
 

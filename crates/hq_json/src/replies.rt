@@ -4,7 +4,8 @@ ghost use Rattle.std.specs.Prelude.{◌≡◌, List, [], IfOk, map as map_list};
 ghost use Rattle.serde_json.specs.Data.{array, string};
 ghost use Rattle.serde_json.specs.View.{view, items_of, items_view};
 ghost use Rattle.serde_json.specs.Written.{compact_text};
-ghost use Rattle.hq_queue.specs.declared.message.Pending.{Pending};
+ghost use Rattle.hq_kept.specs.declared.message.Pending.{Pending};
+ghost use Rattle.hq_json.specs.ReadBack.{ReadsBack};
 ghost use Rattle.hq_json.specs.Replies as replies;
 ghost use Rattle.hq_json.specs.Objects as objects;
 
@@ -16,9 +17,8 @@ use crate::queue_replies::{allowed_value, reported_value, used_value};
 use crate::table_replies::{
     checked_value, imported_value, line_dropped_value, line_put_value, lines_value, refused_list,
 };
-use hq_access::Refused;
-use hq_calls::{Answer, Render};
-use hq_queue::{Message, Pending, QueueState, Status};
+use hq_kept::{Message, Pending, QueueState, Status};
+use hq_rules::{Answer, Refused, Render};
 use hq_values::{Refusal, Serial};
 use serde_json::{Value, json};
 use std::alloc::{AllocError, Global};
@@ -230,9 +230,10 @@ fn answer_value(alloc: Global, answer: &Answer) -> Result<Value, AllocError>
     }
 }
 
-#[tactic(auto, using(crate::proofs::NoFloats::answer_has_no_float), unfolding(crate::specs::Replies::answer_text))]
+#[tactic(auto, using(crate::proofs::NoFloats::answer_has_no_float, crate::proofs::ReadBack::reads_back), unfolding(crate::specs::Replies::answer_text))]
 fn answer_bytes(alloc: Global, answer: &Answer) -> Result<Vec<u8>, AllocError>
-    ensures { IfOk result (λ bytes. bytes.items ≡ replies.answer_text answer.now) }
+    ensures text { IfOk result (λ bytes. bytes.items ≡ replies.answer_text answer.now) }
+    ensures back { IfOk result (λ bytes. ReadsBack answer.now bytes.items) }
 {
     answer_value(alloc, answer)?.to_vec(alloc)
 }
@@ -242,12 +243,12 @@ fn answer_bytes(alloc: Global, answer: &Answer) -> Result<Vec<u8>, AllocError>
 pub struct Json;
 
 impl Render for Json {
-    ghost use Rattle.std.specs.Prelude.{⊤};
+    ghost use Rattle.hq_json.specs.ReadBack.{ReadsBack};
     ghost use Rattle.hq_json.specs.Replies.{answer_text};
 
     ghost text = { λ _ answer. answer_text answer };
 
-    ghost fits = { λ _ _. ⊤ };
+    ghost fits = { λ _ answer bytes. ReadsBack answer bytes };
 
     fn render(&self, alloc: Global, answer: &Answer) -> Result<Vec<u8>, AllocError> {
         answer_bytes(alloc, answer)
@@ -256,7 +257,9 @@ impl Render for Json {
 
 /// The body of a refusal that no call was made for.
 pub fn refusal_text(alloc: Global, refusal: Refusal) -> Result<Vec<u8>, AllocError>
-    ensures { IfOk result (λ bytes. bytes.items ≡ replies.answer_text (Answer.Refused refusal)) }
+    ensures text { IfOk result (λ bytes. bytes.items
+        ≡ replies.answer_text (Answer.Refused refusal)) }
+    ensures back { IfOk result (λ bytes. ReadsBack (Answer.Refused refusal) bytes.items) }
 {
     answer_bytes(alloc, &Answer::Refused(refusal))
 }

@@ -3,12 +3,12 @@
 ghost use Rattle.std.specs.Prelude.{◌≡◌, IfOk, map as map_list};
 ghost use Rattle.serde_json.specs.Data.{array, string};
 ghost use Rattle.serde_json.specs.View.{view, items_of};
-ghost use Rattle.hq_access.specs.Actions.{action_text};
+ghost use Rattle.hq_kept.specs.Actions.{action_text};
 ghost use Rattle.hq_json.specs.Objects as objects;
 ghost use Rattle.hq_json.specs.TableReplies as replies;
 
-use hq_access::{Action, Line, LookupKey, Refused};
-use hq_calls::{ImportCounts, LinePut};
+use hq_kept::{Action, Line, LookupKey};
+use hq_rules::{ImportCounts, LinePut, Refused};
 use serde_json::{Value, json};
 use std::alloc::{AllocError, Global};
 

@@ -1,7 +1,7 @@
 -- What a query over a table of typed rows answers: one row by its key, and a page in the order of
 -- the key.
 use Rattle.std.proofs.Common.{◌≡◌, ℕ, ℤ, Bool, true, false, cond, List, [], ◌∷◌, map, filter, find}
-use Rattle.std.proofs.Common.{take, zero, suc, slice_get, option_map, Some, None, refl, sym, ap}
+use Rattle.std.proofs.Common.{take, zero, suc, slice_get, option_map, None, refl, sym, ap}
 use Rattle.std.proofs.Common.{ap₂, ◌∙◌, Ordering, is_gt}
 use Rattle.std.specs.List.{list_all, AllByRecursion}
 use Rattle.std.specs.Ordering.{eq_by_cmp}
@@ -43,13 +43,6 @@ map_same_on : {A B : Type 0} (f g : A → B) (xs : List A) → AllByRecursion (�
     map f xs ≡ map g xs
 map_same_on f g [] all = refl
 map_same_on f g (x ∷ xs) all = ap₂ ◌∷◌ all.0 (map_same_on f g xs all.1)
-
-find_same_on : {A B : Type 0} (f g : A → B) (p : A → Bool) (xs : List A) →
-    AllByRecursion (λ x. f x ≡ g x) xs → option_map f (find p xs) ≡ option_map g (find p xs)
-find_same_on f g p [] all = refl
-find_same_on f g p (x ∷ xs) all = elim (p x) as
-    (λ b. option_map f (cond b (Some x) (find p xs)) ≡ option_map g (cond b (Some x) (find p xs)))
-    [ true ↦ ap Some all.0 | false ↦ find_same_on f g p xs all.1 ]
 
 module _ {X K V : Type 0} (encode : ℤ × X → Row) (decode : Row → X) {R : K → K → Ordering}
     (o : IsTotalOrder R) (exact : CmpEqualImpliesEq R) (key : X → K) (val : X → V)

@@ -1,8 +1,5 @@
 -- What a call leaves of a connection.
-use Rattle.std.specs.Prelude.{◌⊎◌, ◌≤◌, Bool, true, false}
-use Rattle.sqlite.specs.declared.error.ErrorCode.TheVariants.{ConstraintViolation}
-use Rattle.sqlite.specs.declared.error.Error.{Error}
-use Rattle.sqlite.specs.declared.error.Error.TheVariants.{SqliteFailure}
+use Rattle.std.specs.Prelude.{◌⊎◌, ◌≤◌}
 use Rattle.sqlite_trees.specs.View.{doubt}
 use Rattle.sqlite.specs.State.{State, HasCleanDisk, IsUnchanged, IsRolledBack}
 use Rattle.sqlite.specs.Tree.{Trees}
@@ -18,8 +15,3 @@ IsQuiet old new = doubt old.is_clean ≤ doubt new.is_clean
 -- what an open after a crash may find, it might have found before
 abbrev pub LeavesNoMore : State → State → Type 0
 LeavesNoMore old new = HasCleanDisk new → (db : Trees) → new.may_leave db → old.may_leave db
-
--- a constraint refused the row
-abbrev pub is_clash : Error → Bool
-is_clash (SqliteFailure (ConstraintViolation rule)) = true
-is_clash _ = false

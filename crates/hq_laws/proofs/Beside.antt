@@ -6,43 +6,43 @@ use Rattle.std.specs.Prelude.{if◌then◌else◌, ◌==◌, nat_le, nat_lt}
 use Rattle.std.specs.List.{flat_map}
 use Rattle.std.specs.Str.{bytes_eq}
 use Rattle.sha2.specs.Sha256.{sha256}
-use Rattle.hq_import.specs.Tables.{table_lines}
+use Rattle.hq_rules.specs.TableFiles.{table_lines}
 use Rattle.hq_values.specs.declared.failure.Refusal.{Refusal}
 use Rattle.hq_values.specs.declared.failure.Refusal.TheVariants.{QuotaLines, SerialsSpent}
 use Rattle.hq_values.specs.declared.failure.Refusal.TheVariants.{LabelUsed}
-use Rattle.hq_access.specs.declared.action.Action.{Action}
-use Rattle.hq_access.specs.declared.pattern.Class.{Class}
-use Rattle.hq_access.specs.declared.pattern.Line.{Line}
-use Rattle.hq_access.specs.declared.verdicts.Verdict.{Verdict}
-use Rattle.hq_access.specs.declared.verdicts.Verdict.TheVariants as verdict
+use Rattle.hq_kept.specs.declared.action.Action.{Action}
+use Rattle.hq_kept.specs.declared.pattern.Class.{Class}
+use Rattle.hq_kept.specs.declared.pattern.Line.{Line}
+use Rattle.hq_rules.specs.declared.verdict.Verdict.{Verdict}
+use Rattle.hq_rules.specs.declared.verdict.Verdict.TheVariants as verdict
 use Rattle.hq_values.specs.Words.{customer_hold}
-use Rattle.hq_queue.specs.Admission.{spent}
-use Rattle.hq_queue.specs.Ends.{all_gone}
-use Rattle.hq_queue.specs.Moves.{held, released, requeued}
-use Rattle.hq_queue.specs.declared.account.Entry.{Entry}
-use Rattle.hq_queue.specs.declared.message.Message.{Message}
-use Rattle.hq_store.specs.Readings.{read_state}
-use Rattle.hq_store.specs.declared.change.Change.{Change}
-use Rattle.hq_store.specs.declared.change.Change.TheVariants.{PutHead, PutMessage, DropMessage}
-use Rattle.hq_store.specs.declared.change.Change.TheVariants.{PutMark}
-use Rattle.hq_store.specs.declared.mark.Mark.{Mark}
-use Rattle.hq_store.specs.declared.notice.Notice.{Notice}
-use Rattle.hq_store.specs.Tables.{State, change_all}
-use Rattle.hq_states.proofs.Many.{change_all-append}
-use Rattle.hq_calls.specs.AccessLines as lines
-use Rattle.hq_calls.specs.Answering.{tell, refuse}
-use Rattle.hq_calls.specs.Imports.{line_met, counts_of, mark_of, set_by, changes_of}
-use Rattle.hq_calls.specs.Imports.{taken, first_import, import}
-use Rattle.hq_calls.specs.Messages as messages
-use Rattle.hq_calls.specs.Notices.{show_notice}
-use Rattle.hq_calls.specs.Queues as queues
-use Rattle.hq_calls.specs.Submissions as submissions
-use Rattle.hq_calls.specs.declared.answer.Answer.TheVariants as answer
-use Rattle.hq_calls.specs.declared.answer.LinePut.{LinePut}
-use Rattle.hq_calls.specs.declared.answer.LinePut.TheVariants.{Added, Changed, Same}
-use Rattle.hq_calls.specs.declared.call.Submission.{Submission}
-use Rattle.hq_calls.specs.declared.call.Move.{Move}
-use Rattle.hq_calls.specs.declared.decision.Decision.{Decision}
+use Rattle.hq_rules.specs.Admission.{spent}
+use Rattle.hq_kept.specs.Tallies.{all_gone}
+use Rattle.hq_rules.specs.Moves.{held, released, requeued}
+use Rattle.hq_kept.specs.declared.account.Entry.{Entry}
+use Rattle.hq_kept.specs.declared.message.Message.{Message}
+use Rattle.hq_tables.specs.Readings.{read_state}
+use Rattle.hq_tables.specs.declared.change.Change.{Change}
+use Rattle.hq_tables.specs.declared.change.Change.TheVariants.{PutHead, PutMessage, DropMessage}
+use Rattle.hq_tables.specs.declared.change.Change.TheVariants.{PutMark}
+use Rattle.hq_kept.specs.declared.mark.Mark.{Mark}
+use Rattle.hq_kept.specs.declared.notice.Notice.{Notice}
+use Rattle.hq_tables.specs.Tables.{State, change_all}
+use Rattle.hq_isolation.proofs.Many.{change_all-append}
+use Rattle.hq_rules.specs.AccessLines as lines
+use Rattle.hq_rules.specs.Answering.{tell, refuse}
+use Rattle.hq_rules.specs.Imports.{line_met, counts_of, mark_of, set_by, changes_of}
+use Rattle.hq_rules.specs.Imports.{taken, first_import, import}
+use Rattle.hq_rules.specs.Messages as messages
+use Rattle.hq_rules.specs.Notices.{show_notice}
+use Rattle.hq_rules.specs.Queues as queues
+use Rattle.hq_rules.specs.Submissions as submissions
+use Rattle.hq_rules.specs.declared.answer.Answer.TheVariants as answer
+use Rattle.hq_rules.specs.declared.answer.LinePut.{LinePut}
+use Rattle.hq_rules.specs.declared.answer.LinePut.TheVariants.{Added, Changed, Same}
+use Rattle.hq_rules.specs.declared.call.Submission.{Submission}
+use Rattle.hq_rules.specs.declared.call.Move.{Move}
+use Rattle.hq_rules.specs.declared.decision.Decision.{Decision}
 
 -- the same history, and as many who left
 pub record IsBeside (s t : State) : Type 0 where

@@ -12,10 +12,10 @@ use Rattle.std.proofs.lemmas.Bool.Decides.{nat_tests}
 use Rattle.std.proofs.lemmas.List.{length-drop}
 use Rattle.std.proofs.lemmas.Map.Views.{tells_apart}
 use Rattle.hq_owned.proofs.Parts.{tied_true}
-use Rattle.hq_queue.specs.declared.outcome.Ended.{Ended}
-use Rattle.hq_store.specs.Tables.{State, Past, newest_cmp, add_ends, change_all}
-use Rattle.hq_store.proofs.Orders.{newest_total, newest_exact}
-use Rattle.hq_calls.specs.Histories.{last_of, put_to, remembered}
+use Rattle.hq_kept.specs.declared.outcome.Ended.{Ended}
+use Rattle.hq_tables.specs.Tables.{State, Past, newest_cmp, add_ends, change_all}
+use Rattle.hq_tables.proofs.Orders.{newest_total, newest_exact}
+use Rattle.hq_rules.specs.Histories.{last_of, put_to, remembered}
 
 abbrev pub Ends : Type 0
 Ends = FinMap newest_cmp Past

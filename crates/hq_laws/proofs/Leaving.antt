@@ -7,43 +7,44 @@ use Rattle.std.specs.List.{All, flat_map, sum_by, cons_option, list_any}
 use Rattle.std.proofs.lemmas.List.{length-append, length-map}
 use Rattle.std.proofs.lemmas.List.Sums.{sum_by-cons}
 use Rattle.hq_values.specs.declared.failure.Refusal.TheVariants as refusal
-use Rattle.hq_queue.specs.Admission.{spent}
-use Rattle.hq_queue.specs.Attempts.{ended, ended_with, failed, told_with, delivered, delivered_with}
-use Rattle.hq_queue.specs.Attempts.{deferred, outcome_of, done, after_attempt, is_doubled}
-use Rattle.hq_queue.specs.Attempts.{is_unknown, ended_by, told_by, is_delivered}
-use Rattle.hq_queue.specs.Ends.{all_gone, all_ended}
-use Rattle.hq_queue.specs.declared.account.Entry.{Entry}
-use Rattle.hq_queue.specs.declared.account.Head.{Head}
-use Rattle.hq_queue.specs.declared.message.Message.{Message}
-use Rattle.hq_queue.specs.declared.message.Pending.{Pending}
-use Rattle.hq_queue.specs.declared.outcome.Delivery.{Delivery}
-use Rattle.hq_queue.specs.declared.outcome.Delivery.TheVariants as delivery
-use Rattle.hq_queue.specs.declared.outcome.Told.{Told}
-use Rattle.hq_queue.specs.declared.outcome.Ended.{Ended}
-use Rattle.hq_queue.specs.declared.outcome.Fate.TheVariants as fate
-use Rattle.hq_queue.specs.declared.outcome.Outcome.{Outcome}
-use Rattle.hq_queue.specs.declared.outcome.Reported.TheVariants as reported
-use Rattle.hq_queue.specs.declared.sweep.Swept.{Swept}
-use Rattle.hq_queue.specs.declared.sweep.Swept.TheVariants.{Expired, Warned, Untouched}
-use Rattle.hq_store.specs.Sound.{SoundState, pending_count}
-use Rattle.hq_store.specs.declared.change.Change.{Change}
-use Rattle.hq_store.specs.declared.change.Change.TheVariants.{PutHead, DropMessage, AddNotice}
-use Rattle.hq_store.specs.Tables.{State, change, change_all}
-use Rattle.hq_states.proofs.Many.{change_all-append}
-use Rattle.hq_calls.specs.Answering.{tell, refuse}
-use Rattle.hq_calls.specs.Histories.{kept_history}
-use Rattle.hq_calls.specs.Messages as messages
-use Rattle.hq_calls.specs.Notices.{noticed, added_from, kept_below, with_notices, planned}
-use Rattle.hq_calls.specs.Notices.{carried_out}
-use Rattle.hq_calls.specs.Outcomes.{put_or_dropped, with_attempted, attempted, outcome_with}
-use Rattle.hq_calls.specs.Outcomes.{outcome}
-use Rattle.hq_calls.specs.Queues as queues
-use Rattle.hq_calls.specs.Sweeps.{message_met, changed_by, given_up, ended_in, messages_that}
-use Rattle.hq_calls.specs.Sweeps.{with_expired, swept_all, sweep}
-use Rattle.hq_calls.specs.declared.answer.Answer.TheVariants as answer
-use Rattle.hq_calls.specs.declared.call.AttemptReport.{AttemptReport}
-use Rattle.hq_calls.specs.declared.plan.Draft.{Draft}
-use Rattle.hq_calls.specs.declared.plan.Plan.{Plan}
+use Rattle.hq_rules.specs.Admission.{spent}
+use Rattle.hq_rules.specs.Attempts.{ended, ended_with, failed, told_with, delivered, delivered_with}
+use Rattle.hq_rules.specs.Attempts.{deferred, outcome_of, done, after_attempt, is_doubled}
+use Rattle.hq_rules.specs.Attempts.{is_unknown, ended_by, told_by, is_delivered}
+use Rattle.hq_kept.specs.Tallies.{all_gone}
+use Rattle.hq_rules.specs.Leaving.{all_ended}
+use Rattle.hq_kept.specs.declared.account.Entry.{Entry}
+use Rattle.hq_kept.specs.declared.account.Head.{Head}
+use Rattle.hq_kept.specs.declared.message.Message.{Message}
+use Rattle.hq_kept.specs.declared.message.Pending.{Pending}
+use Rattle.hq_kept.specs.declared.outcome.Delivery.{Delivery}
+use Rattle.hq_kept.specs.declared.outcome.Delivery.TheVariants as delivery
+use Rattle.hq_kept.specs.declared.outcome.Told.{Told}
+use Rattle.hq_kept.specs.declared.outcome.Ended.{Ended}
+use Rattle.hq_kept.specs.declared.outcome.Fate.TheVariants as fate
+use Rattle.hq_kept.specs.declared.outcome.Outcome.{Outcome}
+use Rattle.hq_kept.specs.declared.outcome.Reported.TheVariants as reported
+use Rattle.hq_rules.specs.declared.swept.Swept.{Swept}
+use Rattle.hq_rules.specs.declared.swept.Swept.TheVariants.{Expired, Warned, Untouched}
+use Rattle.hq_tables.specs.Sound.{SoundState, pending_count}
+use Rattle.hq_tables.specs.declared.change.Change.{Change}
+use Rattle.hq_tables.specs.declared.change.Change.TheVariants.{PutHead, DropMessage, AddNotice}
+use Rattle.hq_tables.specs.Tables.{State, change, change_all}
+use Rattle.hq_isolation.proofs.Many.{change_all-append}
+use Rattle.hq_rules.specs.Answering.{tell, refuse}
+use Rattle.hq_rules.specs.Histories.{kept_history}
+use Rattle.hq_rules.specs.Messages as messages
+use Rattle.hq_rules.specs.Notices.{noticed, added_from, kept_below, with_notices, planned}
+use Rattle.hq_rules.specs.Notices.{carried_out}
+use Rattle.hq_rules.specs.Outcomes.{put_or_dropped, with_attempted, attempted, outcome_with}
+use Rattle.hq_rules.specs.Outcomes.{outcome}
+use Rattle.hq_rules.specs.Queues as queues
+use Rattle.hq_rules.specs.Sweeps.{message_met, changed_by, given_up, ended_in, messages_that}
+use Rattle.hq_rules.specs.Sweeps.{with_expired, swept_all, sweep}
+use Rattle.hq_rules.specs.declared.answer.Answer.TheVariants as answer
+use Rattle.hq_rules.specs.declared.call.AttemptReport.{AttemptReport}
+use Rattle.hq_rules.specs.declared.plan.Draft.{Draft}
+use Rattle.hq_rules.specs.declared.plan.Plan.{Plan}
 use Rattle.hq_laws.specs.Queued.{WasQueued}
 use Rattle.hq_laws.proofs.Queued.{Stands, all_were, each_were, rows_were, attempt_were}
 use Rattle.hq_laws.proofs.Past.{Remembers, nobody, remembers_past, few_after}

@@ -7,52 +7,53 @@ use Rattle.std.specs.List.{flat_map}
 use Rattle.hq_values.specs.declared.failure.Refusal.{Refusal}
 use Rattle.hq_values.specs.declared.failure.Refusal.TheVariants.{QuotaLines, SerialsSpent}
 use Rattle.hq_values.specs.declared.failure.Refusal.TheVariants.{NoticesSpent}
-use Rattle.hq_access.specs.declared.action.Action.{Action}
-use Rattle.hq_access.specs.declared.pattern.Class.{Class}
-use Rattle.hq_access.specs.declared.pattern.Line.{Line}
-use Rattle.hq_access.specs.declared.verdicts.Verdict.{Verdict}
-use Rattle.hq_access.specs.declared.verdicts.Verdict.TheVariants as verdict
+use Rattle.hq_kept.specs.declared.action.Action.{Action}
+use Rattle.hq_kept.specs.declared.pattern.Class.{Class}
+use Rattle.hq_kept.specs.declared.pattern.Line.{Line}
+use Rattle.hq_rules.specs.declared.verdict.Verdict.{Verdict}
+use Rattle.hq_rules.specs.declared.verdict.Verdict.TheVariants as verdict
 use Rattle.hq_values.specs.Words.{customer_hold}
-use Rattle.hq_queue.specs.Admission.{spent}
-use Rattle.hq_queue.specs.Attempts.{reported}
-use Rattle.hq_queue.specs.Moves.{held, released, requeued}
-use Rattle.hq_queue.specs.declared.account.Entry.{Entry}
-use Rattle.hq_queue.specs.declared.account.Head.{Head}
-use Rattle.hq_queue.specs.declared.message.Message.{Message}
-use Rattle.hq_queue.specs.declared.message.Pending.{Pending}
-use Rattle.hq_queue.specs.declared.outcome.Reported.{Reported}
-use Rattle.hq_queue.specs.declared.outcome.Reported.TheVariants.{Repeat, Done}
-use Rattle.hq_queue.specs.declared.sweep.Swept.{Swept}
-use Rattle.hq_queue.specs.declared.sweep.Swept.TheVariants.{Expired, Warned, Untouched}
-use Rattle.hq_store.specs.Readings.{read_state}
-use Rattle.hq_store.specs.declared.change.Change.{Change}
-use Rattle.hq_store.specs.declared.change.Change.TheVariants.{PutHead, PutMessage, DropMessage}
-use Rattle.hq_store.specs.declared.change.Change.TheVariants.{AddNotice, DropEndsTo}
-use Rattle.hq_queue.specs.Ends.{all_ended, last_gone}
-use Rattle.hq_queue.specs.declared.outcome.Ended.{Ended}
-use Rattle.hq_queue.specs.declared.outcome.Fate.TheVariants as fate
-use Rattle.hq_store.specs.declared.notice.Notice.{Notice}
-use Rattle.hq_store.specs.Sound.{pending_count}
-use Rattle.hq_store.specs.Tables.{State, change, change_all}
-use Rattle.hq_states.proofs.Many.{change_all-append}
-use Rattle.hq_calls.specs.AccessLines as lines
-use Rattle.hq_calls.specs.Answering.{tell, refuse}
-use Rattle.hq_calls.specs.Messages as messages
-use Rattle.hq_calls.specs.Histories.{last_of, put_to, kept_history}
-use Rattle.hq_calls.specs.Notices.{noticed, added_from, kept_below, with_notices, planned}
-use Rattle.hq_calls.specs.Notices.{carried_out, show_notice}
-use Rattle.hq_calls.specs.Outcomes.{put_or_dropped, attempted, outcome_with, outcome}
-use Rattle.hq_calls.specs.Queues as queues
-use Rattle.hq_calls.specs.Submissions as submissions
-use Rattle.hq_calls.specs.Sweeps.{message_met, changed_by, messages_that, swept_all, sweep}
-use Rattle.hq_calls.specs.declared.answer.Answer.TheVariants as answer
-use Rattle.hq_calls.specs.declared.answer.LinePut.TheVariants.{Added, Changed, Same}
-use Rattle.hq_calls.specs.declared.call.AttemptReport.{AttemptReport}
-use Rattle.hq_calls.specs.declared.call.Submission.{Submission}
-use Rattle.hq_calls.specs.declared.decision.Decision.{Decision}
-use Rattle.hq_calls.specs.declared.plan.Draft.{Draft}
-use Rattle.hq_calls.specs.declared.plan.Plan.{Plan}
-use Rattle.hq_calls.specs.declared.call.Move.{Move}
+use Rattle.hq_rules.specs.Admission.{spent}
+use Rattle.hq_rules.specs.Attempts.{reported}
+use Rattle.hq_rules.specs.Moves.{held, released, requeued}
+use Rattle.hq_kept.specs.declared.account.Entry.{Entry}
+use Rattle.hq_kept.specs.declared.account.Head.{Head}
+use Rattle.hq_kept.specs.declared.message.Message.{Message}
+use Rattle.hq_kept.specs.declared.message.Pending.{Pending}
+use Rattle.hq_kept.specs.declared.outcome.Reported.{Reported}
+use Rattle.hq_kept.specs.declared.outcome.Reported.TheVariants.{Repeat, Done}
+use Rattle.hq_rules.specs.declared.swept.Swept.{Swept}
+use Rattle.hq_rules.specs.declared.swept.Swept.TheVariants.{Expired, Warned, Untouched}
+use Rattle.hq_tables.specs.Readings.{read_state}
+use Rattle.hq_tables.specs.declared.change.Change.{Change}
+use Rattle.hq_tables.specs.declared.change.Change.TheVariants.{PutHead, PutMessage, DropMessage}
+use Rattle.hq_tables.specs.declared.change.Change.TheVariants.{AddNotice, DropEndsTo}
+use Rattle.hq_rules.specs.Leaving.{all_ended}
+use Rattle.hq_kept.specs.Tallies.{last_gone}
+use Rattle.hq_kept.specs.declared.outcome.Ended.{Ended}
+use Rattle.hq_kept.specs.declared.outcome.Fate.TheVariants as fate
+use Rattle.hq_kept.specs.declared.notice.Notice.{Notice}
+use Rattle.hq_tables.specs.Sound.{pending_count}
+use Rattle.hq_tables.specs.Tables.{State, change, change_all}
+use Rattle.hq_isolation.proofs.Many.{change_all-append}
+use Rattle.hq_rules.specs.AccessLines as lines
+use Rattle.hq_rules.specs.Answering.{tell, refuse}
+use Rattle.hq_rules.specs.Messages as messages
+use Rattle.hq_rules.specs.Histories.{last_of, put_to, kept_history}
+use Rattle.hq_rules.specs.Notices.{noticed, added_from, kept_below, with_notices, planned}
+use Rattle.hq_rules.specs.Notices.{carried_out, show_notice}
+use Rattle.hq_rules.specs.Outcomes.{put_or_dropped, attempted, outcome_with, outcome}
+use Rattle.hq_rules.specs.Queues as queues
+use Rattle.hq_rules.specs.Submissions as submissions
+use Rattle.hq_rules.specs.Sweeps.{message_met, changed_by, messages_that, swept_all, sweep}
+use Rattle.hq_rules.specs.declared.answer.Answer.TheVariants as answer
+use Rattle.hq_rules.specs.declared.answer.LinePut.TheVariants.{Added, Changed, Same}
+use Rattle.hq_rules.specs.declared.call.AttemptReport.{AttemptReport}
+use Rattle.hq_rules.specs.declared.call.Submission.{Submission}
+use Rattle.hq_rules.specs.declared.decision.Decision.{Decision}
+use Rattle.hq_rules.specs.declared.plan.Draft.{Draft}
+use Rattle.hq_rules.specs.declared.plan.Plan.{Plan}
+use Rattle.hq_rules.specs.declared.call.Move.{Move}
 
 -- what a decision leaves of the marks
 abbrev pub Leaves : State → Decision → Type 0

@@ -4,15 +4,15 @@ use Rattle.std.proofs.Common.{length, refl, sym, ap, ◌∙◌, subst}
 use Rattle.std.proofs.Common.{arith}
 use Rattle.std.specs.List.{All}
 use Rattle.std.proofs.lemmas.List.Elements.{All-nil}
-use Rattle.hq_queue.specs.Ends.{all_gone, last_gone}
-use Rattle.hq_queue.specs.declared.account.Entry.{Entry}
-use Rattle.hq_queue.specs.declared.account.Head.{Head}
-use Rattle.hq_queue.specs.declared.account.Tally.{Tally}
-use Rattle.hq_queue.specs.declared.outcome.Ended.{Ended}
-use Rattle.hq_store.specs.Sound.{SoundState}
-use Rattle.hq_store.specs.declared.change.Change.TheVariants.{DropEndsTo}
-use Rattle.hq_store.specs.Tables.{State, change, change_all}
-use Rattle.hq_calls.specs.Histories.{last_of, put_to, remembered, kept_history}
+use Rattle.hq_kept.specs.Tallies.{all_gone, last_gone}
+use Rattle.hq_kept.specs.declared.account.Entry.{Entry}
+use Rattle.hq_kept.specs.declared.account.Head.{Head}
+use Rattle.hq_kept.specs.declared.account.Tally.{Tally}
+use Rattle.hq_kept.specs.declared.outcome.Ended.{Ended}
+use Rattle.hq_tables.specs.Sound.{SoundState}
+use Rattle.hq_tables.specs.declared.change.Change.TheVariants.{DropEndsTo}
+use Rattle.hq_tables.specs.Tables.{State, change, change_all}
+use Rattle.hq_rules.specs.Histories.{last_of, put_to, remembered, kept_history}
 use Rattle.hq_laws.specs.Queued.{WasQueued}
 use Rattle.hq_laws.proofs.Beside.{IsBeside}
 

@@ -4,23 +4,23 @@ use Rattle.std.specs.FinMap.{get, values}
 use Rattle.std.specs.List.{All, Contains, flat_map, cons_option}
 use Rattle.std.proofs.lemmas.List.Elements.{All-nil, All-cons, All-head, All-tail, All-append}
 use Rattle.std.proofs.lemmas.List.Elements.{All-map, All-weaker, All-contains_itself}
-use Rattle.hq_queue.specs.Attempts.{ended, ended_by, ended_with, outcome_of}
-use Rattle.hq_queue.specs.Ends.{ended_as, all_ended}
-use Rattle.hq_queue.specs.Sweeps.{after_sweep, swept}
-use Rattle.hq_queue.specs.declared.message.Message.{Message}
-use Rattle.hq_queue.specs.declared.message.Pending.{Pending}
-use Rattle.hq_queue.specs.declared.outcome.Delivery.{Delivery}
-use Rattle.hq_queue.specs.declared.outcome.Delivery.TheVariants as delivery
-use Rattle.hq_queue.specs.declared.outcome.Ended.{Ended}
-use Rattle.hq_queue.specs.declared.outcome.Fate.{Fate}
-use Rattle.hq_queue.specs.declared.outcome.Fate.TheVariants as fate
-use Rattle.hq_queue.specs.declared.outcome.Outcome.{Outcome}
-use Rattle.hq_queue.specs.declared.sweep.Swept.{Swept}
-use Rattle.hq_queue.specs.declared.sweep.Swept.TheVariants.{Expired, Warned, Untouched}
-use Rattle.hq_store.specs.Sound.{SoundState}
-use Rattle.hq_store.specs.Tables.{State}
-use Rattle.hq_states.proofs.Many.{Queue, Stand, stand_values}
-use Rattle.hq_calls.specs.Sweeps.{message_met, ended_in}
+use Rattle.hq_rules.specs.Attempts.{ended, ended_by, ended_with, outcome_of}
+use Rattle.hq_rules.specs.Leaving.{ended_as, all_ended}
+use Rattle.hq_rules.specs.Ages.{after_sweep, swept}
+use Rattle.hq_kept.specs.declared.message.Message.{Message}
+use Rattle.hq_kept.specs.declared.message.Pending.{Pending}
+use Rattle.hq_kept.specs.declared.outcome.Delivery.{Delivery}
+use Rattle.hq_kept.specs.declared.outcome.Delivery.TheVariants as delivery
+use Rattle.hq_kept.specs.declared.outcome.Ended.{Ended}
+use Rattle.hq_kept.specs.declared.outcome.Fate.{Fate}
+use Rattle.hq_kept.specs.declared.outcome.Fate.TheVariants as fate
+use Rattle.hq_kept.specs.declared.outcome.Outcome.{Outcome}
+use Rattle.hq_rules.specs.declared.swept.Swept.{Swept}
+use Rattle.hq_rules.specs.declared.swept.Swept.TheVariants.{Expired, Warned, Untouched}
+use Rattle.hq_tables.specs.Sound.{SoundState}
+use Rattle.hq_tables.specs.Tables.{State}
+use Rattle.hq_isolation.proofs.Many.{Queue, Stand, stand_values}
+use Rattle.hq_rules.specs.Sweeps.{message_met, ended_in}
 use Rattle.hq_laws.specs.Queued.{WasQueued}
 
 -- it stands in the queue, at its queue ID

@@ -13,30 +13,30 @@ use Rattle.sha2.specs.Sha256.{sha256}
 use Rattle.hq_owned.proofs.Parts.{tied_true, tied_false}
 use Rattle.hq_values.specs.declared.failure.Refusal.{Refusal}
 use Rattle.hq_values.specs.declared.failure.Refusal.TheVariants.{QuotaLines, LabelUsed}
-use Rattle.hq_import.specs.Tables.{table_lines}
-use Rattle.hq_access.specs.declared.pattern.Line.{Line}
-use Rattle.hq_queue.specs.declared.account.Entry.{Entry}
-use Rattle.hq_store.specs.Readings.{read_state}
-use Rattle.hq_store.specs.declared.change.Change.TheVariants.{PutMark}
-use Rattle.hq_store.specs.declared.mark.Mark.{Mark}
-use Rattle.hq_store.specs.Tables.{State, change_all}
-use Rattle.hq_store.proofs.Customers.{cases_name}
-use Rattle.hq_states.proofs.Many.{change_all-append}
-use Rattle.hq_calls.specs.Answering.{tell, refuse}
-use Rattle.hq_calls.specs.Decision.{decide}
-use Rattle.hq_calls.specs.Imports.{line_met, counts_of, mark_of, set_by, changes_of, repeated}
-use Rattle.hq_calls.specs.Imports.{taken}
-use Rattle.hq_calls.specs.Imports.{first_import, import}
-use Rattle.hq_calls.specs.Machine.{step}
-use Rattle.hq_calls.specs.Selections.{is_selected}
-use Rattle.hq_calls.specs.declared.answer.Answer.{Answer}
-use Rattle.hq_calls.specs.declared.answer.Answer.TheVariants as answer
-use Rattle.hq_calls.specs.declared.answer.ImportCounts.{ImportCounts}
-use Rattle.hq_calls.specs.declared.answer.LinePut.{LinePut}
-use Rattle.hq_calls.specs.declared.call.Call.{Call}
-use Rattle.hq_calls.specs.declared.call.Call.TheVariants as call
-use Rattle.hq_calls.specs.declared.decision.Decision.{Decision}
-use Rattle.hq_calls.specs.declared.call.Move.TheVariants as move
+use Rattle.hq_rules.specs.TableFiles.{table_lines}
+use Rattle.hq_kept.specs.declared.pattern.Line.{Line}
+use Rattle.hq_kept.specs.declared.account.Entry.{Entry}
+use Rattle.hq_tables.specs.Readings.{read_state}
+use Rattle.hq_tables.specs.declared.change.Change.TheVariants.{PutMark}
+use Rattle.hq_kept.specs.declared.mark.Mark.{Mark}
+use Rattle.hq_tables.specs.Tables.{State, change_all}
+use Rattle.hq_tables.proofs.Customers.{cases_name}
+use Rattle.hq_isolation.proofs.Many.{change_all-append}
+use Rattle.hq_rules.specs.Answering.{tell, refuse}
+use Rattle.hq_rules.specs.Decision.{decide}
+use Rattle.hq_rules.specs.Imports.{line_met, counts_of, mark_of, set_by, changes_of, repeated}
+use Rattle.hq_rules.specs.Imports.{taken}
+use Rattle.hq_rules.specs.Imports.{first_import, import}
+use Rattle.hq_rules.specs.Machine.{step}
+use Rattle.hq_rules.specs.Selections.{is_selected}
+use Rattle.hq_rules.specs.declared.answer.Answer.{Answer}
+use Rattle.hq_rules.specs.declared.answer.Answer.TheVariants as answer
+use Rattle.hq_rules.specs.declared.answer.ImportCounts.{ImportCounts}
+use Rattle.hq_rules.specs.declared.answer.LinePut.{LinePut}
+use Rattle.hq_rules.specs.declared.call.Call.{Call}
+use Rattle.hq_rules.specs.declared.call.Call.TheVariants as call
+use Rattle.hq_rules.specs.declared.decision.Decision.{Decision}
+use Rattle.hq_rules.specs.declared.call.Move.TheVariants as move
 use Rattle.hq_laws.specs.Entries.{TimedCall, state_over}
 use Rattle.hq_soundness.proofs.Imported.{same_marks}
 use Rattle.hq_laws.proofs.Marks.{hold_leaves, release_leaves, requeue_leaves, delete_leaves}

@@ -5,22 +5,22 @@ use Rattle.std.proofs.Common.{◌∷◌}
 use Rattle.std.proofs.Common.{length, sym, ap, ◌∙◌, Some, None, filter, arith}
 use Rattle.std.specs.Prelude.{is_some}
 use Rattle.std.specs.FinMap.{get, values}
-use Rattle.hq_queue.specs.Ends.{all_gone}
+use Rattle.hq_kept.specs.Tallies.{all_gone}
 use Rattle.std.specs.List.{All}
 use Rattle.std.proofs.lemmas.List.Elements.{All-filter}
-use Rattle.hq_queue.specs.declared.account.Entry.{Entry}
-use Rattle.hq_queue.specs.declared.message.Message.{Message}
-use Rattle.hq_queue.specs.declared.outcome.Ended.{Ended}
-use Rattle.hq_store.specs.Readings.{read_state}
-use Rattle.hq_store.specs.Sound.{SoundState}
-use Rattle.hq_store.specs.Tables.{State, Past, change_all}
-use Rattle.hq_calls.specs.Decision.{decide}
-use Rattle.hq_calls.specs.Histories.{remembered}
-use Rattle.hq_calls.specs.Machine.{step}
-use Rattle.hq_calls.specs.Selections.{is_selected}
-use Rattle.hq_calls.specs.declared.call.Call.{Call}
-use Rattle.hq_calls.specs.declared.call.Call.TheVariants as call
-use Rattle.hq_calls.specs.declared.call.Move.TheVariants as move
+use Rattle.hq_kept.specs.declared.account.Entry.{Entry}
+use Rattle.hq_kept.specs.declared.message.Message.{Message}
+use Rattle.hq_kept.specs.declared.outcome.Ended.{Ended}
+use Rattle.hq_tables.specs.Readings.{read_state}
+use Rattle.hq_tables.specs.Sound.{SoundState}
+use Rattle.hq_tables.specs.Tables.{State, Past, change_all}
+use Rattle.hq_rules.specs.Decision.{decide}
+use Rattle.hq_rules.specs.Histories.{remembered}
+use Rattle.hq_rules.specs.Machine.{step}
+use Rattle.hq_rules.specs.Selections.{is_selected}
+use Rattle.hq_rules.specs.declared.call.Call.{Call}
+use Rattle.hq_rules.specs.declared.call.Call.TheVariants as call
+use Rattle.hq_rules.specs.declared.call.Move.TheVariants as move
 use Rattle.hq_soundness.proofs.Soundness.{step_sound}
 use Rattle.hq_laws.proofs.Beside.{itself, hold_leaves, release_leaves}
 use Rattle.hq_laws.proofs.Beside.{requeue_leaves, show_leaves, submit_leaves}

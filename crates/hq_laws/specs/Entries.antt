@@ -1,10 +1,10 @@
 -- Calls of a customer over the starts of a desk, between which its row of the directory and the
 -- relay's name may change.
 use Rattle.std.specs.Prelude.{ℕ, List, [], ◌∷◌}
-use Rattle.hq_queue.specs.declared.account.Entry.{Entry}
-use Rattle.hq_store.specs.Tables.{State}
-use Rattle.hq_calls.specs.Machine.{step}
-use Rattle.hq_calls.specs.declared.call.Call.{Call}
+use Rattle.hq_kept.specs.declared.account.Entry.{Entry}
+use Rattle.hq_tables.specs.Tables.{State}
+use Rattle.hq_rules.specs.Machine.{step}
+use Rattle.hq_rules.specs.declared.call.Call.{Call}
 
 -- A call, with the relay's name and the customer's entry of its time.
 pub record TimedCall : Type 0 where

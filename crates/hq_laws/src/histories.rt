@@ -3,12 +3,12 @@
 
 ghost use Rattle.std.specs.Prelude.{◌≡◌, ◌⊎◌, ◌-◌, ◌<◌, ◌≤◌, ℕ, List, Some, None, true, is_some};
 ghost use Rattle.std.specs.FinMap.{get};
-ghost use Rattle.hq_queue.specs.Ends.{all_gone};
-ghost use Rattle.hq_queue.specs.declared.account.Entry.{Entry};
-ghost use Rattle.hq_store.specs.Sound.{SoundState};
-ghost use Rattle.hq_store.specs.Tables.{State, Past};
-ghost use Rattle.hq_calls.specs.declared.call.Call.{Call};
-ghost use Rattle.hq_calls.specs.Machine.{step};
+ghost use Rattle.hq_kept.specs.Tallies.{all_gone};
+ghost use Rattle.hq_kept.specs.declared.account.Entry.{Entry};
+ghost use Rattle.hq_tables.specs.Sound.{SoundState};
+ghost use Rattle.hq_tables.specs.Tables.{State, Past};
+ghost use Rattle.hq_rules.specs.declared.call.Call.{Call};
+ghost use Rattle.hq_rules.specs.Machine.{step};
 ghost use Rattle.hq_laws.specs.Queued.{WasQueued};
 
 /// An end that a number has after a call, it had before. Or the call gave the number: it is above

@@ -1,12 +1,12 @@
 //! An import is kept for good: its label answers the same ever after.
 
 ghost use Rattle.std.specs.Prelude.{◌≡◌, ◌≢◌, ℕ, List};
-ghost use Rattle.hq_queue.specs.declared.account.Entry.{Entry};
-ghost use Rattle.hq_store.specs.Tables.{State};
-ghost use Rattle.hq_calls.specs.declared.answer.Answer.TheVariants.{Imported};
-ghost use Rattle.hq_calls.specs.declared.answer.ImportCounts.{ImportCounts};
-ghost use Rattle.hq_calls.specs.declared.call.Call.TheVariants.{Import};
-ghost use Rattle.hq_calls.specs.Machine.{step};
+ghost use Rattle.hq_kept.specs.declared.account.Entry.{Entry};
+ghost use Rattle.hq_tables.specs.Tables.{State};
+ghost use Rattle.hq_rules.specs.declared.answer.Answer.TheVariants.{Imported};
+ghost use Rattle.hq_rules.specs.declared.answer.ImportCounts.{ImportCounts};
+ghost use Rattle.hq_rules.specs.declared.call.Call.TheVariants.{Import};
+ghost use Rattle.hq_rules.specs.Machine.{step};
 ghost use Rattle.hq_laws.specs.Entries.{TimedCall, state_over};
 
 /// An import that was answered with counts is kept for good: after any calls of the customer, the

@@ -38,7 +38,7 @@ pub trait Answers {
 }
 
 /// Answers the lines of an input in order. Room for a line is taken before the first read.
-pub fn serve_lines<R: Read, W: Write, A: Answers>(
+pub fn answer_lines<R: Read, W: Write, A: Answers>(
     alloc: Global,
     reader: &mut R,
     writer: &mut W,
@@ -52,11 +52,11 @@ pub fn serve_lines<R: Read, W: Write, A: Answers>(
     let Ok(mut line) = LineBuffer::new(alloc) else {
         return Err(EngineFault::WantOfMemory);
     };
-    serve_reads(MOST_READS, &mut line, reader, writer, answers)
+    answer_reads(MOST_READS, &mut line, reader, writer, answers)
 }
 
 /// Answers the lines of an input, with at most so many reads.
-pub(crate) fn serve_reads<R: Read, W: Write, A: Answers>(
+pub(crate) fn answer_reads<R: Read, W: Write, A: Answers>(
     most_reads: u32,
     line: &mut LineBuffer,
     reader: &mut R,
@@ -71,7 +71,7 @@ pub(crate) fn serve_reads<R: Read, W: Write, A: Answers>(
 {
     let mut chunk = [0; CHUNK_BYTES];
     for _ in 0..most_reads {
-        if !serve_read(line, &mut chunk, reader, writer, answers)? {
+        if !answer_read(line, &mut chunk, reader, writer, answers)? {
             return answer_line(line.bytes.as_slice(), writer, answers);
         }
     }
@@ -79,7 +79,7 @@ pub(crate) fn serve_reads<R: Read, W: Write, A: Answers>(
 }
 
 /// One read, and the replies to the lines that end in what it gave. At `false` the input has ended.
-fn serve_read<R: Read, W: Write, A: Answers>(
+fn answer_read<R: Read, W: Write, A: Answers>(
     line: &mut LineBuffer,
     chunk: &mut [u8],
     reader: &mut R,

@@ -8,6 +8,6 @@ mod buffer;
 mod fields;
 mod writing;
 
-pub use answering::{Answers, serve_lines};
+pub use answering::{Answers, answer_lines};
 pub use fields::{RequestLine, read_line};
 pub use writing::write_whole;

@@ -11,12 +11,12 @@ use Rattle.std.proofs.lemmas.List.{map-append}
 use Rattle.std.proofs.lemmas.List.Elements.{filter-append}
 use Rattle.std.proofs.lemmas.Map.Lookups.{CmpEqualImpliesEq, exact_bytes, exact_unsigned}
 use Rattle.std.specs.FinMap.{get, retain_keys, get-insert, get-retain_keys}
-use Rattle.hq_queue.specs.declared.message.Pending.{Pending}
+use Rattle.hq_kept.specs.declared.message.Pending.{Pending}
 use Rattle.hq_owned.specs.Owned.{by_both}
-use Rattle.hq_store.specs.Tables.{text_cmp, recipient_cmp, pending_of, place_all, deal}
+use Rattle.hq_tables.specs.Tables.{text_cmp, recipient_cmp, pending_of, place_all, deal}
 use Rattle.hq_owned.proofs.Parts.{both_total, both_exact, tied_true, tied_false}
-use Rattle.hq_store.proofs.Dealt.{Recipients, pending_same, pending_other_message}
-use Rattle.hq_store.proofs.Dealt.{pending_other_owner}
+use Rattle.hq_isolation.proofs.Dealt.{Recipients, pending_same, pending_other_message}
+use Rattle.hq_isolation.proofs.Dealt.{pending_other_owner}
 use Rattle.hq_owned.proofs.Lists.{table_keep, table_push}
 use Rattle.hq_rows.specs.declared.rows.RecipientRow.{RecipientRow}
 use Rattle.hq_rows.specs.Listed.{recipient_key, recipient_value, recipients_of}

@@ -1,6 +1,6 @@
 -- The tables that plain lists stand for, and the order in which their rows lie.
 use Rattle.hq_lists.specs.declared.list_rows.ListRows.{ListRows}
-use Rattle.hq_store.specs.Tables.{Tables}
+use Rattle.hq_tables.specs.Tables.{Tables}
 use Rattle.hq_rows.specs.Listed.{heads_of, messages_of, recipients_of, holds_of, lines_of, marks_of}
 use Rattle.hq_rows.specs.Listed.{notices_of, ends_of}
 use Rattle.hq_rows.specs.Lookups.{AreUnique, AreDealt, AreUniqueLines, AreUniqueNotices}

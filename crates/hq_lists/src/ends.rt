@@ -3,15 +3,15 @@
 ghost use Rattle.std.specs.Prelude.{◌≡◌, nat_le, nat_lt, None, OnOk, IfOk, filter, map};
 ghost use Rattle.std.specs.Prelude.{take};
 ghost use Rattle.std.specs.FinMap as maps;
-ghost use Rattle.hq_store.specs.Tables.{left_of, newest_cmp, past_of, end_of};
-ghost use Rattle.hq_store.specs.Tables.{add_rows, last_before};
-ghost use Rattle.hq_store.specs.Readings.{before_end};
+ghost use Rattle.hq_tables.specs.Tables.{left_of, newest_cmp, past_of, end_of};
+ghost use Rattle.hq_tables.specs.Tables.{add_rows, last_before};
+ghost use Rattle.hq_tables.specs.Readings.{before_end};
 ghost use Rattle.hq_rows.specs.Listed.{ends_of};
 ghost use Rattle.hq_rows.specs.Lookups.{is_end_before, is_kept_end, is_earlier_end};
 ghost use Rattle.hq_rows.specs.Lookups.{end_rows_with, AreUniqueEnds};
 
+use hq_kept::{End, Ends};
 use hq_rows::EndRow;
-use hq_store::{End, Ends};
 use hq_values::{Items, Name, TryCopy};
 use std::alloc::{AllocError, Global};
 use std::cmp::Ordering;

@@ -4,17 +4,16 @@ ghost use Rattle.std.specs.Prelude.{◌≡◌, not, OnOk, filter, option_map};
 ghost use Rattle.std.specs.List as list;
 ghost use Rattle.std.specs.FinMap as map;
 ghost use Rattle.hq_owned.specs.Owned.{given};
-ghost use Rattle.hq_store.specs.Tables.{Row, account, headed, counted, with_message};
-ghost use Rattle.hq_store.specs.Tables.{without_message, with_line, without_line};
+ghost use Rattle.hq_tables.specs.Tables.{Row, account, headed, counted, with_message};
+ghost use Rattle.hq_tables.specs.Tables.{without_message, with_line, without_line};
 ghost use Rattle.hq_rows.specs.Listed.{heads_of, messages_of, lines_of};
 ghost use Rattle.hq_rows.specs.Lookups.{is_head};
 
 use crate::lines::has_line;
 use crate::messages::size_in;
-use hq_access::Pattern;
-use hq_queue::Head;
+use hq_kept::{Head, Pattern};
 use hq_rows::{HeadRow, LineRow, MessageRow};
-use hq_store::Account;
+use hq_tables::Account;
 use hq_values::{Name, Serial, TryCopy};
 use std::alloc::{AllocError, Global};
 

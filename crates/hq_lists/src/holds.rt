@@ -3,7 +3,7 @@
 ghost use Rattle.std.specs.Prelude.{◌≡◌, not, OnOk, IfOk, [], filter, option_map};
 ghost use Rattle.std.specs.List as list;
 ghost use Rattle.std.specs.FinMap as maps;
-ghost use Rattle.hq_store.specs.Tables.{reason_of, give_reason};
+ghost use Rattle.hq_tables.specs.Tables.{reason_of, give_reason};
 ghost use Rattle.hq_rows.specs.Listed.{holds_of};
 ghost use Rattle.hq_rows.specs.Lookups.{is_hold};
 
@@ -71,7 +71,7 @@ fn set_hold(
 }
 
 /// Sets the reason of the message; an empty one is not kept.
-#[tactic(auto, unfolding(hq_store::specs::Tables::give_reason))]
+#[tactic(auto, unfolding(hq_tables::specs::Tables::give_reason))]
 pub fn put_hold(
     alloc: Global,
     rows: &mut Vec<HoldRow>,

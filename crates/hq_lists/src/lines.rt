@@ -3,12 +3,12 @@
 ghost use Rattle.std.specs.Prelude.{◌≡◌, not, OnOk, IfOk, filter, map, take, option_map, is_some};
 ghost use Rattle.std.specs.List as list;
 ghost use Rattle.std.specs.FinMap as maps;
-ghost use Rattle.hq_store.specs.Tables.{line_cmp};
-ghost use Rattle.hq_store.specs.Readings.{line_of, after_pattern};
+ghost use Rattle.hq_tables.specs.Tables.{line_cmp};
+ghost use Rattle.hq_tables.specs.Readings.{line_of, after_pattern};
 ghost use Rattle.hq_rows.specs.Listed.{lines_of};
 ghost use Rattle.hq_rows.specs.Lookups.{is_line, is_line_past, line_rows_with, AreUniqueLines};
 
-use hq_access::{Action, Class, Line, LookupKey, Pattern};
+use hq_kept::{Action, Class, Line, LookupKey, Pattern};
 use hq_rows::{LineRow, order};
 use hq_values::{Items, Name, TryCopy};
 use std::alloc::{AllocError, Global};

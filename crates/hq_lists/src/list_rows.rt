@@ -1,17 +1,16 @@
 //! The rows of all tables in plain lists, and what a change does to them.
 
 ghost use Rattle.std.specs.Prelude.{◌≡◌, IfOk, OnOk};
-ghost use Rattle.hq_store.specs.Tables.{write, write_all};
+ghost use Rattle.hq_tables.specs.Tables.{write, write_all};
 ghost use Rattle.hq_lists.specs.Lists.{tables_of};
 ghost use Rattle.hq_lists.specs.Lists.{AreInOrder};
-ghost use Rattle.hq_store.specs.declared.change.Change.TheVariants.{PutMessage, DropMessage};
-ghost use Rattle.hq_store.specs.declared.change.Change.TheVariants.{PutLine, DropLine};
+ghost use Rattle.hq_tables.specs.declared.change.Change.TheVariants.{PutMessage, DropMessage};
+ghost use Rattle.hq_tables.specs.declared.change.Change.TheVariants.{PutLine, DropLine};
 
 use crate::{ends, heads, holds, lines, marks, messages, notices, recipients};
-use hq_access::{Line, Pattern};
-use hq_queue::Message;
+use hq_kept::{Line, Message, Pattern};
 use hq_rows::{EndRow, HeadRow, HoldRow, LineRow, MarkRow, MessageRow, NoticeRow, RecipientRow};
-use hq_store::Change;
+use hq_tables::Change;
 use hq_values::{Name, Serial, TryCopy, copy_all};
 use std::alloc::{AllocError, Global};
 

@@ -1,14 +1,13 @@
 //! The shelf of plain lists.
 
 ghost use Rattle.std.specs.Prelude.{◌≡◌};
-ghost use Rattle.hq_store.specs.Tables.{no_tables};
+ghost use Rattle.hq_tables.specs.Tables.{no_tables};
 ghost use Rattle.hq_lists.specs.Lists.{tables_of};
 
 use crate::list_rows::ListRows;
 use crate::{ends, heads, lines, marks, messages, notices};
-use hq_access::{Action, Class, Line, LookupKey, Pattern};
-use hq_queue::{Counts, Head, Message};
-use hq_store::{Change, End, Mark, Notice, Shelf};
+use hq_kept::{Action, Class, Counts, End, Head, Line, LookupKey, Mark, Message, Notice, Pattern};
+use hq_tables::{Change, Shelf};
 use hq_values::{Fault, Items, Label, Name, Serial, Spool};
 use std::alloc::Global;
 use std::marker::Model;
@@ -27,7 +26,7 @@ impl Model for ListShelf {
     ghost use Rattle.hq_lists.specs.declared.list_rows.ListRows.{ListRows};
     ghost use Rattle.hq_lists.specs.Lists.{tables_of};
     ghost use Rattle.hq_lists.specs.Lists.{AreInOrder};
-    ghost use Rattle.hq_store.specs.Sound.{AreCounted};
+    ghost use Rattle.hq_tables.specs.Sound.{AreCounted};
 
     ghost Value = { ListRows };
 

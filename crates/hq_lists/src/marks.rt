@@ -6,8 +6,8 @@ ghost use Rattle.std.specs.FinMap as maps;
 ghost use Rattle.hq_rows.specs.Listed.{marks_of};
 ghost use Rattle.hq_rows.specs.Lookups.{is_mark};
 
+use hq_kept::Mark;
 use hq_rows::MarkRow;
-use hq_store::Mark;
 use hq_values::{Label, Name, TryCopy};
 use std::alloc::{AllocError, Global};
 

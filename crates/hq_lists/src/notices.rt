@@ -4,14 +4,14 @@ ghost use Rattle.std.specs.Prelude.{◌≡◌, nat_le, not, OnOk, IfOk, filter, 
 ghost use Rattle.std.specs.List as list;
 ghost use Rattle.std.specs.FinMap as maps;
 ghost use Rattle.std.specs.Ordering.{nat_cmp};
-ghost use Rattle.hq_store.specs.Tables.{Noted, left_of, noted_of, notice_of};
-ghost use Rattle.hq_store.specs.Readings.{after_number};
+ghost use Rattle.hq_tables.specs.Tables.{Noted, left_of, noted_of, notice_of};
+ghost use Rattle.hq_tables.specs.Readings.{after_number};
 ghost use Rattle.hq_rows.specs.Listed.{notices_of};
 ghost use Rattle.hq_rows.specs.Lookups.{is_notice, is_notice_past, is_kept_notice};
 ghost use Rattle.hq_rows.specs.Lookups.{notice_rows_with, AreUniqueNotices};
 
+use hq_kept::Notice;
 use hq_rows::NoticeRow;
-use hq_store::Notice;
 use hq_values::{Items, Name, TryCopy};
 use std::alloc::{AllocError, Global};
 use std::cmp::Ordering;

@@ -1,11 +1,11 @@
 //! The rows of recipients: those of one message read, dealt anew, and dropped.
 
 ghost use Rattle.std.specs.Prelude.{◌≡◌, not, IfOk, OnOk, [], ◌++◌, filter};
-ghost use Rattle.hq_store.specs.Tables.{deal};
+ghost use Rattle.hq_tables.specs.Tables.{deal};
 ghost use Rattle.hq_rows.specs.Listed.{recipients_of};
 ghost use Rattle.hq_rows.specs.Lookups.{is_recipient, recipient_rows, pending_in, AreDealt};
 
-use hq_queue::Pending;
+use hq_kept::Pending;
 use hq_rows::RecipientRow;
 use hq_values::{Items, Name, Serial, TryCopy};
 use std::alloc::{AllocError, Global};

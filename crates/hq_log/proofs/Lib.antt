@@ -1,2 +1,3 @@
 pub mod NoFloats
 pub mod Shown
+pub mod Told

@@ -1,8 +1,8 @@
 -- No line has a float, so its compact text is what is written.
 use Rattle.std.proofs.Common.{◌≡◌, ℕ, List, Option, Some, None, false, refl}
 use Rattle.serde_json.specs.Written.{has_float}
+use Rattle.hq_requests.specs.Bodies.{error_told}
 use Rattle.hq_log.specs.Lines.{LogEntry, log_members, number_or_null, text_or_null, shown_or_null}
-use Rattle.hq_log.specs.Lines.{error_told}
 
 number_no_float : (n : Option ℕ) → has_float (number_or_null n) ≡ false
 number_no_float None = refl

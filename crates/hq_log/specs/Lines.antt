@@ -1,14 +1,14 @@
 -- A line of a log: an object of JSON, its members in the order of their names, and LF (10).
 use Rattle.std.specs.Prelude.{ℕ, ◌==◌, ◌&&◌, ◌||◌, ◌-◌, Bool, true, false, List, [], ◌∷◌, ◌++◌}
 use Rattle.std.specs.Prelude.{take, length, codes, nat_le, nat_lt, Option, Some, None, option_map}
-use Rattle.std.specs.Prelude.{option_and_then, bytes_eq, if◌then◌else◌}
+use Rattle.std.specs.Prelude.{bytes_eq, if◌then◌else◌}
 use Rattle.std.specs.Fmt.Cut.{floor_char_boundary}
 use Rattle.serde_json.specs.Data.{Data, null, string}
-use Rattle.serde_json.specs.Find.{get, as_number, as_u64}
 use Rattle.serde_json.specs.Written.{compact_text}
-use Rattle.hq_bodies.specs.Reading.{json_of}
 use Rattle.hq_json.specs.Objects.{having, count}
-use Rattle.hq_log.specs.declared.entry.Entry.{Entry}
+use Rattle.hq_requests.specs.Bodies.{body_bytes, error_told}
+use Rattle.hq_requests.specs.Named.{customer_told}
+use Rattle.hq_log.specs.declared.entry.ExchangeEntry.{ExchangeEntry}
 
 -- What is told of an exchange.
 pub record LogEntry : Type 0 where
@@ -21,14 +21,14 @@ pub record LogEntry : Type 0 where
   pub milliseconds : Option ℕ
 
 -- as the code has it
-abbrev pub entry_seen : Entry → LogEntry
+abbrev pub entry_seen : ExchangeEntry → LogEntry
 entry_seen e = record {
   at = e.at;
-  customer = option_map (λ c. c.now) e.customer;
+  customer = customer_told e.reply.now;
   method = option_map (λ m. m.now) e.method;
   path = option_map (λ p. p.now) e.path;
-  status = e.status;
-  body = e.body.now;
+  status = e.reply.now.status;
+  body = body_bytes e.reply.now.body;
   milliseconds = e.milliseconds;
 }
 
@@ -57,15 +57,6 @@ text_or_null (Some text) = string text
 abbrev pub shown_or_null : Option (List ℕ) → Data
 shown_or_null None = null
 shown_or_null (Some text) = string (shown text)
-
--- the number of the refusal or the fault that a body tells
-abbrev pub error_in : List ℕ → Option ℕ
-error_in body = option_and_then as_u64 (option_and_then as_number
-    (option_and_then (get (codes "error")) (json_of body)))
-
--- an answer has none
-abbrev pub error_told : ℕ → List ℕ → Option ℕ
-error_told status body = if status == 200 then None else error_in body
 
 -- No key stands here, and no body.
 unfoldable pub log_members : LogEntry → Data

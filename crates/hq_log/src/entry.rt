@@ -3,9 +3,11 @@
 ghost use Rattle.std.specs.Prelude.{◌≡◌, ◌&&◌, IfOk, option_map};
 ghost use Rattle.serde_json.specs.View.{view};
 ghost use Rattle.serde_json.specs.Written.{compact_text};
-ghost use Rattle.hq_bodies.specs.Reading.{json_of};
+ghost use Rattle.hq_requests.specs.Bodies.{body_bytes, error_told};
+ghost use Rattle.hq_requests.specs.Named.{customer_told};
 ghost use Rattle.hq_log.specs.Lines as lines;
 
+use hq_requests::Reply;
 use hq_values::Moment;
 use serde_json::{Value, json};
 use std::alloc::{AllocError, Global};
@@ -15,21 +17,17 @@ const MOST_SHOWN: usize = 256;
 
 /// What a line tells of an exchange.
 #[derive(Clone, Copy, Drop)]
-pub struct Entry<'e> {
+pub struct ExchangeEntry<'e> {
     /// When it was asked; `None` where that could not be read.
     pub at: Option<Moment>,
-    /// The customer whose key it shows, or whom the relay names in the path; `None` for another.
-    pub customer: Option<&'e str>,
     /// The method; `None` where it could not be read.
     pub method: Option<&'e str>,
     /// The path, as it stands; `None` where it could not be read. A line has the first 256 bytes of
     /// it, and of the method, and says where that is not all.
     pub path: Option<&'e str>,
-    /// The status of the reply.
-    pub status: u16,
-    /// The body of the reply. Of a refusal or a fault its number is told, of a sweep of all all of
-    /// it, and else nothing.
-    pub body: &'e [u8],
+    /// The reply. A line has its customer, its status, the number of its refusal or fault, and the
+    /// body of a sweep of all.
+    pub reply: &'e Reply<'e>,
     /// How long the desk took; `None` where the clock did not tell.
     pub milliseconds: Option<u64>,
 }
@@ -96,43 +94,32 @@ fn number_value(number: Option<u64>) -> Value
     }
 }
 
-/// The JSON value of a body, where it is one; or want of memory.
-fn json_of(alloc: Global, body: &[u8]) -> Result<Option<Value>, AllocError>
-    ensures { IfOk result (λ value. option_map view value ≡ json_of body.now) }
+/// The number of the refusal or the fault that a reply tells.
+fn number_told(reply: &Reply<'_>) -> Option<u64>
+    ensures { result ≡ error_told reply.now.status (body_bytes reply.now.body) }
 {
-    match Value::from_slice(alloc, body) {
-        Ok(value) => Ok(Some(value)),
-        Err(error) if error.is_memory() => Err(AllocError),
-        Err(_) => Ok(None),
+    match reply.number {
+        0 => None,
+        number => Some(u64::from(number)),
     }
 }
 
-/// The number of the refusal or the fault that a body tells; or want of memory.
-fn error_in(alloc: Global, body: &[u8]) -> Result<Option<u64>, AllocError>
-    ensures { IfOk result (λ number. number ≡ lines.error_in body.now) }
+/// The name of the customer whose exchange a reply answers.
+fn customer_told<'e>(reply: &'e Reply<'_>) -> Option<&'e str>
+    ensures { option_map (λ c. c.now) result ≡ customer_told reply.now }
 {
-    match json_of(alloc, body)? {
-        None => Ok(None),
-        Some(value) => Ok(value.get("error").and_then(Value::as_u64)),
+    match reply.customer {
+        None => None,
+        Some(name) => Some(name.as_str()),
     }
 }
 
-/// The number of the refusal or the fault that a reply tells; or want of memory.
-fn error_told(alloc: Global, status: u16, body: &[u8]) -> Result<Option<u64>, AllocError>
-    ensures { IfOk result (λ number. number ≡ lines.error_told status body.now) }
-{
-    if status == 200 {
-        return Ok(None);
-    }
-    error_in(alloc, body)
-}
-
-impl Entry<'_> {
+impl ExchangeEntry<'_> {
     /// Whether all customers were swept.
     fn is_sweep_of_all(&self) -> bool
         ensures { result ≡ lines.is_sweep_of_all (lines.entry_seen self.now) }
     {
-        self.status == 200 && matches!(self.path, Some("/relay/sweep"))
+        self.reply.status == 200 && matches!(self.path, Some("/relay/sweep"))
     }
 
     /// Whether its method or its path does not stand whole in the line.
@@ -148,14 +135,14 @@ impl Entry<'_> {
         ensures { IfOk result (λ v. view v ≡ lines.log_members (lines.entry_seen self.now)) }
     {
         let at = number_value(self.at.map(|at| at.get()));
-        let customer = text_value(alloc, self.customer)?;
-        let error = number_value(error_told(alloc, self.status, self.body)?);
+        let customer = text_value(alloc, customer_told(self.reply))?;
+        let error = number_value(number_told(self.reply));
         let method = shown_value(alloc, self.method)?;
         let milliseconds = number_value(self.milliseconds);
         let path = shown_value(alloc, self.path)?;
         json!(in alloc; {
             "at": at, "customer": customer, "error": error, "method": method,
-            "milliseconds": milliseconds, "path": path, "status": self.status
+            "milliseconds": milliseconds, "path": path, "status": self.reply.status
         })
     }
 
@@ -177,7 +164,7 @@ impl Entry<'_> {
             add_last(&mut line, ",\"cut\":", b"true")?;
         }
         if self.is_sweep_of_all() {
-            add_last(&mut line, ",\"told\":", self.body)?;
+            add_last(&mut line, ",\"told\":", self.reply.body.as_bytes())?;
         }
         line.push(b'\n')?;
         Ok(line)

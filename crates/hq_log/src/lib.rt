@@ -5,7 +5,7 @@
 //! let mut log = log_of(rt, Some("desk.log")); // or "-", for standard error
 //! log.begin();
 //! let reply = exchange(alloc, &mut desk, &directory, &asked);
-//! log.replied(&directory, &answered); // one line more, or `hq: log` on the errors
+//! log.replied(&answered); // one line more, or `hq: log` on the errors
 //! ```
 #![tactic(auto)]
 
@@ -14,7 +14,7 @@ mod keeping;
 mod line_log;
 mod target;
 
-pub use entry::Entry;
+pub use entry::ExchangeEntry;
 pub use keeping::{Answered, Log, NoLog};
 pub use line_log::LineLog;
 pub use target::{HostLog, LogTarget, log_of};

@@ -4,9 +4,8 @@ ghost use Rattle.std.specs.Prelude.{◌≡◌, OnOk, true};
 ghost use Rattle.std.specs.Io.KnownBytes.{Appends};
 ghost use Rattle.hq_log.specs.Lines as lines;
 
-use crate::entry::Entry;
+use crate::entry::ExchangeEntry;
 use crate::keeping::{Answered, Log, entry_of};
-use hq_requests::Directory;
 use std::io::{self, Write};
 use std::rt::Clock;
 use std::time::Instant;
@@ -45,7 +44,7 @@ impl<'h, C: Clock + AllocGlobal, W: Write, E: Write> LineLog<'h, C, W, E> {
     }
 
     /// Writes the line of an entry, and flushes.
-    fn write(&mut self, entry: &Entry<'_>) -> io::Result<()>
+    fn write(&mut self, entry: &ExchangeEntry<'_>) -> io::Result<()>
         ensures written { OnOk result (Appends (W.contents self.old.writer)
             (W.contents self.new.writer)
             (lines.log_line_behind self.old.is_losing (lines.entry_seen entry.now))) }
@@ -78,8 +77,8 @@ impl<C: Clock + AllocGlobal, W: Write, E: Write> Log for LineLog<'_, C, W, E> {
         self.begun = Instant::now(self.clock).ok();
     }
 
-    fn replied(&mut self, directory: &Directory, answered: &Answered<'_>) {
-        let entry = entry_of(directory, answered, self.milliseconds());
+    fn replied(&mut self, answered: &Answered<'_>) {
+        let entry = entry_of(answered, self.milliseconds());
         match self.write(&entry) {
             Ok(()) => self.is_losing = false,
             Err(_) => self.lose(),

@@ -5,12 +5,12 @@ use Rattle.std.specs.Bool.{⊤}
 use Rattle.hq_values.specs.Refusals.{no_memory}
 use Rattle.hq_values.specs.declared.failure.Fault.TheVariants.{WantOfMemory}
 use Rattle.hq_lists.specs.Lists.{tables_of}
-use Rattle.hq_store.specs.Shelves.{Sight}
-use Rattle.hq_store.specs.Sound.{Sound}
-use Rattle.hq_store.specs.Tables.{no_tables}
+use Rattle.hq_tables.specs.Shelves.{Sight}
+use Rattle.hq_tables.specs.Sound.{Sound}
+use Rattle.hq_tables.specs.Tables.{no_tables}
 use Rattle.hq_lists.specs.declared.list_rows.ListRows.{ListRows}
-use Rattle.hq_store.proofs.Empty.{empty_sound}
-use Rattle.hq_desk.specs.Desks.{host_of, shelf_of}
+use Rattle.hq_tables.proofs.Empty.{empty_sound}
+use Rattle.hq_desk.specs.Desks.{host_of, on, shelf_of}
 use Rattle.hq_wire.specs.Runs.{AllReplied, Alone}
 use Rattle.hq_wire.proofs.Serving.{all_replied}
 use Rattle.hq_lines.specs.Fields.{LineRequest}
@@ -48,7 +48,7 @@ serves set builtin shelf none asked lines it =
     let after = tables_of (shelf_of new) in
     let asks = map (ask_in d) asked in
     let sound = subst Sound (sym empty) empty_sound in
-    let all = all_replied plain d old new asks p.0 p.2.each tt tt refl sound in
+    let all = all_replied (on plain) d old new asks p.0 p.2.each tt tt refl sound in
     let alone = p.2.alone tt tt refl sound in
     let few = p.2.counted (lit< tt) in
     record {

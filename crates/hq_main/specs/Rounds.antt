@@ -1,8 +1,8 @@
 -- How a round is printed, and what the word `sweep` does.
 use Rattle.std.specs.Prelude.{ℕ, ◌≡◌, List, Option, Some, None, Result, Ok, Err}
 use Rattle.hq_values.specs.declared.failure.Fault.{Fault}
-use Rattle.hq_store.specs.Shelves.{Sight}
-use Rattle.hq_desk.specs.declared.desk.Rendered.{Rendered}
+use Rattle.hq_tables.specs.Shelves.{Sight}
+use Rattle.hq_rules.specs.declared.render.Rendered.{Rendered}
 use Rattle.hq_admin.specs.declared.rounds.ToldAll.{ToldAll}
 use Rattle.hq_batch.specs.Printing.{IsPrinted, ArePrinted}
 use Rattle.hq_settings.specs.declared.trouble.Trouble.{Trouble}

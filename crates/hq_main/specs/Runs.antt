@@ -5,13 +5,13 @@ use Rattle.std.specs.Prelude.{IfOk, string_bytes}
 use Rattle.std.specs.Io.KnownBytes.{Appends}
 use Rattle.std.specs.declared.alloc.AllocError.{AllocError}
 use Rattle.hq_values.specs.Refusals.{no_memory}
-use Rattle.hq_store.specs.Shelves.{Sight}
-use Rattle.hq_store.specs.Tables.{Tables, no_tables}
+use Rattle.hq_tables.specs.Shelves.{Sight}
+use Rattle.hq_tables.specs.Tables.{Tables, no_tables}
 use Rattle.hq_wire.specs.Replies.{SeenReply, store_faults}
 use Rattle.hq_wire.specs.Runs.{AllReplied, Alone}
 use Rattle.hq_settings.specs.Seen.{settings_seen}
 use Rattle.hq_settings.specs.declared.settings.Settings.{Settings}
-use Rattle.hq_desk.specs.declared.desk.Rendered.{Rendered}
+use Rattle.hq_rules.specs.declared.render.Rendered.{Rendered}
 use Rattle.hq_lines.specs.Fields.{LineRequest}
 use Rattle.hq_lines.specs.Lines.{Streams}
 use Rattle.hq_batch.specs.Batches.{ask_in, reply_line}

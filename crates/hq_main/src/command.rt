@@ -13,7 +13,7 @@ use hq_settings::{Trouble, set_up};
 use hq_sql_admin::{delete, history, hold, import, migrate, queue, release, usage};
 use hq_sql_server::{run_stored, serve_http};
 use hq_sql_shelf::FileShelf;
-use hq_store::Shelf;
+use hq_tables::Shelf;
 use hq_values::Fault;
 use hq_words::{Batch, Word, Words, read_words};
 use std::io::{Read, Write};

@@ -8,7 +8,7 @@ use hq_batch::{print, print_all, tell};
 use hq_settings::Trouble;
 use hq_sql_admin::{sweep, sweep_all};
 use hq_sql_shelf::FileShelf;
-use hq_store::Shelf;
+use hq_tables::Shelf;
 use hq_words::Sweep;
 use std::io::Write;
 

@@ -1,6 +1,6 @@
 -- What a put, a drop and a look-up in rows are in the map that the rows stand for.
 use Rattle.std.proofs.Common.{◌≡◌, Bool, true, false, cond, not, List, [], ◌∷◌, ◌++◌, filter, sym}
-use Rattle.std.proofs.Common.{refl, ap, ◌∙◌, subst, Some, None, append_assoc, append-nil}
+use Rattle.std.proofs.Common.{refl, ap, ◌∙◌, Some, None}
 use Rattle.std.specs.Prelude.{option_map}
 use Rattle.std.specs.List as list
 use Rattle.std.proofs.lemmas.List.{map-append}
@@ -12,7 +12,7 @@ use Rattle.std.specs.FinMap.{FinMap, get, insert, remove, retain_keys, from_entr
 use Rattle.std.specs.FinMap.{get-from_entries, get-insert, get-remove, get-retain_keys, same_map}
 use Rattle.std.specs.FinMap.{from_entries_push}
 use Rattle.std.specs.FinMap.Entries.{where_key, find-where_key}
-use Rattle.hq_owned.specs.Rows.{pairs_of, map_of, insert_all}
+use Rattle.hq_owned.specs.Rows.{pairs_of, map_of}
 use Rattle.hq_owned.proofs.Cases.{turned}
 
 module _ {A K X : Type 0} (R : K → K → Ordering) (key : A → K) (val : A → X) where
@@ -104,18 +104,3 @@ module _ {A K X : Type 0} {R : K → K → Ordering} (o : IsTotalOrder R) (exact
       ((eq_by_cmp_equiv o).refl (key r)))
       ∙ ap (λ m. insert m (key r) (val r)) dropped
       ∙ insert_remove o exact (map_of R key val rows) (key r) (val r)
-
-  -- each row's key is new when its turn comes
-  abbrev pub AreNew : FinMap R X → List A → Type 0
-  AreNew m [] = Unit {0}
-  AreNew m (r ∷ rs) = (get m (key r) ≡ None) × AreNew (insert m (key r) (val r)) rs
-
-  -- an addition of many
-  pub table_add : (rows rs : List A) → AreNew (map_of R key val rows) rs →
-      map_of R key val (rows ++ rs) ≡ insert_all key val rs (map_of R key val rows)
-  table_add rows [] new = ap (map_of R key val) (append-nil rows)
-  table_add rows (r ∷ rs) new =
-      let pushed = table_push rows r new.0 in
-      ap (map_of R key val) (sym (append_assoc rows (r ∷ []) rs))
-      ∙ table_add (rows ++ r ∷ []) rs (subst (λ m. AreNew m rs) (sym pushed) new.1)
-      ∙ ap (insert_all key val rs) pushed

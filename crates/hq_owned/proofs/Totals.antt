@@ -145,21 +145,3 @@ module _ {K X : Type 0} {R : K → K → Ordering} (r : IsTotalOrder R) (re : Cm
         (sum_by (λ (x : X). 1) (values m) + 1) (λ o. sum_by (λ (x : X). 1) (values m)) o
     cases None put = omega arith
     cases (Some o) put = omega arith
-
--- one sum is at most another where each value weighs at most as much
-module _ {K X : Type 0} {R : K → K → Ordering} (r : IsTotalOrder R) (f g : X → ℕ) where
-  weight_at_most : (es : List (K × X)) → T (is_sorted R es) →
-      ((k : K) (x : X) → find R k es ≡ Some x → f x ≤ g x) → weight f es ≤ weight g es
-  weight_at_most [] s h = omega arith
-  weight_at_most (e ∷ es) s h =
-      let here : f e.1 ≤ g e.1 = h e.0 e.1
-      (ap (λ b. cond b (Some e.1) (find R e.0 es)) ((eq_by_cmp_equiv r).refl e.0)) in
-      let rest : weight f es ≤ weight g es = weight_at_most es (second _ _ s)
-      (λ k x p. h k x (behind k x p (eq_by_cmp R k e.0) refl)) in
-      omega arith where
-        behind : (k : K) (x : X) → find R k es ≡ Some x → (b : Bool) → eq_by_cmp R k e.0 ≡ b →
-            cond b (Some e.1) (find R k es) ≡ Some x
-        behind k x p true t = absurd (none_some x
-            (sym (none_below R k es (below_equal R r f k e.0 es (equal _ (subst T (sym t) tt))
-            (first _ _ s))) ∙ p))
-        behind k x p false t = p

@@ -1,7 +1,6 @@
 -- Keys that stand once, through a filter, a push, a put and an addition of rows.
 use Rattle.std.proofs.Common.{◌≡◌, Bool, true, false, cond, not, ◌||◌, List, [], ◌∷◌, ◌++◌, map}
-use Rattle.std.proofs.Common.{filter, Some, None, sym, refl, ap, ◌∙◌, subst, append_assoc}
-use Rattle.std.proofs.Common.{append-nil}
+use Rattle.std.proofs.Common.{filter, Some, None, sym, refl, ap, ◌∙◌, subst}
 use Rattle.std.specs.Prelude.{is_some}
 use Rattle.std.specs.List.{AllByRecursion, IsDistinct, list_any}
 use Rattle.std.proofs.lemmas.List.{map-append}
@@ -14,7 +13,6 @@ use Rattle.std.specs.Cmp.{IsTotalOrder, eq_by_cmp_equiv}
 use Rattle.std.specs.FinMap.{find, get, get-from_entries}
 use Rattle.std.specs.FinMap.Entries.{is_some-find}
 use Rattle.hq_owned.specs.Rows.{pairs_of, map_of, HasUniqueKeys}
-use Rattle.hq_owned.proofs.Lists.{table_push, AreNew}
 
 module _ {A K : Type 0} (R : K → K → Ordering) (key : A → K) where
   apart_filter : (p : A → Bool) (k : K) (rows : List A) →
@@ -73,16 +71,6 @@ module _ {A K X : Type 0} {R : K → K → Ordering} (o : IsTotalOrder R) (exact
       ∙ is_some-find R q (pairs_of key val rows)
       ∙ ap (list_any (eq_by_cmp R q)) (keys_of_pairs rows)
 
-  pub unique_add : (rows rs : List A) → HasUniqueKeys R key rows →
-      AreNew o exact key val (map_of R key val rows) rs → HasUniqueKeys R key (rows ++ rs)
-  unique_add rows [] u new = subst (HasUniqueKeys R key) (sym (append-nil rows)) u
-  unique_add rows (r ∷ rs) u new =
-      subst (HasUniqueKeys R key) (append_assoc rows (r ∷ []) rs)
-      (unique_add (rows ++ r ∷ []) rs
-      (unique_push o key rows r u (sym (is_some-table rows (key r)) ∙ ap is_some new.0))
-      (subst (λ m. AreNew o exact key val m rs) (sym (table_push o exact key val rows r new.0))
-      new.1))
-
   at_middle : (P : K → Type 0) (xs : List A) (r : A) (rs : List A) →
       AllByRecursion P (map key (xs ++ r ∷ rs)) → P (key r)
   at_middle P [] r rs a = a.0
@@ -102,15 +90,3 @@ module _ {A K X : Type 0} {R : K → K → Ordering} (o : IsTotalOrder R) (exact
       get (map_of R key val rows) (key r) ≡ None
   unfolding map_of
   none_yet rows r rs u = get-from_entries o (pairs_of key val rows) (key r) ∙ find_apart rows r rs u
-
-  -- rows with keys apart are new one after the other
-  pub new_from_unique : (rows rs : List A) → HasUniqueKeys R key (rows ++ rs) →
-      AreNew o exact key val (map_of R key val rows) rs
-  new_from_unique rows [] u = tt
-  new_from_unique rows (r ∷ rs) u =
-      let none = none_yet rows r rs u in (
-        none,
-        subst (λ m. AreNew o exact key val m rs) (table_push o exact key val rows r none)
-            (new_from_unique (rows ++ r ∷ []) rs
-            (subst (HasUniqueKeys R key) (sym (append_assoc rows (r ∷ []) rs)) u)),
-      )

@@ -1,9 +1,9 @@
 //! Whether a customer's new message is taken in, by what the customer keeps already.
 
 ghost use Rattle.std.specs.Prelude.{◌≡◌, ◌<◌, ◌≤◌, ◌^◌, IfOk};
-ghost use Rattle.hq_queue.specs.Admission.{admitted};
+ghost use Rattle.hq_rules.specs.Admission.{admitted};
 
-use crate::account::{Counts, Head, Quota};
+use hq_kept::{Counts, Head, Quota};
 use hq_values::{Refusal, Serial};
 
 /// The serial of a new message of `size` bytes, which is the head's next serial, or why it is

@@ -1,7 +1,7 @@
 //! When a message is tried next (qmgr(8), minimal_backoff_time and maximal_backoff_time).
 
 ghost use Rattle.std.specs.Prelude.{◌≡◌};
-ghost use Rattle.hq_queue.specs.Backoff as rules;
+ghost use Rattle.hq_rules.specs.Backoff as rules;
 
 use hq_values::Moment;
 

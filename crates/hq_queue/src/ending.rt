@@ -1,11 +1,9 @@
-//! Recipients that left the queue: with their message, and how many did.
+//! Recipients that leave the queue with their message.
 
 ghost use Rattle.std.specs.Prelude.{◌≡◌, ◌++◌, IfOk, OnOk};
-ghost use Rattle.hq_queue.specs.Ends as rules;
+ghost use Rattle.hq_rules.specs.Leaving as rules;
 
-use crate::account::Tally;
-use crate::message::{Message, Pending};
-use crate::outcome::{Ended, Fate};
+use hq_kept::{Ended, Fate, Message, Pending, Tally};
 use hq_values::TryCopy;
 use std::alloc::{AllocError, Global};
 
@@ -49,15 +47,4 @@ pub fn end_all(
         ended.push(ended_as(alloc, fate, message, pending)?)?;
     }
     Ok(())
-}
-
-/// The number of the last recipient that left the queue: as many did. Takes no memory.
-pub fn last_gone(tally: &Tally) -> u64
-    ensures { result ≡ rules.last_gone tally.now }
-{
-    tally
-        .delivered
-        .saturating_add(tally.failed)
-        .saturating_add(tally.deleted)
-        .saturating_add(tally.expired)
 }

@@ -11,30 +11,18 @@
 //! ```
 #![tactic(auto)]
 
-mod account;
 mod admission;
-mod attempt;
 mod backoff;
 mod ending;
-mod kind;
-mod message;
 mod moves;
-mod outcome;
 mod reporting;
 mod requeueing;
-mod status;
 mod sweep;
 
-pub use account::{Counts, Customer, Entry, Head, Quota, Tally};
 pub use admission::admit;
-pub use attempt::Attempt;
 pub use backoff::next_try;
-pub use ending::{end_all, last_gone};
-pub use kind::Kind;
-pub use message::{Message, Pending, QueueState};
+pub use ending::end_all;
 pub use moves::{due, hold, release};
-pub use outcome::{Delivery, Ended, Fate, Outcome, Reported, Told};
 pub use reporting::report;
 pub use requeueing::requeue;
-pub use status::Status;
-pub use sweep::{EXPIRY_SECONDS, Swept, sweep_one};
+pub use sweep::sweep_one;

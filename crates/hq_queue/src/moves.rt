@@ -2,9 +2,9 @@
 //! attempt or the passing of time does to a message is not said here.
 
 ghost use Rattle.std.specs.Prelude.{◌≡◌};
-ghost use Rattle.hq_queue.specs.Moves.{held, released, is_due, MovesBy};
+ghost use Rattle.hq_rules.specs.Moves.{held, released, is_due, MovesBy};
 
-use crate::message::{Message, QueueState};
+use hq_kept::{Message, QueueState};
 use hq_values::{Moment, Text};
 
 /// Puts a message on hold (postsuper(1), `-h`), so that it is not tried until it is released.

@@ -4,13 +4,13 @@
 ghost use Rattle.std.specs.Prelude.{◌≡◌, IfOk, option_map, not};
 ghost use Rattle.std.specs.List.{find, list_any};
 ghost use Rattle.hq_values.specs.Addresses.{same_address};
-ghost use Rattle.hq_queue.specs.Attempts as rules;
-ghost use Rattle.hq_queue.specs.Attempts.{Reports};
+ghost use Rattle.hq_rules.specs.Attempts as rules;
+ghost use Rattle.hq_rules.specs.Attempts.{Reports};
 
-use crate::attempt::Attempt;
 use crate::backoff::next_try;
-use crate::message::{Message, Pending, QueueState};
-use crate::outcome::{Delivery, Ended, Fate, Outcome, Reported, Told};
+use hq_kept::{
+    Attempt, Delivery, Ended, Fate, Message, Outcome, Pending, QueueState, Reported, Told,
+};
 use hq_values::{Fail, Items, Moment, Refusal, TryCopy};
 use std::alloc::{AllocError, Global};
 

@@ -1,9 +1,9 @@
 //! Messages that are queued anew (postsuper(1)).
 
 ghost use Rattle.std.specs.Prelude.{◌≡◌, map};
-ghost use Rattle.hq_queue.specs.Moves.{requeued, cleared};
+ghost use Rattle.hq_rules.specs.Moves.{requeued, cleared};
 
-use crate::message::{Message, Pending, QueueState};
+use hq_kept::{Message, Pending, QueueState};
 use hq_values::{Items, Moment, Serial};
 
 /// Clears what the last attempt left at a recipient.

@@ -2,25 +2,12 @@
 //! delay_warning_time).
 
 ghost use Rattle.std.specs.Prelude.{◌≡◌};
-ghost use Rattle.hq_queue.specs.Sweeps.{swept, after_sweep};
+ghost use Rattle.hq_rules.specs.Ages.{swept, after_sweep};
 
 use crate::backoff::age;
-use crate::message::{Message, QueueState};
+use hq_kept::{Message, QueueState};
+use hq_rules::{EXPIRY_SECONDS, Swept};
 use hq_values::Moment;
-
-/// At how many seconds after its arrival a message expires: five days.
-pub const EXPIRY_SECONDS: u64 = 432_000;
-
-/// What a sweep makes of a message.
-#[derive(Clone, Copy, Debug, PartialEq, Eq, Drop)]
-pub enum Swept {
-    /// It is too old, and the caller removes it.
-    Expired,
-    /// Its sender is to be told of the delay, once.
-    Warned,
-    /// Nothing.
-    Untouched,
-}
 
 /// Sweeps one message at a moment, for a customer whose senders are warned after `delay` seconds,
 /// or never where that is 0.

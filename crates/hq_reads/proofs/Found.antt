@@ -6,9 +6,9 @@ use Rattle.std.proofs.lemmas.Bool.Decides.{nat_tests}
 use Rattle.std.proofs.lemmas.List.{append_assoc, take-append-drop, take-append-le, take_all}
 use Rattle.std.proofs.lemmas.List.{length-take}
 use Rattle.std.proofs.lemmas.List.Elements.{filter-append}
-use Rattle.hq_queue.specs.declared.message.Message.{Message}
+use Rattle.hq_kept.specs.declared.message.Message.{Message}
 use Rattle.hq_owned.proofs.Cases.{none_some}
-use Rattle.hq_calls.specs.Messages.{page}
+use Rattle.hq_rules.specs.Messages.{page}
 use Rattle.hq_reads.specs.Reports.{last_serial, next_serial}
 use Rattle.hq_reads.proofs.Pages.{page_of_more}
 use Rattle.hq_reads.proofs.Paged.{no_page}

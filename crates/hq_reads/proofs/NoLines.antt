@@ -3,16 +3,16 @@ use Rattle.std.proofs.Common.{◌≡◌, ℕ, List, [], ◌∷◌, map, Option, 
 use Rattle.std.specs.Prelude.{option_map}
 use Rattle.hq_values.specs.declared.address.Sender.{Sender}
 use Rattle.hq_values.specs.declared.address.Sender.TheVariants.{From}
-use Rattle.hq_access.specs.Keys.{keys_of}
-use Rattle.hq_access.specs.Lookups.{first_match, or_next}
-use Rattle.hq_access.specs.declared.action.Action.{Action}
-use Rattle.hq_access.specs.declared.pattern.Class.{Class}
-use Rattle.hq_access.specs.declared.pattern.Class.TheVariants.{RecipientSide}
-use Rattle.hq_store.specs.Readings.{read_tables}
-use Rattle.hq_store.specs.Tables.{Tables}
-use Rattle.hq_store.proofs.Read.{no_line}
-use Rattle.hq_calls.specs.AccessLines.{found_for}
-use Rattle.hq_calls.specs.Submissions.{with_action}
+use Rattle.hq_kept.specs.Keys.{keys_of}
+use Rattle.hq_rules.specs.Lookups.{first_match, or_next}
+use Rattle.hq_kept.specs.declared.action.Action.{Action}
+use Rattle.hq_kept.specs.declared.pattern.Class.{Class}
+use Rattle.hq_kept.specs.declared.pattern.Class.TheVariants.{RecipientSide}
+use Rattle.hq_tables.specs.Readings.{read_tables}
+use Rattle.hq_tables.specs.Tables.{Tables}
+use Rattle.hq_isolation.proofs.Read.{no_line}
+use Rattle.hq_rules.specs.AccessLines.{found_for}
+use Rattle.hq_rules.specs.Submissions.{with_action}
 
 none_first : (line : List ℕ → Option Action) → ((key : List ℕ) → line key ≡ None) →
     (keys : List (List ℕ)) → first_match line keys ≡ None

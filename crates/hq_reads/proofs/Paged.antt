@@ -9,13 +9,13 @@ use Rattle.std.specs.FinMap.{entries, entries_sorted, values, get, get-entries, 
 use Rattle.std.specs.FinMap.Entries.{below_all}
 use Rattle.std.proofs.lemmas.Bool.Decides.{nat_tests}
 use Rattle.std.proofs.lemmas.List.{length-drop}
-use Rattle.hq_queue.specs.declared.message.Message.{Message}
+use Rattle.hq_kept.specs.declared.message.Message.{Message}
 use Rattle.hq_owned.proofs.Cases.{first, second, none_some, same_some}
-use Rattle.hq_store.specs.Readings.{Readings, read_tables, after_serial}
-use Rattle.hq_store.specs.Sound.{Sound}
-use Rattle.hq_store.specs.Tables.{Tables, own}
-use Rattle.hq_states.proofs.Many.{Queue, AllFind, below, finds}
-use Rattle.hq_store.proofs.Read.{same_readings}
+use Rattle.hq_tables.specs.Readings.{Readings, read_tables, after_serial}
+use Rattle.hq_tables.specs.Sound.{Sound}
+use Rattle.hq_tables.specs.Tables.{Tables, own}
+use Rattle.hq_isolation.proofs.Many.{Queue, AllFind, below, finds}
+use Rattle.hq_isolation.proofs.Read.{same_readings}
 use Rattle.hq_reads.specs.Reports.{last_serial}
 
 no_cons : (m : Message) (ms : List Message) → ◌≡◌ {A = List Message} (m ∷ ms) [] → ⊥

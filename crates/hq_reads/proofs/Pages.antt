@@ -3,17 +3,17 @@ use Rattle.std.proofs.Common.{◌≡◌, ℕ, ◌+◌, Bool, List, length, take,
 use Rattle.std.specs.Prelude.{nat_lt, if◌then◌else◌}
 use Rattle.std.proofs.lemmas.Bool.Decides.{nat_tests}
 use Rattle.std.proofs.lemmas.List.{take-take, length-take}
-use Rattle.hq_access.specs.declared.pattern.Line.{Line}
-use Rattle.hq_queue.specs.declared.message.Message.{Message}
-use Rattle.hq_store.specs.declared.end.End.{End}
-use Rattle.hq_store.specs.declared.notice.Notice.{Notice}
-use Rattle.hq_access.specs.declared.pattern.Class.{Class}
-use Rattle.hq_calls.specs.Histories.{history_page, find_history, is_meant, last_number}
+use Rattle.hq_kept.specs.declared.pattern.Line.{Line}
+use Rattle.hq_kept.specs.declared.message.Message.{Message}
+use Rattle.hq_kept.specs.declared.end.End.{End}
+use Rattle.hq_kept.specs.declared.notice.Notice.{Notice}
+use Rattle.hq_kept.specs.declared.pattern.Class.{Class}
+use Rattle.hq_rules.specs.Histories.{history_page, find_history, is_meant, last_number}
 use Rattle.std.proofs.Common.{[], None, filter}
-use Rattle.hq_calls.specs.declared.answer.Answer.TheVariants as answer
-use Rattle.hq_calls.specs.AccessLines.{line_page}
-use Rattle.hq_calls.specs.Messages.{page}
-use Rattle.hq_calls.specs.Notices.{notice_page}
+use Rattle.hq_rules.specs.declared.answer.Answer.TheVariants as answer
+use Rattle.hq_rules.specs.AccessLines.{line_page}
+use Rattle.hq_rules.specs.Messages.{page}
+use Rattle.hq_rules.specs.Notices.{notice_page}
 
 more_is : (l n : ℕ) → nat_lt l (min (l + 1) n) ≡ nat_lt l n
 more_is l n = grind (arith, nat_tests)

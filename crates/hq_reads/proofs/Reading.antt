@@ -6,13 +6,12 @@ use Rattle.std.specs.Prelude.{IfErr}
 use Rattle.hq_values.specs.Refusals.{no_memory}
 use Rattle.hq_values.specs.declared.failure.Fault.{Fault}
 use Rattle.hq_values.specs.declared.failure.Fault.TheVariants as fault
-use Rattle.hq_access.specs.Lookups.{Found, Gets, AsksOn, LooksUp, Looks, first_match, or_next}
-use Rattle.hq_access.specs.declared.action.Action.{Action}
-use Rattle.hq_access.specs.declared.pattern.Class.{Class}
-use Rattle.hq_store.specs.Readings.{read_tables}
-use Rattle.hq_store.specs.Shelves.{Sight, Finds, Keeps, KeepsOnErr, IsTallied, one_more}
-use Rattle.hq_store.specs.Shelves.{StopLeavesTables, StopLeavesNoMore, StopLeavesWhole}
-use Rattle.hq_store.specs.Tables.{Tables}
+use Rattle.hq_rules.specs.Lookups.{Found, Gets, AsksOn, LooksUp, Looks, first_match, or_next}
+use Rattle.hq_kept.specs.declared.action.Action.{Action}
+use Rattle.hq_kept.specs.declared.pattern.Class.{Class}
+use Rattle.hq_tables.specs.Readings.{read_tables}
+use Rattle.hq_tables.specs.Shelves.{Sight, Finds, Keeps, KeepsOnErr, IsTallied, one_more}
+use Rattle.hq_tables.specs.Shelves.{StopLeavesTables, StopLeavesNoMore}
 use Rattle.hq_reads.proofs.Then.{finds_on}
 use Rattle.hq_reads.specs.Memory.{with_memory}
 
@@ -49,14 +48,6 @@ pub rests_on : {S : Type 0} (sight : Sight S) (old new : S) → StopLeavesNoMore
 rests_on sight old new left same rests = (
   left.0 rests.0,
   λ t may. rests.1 t (left.1 t may) ∙ sym same,
-)
-
--- no more is left, so these tables or others
-pub whole_none : {S : Type 0} (sight : Sight S) (old new : S) (after : Tables) →
-    StopLeavesNoMore sight old new → StopLeavesWhole sight old new after
-whole_none sight old new after left rests = (
-  left.0 rests.0,
-  λ t may. inl (rests.1 t (left.1 t may)),
 )
 
 -- ---- what calls keep

@@ -1,9 +1,9 @@
 -- A whole lookup among one customer's lines on a shelf.
 use Rattle.std.proofs.Common.{◌≡◌, ℕ, false, List, Result, refl, ap, ◌∙◌, subst}
 use Rattle.hq_values.specs.declared.failure.Fault.{Fault}
-use Rattle.hq_access.specs.Lookups.{Found, Looks, first_match}
-use Rattle.hq_access.specs.declared.pattern.Class.{Class}
-use Rattle.hq_store.specs.Shelves.{Sight, Finds, Keeps}
+use Rattle.hq_rules.specs.Lookups.{Found, Looks, first_match}
+use Rattle.hq_kept.specs.declared.pattern.Class.{Class}
+use Rattle.hq_tables.specs.Shelves.{Sight, Finds, Keeps}
 use Rattle.hq_reads.specs.Memory.{with_memory}
 use Rattle.hq_reads.specs.ShelfLines.{asks_shelf}
 use Rattle.hq_reads.specs.declared.customer_lines.CustomerLines.{CustomerLines}

@@ -2,8 +2,8 @@
 use Rattle.std.proofs.Common.{◌≡◌, List, ℕ, Result, Ok, subst}
 use Rattle.std.specs.Prelude.{IfOk}
 use Rattle.hq_values.specs.declared.failure.Fault.{Fault}
-use Rattle.hq_store.specs.Readings.{Readings, read_tables}
-use Rattle.hq_store.specs.Shelves.{Sight, Finds, Keeps}
+use Rattle.hq_tables.specs.Readings.{Readings, read_tables}
+use Rattle.hq_tables.specs.Shelves.{Sight, Finds, Keeps}
 
 -- what a later call finds, it finds in the tables as they were at first
 pub finds_on : {S X Y : Type 0} (sight : Sight S) (old mid new : S) (x : X)

@@ -5,11 +5,11 @@ use Rattle.std.specs.Prelude.{nat_lt}
 use Rattle.std.proofs.lemmas.List.{take_all}
 use Rattle.std.proofs.lemmas.Map.Entries.{length-values_of}
 use Rattle.std.specs.FinMap.{entries, values, len-entries}
-use Rattle.hq_queue.specs.declared.message.Message.{Message}
-use Rattle.hq_store.specs.Readings.{Readings, read_tables, after_serial}
-use Rattle.hq_store.specs.Sound.{Sound}
-use Rattle.hq_store.specs.Tables.{Tables, own}
-use Rattle.hq_store.proofs.Read.{same_readings}
+use Rattle.hq_kept.specs.declared.message.Message.{Message}
+use Rattle.hq_tables.specs.Readings.{Readings, read_tables, after_serial}
+use Rattle.hq_tables.specs.Sound.{Sound}
+use Rattle.hq_tables.specs.Tables.{Tables, own}
+use Rattle.hq_isolation.proofs.Read.{same_readings}
 
 fewer : (p : Message → Bool) (ms : List Message) → length (filter p ms) ≤ length ms
 fewer p [] = omega arith

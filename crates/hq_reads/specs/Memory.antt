@@ -2,7 +2,7 @@
 -- Inner: it serves proofs alone, and no promise rests on it.
 use Rattle.std.specs.Prelude.{◌≡◌, ◌⊎◌}
 use Rattle.hq_values.specs.Refusals.{no_memory}
-use Rattle.hq_store.specs.Shelves.{Sight}
+use Rattle.hq_tables.specs.Shelves.{Sight}
 
 -- what is seen of a shelf, by a call that may want memory whichever the shelf
 abbrev pub with_memory : {S : Type 0} → Sight S → Sight S

@@ -1,7 +1,7 @@
 -- The last of a page of messages. No claim rests on it.
 -- Inner: it serves proofs alone, and no promise rests on it.
 use Rattle.std.specs.Prelude.{ℕ, nat_lt, List, [], ◌∷◌, length, Option, None, Some, if◌then◌else◌}
-use Rattle.hq_queue.specs.declared.message.Message.{Message}
+use Rattle.hq_kept.specs.declared.message.Message.{Message}
 
 abbrev pub last_serial : List Message → Option ℕ
 last_serial [] = None

@@ -3,10 +3,10 @@
 -- Inner: it serves proofs alone, and no promise rests on it.
 use Rattle.std.specs.Prelude.{ℕ, ◌≡◌, false, List, Option, Result}
 use Rattle.hq_values.specs.declared.failure.Fault.{Fault}
-use Rattle.hq_access.specs.declared.action.Action.{Action}
-use Rattle.hq_access.specs.declared.pattern.Class.{Class}
-use Rattle.hq_store.specs.Readings.{Readings}
-use Rattle.hq_store.specs.Shelves.{Sight, Finds, Keeps}
+use Rattle.hq_kept.specs.declared.action.Action.{Action}
+use Rattle.hq_kept.specs.declared.pattern.Class.{Class}
+use Rattle.hq_tables.specs.Readings.{Readings}
+use Rattle.hq_tables.specs.Shelves.{Sight, Finds, Keeps}
 use Rattle.hq_reads.specs.Memory.{with_memory}
 use Rattle.hq_reads.specs.declared.customer_lines.CustomerLines.{CustomerLines}
 

@@ -2,12 +2,13 @@
 //! shelf is open before each of these calls, since memory may be wanted before it is asked.
 
 ghost use Rattle.std.specs.Prelude.{◌≡◌, map};
-ghost use Rattle.hq_calls.specs.AccessLines as rules;
+ghost use Rattle.hq_rules.specs.AccessLines as rules;
 ghost use Rattle.hq_reads.specs.ShelfLines.{FindsOpen, KeepsOpen, asks_shelf};
-ghost use Rattle.hq_calls.specs.Submissions.{with_action};
+ghost use Rattle.hq_rules.specs.Submissions.{with_action};
 
-use hq_access::{Action, Class, Lines, LookupKey, lookup};
-use hq_store::Shelf;
+use hq_access::{Lines, lookup};
+use hq_kept::{Action, Class, LookupKey};
+use hq_tables::Shelf;
 use hq_values::{Address, Fault, Items, Name, Sender, TryCopy};
 use std::alloc::Global;
 

@@ -2,12 +2,12 @@
 //! before memory is wanted, since a closed one answers 93 alone.
 
 ghost use Rattle.std.specs.Prelude.{◌≡◌, option_map};
-ghost use Rattle.hq_store.specs.Readings.{after_number, after_pattern};
-ghost use Rattle.hq_store.specs.Shelves.{Finds, FindsSound, Keeps};
-ghost use Rattle.hq_calls.specs.AccessLines as lines;
-ghost use Rattle.hq_calls.specs.Decision as rules;
-ghost use Rattle.hq_calls.specs.Messages as messages;
-ghost use Rattle.hq_calls.specs.Notices as notices;
+ghost use Rattle.hq_tables.specs.Readings.{after_number, after_pattern};
+ghost use Rattle.hq_tables.specs.Shelves.{Finds, FindsSound, Keeps};
+ghost use Rattle.hq_rules.specs.AccessLines as lines;
+ghost use Rattle.hq_rules.specs.Decision as rules;
+ghost use Rattle.hq_rules.specs.Messages as messages;
+ghost use Rattle.hq_rules.specs.Notices as notices;
 ghost use Rattle.hq_reads.specs.Memory.{with_memory};
 
 use crate::customer_lines::look_up;
@@ -18,14 +18,14 @@ use crate::queues::{decide_delete_all, decide_limits, decide_move_all, decide_us
 use crate::relay::{decide_due, decide_outcome, decide_sweep};
 use crate::report::decide_report;
 use crate::submit::decide_submit;
-use hq_access::{Class, Line, Pattern, keys_of};
-use hq_calls::decision::{Decision, PAGE, refuse, tell};
-use hq_calls::{Answer, Call, Move};
+use hq_access::keys_of;
 use hq_decisions::lines::{drop_line, line_page, put_new, put_over};
 use hq_decisions::messages::{delete, hold_found, release_found, requeue_with, show};
 use hq_decisions::notices::{notice_page, show_notice};
-use hq_queue::Entry;
-use hq_store::Shelf;
+use hq_kept::{Class, Entry, Line, Pattern};
+use hq_rules::decision::{Decision, PAGE, refuse, tell};
+use hq_rules::{Answer, Call, Move};
+use hq_tables::Shelf;
 use hq_values::{Fault, Host, Items, Moment, Refusal, Sender, Serial};
 use std::alloc::Global;
 
@@ -162,7 +162,7 @@ fn decide_check<S: Shelf>(
 }
 
 /// The answer to a call, and its changes, by what the shelf has.
-#[tactic(auto, unfolding(hq_calls::specs::Decision::decide))]
+#[tactic(auto, unfolding(hq_rules::specs::Decision::decide))]
 pub fn decide<S: Shelf>(
     shelf: &mut S,
     host: &Host,

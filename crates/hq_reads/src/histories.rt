@@ -1,16 +1,15 @@
 //! What the calls on a customer's history read through a shelf.
 
 ghost use Rattle.std.specs.Prelude.{◌≡◌};
-ghost use Rattle.hq_store.specs.Readings.{before_end};
-ghost use Rattle.hq_store.specs.Shelves.{Finds, Keeps};
-ghost use Rattle.hq_calls.specs.Histories as histories;
+ghost use Rattle.hq_tables.specs.Readings.{before_end};
+ghost use Rattle.hq_tables.specs.Shelves.{Finds, Keeps};
+ghost use Rattle.hq_rules.specs.Histories as histories;
 ghost use Rattle.hq_reads.specs.Memory.{with_memory};
 
-use hq_access::Pattern;
-use hq_calls::decision::{Decision, PAGE, SEARCH};
 use hq_decisions::histories::{find_history, history_page};
-use hq_queue::Entry;
-use hq_store::Shelf;
+use hq_kept::{Entry, Pattern};
+use hq_rules::decision::{Decision, PAGE, SEARCH};
+use hq_tables::Shelf;
 use hq_values::Fault;
 use std::alloc::Global;
 

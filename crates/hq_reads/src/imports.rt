@@ -2,18 +2,17 @@
 //! meet.
 
 ghost use Rattle.std.specs.Prelude.{◌≡◌, None, map};
-ghost use Rattle.hq_store.specs.Shelves.{Finds, Keeps};
-ghost use Rattle.hq_calls.specs.Imports as rules;
+ghost use Rattle.hq_tables.specs.Shelves.{Finds, Keeps};
+ghost use Rattle.hq_rules.specs.Imports as rules;
 ghost use Rattle.hq_reads.specs.Memory.{with_memory};
 ghost use Rattle.hq_reads.specs.ShelfLines.{FindsOpen, KeepsOpen};
 
-use hq_access::Line;
-use hq_calls::LinePut;
-use hq_calls::decision::{Decision, refuse};
 use hq_decisions::imports::{beside, digest, repeat, take_rows};
 use hq_import::lines_of;
-use hq_queue::Entry;
-use hq_store::Shelf;
+use hq_kept::{Entry, Line};
+use hq_rules::LinePut;
+use hq_rules::decision::{Decision, refuse};
+use hq_tables::Shelf;
 use hq_values::{Fail, Fault, Items, Label, Name};
 use std::alloc::Global;
 

@@ -3,20 +3,19 @@
 
 ghost use Rattle.std.specs.Prelude.{◌≡◌, ◌++◌, ◌+◌, ◌*◌, ◌≤◌, OnOk, filter, length, option_map};
 ghost use Rattle.std.specs.Prelude.{take};
-ghost use Rattle.hq_store.specs.Readings.{read_tables, after_serial};
-ghost use Rattle.hq_store.specs.Shelves.{FindsSound, Keeps, OnSound};
-ghost use Rattle.hq_calls.specs.Messages as messages;
-ghost use Rattle.hq_calls.specs.Selections.{is_selected};
+ghost use Rattle.hq_tables.specs.Readings.{read_tables, after_serial};
+ghost use Rattle.hq_tables.specs.Shelves.{FindsSound, Keeps, OnSound};
+ghost use Rattle.hq_rules.specs.Messages as messages;
+ghost use Rattle.hq_rules.specs.Selections.{is_selected};
 ghost use Rattle.hq_reads.specs.Memory.{with_memory};
 ghost use Rattle.hq_reads.specs.Reports.{next_serial};
 
 use crate::report::{MORE_PAGES, last_serial};
-use hq_access::Pattern;
-use hq_calls::decision::{Decision, PAGE};
 use hq_decisions::messages::page;
 use hq_decisions::selections::add_selected;
-use hq_queue::{Entry, Message};
-use hq_store::Shelf;
+use hq_kept::{Entry, Message, Pattern};
+use hq_rules::decision::{Decision, PAGE};
+use hq_tables::Shelf;
 use hq_values::{Fault, Items, Serial};
 use std::alloc::Global;
 

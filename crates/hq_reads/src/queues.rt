@@ -2,19 +2,18 @@
 //! through a shelf.
 
 ghost use Rattle.std.specs.Prelude.{◌≡◌, filter, option_map};
-ghost use Rattle.hq_store.specs.Shelves.{Finds, FindsSound, Keeps};
-ghost use Rattle.hq_calls.specs.Queues as queues;
-ghost use Rattle.hq_calls.specs.Selections.{is_selected};
+ghost use Rattle.hq_tables.specs.Shelves.{Finds, FindsSound, Keeps};
+ghost use Rattle.hq_rules.specs.Queues as queues;
+ghost use Rattle.hq_rules.specs.Selections.{is_selected};
 ghost use Rattle.hq_reads.specs.Memory.{with_memory};
 
 use crate::relay::MOST_MESSAGES;
-use hq_access::Pattern;
-use hq_calls::Move;
-use hq_calls::decision::Decision;
 use hq_decisions::queues::{delete_all, limits, move_all, usage};
 use hq_decisions::selections::select;
-use hq_queue::Entry;
-use hq_store::Shelf;
+use hq_kept::{Entry, Pattern};
+use hq_rules::Move;
+use hq_rules::decision::Decision;
+use hq_tables::Shelf;
 use hq_values::{Fault, Moment};
 use std::alloc::Global;
 

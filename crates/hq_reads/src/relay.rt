@@ -2,19 +2,19 @@
 //! attempt, what may be tried, and a sweep.
 
 ghost use Rattle.std.specs.Prelude.{◌≡◌, filter};
-ghost use Rattle.hq_queue.specs.Moves.{is_due};
-ghost use Rattle.hq_store.specs.Readings.{after_serial};
-ghost use Rattle.hq_store.specs.Shelves.{Finds, FindsSound, Keeps};
-ghost use Rattle.hq_calls.specs.Outcomes as outcomes;
-ghost use Rattle.hq_calls.specs.Sweeps as sweeps;
+ghost use Rattle.hq_rules.specs.Moves.{is_due};
+ghost use Rattle.hq_tables.specs.Readings.{after_serial};
+ghost use Rattle.hq_tables.specs.Shelves.{Finds, FindsSound, Keeps};
+ghost use Rattle.hq_rules.specs.Outcomes as outcomes;
+ghost use Rattle.hq_rules.specs.Sweeps as sweeps;
 ghost use Rattle.hq_reads.specs.Memory.{with_memory};
 
-use hq_calls::AttemptReport;
-use hq_calls::decision::{Decision, refuse};
 use hq_decisions::outcomes::{due_page, take_report};
 use hq_decisions::sweeps::sweep;
-use hq_queue::Entry;
-use hq_store::Shelf;
+use hq_kept::Entry;
+use hq_rules::AttemptReport;
+use hq_rules::decision::{Decision, refuse};
+use hq_tables::Shelf;
 use hq_values::{Fault, Host, Moment, Refusal, Serial};
 use std::alloc::Global;
 

@@ -3,22 +3,21 @@
 
 ghost use Rattle.std.specs.Prelude.{◌≡◌, ◌++◌, ◌+◌, ◌*◌, ◌≤◌, List, OnOk, filter, length};
 ghost use Rattle.std.specs.Prelude.{option_map};
-ghost use Rattle.hq_queue.specs.declared.message.Message.{Message};
-ghost use Rattle.hq_store.specs.Readings.{read_tables, after_serial};
-ghost use Rattle.hq_store.specs.Shelves.{FindsSound, Keeps, OnSound};
-ghost use Rattle.hq_text.specs.Reports.{written};
-ghost use Rattle.hq_calls.specs.Queues as queues;
-ghost use Rattle.hq_calls.specs.Selections.{is_selected};
+ghost use Rattle.hq_kept.specs.declared.message.Message.{Message};
+ghost use Rattle.hq_tables.specs.Readings.{read_tables, after_serial};
+ghost use Rattle.hq_tables.specs.Shelves.{FindsSound, Keeps, OnSound};
+ghost use Rattle.hq_rules.specs.QueueReports.{written};
+ghost use Rattle.hq_rules.specs.Queues as queues;
+ghost use Rattle.hq_rules.specs.Selections.{is_selected};
 ghost use Rattle.hq_reads.specs.Memory.{with_memory};
 ghost use Rattle.hq_reads.specs.Reports.{last_serial};
 
 use crate::relay::MOST_MESSAGES;
-use hq_access::Pattern;
-use hq_calls::Answer;
-use hq_calls::decision::{Decision, PAGE, tell};
 use hq_decisions::selections::select;
-use hq_queue::{Entry, Message};
-use hq_store::Shelf;
+use hq_kept::{Entry, Message, Pattern};
+use hq_rules::Answer;
+use hq_rules::decision::{Decision, PAGE, tell};
+use hq_tables::Shelf;
 use hq_text::Report;
 use hq_values::{Fault, Serial, WrittenText};
 use std::alloc::Global;

@@ -1,20 +1,21 @@
 //! What a submission reads through a shelf: a repeat of it, what the customer keeps, and its lines.
 
 ghost use Rattle.std.specs.Prelude.{◌≡◌, IfOk, None, map};
-ghost use Rattle.hq_access.specs.Verdicts.{verdict};
-ghost use Rattle.hq_store.specs.Shelves.{FindsSound, Keeps};
+ghost use Rattle.hq_rules.specs.Verdicts.{verdict};
+ghost use Rattle.hq_tables.specs.Shelves.{FindsSound, Keeps};
 ghost use Rattle.hq_reads.specs.Memory.{with_memory};
 ghost use Rattle.hq_reads.specs.ShelfLines.{FindsOpen, KeepsOpen};
-ghost use Rattle.hq_calls.specs.Submissions as rules;
+ghost use Rattle.hq_rules.specs.Submissions as rules;
 
 use crate::customer_lines::{action_for, with_actions};
-use hq_access::{Action, Class, Verdict, decide as decide_verdict};
-use hq_calls::decision::{Decision, tell};
-use hq_calls::{Answer, Submission};
+use hq_access::decide as decide_verdict;
 use hq_decisions::distinct::distinct;
 use hq_decisions::submissions::settle;
-use hq_queue::{Entry, admit as admitted};
-use hq_store::Shelf;
+use hq_kept::{Action, Class, Entry};
+use hq_queue::admit as admitted;
+use hq_rules::decision::{Decision, tell};
+use hq_rules::{Answer, Submission, Verdict};
+use hq_tables::Shelf;
 use hq_values::{Address, Fault, Moment, Name, Sender, TryCopy};
 use std::alloc::{AllocError, Global};
 

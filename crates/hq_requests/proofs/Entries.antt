@@ -8,8 +8,8 @@ use Rattle.std.specs.Cmp.Lexicographic.{nat_list_cmp_total}
 use Rattle.std.proofs.lemmas.Bool.{and_parts, false≢true}
 use Rattle.std.proofs.lemmas.Map.Lookups.{exact_bytes}
 use Rattle.std.proofs.lemmas.Map.Views.{tells_apart}
-use Rattle.hq_queue.specs.declared.account.Customer.{Customer}
-use Rattle.hq_store.specs.Tables.{text_cmp}
+use Rattle.hq_kept.specs.declared.account.Customer.{Customer}
+use Rattle.hq_tables.specs.Tables.{text_cmp}
 use Rattle.hq_owned.proofs.Parts.{tied_true, tied_false}
 use Rattle.hq_requests.specs.Customers.{has_name, names_apart, keys_apart, are_customers}
 use Rattle.hq_requests.specs.Directories.{entry_in}

@@ -2,3 +2,4 @@ pub mod Seek
 pub mod Entered
 pub mod Segment
 pub mod Entries
+pub mod Whose

@@ -7,9 +7,9 @@ use Rattle.hq_values.specs.Serials.{serial_in}
 use Rattle.hq_values.specs.declared.failure.Refusal.{Refusal}
 use Rattle.hq_values.specs.declared.failure.Refusal.TheVariants.{BodyTooLong, NoRoute, WrongMethod}
 use Rattle.hq_values.specs.declared.failure.Refusal.TheVariants.{BadField}
-use Rattle.hq_calls.specs.Each.{each_call}
-use Rattle.hq_calls.specs.declared.call.Call.{Call}
-use Rattle.hq_calls.specs.declared.call.Call.TheVariants as call
+use Rattle.hq_rules.specs.Each.{each_call}
+use Rattle.hq_rules.specs.declared.call.Call.{Call}
+use Rattle.hq_rules.specs.declared.call.Call.TheVariants as call
 use Rattle.hq_bodies.specs.Outcomes.{read_report}
 use Rattle.hq_bodies.specs.Queries.{read_message_after, read_message_id}
 use Rattle.hq_bodies.specs.Queries.{read_history_before, read_notice_after, read_notice_number}

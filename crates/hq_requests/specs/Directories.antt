@@ -5,11 +5,11 @@ use Rattle.std.specs.List.{find}
 use Rattle.std.specs.Ordering.{eq_by_cmp}
 use Rattle.hq_values.specs.declared.failure.Refusal.{Refusal}
 use Rattle.hq_values.specs.declared.failure.Refusal.TheVariants.{NoKey, WrongRole, NoCustomer}
-use Rattle.hq_queue.specs.declared.account.Customer.{Customer}
-use Rattle.hq_queue.specs.declared.account.Entry.{Entry}
+use Rattle.hq_kept.specs.declared.account.Customer.{Customer}
+use Rattle.hq_kept.specs.declared.account.Entry.{Entry}
 use Rattle.hq_requests.specs.declared.table.Role.{Role}
 use Rattle.hq_requests.specs.declared.table.Role.TheVariants as role
-use Rattle.hq_store.specs.Tables.{text_cmp}
+use Rattle.hq_tables.specs.Tables.{text_cmp}
 use Rattle.hq_requests.specs.Customers.{has_key, has_name}
 use Rattle.hq_requests.specs.declared.directory.Directory.{Directory}
 

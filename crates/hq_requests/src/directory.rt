@@ -7,7 +7,7 @@ ghost use Rattle.hq_requests.specs.Customers.{are_customers, names_apart, keys_a
 ghost use Rattle.hq_requests.specs.Customers.{has_name};
 
 use crate::{Methods, Role, Routes};
-use hq_queue::{Customer, Entry};
+use hq_kept::{Customer, Entry};
 use hq_values::{Fail, Fault, Items, Key, Refusal};
 use std::alloc::Global;
 
@@ -90,7 +90,7 @@ impl Directory {
     ghost use Rattle.hq_requests.specs.Directories.{relay_of, customers_of, entry_of, by_relay};
     ghost use Rattle.hq_requests.specs.Directories.{by_customer, customer_of, relay_alone};
     ghost use Rattle.std.specs.Ordering.{eq_by_cmp};
-    ghost use Rattle.hq_store.specs.Tables.{text_cmp};
+    ghost use Rattle.hq_tables.specs.Tables.{text_cmp};
     ghost use Rattle.hq_requests.specs.Routes.{methods_at};
     ghost use Rattle.hq_values.specs.Readers.{seen_by};
 

@@ -6,13 +6,17 @@
 
 mod directory;
 mod exchanges;
+mod named;
 mod number;
+mod reply;
 mod request;
 mod routes;
 mod table;
 
 pub use directory::{Directory, are_customers};
 pub use exchanges::Exchange;
+pub use named::customer_named;
+pub use reply::{Body, Reply};
 pub use request::{Asking, call_of};
 pub use routes::{Routes, last_segment};
 pub use table::{Methods, Role, Route};

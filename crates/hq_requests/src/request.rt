@@ -4,7 +4,7 @@ ghost use Rattle.std.specs.Prelude.{◌≡◌, IfOk, option_map, string_bytes};
 ghost use Rattle.hq_values.specs.Readers.{Reads, seen_by, or_refuse};
 ghost use Rattle.hq_values.specs.Serials.{serial_in};
 ghost use Rattle.hq_values.specs.declared.failure.Refusal.TheVariants.{BadField};
-ghost use Rattle.hq_calls.specs.Each.{each_call};
+ghost use Rattle.hq_rules.specs.Each.{each_call};
 ghost use Rattle.hq_requests.specs.Routes.{last_segment};
 ghost use Rattle.hq_requests.specs.Calls as calls;
 
@@ -17,8 +17,8 @@ use hq_bodies::{
     read_message_id, read_notice_after, read_notice_number, read_pattern, read_report, read_search,
     read_submission,
 };
-use hq_calls::{Call, EachCall};
-use hq_queue::Entry;
+use hq_kept::Entry;
+use hq_rules::{Call, EachCall};
 use hq_values::{Fail, Refusal, Serial};
 use std::alloc::Global;
 
@@ -108,7 +108,7 @@ fn asked_of(alloc: Global, route: Route, segment: &str, body: &[u8]) -> Result<C
 }
 
 /// The key that was shown.
-fn key_of(exchange: &Exchange) -> Option<&str>
+pub(crate) fn key_of(exchange: &Exchange) -> Option<&str>
     ensures { option_map (λ k. k.now) result ≡ option_map string_bytes exchange.now.key }
 {
     match &exchange.key {

@@ -3,14 +3,14 @@ use Rattle.std.proofs.Common.{◌≡◌, ℕ, true, List, [], ◌∷◌, map, fi
 use Rattle.std.proofs.Common.{Option, Some, None, Ordering, IsPermutation, IsSorted}
 use Rattle.std.specs.Prelude.{nat_lt}
 use Rattle.sqlite_keyed.proofs.ListLemmas.{filter-map}
-use Rattle.hq_store.specs.declared.end.End.{End}
+use Rattle.hq_kept.specs.declared.end.End.{End}
 use Rattle.hq_rows.specs.declared.rows.EndRow.{EndRow}
-use Rattle.hq_store.specs.Tables.{Past, newest_cmp, end_of}
-use Rattle.hq_store.specs.Readings.{before_end}
+use Rattle.hq_tables.specs.Tables.{Past, newest_cmp, end_of}
+use Rattle.hq_tables.specs.Readings.{before_end}
 use Rattle.hq_rows.specs.Listed.{end_key, end_value}
 use Rattle.hq_rows.specs.Lookups.{AreUniqueEnds, is_before, is_end_before, end_rows_with}
 use Rattle.hq_rows.proofs.Pages.{Paged, in_order}
-use Rattle.hq_store.proofs.Orders.{newest_total, end_total}
+use Rattle.hq_tables.proofs.Orders.{newest_total, end_total}
 
 -- the order of ends
 abbrev pub by_newest : End → End → Ordering

@@ -8,11 +8,11 @@ use Rattle.std.proofs.lemmas.Map.Views.{tells_apart}
 use Rattle.std.specs.Ordering.{eq_by_cmp}
 use Rattle.std.proofs.lemmas.Map.Lookups.{exact_bytes}
 use Rattle.std.specs.FinMap.{get, insert, remove, retain_keys}
-use Rattle.hq_store.specs.Tables.{message_cmp, lines_cmp, notice_cmp, Noted, left_of, noted_of}
-use Rattle.hq_store.specs.Tables.{notice_of, end_cmp, past_of}
+use Rattle.hq_tables.specs.Tables.{message_cmp, lines_cmp, notice_cmp, Noted, left_of, noted_of}
+use Rattle.hq_tables.specs.Tables.{notice_of, end_cmp, past_of}
 use Rattle.hq_owned.proofs.Lists.{get_table, table_drop, table_keep, table_push, table_put}
 use Rattle.hq_owned.proofs.Unique.{is_some-table, unique_filter, unique_push, unique_put}
-use Rattle.hq_access.specs.declared.pattern.Class.{Class}
+use Rattle.hq_kept.specs.declared.pattern.Class.{Class}
 use Rattle.hq_rows.specs.declared.rows.EndRow.{EndRow}
 use Rattle.hq_rows.specs.declared.rows.HeadRow.{HeadRow}
 use Rattle.hq_rows.specs.declared.rows.HoldRow.{HoldRow}
@@ -27,8 +27,8 @@ use Rattle.hq_rows.specs.Listed.{notice_key, notice_value, notices_of, end_key, 
 use Rattle.hq_rows.specs.Lookups.{is_head, is_message, is_hold, AreUnique, is_line, AreUniqueLines}
 use Rattle.hq_rows.specs.Lookups.{is_mark, is_notice, is_kept_notice, AreUniqueNotices}
 use Rattle.hq_rows.specs.Lookups.{is_kept_end, is_earlier_end, AreUniqueEnds}
-use Rattle.hq_store.proofs.Orders.{message_total, lines_total, mark_total, message_exact}
-use Rattle.hq_store.proofs.Orders.{lines_exact, mark_exact, end_total, end_exact}
+use Rattle.hq_tables.proofs.Orders.{message_total, lines_total, mark_total, message_exact}
+use Rattle.hq_tables.proofs.Orders.{lines_exact, mark_exact, end_total, end_exact}
 
 pub head_found : (rows : List HeadRow) (c : List ℕ) →
     option_map head_value (list.find (is_head c) rows) ≡ get (heads_of rows) c

@@ -3,16 +3,16 @@ use Rattle.std.proofs.Common.{◌≡◌, ℕ, true, List, [], ◌∷◌, map, fi
 use Rattle.std.proofs.Common.{Option, Some, None, Ordering, IsPermutation, IsSorted}
 use Rattle.std.specs.Ordering.{is_lt}
 use Rattle.sqlite_keyed.proofs.ListLemmas.{filter-map}
-use Rattle.hq_access.specs.declared.action.Action.{Action}
-use Rattle.hq_access.specs.declared.pattern.Class.{Class}
-use Rattle.hq_access.specs.declared.pattern.Line.{Line}
+use Rattle.hq_kept.specs.declared.action.Action.{Action}
+use Rattle.hq_kept.specs.declared.pattern.Class.{Class}
+use Rattle.hq_kept.specs.declared.pattern.Line.{Line}
 use Rattle.hq_rows.specs.declared.rows.LineRow.{LineRow}
-use Rattle.hq_store.specs.Tables.{line_cmp}
-use Rattle.hq_store.specs.Readings.{line_of, after_pattern}
+use Rattle.hq_tables.specs.Tables.{line_cmp}
+use Rattle.hq_tables.specs.Readings.{line_of, after_pattern}
 use Rattle.hq_rows.specs.Listed.{line_row_key, line_row_value}
 use Rattle.hq_rows.specs.Lookups.{AreUniqueLines, is_after_pattern, is_line_past, line_rows_with}
 use Rattle.hq_rows.proofs.Pages.{Paged, in_order}
-use Rattle.hq_store.proofs.Orders.{lines_total, line_total}
+use Rattle.hq_tables.proofs.Orders.{lines_total, line_total}
 
 abbrev Key : Type 0
 Key = Class × List ℕ

@@ -4,8 +4,8 @@ use Rattle.std.specs.List.{IsDistinct}
 use Rattle.std.specs.declared.cmp.Ordering.{Ordering}
 use Rattle.std.specs.FinMap.{empty}
 use Rattle.hq_owned.specs.Rows.{map_of}
-use Rattle.hq_store.specs.Tables.{text_cmp, lines_cmp, no_tables, pending_of, message_cmp}
-use Rattle.hq_store.specs.Tables.{recipient_cmp, mark_cmp, notice_cmp, end_cmp}
+use Rattle.hq_tables.specs.Tables.{text_cmp, lines_cmp, no_tables, pending_of, message_cmp}
+use Rattle.hq_tables.specs.Tables.{recipient_cmp, mark_cmp, notice_cmp, end_cmp}
 use Rattle.hq_rows.specs.Listed.{head_key, head_value, message_key, message_value, recipient_key}
 use Rattle.hq_rows.specs.Listed.{recipient_value, recipients_of, hold_key, hold_value, holds_of}
 use Rattle.hq_rows.specs.Listed.{heads_of, messages_of, line_row_key, line_row_value, lines_of}
@@ -13,7 +13,7 @@ use Rattle.hq_rows.specs.Listed.{mark_key, mark_value, marks_of, notice_key, not
 use Rattle.hq_rows.specs.Listed.{notices_of, end_key, end_value, ends_of}
 use Rattle.hq_rows.specs.Lookups.{AreUnique, AreDealt, AreUniqueLines, AreUniqueNotices}
 use Rattle.hq_rows.specs.Lookups.{AreUniqueEnds}
-use Rattle.hq_store.proofs.Empty.{no_pending}
+use Rattle.hq_tables.proofs.Empty.{no_pending}
 
 table_nothing : {A K X : Type 0} (R : K → K → Ordering) (key : A → K) (val : A → X) →
     map_of R key val [] ≡ empty

@@ -5,14 +5,14 @@ use Rattle.std.specs.Ordering.{nat_cmp}
 use Rattle.std.specs.Prelude.{nat_lt}
 use Rattle.std.specs.Cmp.{nat_cmp_total}
 use Rattle.sqlite_keyed.proofs.ListLemmas.{filter-map}
-use Rattle.hq_store.specs.declared.notice.Notice.{Notice}
+use Rattle.hq_kept.specs.declared.notice.Notice.{Notice}
 use Rattle.hq_rows.specs.declared.rows.NoticeRow.{NoticeRow}
-use Rattle.hq_store.specs.Tables.{Noted, notice_of}
-use Rattle.hq_store.specs.Readings.{after_number}
+use Rattle.hq_tables.specs.Tables.{Noted, notice_of}
+use Rattle.hq_tables.specs.Readings.{after_number}
 use Rattle.hq_rows.specs.Listed.{notice_key, notice_value}
 use Rattle.hq_rows.specs.Lookups.{AreUniqueNotices, is_after, is_notice_past, notice_rows_with}
 use Rattle.hq_rows.proofs.Pages.{Paged, in_order}
-use Rattle.hq_store.proofs.Orders.{message_total}
+use Rattle.hq_tables.proofs.Orders.{message_total}
 
 -- the order of notices
 abbrev pub by_number : Notice → Notice → Ordering

@@ -16,7 +16,7 @@ use Rattle.hq_owned.specs.Rows.{map_of, HasUniqueKeys}
 use Rattle.hq_owned.proofs.Parts.{rows_sorted}
 use Rattle.hq_owned.proofs.Pages.{sorted_rows}
 use Rattle.hq_owned.proofs.OwnedPages.{owned}
-use Rattle.hq_store.proofs.Orders.{ascending}
+use Rattle.hq_tables.proofs.Orders.{ascending}
 
 -- rows of a table: what a row stands for is made of its key and its value, and keeps the key
 pub record Paged (A K X L : Type 0) (R : K → K → Ordering) : Type 0 where

@@ -15,10 +15,10 @@ use Rattle.sqlite_keyed.specs.Lists.{sort_by}
 use Rattle.sqlite_keyed.proofs.ListLemmas.{map-map, filter-map, all_weaker, all_both, all-filter}
 use Rattle.sqlite_keyed.proofs.ListLemmas.{ascending-filter, ascending-map}
 use Rattle.sqlite_keyed.proofs.SortLemmas.{sorted_unique, IsPermutation-sort_by}
-use Rattle.hq_queue.specs.declared.message.Message.{Message}
+use Rattle.hq_kept.specs.declared.message.Message.{Message}
 use Rattle.hq_owned.specs.Owned.{part_of, given}
-use Rattle.hq_store.specs.Tables.{text_cmp, message_cmp, Row, message_of, reason_of, pending_of}
-use Rattle.hq_store.specs.Readings.{after_serial, with_spool}
+use Rattle.hq_tables.specs.Tables.{text_cmp, message_cmp, Row, message_of, reason_of, pending_of}
+use Rattle.hq_tables.specs.Readings.{after_serial, with_spool}
 use Rattle.hq_owned.proofs.Parts.{rows_sorted, get_part, entries_part}
 use Rattle.hq_owned.proofs.Pages.{sorted_rows}
 use Rattle.hq_owned.proofs.OwnedPages.{owned}
@@ -28,7 +28,7 @@ use Rattle.hq_rows.specs.declared.rows.RecipientRow.{RecipientRow}
 use Rattle.hq_rows.specs.Listed.{message_key, message_value, messages_of, recipients_of, holds_of}
 use Rattle.hq_rows.specs.Lookups.{AreUnique, is_after, is_past, has_spool, serials_where}
 use Rattle.hq_rows.specs.Lookups.{serials_after, serials_with_spool, rows_with, message_at}
-use Rattle.hq_store.proofs.Orders.{message_total, ascending, below}
+use Rattle.hq_tables.proofs.Orders.{message_total, ascending, below}
 use Rattle.hq_owned.proofs.Cases.{first, second}
 
 module _ {K X : Type 0} (R : K → K → Ordering) where

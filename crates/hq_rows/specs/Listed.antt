@@ -1,21 +1,22 @@
 -- What plain lists of rows stand for, in whatever order the rows lie.
 use Rattle.std.specs.Prelude.{ℕ, List}
 use Rattle.std.specs.FinMap.{FinMap}
-use Rattle.hq_queue.specs.declared.message.Pending.{Pending}
-use Rattle.hq_access.specs.declared.action.Action.{Action}
-use Rattle.hq_access.specs.declared.pattern.Class.{Class}
-use Rattle.hq_store.specs.declared.account.Account.{Account}
+use Rattle.hq_kept.specs.declared.message.Pending.{Pending}
+use Rattle.hq_kept.specs.declared.action.Action.{Action}
+use Rattle.hq_kept.specs.declared.pattern.Class.{Class}
+use Rattle.hq_tables.specs.declared.account.Account.{Account}
 use Rattle.hq_rows.specs.declared.rows.EndRow.{EndRow}
 use Rattle.hq_rows.specs.declared.rows.HeadRow.{HeadRow}
 use Rattle.hq_rows.specs.declared.rows.HoldRow.{HoldRow}
 use Rattle.hq_rows.specs.declared.rows.LineRow.{LineRow}
-use Rattle.hq_store.specs.declared.mark.Mark.{Mark}
+use Rattle.hq_kept.specs.declared.mark.Mark.{Mark}
 use Rattle.hq_rows.specs.declared.rows.MarkRow.{MarkRow}
 use Rattle.hq_rows.specs.declared.rows.MessageRow.{MessageRow}
 use Rattle.hq_rows.specs.declared.rows.NoticeRow.{NoticeRow}
 use Rattle.hq_rows.specs.declared.rows.RecipientRow.{RecipientRow}
-use Rattle.hq_store.specs.Tables.{Row, Noted, Past, text_cmp, message_cmp, recipient_cmp, lines_cmp}
-use Rattle.hq_store.specs.Tables.{mark_cmp, notice_cmp, end_cmp, noted_of, past_of}
+use Rattle.hq_tables.specs.Tables.{Row, Noted, Past, text_cmp, message_cmp, recipient_cmp}
+use Rattle.hq_tables.specs.Tables.{lines_cmp}
+use Rattle.hq_tables.specs.Tables.{mark_cmp, notice_cmp, end_cmp, noted_of, past_of}
 use Rattle.hq_owned.specs.Rows.{map_of}
 
 -- ---- keys and values of rows

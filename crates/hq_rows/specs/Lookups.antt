@@ -5,10 +5,10 @@ use Rattle.std.specs.Prelude.{◌≡◌, ℕ, suc, Bool, true, nat_le, nat_lt, N
 use Rattle.std.specs.Prelude.{◌∷◌, map, filter, Option, option_map}
 use Rattle.std.specs.Ordering.{nat_cmp, eq_by_cmp, is_lt}
 use Rattle.std.specs.FinMap.{entries, get}
-use Rattle.hq_queue.specs.declared.message.Message.{Message}
-use Rattle.hq_queue.specs.declared.message.Pending.{Pending}
-use Rattle.hq_access.specs.declared.action.Action.{Action}
-use Rattle.hq_access.specs.declared.pattern.Class.{Class}
+use Rattle.hq_kept.specs.declared.message.Message.{Message}
+use Rattle.hq_kept.specs.declared.message.Pending.{Pending}
+use Rattle.hq_kept.specs.declared.action.Action.{Action}
+use Rattle.hq_kept.specs.declared.pattern.Class.{Class}
 use Rattle.hq_rows.specs.declared.rows.EndRow.{EndRow}
 use Rattle.hq_rows.specs.declared.rows.HeadRow.{HeadRow}
 use Rattle.hq_rows.specs.declared.rows.HoldRow.{HoldRow}
@@ -17,8 +17,8 @@ use Rattle.hq_rows.specs.declared.rows.MarkRow.{MarkRow}
 use Rattle.hq_rows.specs.declared.rows.MessageRow.{MessageRow}
 use Rattle.hq_rows.specs.declared.rows.NoticeRow.{NoticeRow}
 use Rattle.hq_rows.specs.declared.rows.RecipientRow.{RecipientRow}
-use Rattle.hq_store.specs.Tables.{Row, text_cmp, message_cmp, line_cmp, lines_cmp, mark_cmp}
-use Rattle.hq_store.specs.Tables.{notice_cmp, end_cmp, Noted, Past, left_of, joined, pending_of}
+use Rattle.hq_tables.specs.Tables.{Row, text_cmp, message_cmp, line_cmp, lines_cmp, mark_cmp}
+use Rattle.hq_tables.specs.Tables.{notice_cmp, end_cmp, Noted, Past, left_of, joined, pending_of}
 use Rattle.hq_owned.specs.Owned.{rows_of}
 use Rattle.hq_owned.specs.Rows.{HasUniqueKeys}
 use Rattle.hq_rows.specs.Listed.{message_key, recipient_value, line_row_key, notice_key, end_key}

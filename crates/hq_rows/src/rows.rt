@@ -2,15 +2,14 @@
 
 ghost use Rattle.std.specs.Prelude.{◌≡◌, not, option_map};
 ghost use Rattle.std.specs.Ordering.{nat_cmp, eq_by_cmp};
-ghost use Rattle.hq_store.specs.Tables.{text_cmp, line_cmp};
+ghost use Rattle.hq_tables.specs.Tables.{text_cmp, line_cmp};
 ghost use Rattle.hq_rows.specs.Lookups.{is_head, is_message, is_recipient, is_hold, is_past};
 ghost use Rattle.hq_rows.specs.Lookups.{has_spool, is_line, is_line_past, is_mark, is_notice};
 ghost use Rattle.hq_rows.specs.Lookups.{is_notice_past, is_kept_notice, is_end_before};
 ghost use Rattle.hq_rows.specs.Lookups.{is_kept_end, is_earlier_end};
 
-use hq_access::{Class, Line, Pattern};
-use hq_queue::{Pending, QueueState};
-use hq_store::{Account, End, Mark, Notice};
+use hq_kept::{Class, End, Line, Mark, Notice, Pattern, Pending, QueueState};
+use hq_tables::Account;
 use hq_values::{Label, Moment, Name, Sender, Serial, Spool, Text};
 use std::cmp::Ordering;
 

@@ -3,8 +3,7 @@ use Rattle.std.specs.Io.KnownBytes.{Appends, Keeps}
 use Rattle.std.proofs.Common.{◌≡◌, ℕ, List, [], Option, None, Some, Result, inl, refl, sym, false}
 use Rattle.std.proofs.Common.{subst}
 use Rattle.hq_values.specs.declared.failure.Refusal.{Refusal}
-use Rattle.hq_store.specs.Shelves.{Sight}
-use Rattle.hq_desk.specs.declared.desk.Desk.{Desk}
+use Rattle.hq_rules.specs.Desks.{DeskSight}
 use Rattle.hq_requests.specs.Calls.{Asked, call_from}
 use Rattle.hq_wire.specs.Exchanges.{Exchanged, IsRefused, ask_of}
 use Rattle.hq_wire.specs.Replies.{IsSent, SeenReply, seen, tells_store}
@@ -15,13 +14,13 @@ use Rattle.hq_wire.proofs.Serving.{served, served_once}
 use Rattle.hq_http.specs.Requests as requests
 use Rattle.hq_http.specs.Requests.{nothing, refused, request, Received}
 use Rattle.hq_http.specs.Responses.{response_text}
-use Rattle.hq_wire.specs.declared.reply.Reply.{Reply}
+use Rattle.hq_requests.specs.declared.reply.Reply.{Reply}
 use Rattle.hq_lines.specs.Written.{AppendsPart}
 use Rattle.hq_serve.specs.Connections.{Answered, AnsweredAs, IsWritten, response_of}
 use Rattle.hq_serve.specs.Steps.{AreSent, IsOfRequest}
 
-module _ {S : Type 0} (sight : Sight S) (d : Directory) (at : ℕ) (a b : Option (List ℕ))
-    (old : Desk S) where
+module _ {D : Type 0} (sight : DeskSight D) (d : Directory) (at : ℕ) (a b : Option (List ℕ))
+    (old : D) where
   -- no byte came, and nothing was done
   pub of_nothing : Received a b nothing → AnsweredAs sight d at a b old nothing None old
   of_nothing h = inl (h, served sight d old old [] [] refl)
@@ -35,7 +34,7 @@ module _ {S : Type 0} (sight : Sight S) (d : Directory) (at : ℕ) (a b : Option
   )
 
   -- it was replied to as its exchange
-  pub of_request : (q : requests.Request) (x : Exchange) (r : SeenReply) (new : Desk S) →
+  pub of_request : (q : requests.Request) (x : Exchange) (r : SeenReply) (new : D) →
       Received a b (request q) → IsOfRequest x at q → Exchanged sight d old (ask_of d x) r new →
       AnsweredAs sight d at a b old (request q) (Some r) new
   of_request q x r new h is done = inl (
@@ -70,8 +69,8 @@ part_as old new reply r sent h =
     subst (AppendsPart old new) (sym (λ i. response_text (sent.0 i) (sent.1 i))) h
 
 -- where there is a reply, one was seen, and a beginning of that went out
-pub broken_off : {S : Type 0} (sight : Sight S) (d : Directory) (at : ℕ) (a b : Option (List ℕ))
-    (old new : Desk S) (w v : Option (List ℕ)) (reply : Reply) (r : Option SeenReply) →
+pub broken_off : {D : Type 0} (sight : DeskSight D) (d : Directory) (at : ℕ) (a b : Option (List ℕ))
+    (old new : D) (w v : Option (List ℕ)) (reply : Reply) (r : Option SeenReply) →
     AreSent (Some reply) r → Answered sight d at a b old r new →
     AppendsPart w v (response_of (seen reply)) → (q : SeenReply)
     × Answered sight d at a b old (Some q) new × AppendsPart w v (response_of q)

@@ -3,8 +3,7 @@ use Rattle.std.proofs.Common.{◌≡◌, ◌+◌, ◌-◌, ◌≤◌, ◌<◌, �
 use Rattle.std.proofs.Common.{Result, Ok, Err, inl, inr, refl, arith, length-append}
 use Rattle.std.specs.Prelude.{option_to_list}
 use Rattle.std.specs.Bool.{⊤}
-use Rattle.hq_store.specs.Shelves.{Sight}
-use Rattle.hq_desk.specs.declared.desk.Desk.{Desk}
+use Rattle.hq_rules.specs.Desks.{DeskSight}
 use Rattle.hq_values.proofs.Turns.{turns_on}
 use Rattle.hq_wire.specs.Exchanges.{Exchanged}
 use Rattle.hq_wire.specs.Replies.{SeenReply}
@@ -17,12 +16,12 @@ use Rattle.hq_values.specs.declared.engine.EngineFault.TheVariants.{WantOfMemory
 use Rattle.hq_http.specs.Requests.{Wanted, nothing, refused, request}
 use Rattle.hq_serve.specs.Connections.{asks as asked_of, Answered, ConnectionEnds}
 use Rattle.hq_serve.specs.Listening.{DoesSome, ServesComing}
-use Rattle.hq_serve.specs.declared.listening.End.{End}
-use Rattle.hq_serve.specs.declared.listening.End.TheVariants.{Clock}
+use Rattle.hq_serve.specs.declared.listening.ServiceEnd.{ServiceEnd}
+use Rattle.hq_serve.specs.declared.listening.ServiceEnd.TheVariants.{Clock}
 
-module _ {S : Type 0} (sight : Sight S) (d : Directory) where
+module _ {D : Type 0} (sight : DeskSight D) (d : Directory) where
   -- nothing is done, of however many connections
-  pub nothing_done : (n : ℕ) (old new : Desk S) → new ≡ old → DoesSome sight d n old new
+  pub nothing_done : (n : ℕ) (old new : D) → new ≡ old → DoesSome sight d n old new
   nothing_done n old new same = record {
     asks = [];
     replies = [];
@@ -31,7 +30,7 @@ module _ {S : Type 0} (sight : Sight S) (d : Directory) where
   }
 
   -- what is done of some connections is done of more
-  pub of_more : (m n : ℕ) (old new : Desk S) → m ≤ n → DoesSome sight d m old new →
+  pub of_more : (m n : ℕ) (old new : D) → m ≤ n → DoesSome sight d m old new →
       DoesSome sight d n old new
   of_more m n old new more p =
       let few = p.one_each in
@@ -43,7 +42,7 @@ module _ {S : Type 0} (sight : Sight S) (d : Directory) where
       }
 
   -- what is done of some connections, and then of others
-  pub and_then : (m n : ℕ) (old mid new : Desk S) → DoesSome sight d m old mid →
+  pub and_then : (m n : ℕ) (old mid new : D) → DoesSome sight d m old mid →
       DoesSome sight d n mid new → DoesSome sight d (m + n) old new
   and_then m n old mid new p q =
       let both = length-append p.asks q.asks in
@@ -59,19 +58,19 @@ module _ {S : Type 0} (sight : Sight S) (d : Directory) where
       }
 
   -- so far some connections came, and the others are left
-  pub record SoFar (coming left : ℕ) (old new : Desk S) : Type 0 where
+  pub record SoFar (coming left : ℕ) (old new : D) : Type 0 where
     pub came : ℕ
     pub counted : came + left ≡ coming
     pub does : DoesSome sight d came old new
 
-  pub none_came : (coming : ℕ) (desk : Desk S) → SoFar coming coming desk desk
+  pub none_came : (coming : ℕ) (desk : D) → SoFar coming coming desk desk
   none_came coming desk = record {
     came = 0;
     counted = omega arith;
     does = nothing_done 0 desk desk refl;
   }
 
-  pub one_more : (coming left less : ℕ) (old mid new : Desk S) → SoFar coming left old mid →
+  pub one_more : (coming left less : ℕ) (old mid new : D) → SoFar coming left old mid →
       0 < left → less ≡ left - 1 → DoesSome sight d 1 mid new → SoFar coming less old new
   one_more coming left less old mid new so some fewer one =
       let counted = so.counted in
@@ -81,7 +80,7 @@ module _ {S : Type 0} (sight : Sight S) (d : Directory) where
         does = and_then so.came 1 old mid new so.does one;
       }
 
-  pub one_unserved : (coming left less : ℕ) (old new : Desk S) → SoFar coming left old new →
+  pub one_unserved : (coming left less : ℕ) (old new : D) → SoFar coming left old new →
       0 < left → less ≡ left - 1 → ServesComing sight d coming less Clock old new
   one_unserved coming left less old new so some fewer =
       let counted = so.counted in
@@ -100,7 +99,7 @@ module _ {S : Type 0} (sight : Sight S) (d : Directory) where
       }
 
   -- what is done of those that came is done of those that were to come
-  pub of_coming : (coming left : ℕ) (why : End) (old new : Desk S) →
+  pub of_coming : (coming left : ℕ) (why : ServiceEnd) (old new : D) →
       ServesComing sight d coming left why old new → DoesSome sight d coming old new
   of_coming coming left why old new so =
       let counted = so.counted in
@@ -111,7 +110,7 @@ module _ {S : Type 0} (sight : Sight S) (d : Directory) where
   at_most_one at (refused why) = omega arith
   at_most_one at (request q) = omega arith
 
-  by_answer : (at : ℕ) (a b : Option (List ℕ)) (old new : Desk S) (reply : Option SeenReply) →
+  by_answer : (at : ℕ) (a b : Option (List ℕ)) (old new : D) (reply : Option SeenReply) →
       Answered sight d at a b old reply new → DoesSome sight d 1 old new
   by_answer at a b old new reply (asked, inl p) =
       record {
@@ -123,7 +122,7 @@ module _ {S : Type 0} (sight : Sight S) (d : Directory) where
   by_answer at a b old new reply (asked, inr p) = nothing_done 1 old new p.3
 
   -- however a connection ends
-  pub by_end : (at : ℕ) (start end : Streams) (quiet : Type 0) (old new : Desk S)
+  pub by_end : (at : ℕ) (start end : Streams) (quiet : Type 0) (old new : D)
       (result : Result ⊤ EngineFault) → ConnectionEnds sight d at start end quiet old new result →
       DoesSome sight d 1 old new
   by_end at start end quiet old new (Ok x) p = by_answer at start.input end.input old new p.0 p.1

@@ -3,8 +3,7 @@ use Rattle.std.specs.Prelude.{◌≡◌, ◌⊎◌, ⊤, ℕ, List, [], ◌∷�
 use Rattle.std.specs.Prelude.{Result, Ok, Err}
 use Rattle.std.specs.Io.KnownBytes.{Appends, Keeps}
 use Rattle.hq_values.specs.Refusals.{no_memory}
-use Rattle.hq_store.specs.Shelves.{Sight}
-use Rattle.hq_desk.specs.declared.desk.Desk.{Desk}
+use Rattle.hq_rules.specs.Desks.{DeskSight}
 use Rattle.hq_requests.specs.Calls.{call_from}
 use Rattle.hq_wire.specs.Exchanges.{Ask}
 use Rattle.hq_wire.specs.Replies.{SeenReply, reply_of_fault}
@@ -37,8 +36,8 @@ IsWritten old new (Some r) = Appends old new (response_of r)
 
 -- What was read asks for this, and was served as its exchange is, or as none; or there was no room
 -- for it, so that it asks for nothing, which is told, and nothing was done.
-abbrev pub AnsweredAs : {S : Type 0} → Sight S → Directory → ℕ → Option (List ℕ) →
-    Option (List ℕ) → Desk S → Wanted → Option SeenReply → Desk S → Type 0
+abbrev pub AnsweredAs : {D : Type 0} → DeskSight D → Directory → ℕ → Option (List ℕ) →
+    Option (List ℕ) → D → Wanted → Option SeenReply → D → Type 0
 AnsweredAs sight d at read_old read_new old asked reply new =
     (Received read_old read_new asked
     × Served sight d old (asks d at asked) (option_to_list reply) new)
@@ -46,16 +45,16 @@ AnsweredAs sight d at read_old read_new old asked reply new =
     × (reply ≡ Some (reply_of_fault no_memory)) × (new ≡ old))
 
 -- whatever it asks for
-abbrev pub Answered : {S : Type 0} → Sight S → Directory → ℕ → Option (List ℕ) → Option (List ℕ) →
-    Desk S → Option SeenReply → Desk S → Type 0
+abbrev pub Answered : {D : Type 0} → DeskSight D → Directory → ℕ → Option (List ℕ) →
+    Option (List ℕ) → D → Option SeenReply → D → Type 0
 Answered sight d at read_old read_new old reply new =
     (asked : Wanted) × AnsweredAs sight d at read_old read_new old asked reply new
 
 -- How the serving of a connection ends: what was read is answered, and the response is written; or
 -- nothing was done, as more had to be read; or what was read is answered, and a beginning of the
 -- response went out.
-abbrev pub ConnectionEnds : {S : Type 0} → Sight S → Directory → ℕ → Streams → Streams → Type 0 →
-    Desk S → Desk S → Result ⊤ EngineFault → Type 0
+abbrev pub ConnectionEnds : {D : Type 0} → DeskSight D → Directory → ℕ → Streams → Streams →
+    Type 0 → D → D → Result ⊤ EngineFault → Type 0
 ConnectionEnds sight d at start end quiet old new (Ok _) = (reply : Option SeenReply)
     × Answered sight d at start.input end.input old reply new
     × IsWritten start.output end.output reply

@@ -1,15 +1,14 @@
 -- What the connections of a socket do to a desk.
 use Rattle.std.specs.Prelude.{◌≡◌, ◌≤◌, ◌<◌, ◌+◌, ◌-◌, ℕ, List, length, Option, None, Some, Result}
 use Rattle.std.specs.Prelude.{Ok, Err}
-use Rattle.hq_store.specs.Shelves.{Sight}
-use Rattle.hq_desk.specs.declared.desk.Desk.{Desk}
+use Rattle.hq_rules.specs.Desks.{DeskSight}
 use Rattle.hq_wire.specs.Exchanges.{Ask}
 use Rattle.hq_wire.specs.Replies.{SeenReply}
 use Rattle.hq_wire.specs.Runs.{Served}
 use Rattle.hq_requests.specs.declared.directory.Directory.{Directory}
 use Rattle.hq_serve.specs.declared.connections.Connections.{Connections}
-use Rattle.hq_serve.specs.declared.listening.End.{End}
-use Rattle.hq_serve.specs.declared.listening.End.TheVariants.{Done, Network, Clock}
+use Rattle.hq_serve.specs.declared.listening.ServiceEnd.{ServiceEnd}
+use Rattle.hq_serve.specs.declared.listening.ServiceEnd.TheVariants.{Done, Network, Clock}
 
 -- how many connections are still to come
 abbrev pub connections_left : Connections → ℕ
@@ -24,8 +23,8 @@ Accepts old new (Err error) = (0 < connections_left old) × (new ≡ old)
 
 -- Whatever comes over the socket, the desk does some exchanges one after the other, as a run does,
 -- and nothing else; of so many connections no more than one each.
-pub record DoesSome {S : Type 0} (sight : Sight S) (d : Directory) (connections : ℕ)
-    (old new : Desk S) : Type 0 where
+pub record DoesSome {D : Type 0} (sight : DeskSight D) (d : Directory) (connections : ℕ)
+    (old new : D) : Type 0 where
   pub asks : List Ask
   pub replies : List SeenReply
   pub one_each : length asks ≤ connections
@@ -34,15 +33,15 @@ pub record DoesSome {S : Type 0} (sight : Sight S) (d : Directory) (connections 
 -- Why no more are served, of so many that came, so many that are left, and so many exchanges that
 -- were done: none is left; or one that is left could not be accepted; or the clock told no moment,
 -- and the one that came last is not served.
-abbrev pub IsOver : End → ℕ → ℕ → ℕ → Type 0
+abbrev pub IsOver : ServiceEnd → ℕ → ℕ → ℕ → Type 0
 IsOver Done came left done = left ≡ 0
 IsOver Network came left done = 0 < left
 IsOver Clock came left done = done < came
 
 -- Of the connections that were to come some came, and the others are left; the desk did no more
 -- than one exchange for each that came.
-pub record ServesComing {S : Type 0} (sight : Sight S) (d : Directory) (coming left : ℕ) (why : End)
-    (old new : Desk S) : Type 0 where
+pub record ServesComing {D : Type 0} (sight : DeskSight D) (d : Directory) (coming left : ℕ)
+    (why : ServiceEnd) (old new : D) : Type 0 where
   pub came : ℕ
   pub counted : came + left ≡ coming
   pub does : DoesSome sight d came old new

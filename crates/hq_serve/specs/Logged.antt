@@ -4,15 +4,14 @@ use Rattle.std.specs.Prelude.{◌≡◌, ◌⊎◌, ⊤, ℕ, Bool, List, Option
 use Rattle.std.specs.Io.KnownBytes.{Appends, Keeps}
 use Rattle.hq_values.specs.declared.engine.EngineFault.{EngineFault}
 use Rattle.hq_values.specs.declared.engine.EngineFault.TheVariants.{Write}
-use Rattle.hq_desk.specs.declared.desk.Desk.{Desk}
 use Rattle.hq_http.specs.Requests.{Wanted, request}
 use Rattle.hq_lines.specs.Lines.{Streams}
 use Rattle.hq_lines.specs.Written.{AppendsPart}
-use Rattle.hq_log.specs.Entries.{customer_named}
 use Rattle.hq_log.specs.Lines.{LogEntry, log_line_behind}
+use Rattle.hq_requests.specs.Named.{customer_named}
 use Rattle.hq_requests.specs.declared.directory.Directory.{Directory}
 use Rattle.hq_serve.specs.Connections.{AnsweredAs, response_of}
-use Rattle.hq_store.specs.Shelves.{Sight}
+use Rattle.hq_rules.specs.Desks.{DeskSight}
 use Rattle.hq_wire.specs.Replies.{SeenReply}
 
 -- what is told of what was read at a moment, and of its reply; of what is no request there is
@@ -39,8 +38,8 @@ connection_entry d at _ r milliseconds = record {
 
 -- What was read is answered by this reply, and the line of just that is there; lines were lost
 -- before, or not.
-pub record IsLogged {S : Type 0} (sight : Sight S) (d : Directory) (at : ℕ)
-    (read_old read_new : Option (List ℕ)) (old new : Desk S) (lost : Bool)
+pub record IsLogged {D : Type 0} (sight : DeskSight D) (d : Directory) (at : ℕ)
+    (read_old read_new : Option (List ℕ)) (old new : D) (lost : Bool)
     (log_old log_new : Option (List ℕ)) (r : SeenReply) : Type 0 where
   pub asked : Wanted
   pub answered : AnsweredAs sight d at read_old read_new old asked (Some r) new
@@ -50,7 +49,7 @@ pub record IsLogged {S : Type 0} (sight : Sight S) (d : Directory) (at : ℕ)
 
 -- The reply that is written has its line, and so has one of which only a beginning is told to be
 -- written; where nothing is replied there is none.
-abbrev pub LogEnds : {S : Type 0} → Sight S → Directory → ℕ → Streams → Streams → Desk S → Desk S →
+abbrev pub LogEnds : {D : Type 0} → DeskSight D → Directory → ℕ → Streams → Streams → D → D →
     Bool → Option (List ℕ) → Option (List ℕ) → Result ⊤ EngineFault → Type 0
 LogEnds sight d at start end old new lost log_old log_new (Ok _) =
     (Keeps start.output end.output × (log_new ≡ log_old))

@@ -4,12 +4,12 @@ use Rattle.std.specs.Prelude.{◌≡◌, ⊤, ℕ, List, Option, None, Some, str
 use Rattle.hq_http.specs.Requests as requests
 use Rattle.hq_http.specs.Requests.{Wanted, request}
 use Rattle.hq_log.specs.declared.keeping.Answered.{Answered as ToLog}
-use Rattle.hq_store.specs.Shelves.{Sight}
-use Rattle.hq_desk.specs.declared.desk.Desk.{Desk}
-use Rattle.hq_wire.specs.Replies.{IsSent, SeenReply, body_bytes}
+use Rattle.hq_rules.specs.Desks.{DeskSight}
+use Rattle.hq_wire.specs.Replies.{IsSent, SeenReply}
+use Rattle.hq_requests.specs.Named.{customer_asked, customer_told}
 use Rattle.hq_requests.specs.declared.exchanges.Exchange.{Exchange}
 use Rattle.hq_requests.specs.declared.directory.Directory.{Directory}
-use Rattle.hq_wire.specs.declared.reply.Reply.{Reply}
+use Rattle.hq_requests.specs.declared.reply.Reply.{Reply}
 use Rattle.hq_serve.specs.Connections.{AnsweredAs}
 use Rattle.hq_serve.specs.declared.serving.Replied.{Replied}
 
@@ -37,16 +37,22 @@ abbrev pub HoldsAsked : ℕ → Wanted → Option Replied → Type 0
 HoldsAsked at asked None = ⊤
 HoldsAsked at asked (Some replied) = HoldsRequest at asked replied.asked
 
+-- a reply that is there is of the customer of its exchange
+abbrev pub IsOfCustomer : Directory → Option Replied → Type 0
+IsOfCustomer d None = ⊤
+IsOfCustomer d (Some replied) = customer_told replied.reply ≡ customer_asked d replied.asked
+
 -- what was read is answered, as it is sent, and its exchange is at hand
-pub record Sends {S : Type 0} (sight : Sight S) (d : Directory) (at : ℕ)
-    (read_old read_new : Option (List ℕ)) (old : Desk S) (replied : Option Replied) (new : Desk S)
+pub record Sends {D : Type 0} (sight : DeskSight D) (d : Directory) (at : ℕ)
+    (read_old read_new : Option (List ℕ)) (old : D) (replied : Option Replied) (new : D)
     : Type 0 where
   pub asked : Wanted
   pub reply : Option SeenReply
   pub sent : AreSent (option_map (λ r. r.reply) replied) reply
   pub answered : AnsweredAs sight d at read_old read_new old asked reply new
   pub holds : HoldsAsked at asked replied
+  pub customer : IsOfCustomer d replied
 
 abbrev pub IsToLog : ToLog → ℕ → Replied → Type 0
 IsToLog told at replied = (told.at ≡ Some at) × (option_map (λ x. x.now) told.asked ≡ replied.asked)
-    × (told.status ≡ replied.reply.status) × (told.body.now ≡ body_bytes replied.reply.body)
+    × (told.reply.now ≡ replied.reply)

@@ -11,7 +11,7 @@ mod sockets;
 
 pub use connections::Connections;
 pub use hq_values::EngineFault;
-pub use listening::{End, Limits, serve_on};
+pub use listening::{Limits, ServiceEnd, serve_on};
 pub use places::{Place, bind};
 pub use serving::serve_one;
 pub use sockets::Listener;

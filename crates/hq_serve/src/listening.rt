@@ -6,9 +6,8 @@ use crate::connections::Connections;
 use crate::due::{Due, Until, linger};
 use crate::serving::serve_one;
 use crate::sockets::Stream;
-use hq_desk::Desk;
 use hq_log::Log;
-use hq_store::Shelf;
+use hq_rules::Acts;
 use hq_values::{EngineFault, Moment};
 use hq_wire::Directory;
 use std::alloc::Global;
@@ -29,7 +28,7 @@ pub struct Limits {
 
 /// Why no more connections are served.
 #[derive(Clone, Copy, Debug, PartialEq, Eq)]
-pub enum End {
+pub enum ServiceEnd {
     /// All that were to come came.
     Done,
     /// One that was to come could not be accepted.
@@ -47,32 +46,32 @@ fn moment_now<C: Clock>(clock: &C) -> Option<Moment> {
 }
 
 /// Serves one connection, by whatever reads and writes it.
-fn serve_between<R: Read, W: Write, S: Shelf + Drop, L: Log>(
+fn serve_between<R: Read, W: Write, D: Acts, L: Log>(
     alloc: Global,
     reader: &mut R,
     writer: &mut W,
-    desk: &mut Desk<S>,
+    desk: &mut D,
     directory: &Directory,
     at: Moment,
     log: &mut L,
 ) -> Result<(), EngineFault>
-    ensures { DoesSome S.sight directory.now 1 desk.old desk.new }
+    ensures { DoesSome D.sight directory.now 1 desk.old desk.new }
 {
     serve_one(alloc, reader, writer, desk, directory, at, log)
 }
 
 /// Serves one connection, and gathers its response, so that it leaves in few segments; where there
 /// is no memory to gather it, it leaves as it is written.
-fn serve_gathered<R: Read, W: Write + Drop, S: Shelf + Drop, L: Log>(
+fn serve_gathered<R: Read, W: Write + Drop, D: Acts, L: Log>(
     alloc: Global,
     reader: &mut R,
     writer: &mut W,
-    desk: &mut Desk<S>,
+    desk: &mut D,
     directory: &Directory,
     at: Moment,
     log: &mut L,
 ) -> Result<(), EngineFault>
-    ensures { DoesSome S.sight directory.now 1 desk.old desk.new }
+    ensures { DoesSome D.sight directory.now 1 desk.old desk.new }
 {
     if let Ok(mut gathered) = BufWriter::new(alloc, &mut *writer) {
         return serve_between(alloc, reader, &mut gathered, desk, directory, at, log);
@@ -81,16 +80,16 @@ fn serve_gathered<R: Read, W: Write + Drop, S: Shelf + Drop, L: Log>(
 }
 
 /// Serves one connection within its limits, and where that ends well, lets the client end its side.
-fn serve_stream<C: Clock + AllocGlobal, S: Shelf + Drop, L: Log>(
+fn serve_stream<C: Clock + AllocGlobal, D: Acts, L: Log>(
     rt: &C,
     stream: &Stream,
     limits: Limits,
-    desk: &mut Desk<S>,
+    desk: &mut D,
     directory: &Directory,
     at: Moment,
     log: &mut L,
 ) -> Result<(), EngineFault>
-    ensures { DoesSome S.sight directory.now 1 desk.old desk.new }
+    ensures { DoesSome D.sight directory.now 1 desk.old desk.new }
 {
     let until = Until::After(limits.request);
     let mut reader = Due {
@@ -143,26 +142,26 @@ fn tell<E: Write>(errors: &mut E, served: Result<(), EngineFault>) {
 /// client ends its side, for a second at most: a connection closed before that would be reset, and
 /// its response lost. So one connection takes at most twice `limits.request`, and a second, beside
 /// what its exchange takes.
-pub fn serve_on<C: Clock + AllocGlobal, S: Shelf + Drop, E: Write, L: Log>(
+pub fn serve_on<C: Clock + AllocGlobal, D: Acts, E: Write, L: Log>(
     rt: &C,
     connections: &mut Connections,
     limits: Limits,
-    desk: &mut Desk<S>,
+    desk: &mut D,
     directory: &Directory,
     errors: &mut E,
     log: &mut L,
-) -> End
-    ensures { ServesComing S.sight directory.now (connections_left connections.old)
+) -> ServiceEnd
+    ensures { ServesComing D.sight directory.now (connections_left connections.old)
         (connections_left connections.new) result desk.old desk.new }
 {
     loop {
         let stream = match connections.accept() {
             Ok(Some(stream)) => stream,
-            Ok(None) => return End::Done,
-            Err(_) => return End::Network,
+            Ok(None) => return ServiceEnd::Done,
+            Err(_) => return ServiceEnd::Network,
         };
         let Some(at) = moment_now(rt) else {
-            return End::Clock;
+            return ServiceEnd::Clock;
         };
         let served = serve_stream(rt, &stream, limits, desk, directory, at, log);
         tell(errors, served);

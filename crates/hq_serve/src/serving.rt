@@ -8,10 +8,9 @@ ghost use Rattle.hq_serve.specs.Connections.{response_of, ConnectionEnds};
 ghost use Rattle.hq_serve.specs.Logged.{LogEnds};
 ghost use Rattle.hq_serve.specs.Steps.{IsOfRequest, IsToLog, Sends};
 
-use hq_desk::Desk;
 use hq_http::{Input, Reads, Request, read_request, write_response};
 use hq_log::{Answered, Log};
-use hq_store::Shelf;
+use hq_rules::Acts;
 use hq_values::{EngineFault, Fault, Moment};
 use hq_wire::{Directory, Exchange, Reply, exchange, fault_reply, refusal_reply};
 use std::alloc::Global;
@@ -40,12 +39,12 @@ fn exchange_of(request: Request, at: Moment) -> Exchange
 
 /// What is replied, and the exchange where there is one.
 #[derive(Drop)]
-struct Replied {
+struct Replied<'d> {
     asked: Option<Exchange>,
-    reply: Reply,
+    reply: Reply<'d>,
 }
 
-impl Replied {
+impl Replied<'_> {
     /// What the log is told of, at the moment of the connection.
     fn answered(&self, at: Moment) -> Answered<'_>
         ensures { IsToLog result at self.now }
@@ -53,32 +52,31 @@ impl Replied {
         Answered {
             at: Some(at),
             asked: self.asked.as_ref(),
-            status: self.reply.status,
-            body: self.reply.body.as_bytes(),
+            reply: &self.reply,
         }
     }
 }
 
 /// Replies to what a connection asks for; to nothing there is no reply.
-fn reply_to<S: Shelf + Drop>(
+fn reply_to<'d, D: Acts>(
     alloc: Global,
-    desk: &mut Desk<S>,
-    directory: &Directory,
+    desk: &mut D,
+    directory: &'d Directory,
     at: Moment,
     input: Input,
-) -> Option<Replied>
+) -> Option<Replied<'d>>
     ensures { (read_old read_new : Option (List ℕ)) → InputIs read_old read_new input
-        → Sends S.sight directory.now at read_old read_new desk.old result desk.new }
+        → Sends D.sight directory.now at read_old read_new desk.old result desk.new }
 {
     match input {
         Input::Nothing => None,
         Input::Refused(refusal) => Some(Replied {
             asked: None,
-            reply: refusal_reply(alloc, refusal),
+            reply: refusal_reply(alloc, None, refusal),
         }),
         Input::NoRoom => Some(Replied {
             asked: None,
-            reply: fault_reply(Fault::WantOfMemory),
+            reply: fault_reply(None, Fault::WantOfMemory),
         }),
         Input::Request(request) => {
             let asked = exchange_of(request, at);
@@ -92,7 +90,7 @@ fn reply_to<S: Shelf + Drop>(
 }
 
 /// Writes a reply as a response, and flushes; at an error a beginning of it went out.
-fn write_reply<W: Write>(writer: &mut W, reply: &Reply) -> io::Result<()>
+fn write_reply<W: Write>(writer: &mut W, reply: &Reply<'_>) -> io::Result<()>
     ensures { GoesOut (W.contents writer.old) (W.contents writer.new)
         (response_of (seen reply.now)) result }
 {
@@ -117,20 +115,20 @@ fn write_reply<W: Write>(writer: &mut W, reply: &Reply) -> io::Result<()>
 /// An error is `Read` or `TooManyReads`: no head had ended, or the body of one was not whole, and
 /// nothing was done and nothing written; or `Write`: what was asked was done, and a beginning of
 /// its response went out. At most 300,000 reads are made, an interrupted one counted.
-pub fn serve_one<R: Read, W: Write, S: Shelf + Drop, L: Log>(
+pub fn serve_one<R: Read, W: Write, D: Acts, L: Log>(
     alloc: Global,
     reader: &mut R,
     writer: &mut W,
-    desk: &mut Desk<S>,
+    desk: &mut D,
     directory: &Directory,
     at: Moment,
     log: &mut L,
 ) -> Result<(), EngineFault>
-    ensures ends { ConnectionEnds S.sight directory.now at
+    ensures ends { ConnectionEnds D.sight directory.now at
         (record { input = R.remaining reader.old; output = W.contents writer.old })
         (record { input = R.remaining reader.new; output = W.contents writer.new })
         (writer.new ≡ writer.old) desk.old desk.new result }
-    ensures logged { L.is_losing log.new ≡ false → LogEnds S.sight directory.now at
+    ensures logged { L.is_losing log.new ≡ false → LogEnds D.sight directory.now at
         (record { input = R.remaining reader.old; output = W.contents writer.old })
         (record { input = R.remaining reader.new; output = W.contents writer.new })
         desk.old desk.new (L.is_losing log.old) (L.contents log.old) (L.contents log.new) result }
@@ -143,7 +141,7 @@ pub fn serve_one<R: Read, W: Write, S: Shelf + Drop, L: Log>(
     match reply_to(alloc, desk, directory, at, input) {
         None => Ok(()),
         Some(replied) => {
-            log.replied(directory, &replied.answered(at));
+            log.replied(&replied.answered(at));
             match write_reply(writer, &replied.reply) {
                 Ok(()) => Ok(()),
                 Err(_) => Err(EngineFault::Write),

@@ -5,7 +5,7 @@ use Rattle.csv.specs.Machine.{next_record}
 use Rattle.csv.specs.Reading.{default_config, Reached}
 use Rattle.csv.specs.Records.{Row, fields_of}
 use Rattle.csv.specs.declared.parser.State.{State}
-use Rattle.hq_import.specs.Records.{Record, records_from}
+use Rattle.hq_rules.specs.Records.{Record, records_from}
 use Rattle.hq_settings.proofs.Reading.{one_read, none_read}
 
 pub here : (s t : State) (rest more : List ℕ) (row : Row) (n : ℕ) (found : Option Record) →

@@ -6,7 +6,7 @@ use Rattle.csv.specs.Machine.{next_record}
 use Rattle.csv.specs.Reading.{default_config, Reached}
 use Rattle.csv.specs.declared.parser.State.{State}
 use Rattle.csv.specs.declared.parser.State.TheVariants.{StartRecord}
-use Rattle.hq_import.specs.Records.{records_from}
+use Rattle.hq_rules.specs.Records.{records_from}
 
 -- a record that was read, and those behind it
 and_then : Option Read → List (List (List ℕ))

@@ -4,10 +4,10 @@ use Rattle.std.proofs.Common.{Result, Ok, Err, refl, sym, ap, ◌∙◌, length,
 use Rattle.hq_values.specs.Readers.{◌>>=◌, checked, guard, or_refuse, passes}
 use Rattle.hq_values.specs.declared.failure.Refusal.{Refusal}
 use Rattle.hq_values.specs.Words.{name_in, key_in}
-use Rattle.hq_queue.specs.Limits.{is_quota, is_delay, is_history}
+use Rattle.hq_kept.specs.Limits.{is_quota, is_delay, is_history}
 use Rattle.hq_import.specs.Directories.{customer_in, quota_in, history_in}
-use Rattle.hq_import.specs.Fields.{text_field, number_field, refused_as}
-use Rattle.hq_import.specs.Records.{Record}
+use Rattle.hq_rules.specs.Fields.{text_field, number_field, refused_as}
+use Rattle.hq_rules.specs.Records.{Record}
 
 abbrev pub failed : (A : Type 0) → Refusal → Result A Refusal
 failed A e = Err e

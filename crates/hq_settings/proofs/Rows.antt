@@ -6,10 +6,10 @@ use Rattle.std.specs.Result.{is_ok}
 use Rattle.hq_values.specs.Readers.{◌>>=◌, guard, or_refuse, passes}
 use Rattle.hq_values.specs.declared.failure.Refusal.{Refusal}
 use Rattle.hq_values.specs.Words.{name_in, key_in}
-use Rattle.hq_queue.specs.Limits.{is_quota, is_delay, is_history}
+use Rattle.hq_kept.specs.Limits.{is_quota, is_delay, is_history}
 use Rattle.hq_import.specs.Directories.{customer_in, quota_in, limited_entry}
-use Rattle.hq_import.specs.Fields.{text_field, number_field, refused_as}
-use Rattle.hq_import.specs.Records.{Record}
+use Rattle.hq_rules.specs.Fields.{text_field, number_field, refused_as}
+use Rattle.hq_rules.specs.Records.{Record}
 use Rattle.hq_settings.specs.Columns.{first_bad, bad_number, reads_name, reads_key, reads_number}
 use Rattle.hq_settings.specs.Columns.{is_in, place}
 use Rattle.hq_settings.specs.declared.columns.Column.TheVariants as column

@@ -12,11 +12,11 @@ use Rattle.hq_values.specs.Readers.{◌>>=◌, guard, checked}
 use Rattle.hq_values.specs.declared.failure.Refusal.{Refusal}
 use Rattle.hq_values.specs.declared.failure.Refusal.TheVariants.{BadDirectory, DoubledName}
 use Rattle.hq_values.specs.declared.failure.Refusal.TheVariants.{DoubledKey}
-use Rattle.hq_queue.specs.declared.account.Customer.{Customer}
+use Rattle.hq_kept.specs.declared.account.Customer.{Customer}
 use Rattle.hq_import.specs.Directories.{customer_in, next_customer, customers_under, customers_in}
 use Rattle.hq_import.specs.Directories.{listed_customers, is_directory_header}
 use Rattle.hq_import.specs.Directories.{is_name_taken, is_taken}
-use Rattle.hq_import.specs.Records.{Record, records_in, file_records, most_rows}
+use Rattle.hq_rules.specs.Records.{Record, records_in, file_records, most_rows}
 use Rattle.hq_settings.specs.Columns.{first_bad}
 use Rattle.hq_settings.specs.Wrongs.{wrong_in, row_fault, fields_fault, whole_fault, columns_of}
 use Rattle.hq_settings.specs.declared.wrong.Wrong.TheVariants.{Field, Fields, HistoryFields, Rows}

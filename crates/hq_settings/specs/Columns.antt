@@ -4,10 +4,10 @@ use Rattle.std.specs.Prelude.{Option, Some, option_map}
 use Rattle.std.specs.Option.{option_map_or}
 use Rattle.std.specs.Result.{is_ok}
 use Rattle.hq_values.specs.Words.{name_in, key_in}
-use Rattle.hq_queue.specs.Limits.{is_within, is_delay, is_history, most_messages, most_lines}
-use Rattle.hq_queue.specs.Limits.{most_notices}
-use Rattle.hq_import.specs.Fields.{text_field, number_field}
-use Rattle.hq_import.specs.Records.{Record}
+use Rattle.hq_kept.specs.Limits.{is_within, is_delay, is_history, most_messages, most_lines}
+use Rattle.hq_kept.specs.Limits.{most_notices}
+use Rattle.hq_rules.specs.Fields.{text_field, number_field}
+use Rattle.hq_rules.specs.Records.{Record}
 use Rattle.hq_settings.specs.declared.columns.Number.{Number}
 use Rattle.hq_settings.specs.declared.columns.Number.TheVariants.{Messages, Bytes, Lines, Notices}
 use Rattle.hq_settings.specs.declared.columns.Number.TheVariants.{Delay, History}

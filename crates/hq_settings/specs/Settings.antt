@@ -8,8 +8,8 @@ use Rattle.hq_values.specs.declared.failure.Refusal.{Refusal}
 use Rattle.hq_values.specs.declared.failure.Refusal.TheVariants.{BadRelayKey}
 use Rattle.hq_values.specs.Words.{host_in, is_key}
 use Rattle.hq_import.specs.Directories.{customers_in}
-use Rattle.hq_queue.specs.Customers.{has_key}
-use Rattle.hq_queue.specs.declared.account.Customer.{Customer}
+use Rattle.hq_kept.specs.Customers.{has_key}
+use Rattle.hq_kept.specs.declared.account.Customer.{Customer}
 
 -- a relay: its name and its key
 pub record Named : Type 0 where
@@ -39,9 +39,3 @@ settings_of relay file = do
   customers ← customers_in file
   own ← guard (not (list_any (has_key relay.key) customers)) BadRelayKey
   Ok (record { relay = relay; customers = customers })
-
--- all of it, in the order in which it is checked
-abbrev pub settings_in : List ℕ → List ℕ → List ℕ → Result Set Refusal
-settings_in host_text key_text file = do
-  relay ← relay_in host_text key_text
-  settings_of relay file

@@ -5,7 +5,7 @@ use Rattle.hq_values.specs.Refusals.{no_memory}
 use Rattle.hq_values.specs.declared.failure.Fail.TheVariants.{Fault as AsFault}
 use Rattle.hq_values.specs.declared.failure.Refusal.{Refusal}
 use Rattle.hq_import.specs.Directories.{customers_in}
-use Rattle.hq_queue.specs.declared.account.Customer.{Customer}
+use Rattle.hq_kept.specs.declared.account.Customer.{Customer}
 use Rattle.hq_settings.specs.declared.trouble.Trouble.{Trouble}
 use Rattle.hq_settings.specs.declared.trouble.Trouble.TheVariants.{File, Desk}
 

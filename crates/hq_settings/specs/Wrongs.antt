@@ -7,7 +7,7 @@ use Rattle.hq_values.specs.Limits.{most_bytes}
 use Rattle.hq_values.specs.declared.failure.Refusal.{Refusal}
 use Rattle.hq_values.specs.declared.failure.Refusal.TheVariants.{BadDirectory, DoubledName}
 use Rattle.hq_values.specs.declared.failure.Refusal.TheVariants.{DoubledKey}
-use Rattle.hq_import.specs.Records.{Record, records_in, most_rows}
+use Rattle.hq_rules.specs.Records.{Record, records_in, most_rows}
 use Rattle.hq_settings.specs.Columns.{first_bad}
 use Rattle.hq_settings.specs.declared.columns.Column.TheVariants.{Name, Key, Number}
 use Rattle.hq_settings.specs.declared.columns.Number.TheVariants.{Messages, Bytes, Lines, Notices}

@@ -5,7 +5,7 @@ ghost use Rattle.std.specs.Result.{is_ok};
 ghost use Rattle.csv.specs.Records.{fields_of};
 ghost use Rattle.hq_values.specs.Readers.{Reads};
 ghost use Rattle.hq_values.specs.declared.failure.Refusal.{Refusal as AnyRefusal};
-ghost use Rattle.hq_import.specs.Fields.{utf8_in, text_field};
+ghost use Rattle.hq_rules.specs.Fields.{utf8_in, text_field};
 ghost use Rattle.hq_settings.specs.Columns.{place, is_there, is_in, reads_number, bad_number};
 ghost use Rattle.hq_settings.specs.Columns.{reads_name};
 ghost use Rattle.hq_settings.specs.Columns.{reads_key, first_bad};

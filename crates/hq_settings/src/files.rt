@@ -6,7 +6,7 @@ ghost use Rattle.hq_settings.specs.Steps.{HasCustomers, IsUnread};
 
 use crate::Trouble;
 use hq_import::directory_of;
-use hq_queue::Customer;
+use hq_kept::Customer;
 use hq_values::{Fail, Fault};
 use std::fs::File;
 use std::io::{self, ErrorKind, Read};

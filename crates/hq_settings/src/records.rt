@@ -2,7 +2,7 @@
 
 ghost use Rattle.std.specs.Prelude.{◌≡◌, IfOk, option_map, slice_get};
 ghost use Rattle.csv.specs.Records.{fields_of};
-ghost use Rattle.hq_import.specs.Records.{records_in};
+ghost use Rattle.hq_rules.specs.Records.{records_in};
 
 use csv::{ByteRecord, ReaderBuilder};
 use std::alloc::{AllocError, Global};

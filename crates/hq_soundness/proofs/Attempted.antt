@@ -6,26 +6,26 @@ use Rattle.std.specs.Prelude.{if◌then◌else◌, ◌==◌, nat_le, nat_lt}
 use Rattle.std.specs.List.{list_any}
 use Rattle.std.specs.FinMap.{get}
 use Rattle.hq_values.specs.declared.failure.Refusal.TheVariants as refusal
-use Rattle.hq_queue.specs.Attempts.{tried, after_attempt, done, left, failed, delivered, deferred}
-use Rattle.hq_queue.specs.Attempts.{ended}
-use Rattle.hq_queue.specs.Attempts.{is_doubled, is_unknown}
-use Rattle.hq_queue.specs.Moves.{is_on_hold}
-use Rattle.hq_queue.specs.declared.account.Entry.{Entry}
-use Rattle.hq_queue.specs.declared.message.Message.{Message}
-use Rattle.hq_queue.specs.declared.message.Pending.{Pending}
-use Rattle.hq_queue.specs.declared.message.QueueState.{QueueState}
-use Rattle.hq_queue.specs.declared.message.QueueState.TheVariants.{Incoming, Deferred, Hold}
-use Rattle.hq_queue.specs.declared.outcome.Outcome.{Outcome}
-use Rattle.hq_queue.specs.declared.outcome.Reported.TheVariants as reported
-use Rattle.hq_store.specs.declared.change.Change.TheVariants.{DropMessage}
-use Rattle.hq_store.specs.Readings.{saturated}
-use Rattle.hq_store.specs.Sound.{SoundState, ShapedState, IsReasoned, AreApart}
-use Rattle.hq_store.specs.Tables.{State, change, change_all}
-use Rattle.hq_states.proofs.Many.{Done, does_drop}
-use Rattle.hq_calls.specs.Outcomes.{put_or_dropped, attempted, outcome_with, outcome}
-use Rattle.hq_calls.specs.declared.call.AttemptReport.{AttemptReport}
+use Rattle.hq_rules.specs.Attempts.{tried, after_attempt, done, left, failed, delivered, deferred}
+use Rattle.hq_rules.specs.Attempts.{ended}
+use Rattle.hq_rules.specs.Attempts.{is_doubled, is_unknown}
+use Rattle.hq_kept.specs.Messages.{is_on_hold}
+use Rattle.hq_kept.specs.declared.account.Entry.{Entry}
+use Rattle.hq_kept.specs.declared.message.Message.{Message}
+use Rattle.hq_kept.specs.declared.message.Pending.{Pending}
+use Rattle.hq_kept.specs.declared.message.QueueState.{QueueState}
+use Rattle.hq_kept.specs.declared.message.QueueState.TheVariants.{Incoming, Deferred, Hold}
+use Rattle.hq_kept.specs.declared.outcome.Outcome.{Outcome}
+use Rattle.hq_kept.specs.declared.outcome.Reported.TheVariants as reported
+use Rattle.hq_tables.specs.declared.change.Change.TheVariants.{DropMessage}
+use Rattle.hq_tables.specs.Readings.{saturated}
+use Rattle.hq_tables.specs.Sound.{SoundState, ShapedState, IsReasoned, AreApart}
+use Rattle.hq_tables.specs.Tables.{State, change, change_all}
+use Rattle.hq_isolation.proofs.Many.{Done, does_drop}
+use Rattle.hq_rules.specs.Outcomes.{put_or_dropped, attempted, outcome_with, outcome}
+use Rattle.hq_rules.specs.declared.call.AttemptReport.{AttemptReport}
 use Rattle.hq_soundness.proofs.Kept.{Keeps, saturated_is}
-use Rattle.hq_states.proofs.Recipients.{none_lost, left_apart}
+use Rattle.hq_isolation.proofs.Recipients.{none_lost, left_apart}
 use Rattle.hq_soundness.proofs.Settled.{taken_fits, put_fewer, carried_out_kept}
 
 -- a message that is put with those who are left, or dropped where nobody is

@@ -11,28 +11,28 @@ use Rattle.std.proofs.lemmas.Bool.Decides.{nat_tests}
 use Rattle.std.proofs.lemmas.List.Sums.{sum_by-cons}
 use Rattle.std.specs.Str.{bytes_eq}
 use Rattle.sha2.specs.Sha256.{sha256}
-use Rattle.hq_import.specs.Tables.{table_lines}
+use Rattle.hq_rules.specs.TableFiles.{table_lines}
 use Rattle.hq_values.specs.declared.failure.Refusal.{Refusal}
 use Rattle.hq_values.specs.declared.failure.Refusal.TheVariants.{QuotaLines, LabelUsed}
-use Rattle.hq_access.specs.declared.action.Action.{Action}
-use Rattle.hq_access.specs.declared.pattern.Class.{Class}
-use Rattle.hq_access.specs.declared.pattern.Line.{Line}
-use Rattle.hq_queue.specs.declared.account.Entry.{Entry}
-use Rattle.hq_store.specs.declared.change.Change.TheVariants.{PutLine, PutMark}
-use Rattle.hq_store.specs.declared.mark.Mark.{Mark}
-use Rattle.hq_store.specs.Readings.{read_state}
-use Rattle.hq_store.specs.Sound.{SoundState}
-use Rattle.hq_store.specs.Tables.{State, line_cmp, change, change_all}
-use Rattle.hq_store.proofs.Orders.{line_total}
-use Rattle.hq_states.proofs.Many.{change_all-append}
-use Rattle.hq_states.proofs.States.{change_shaped}
-use Rattle.hq_calls.specs.Answering.{tell, refuse}
-use Rattle.hq_calls.specs.AccessLines.{same_action}
-use Rattle.hq_calls.specs.Imports.{beside, line_met, is_put, rows_that, counts_of, mark_of, set_by}
-use Rattle.hq_calls.specs.Imports.{changes_of, first_import, import}
-use Rattle.hq_calls.specs.declared.answer.Answer.TheVariants as answer
-use Rattle.hq_calls.specs.declared.answer.LinePut.{LinePut}
-use Rattle.hq_calls.specs.declared.answer.LinePut.TheVariants.{Added, Changed, Same}
+use Rattle.hq_kept.specs.declared.action.Action.{Action}
+use Rattle.hq_kept.specs.declared.pattern.Class.{Class}
+use Rattle.hq_kept.specs.declared.pattern.Line.{Line}
+use Rattle.hq_kept.specs.declared.account.Entry.{Entry}
+use Rattle.hq_tables.specs.declared.change.Change.TheVariants.{PutLine, PutMark}
+use Rattle.hq_kept.specs.declared.mark.Mark.{Mark}
+use Rattle.hq_tables.specs.Readings.{read_state}
+use Rattle.hq_tables.specs.Sound.{SoundState}
+use Rattle.hq_tables.specs.Tables.{State, line_cmp, change, change_all}
+use Rattle.hq_tables.proofs.Orders.{line_total}
+use Rattle.hq_isolation.proofs.Many.{change_all-append}
+use Rattle.hq_isolation.proofs.States.{change_shaped}
+use Rattle.hq_rules.specs.Answering.{tell, refuse}
+use Rattle.hq_rules.specs.AccessLines.{same_action}
+use Rattle.hq_rules.specs.Imports.{beside, line_met, is_put, rows_that, counts_of, mark_of, set_by}
+use Rattle.hq_rules.specs.Imports.{changes_of, first_import, import}
+use Rattle.hq_rules.specs.declared.answer.Answer.TheVariants as answer
+use Rattle.hq_rules.specs.declared.answer.LinePut.{LinePut}
+use Rattle.hq_rules.specs.declared.answer.LinePut.TheVariants.{Added, Changed, Same}
 use Rattle.hq_soundness.proofs.Kept.{Keeps, quota_of, set_kept}
 
 abbrev Actions : Type 0

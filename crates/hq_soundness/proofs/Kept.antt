@@ -3,15 +3,15 @@ use Rattle.std.proofs.Common.{◌≡◌, ℕ, ◌^◌, ◌<◌, ◌≤◌, false
 use Rattle.std.specs.Prelude.{IsTrue, nat_le}
 use Rattle.std.specs.FinMap.{get, len}
 use Rattle.std.proofs.lemmas.Bool.Decides.{nat_tests}
-use Rattle.hq_queue.specs.Limits.{is_quota}
-use Rattle.hq_queue.specs.declared.account.Entry.{Entry}
-use Rattle.hq_store.specs.Readings.{saturated}
-use Rattle.hq_store.specs.Sound.{SoundState}
-use Rattle.hq_store.specs.Tables.{State, change, change_all}
-use Rattle.hq_access.specs.declared.pattern.Line.{Line}
-use Rattle.hq_store.specs.declared.change.Change.TheVariants.{PutLine}
-use Rattle.hq_states.proofs.States.{change_shaped}
-use Rattle.hq_calls.specs.declared.decision.Decision.{Decision}
+use Rattle.hq_kept.specs.Limits.{is_quota}
+use Rattle.hq_kept.specs.declared.account.Entry.{Entry}
+use Rattle.hq_tables.specs.Readings.{saturated}
+use Rattle.hq_tables.specs.Sound.{SoundState}
+use Rattle.hq_tables.specs.Tables.{State, change, change_all}
+use Rattle.hq_kept.specs.declared.pattern.Line.{Line}
+use Rattle.hq_tables.specs.declared.change.Change.TheVariants.{PutLine}
+use Rattle.hq_isolation.proofs.States.{change_shaped}
+use Rattle.hq_rules.specs.declared.decision.Decision.{Decision}
 
 -- what a decision leaves of a state is sound
 abbrev pub Keeps : State → Decision → Type 0

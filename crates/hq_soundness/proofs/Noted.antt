@@ -8,19 +8,19 @@ use Rattle.std.specs.Cmp.{nat_cmp_total}
 use Rattle.std.specs.FinMap.{get, insert, get-insert}
 use Rattle.std.proofs.lemmas.Map.Lookups.{exact_unsigned}
 use Rattle.std.proofs.lemmas.Map.Views.{tells_apart}
-use Rattle.hq_queue.specs.declared.account.Entry.{Entry}
-use Rattle.hq_queue.specs.declared.account.Head.{Head}
-use Rattle.hq_store.specs.declared.change.Change.{Change}
-use Rattle.hq_store.specs.declared.change.Change.TheVariants.{PutHead, AddNotice, DropNoticesBelow}
-use Rattle.hq_store.specs.declared.notice.Notice.{Notice}
-use Rattle.hq_store.specs.Sound.{SoundState}
-use Rattle.hq_store.specs.Tables.{State, Noted, noted_of, change, change_all}
-use Rattle.hq_states.proofs.Many.{change_all-append}
-use Rattle.hq_states.proofs.States.{change_shaped}
-use Rattle.hq_calls.specs.Histories.{kept_history}
-use Rattle.hq_calls.specs.Notices.{noticed, added_from, kept_below, with_notices, planned}
-use Rattle.hq_calls.specs.declared.plan.Draft.{Draft}
-use Rattle.hq_calls.specs.declared.plan.Plan.{Plan}
+use Rattle.hq_kept.specs.declared.account.Entry.{Entry}
+use Rattle.hq_kept.specs.declared.account.Head.{Head}
+use Rattle.hq_tables.specs.declared.change.Change.{Change}
+use Rattle.hq_tables.specs.declared.change.Change.TheVariants.{PutHead, AddNotice, DropNoticesBelow}
+use Rattle.hq_kept.specs.declared.notice.Notice.{Notice}
+use Rattle.hq_tables.specs.Sound.{SoundState}
+use Rattle.hq_tables.specs.Tables.{State, Noted, noted_of, change, change_all}
+use Rattle.hq_isolation.proofs.Many.{change_all-append}
+use Rattle.hq_isolation.proofs.States.{change_shaped}
+use Rattle.hq_rules.specs.Histories.{kept_history}
+use Rattle.hq_rules.specs.Notices.{noticed, added_from, kept_below, with_notices, planned}
+use Rattle.hq_rules.specs.declared.plan.Draft.{Draft}
+use Rattle.hq_rules.specs.declared.plan.Plan.{Plan}
 use Rattle.hq_soundness.proofs.Remembered.{history_sound}
 
 -- no notice has this number or a later one

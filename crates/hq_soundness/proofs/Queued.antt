@@ -17,31 +17,31 @@ use Rattle.hq_values.specs.declared.failure.Refusal.{Refusal}
 use Rattle.hq_values.specs.declared.failure.Refusal.TheVariants as refusal
 use Rattle.hq_values.specs.declared.address.Sender.{Sender}
 use Rattle.hq_values.specs.declared.address.Sender.TheVariants.{From}
-use Rattle.hq_access.specs.Verdicts as access
-use Rattle.hq_access.specs.declared.action.Action.{Action}
-use Rattle.hq_access.specs.declared.pattern.Class.TheVariants.{SenderSide, RecipientSide}
-use Rattle.hq_access.specs.declared.verdicts.Refused.{Refused}
-use Rattle.hq_access.specs.declared.verdicts.Verdict.{Verdict}
-use Rattle.hq_access.specs.declared.verdicts.Verdict.TheVariants as verdict
-use Rattle.hq_queue.specs.Admission.{admitted}
-use Rattle.hq_queue.specs.Limits.{is_within}
-use Rattle.hq_queue.specs.Moves.{is_on_hold}
-use Rattle.hq_queue.specs.declared.account.Entry.{Entry}
-use Rattle.hq_queue.specs.declared.message.Message.{Message}
-use Rattle.hq_queue.specs.declared.message.Pending.{Pending}
-use Rattle.hq_store.specs.declared.change.Change.TheVariants.{PutHead, PutMessage}
-use Rattle.hq_states.specs.Fits.{HeadFits, MessageFits}
-use Rattle.hq_store.specs.Readings.{Readings, read_state, saturated, with_spool}
-use Rattle.hq_store.specs.Sound.{SoundState, ShapedState, same_address}
-use Rattle.hq_store.specs.Tables.{State, text_cmp, change}
+use Rattle.hq_rules.specs.Verdicts as access
+use Rattle.hq_kept.specs.declared.action.Action.{Action}
+use Rattle.hq_kept.specs.declared.pattern.Class.TheVariants.{SenderSide, RecipientSide}
+use Rattle.hq_rules.specs.declared.verdict.Refused.{Refused}
+use Rattle.hq_rules.specs.declared.verdict.Verdict.{Verdict}
+use Rattle.hq_rules.specs.declared.verdict.Verdict.TheVariants as verdict
+use Rattle.hq_rules.specs.Admission.{admitted}
+use Rattle.hq_kept.specs.Limits.{is_within}
+use Rattle.hq_kept.specs.Messages.{is_on_hold}
+use Rattle.hq_kept.specs.declared.account.Entry.{Entry}
+use Rattle.hq_kept.specs.declared.message.Message.{Message}
+use Rattle.hq_kept.specs.declared.message.Pending.{Pending}
+use Rattle.hq_tables.specs.declared.change.Change.TheVariants.{PutHead, PutMessage}
+use Rattle.hq_isolation.specs.Fits.{HeadFits, MessageFits}
+use Rattle.hq_tables.specs.Readings.{Readings, read_state, saturated, with_spool}
+use Rattle.hq_tables.specs.Sound.{SoundState, ShapedState, same_address}
+use Rattle.hq_tables.specs.Tables.{State, text_cmp, change}
 use Rattle.hq_owned.proofs.Cases.{none_some, same_some}
-use Rattle.hq_states.proofs.States.{change_shaped}
+use Rattle.hq_isolation.proofs.States.{change_shaped}
 use Rattle.hq_owned.proofs.Parts.{tied_true}
 use Rattle.hq_owned.proofs.Totals.{total-insert}
 use Rattle.hq_owned.specs.Owned.{given}
-use Rattle.hq_calls.specs.AccessLines.{action_for}
-use Rattle.hq_calls.specs.Submissions as rules
-use Rattle.hq_calls.specs.declared.call.Submission.{Submission}
+use Rattle.hq_rules.specs.AccessLines.{action_for}
+use Rattle.hq_rules.specs.Submissions as rules
+use Rattle.hq_rules.specs.declared.call.Submission.{Submission}
 use Rattle.hq_soundness.proofs.Kept.{Keeps, saturated_is, quota_of, below_quota}
 
 -- ---- addresses that a message may have

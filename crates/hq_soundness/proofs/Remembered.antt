@@ -1,17 +1,17 @@
 -- What is kept of recipients that left the queue keeps a customer's state sound: no number is above
 -- that of the last who is gone.
 use Rattle.std.proofs.Common.{◌≡◌, ℕ, ◌-◌, ◌≤◌, List, [], ◌∷◌, sym, subst, arith}
-use Rattle.hq_queue.specs.Ends.{all_gone, last_gone}
-use Rattle.hq_queue.specs.declared.account.Entry.{Entry}
-use Rattle.hq_queue.specs.declared.account.Head.{Head}
-use Rattle.hq_queue.specs.declared.account.Tally.{Tally}
-use Rattle.hq_queue.specs.declared.outcome.Ended.{Ended}
-use Rattle.hq_store.specs.declared.change.Change.TheVariants.{PutEnds, DropEndsTo}
-use Rattle.hq_store.specs.declared.end.Ends.{Ends}
-use Rattle.hq_store.specs.Sound.{SoundState}
-use Rattle.hq_store.specs.Tables.{State, change, change_all}
-use Rattle.hq_states.proofs.States.{change_shaped}
-use Rattle.hq_calls.specs.Histories.{last_of, put_to, remembered, kept_history}
+use Rattle.hq_kept.specs.Tallies.{all_gone, last_gone}
+use Rattle.hq_kept.specs.declared.account.Entry.{Entry}
+use Rattle.hq_kept.specs.declared.account.Head.{Head}
+use Rattle.hq_kept.specs.declared.account.Tally.{Tally}
+use Rattle.hq_kept.specs.declared.outcome.Ended.{Ended}
+use Rattle.hq_tables.specs.declared.change.Change.TheVariants.{PutEnds, DropEndsTo}
+use Rattle.hq_kept.specs.declared.end.Ends.{Ends}
+use Rattle.hq_tables.specs.Sound.{SoundState}
+use Rattle.hq_tables.specs.Tables.{State, change, change_all}
+use Rattle.hq_isolation.proofs.States.{change_shaped}
+use Rattle.hq_rules.specs.Histories.{last_of, put_to, remembered, kept_history}
 
 -- ends up to the number of one who is gone
 put_sound : (s : State) (ends : Ends) → SoundState s → ends.last ≤ all_gone s.head.tally →

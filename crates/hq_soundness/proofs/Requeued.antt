@@ -11,23 +11,23 @@ use Rattle.std.proofs.lemmas.List.{length-map}
 use Rattle.std.proofs.lemmas.Bool.Decides.{nat_tests}
 use Rattle.hq_values.specs.declared.failure.Refusal.TheVariants.{SerialsSpent}
 use Rattle.hq_values.specs.Addresses.{same_address}
-use Rattle.hq_queue.specs.Admission.{spent}
-use Rattle.hq_queue.specs.Moves.{requeued, cleared}
-use Rattle.hq_queue.specs.declared.message.Message.{Message}
-use Rattle.hq_queue.specs.declared.message.Pending.{Pending}
-use Rattle.hq_store.specs.declared.change.Change.TheVariants.{PutHead, PutMessage, DropMessage}
-use Rattle.hq_states.specs.Fits.{HeadFits, MessageFits}
-use Rattle.hq_store.specs.Sound.{SoundState, ShapedState, AreApart}
-use Rattle.hq_store.specs.Tables.{State, change, change_all}
-use Rattle.hq_states.proofs.Conserved.{pending, pending_put, pending_drop}
+use Rattle.hq_rules.specs.Admission.{spent}
+use Rattle.hq_rules.specs.Moves.{requeued, cleared}
+use Rattle.hq_kept.specs.declared.message.Message.{Message}
+use Rattle.hq_kept.specs.declared.message.Pending.{Pending}
+use Rattle.hq_tables.specs.declared.change.Change.TheVariants.{PutHead, PutMessage, DropMessage}
+use Rattle.hq_isolation.specs.Fits.{HeadFits, MessageFits}
+use Rattle.hq_tables.specs.Sound.{SoundState, ShapedState, AreApart}
+use Rattle.hq_tables.specs.Tables.{State, change, change_all}
+use Rattle.hq_isolation.proofs.Conserved.{pending, pending_put, pending_drop}
 use Rattle.hq_soundness.proofs.Shapes.{changes_shaped}
 use Rattle.hq_owned.proofs.Cases.{none_some}
-use Rattle.hq_states.proofs.States.{left}
+use Rattle.hq_isolation.proofs.States.{left}
 use Rattle.hq_owned.proofs.Parts.{tied_true}
 use Rattle.hq_owned.specs.Owned.{given}
-use Rattle.hq_calls.specs.Answering.{refuse}
-use Rattle.hq_calls.specs.Messages as rules
-use Rattle.hq_calls.specs.declared.answer.Answer.TheVariants as answer
+use Rattle.hq_rules.specs.Answering.{refuse}
+use Rattle.hq_rules.specs.Messages as rules
+use Rattle.hq_rules.specs.declared.answer.Answer.TheVariants as answer
 use Rattle.hq_soundness.proofs.Kept.{Keeps}
 
 same_addresses : (ps : List Pending) → map (λ (p : Pending). p.address) (map cleared ps) ≡ map

@@ -6,22 +6,22 @@ use Rattle.std.specs.Prelude.{if◌then◌else◌, nat_lt}
 use Rattle.std.specs.FinMap.{get}
 use Rattle.std.proofs.lemmas.Bool.Decides.{nat_tests}
 use Rattle.hq_values.specs.declared.failure.Refusal.TheVariants.{NoticesSpent}
-use Rattle.hq_queue.specs.Admission.{spent}
-use Rattle.hq_queue.specs.Ends.{all_gone}
-use Rattle.hq_queue.specs.declared.account.Entry.{Entry}
-use Rattle.hq_queue.specs.declared.account.Head.{Head}
-use Rattle.hq_queue.specs.declared.message.Message.{Message}
-use Rattle.hq_store.specs.declared.change.Change.TheVariants.{PutHead, PutMessage}
-use Rattle.hq_store.specs.Sound.{ShapedState, SoundState, IsReasoned, AreApart, IsNext}
-use Rattle.hq_store.specs.Tables.{State, change, change_all}
-use Rattle.hq_states.proofs.Conserved.{pending, pending_put}
-use Rattle.hq_states.proofs.Many.{Done}
+use Rattle.hq_rules.specs.Admission.{spent}
+use Rattle.hq_kept.specs.Tallies.{all_gone}
+use Rattle.hq_kept.specs.declared.account.Entry.{Entry}
+use Rattle.hq_kept.specs.declared.account.Head.{Head}
+use Rattle.hq_kept.specs.declared.message.Message.{Message}
+use Rattle.hq_tables.specs.declared.change.Change.TheVariants.{PutHead, PutMessage}
+use Rattle.hq_tables.specs.Sound.{ShapedState, SoundState, IsReasoned, AreApart, IsNext}
+use Rattle.hq_tables.specs.Tables.{State, change, change_all}
+use Rattle.hq_isolation.proofs.Conserved.{pending, pending_put}
+use Rattle.hq_isolation.proofs.Many.{Done}
 use Rattle.hq_owned.proofs.Cases.{none_some}
-use Rattle.hq_states.proofs.States.{change_shaped}
+use Rattle.hq_isolation.proofs.States.{change_shaped}
 use Rattle.hq_owned.specs.Owned.{given}
-use Rattle.hq_calls.specs.Answering.{refuse}
-use Rattle.hq_calls.specs.Notices.{with_notices, planned, carried_out}
-use Rattle.hq_calls.specs.declared.plan.Plan.{Plan}
+use Rattle.hq_rules.specs.Answering.{refuse}
+use Rattle.hq_rules.specs.Notices.{with_notices, planned, carried_out}
+use Rattle.hq_rules.specs.declared.plan.Plan.{Plan}
 use Rattle.hq_soundness.proofs.Kept.{Keeps}
 use Rattle.hq_soundness.proofs.Noted.{planned_sound}
 

@@ -8,25 +8,25 @@ use Rattle.std.specs.Cmp.{nat_cmp_total}
 use Rattle.std.specs.Cmp.Lexicographic.{nat_list_cmp_total}
 use Rattle.std.proofs.lemmas.Map.Lookups.{exact_unsigned, exact_bytes}
 use Rattle.std.specs.FinMap.{get, insert, remove, get-insert, get-remove}
-use Rattle.hq_queue.specs.declared.message.Message.{Message}
-use Rattle.hq_queue.specs.declared.message.Pending.{Pending}
-use Rattle.hq_store.specs.declared.change.Change.{Change}
-use Rattle.hq_store.specs.declared.change.Change.TheVariants.{PutMessage, DropMessage}
+use Rattle.hq_kept.specs.declared.message.Message.{Message}
+use Rattle.hq_kept.specs.declared.message.Pending.{Pending}
+use Rattle.hq_tables.specs.declared.change.Change.{Change}
+use Rattle.hq_tables.specs.declared.change.Change.TheVariants.{PutMessage, DropMessage}
 use Rattle.hq_owned.specs.Owned.{part_of}
 use Rattle.hq_owned.proofs.Parts.{get_part, part_insert, part_insert_other, part_remove}
 use Rattle.hq_owned.proofs.Parts.{part_remove_other, tied_true, tied_false}
-use Rattle.hq_store.specs.Tables.{State, Tables, Row, text_cmp, own, change, change_all, write}
-use Rattle.hq_store.specs.Tables.{write_all, row_of, pending_of, deal}
-use Rattle.hq_store.specs.Sound.{ShapedState, SoundState, ShapedRecipients, Shaped, Sound}
-use Rattle.hq_states.specs.Fits.{AllFit}
-use Rattle.hq_store.proofs.Dealt.{Recipients, IsPlaced, placed_same, placed_other_message}
-use Rattle.hq_store.proofs.Dealt.{placed_other_owner, pending_same, pending_other_message}
-use Rattle.hq_store.proofs.Dealt.{pending_other_owner}
-use Rattle.hq_calls.proofs.Own.{own_write_all, other_write_all}
-use Rattle.hq_store.proofs.Customers.{cases_name}
-use Rattle.hq_store.proofs.Counted.{counts_stay}
-use Rattle.hq_calls.proofs.Reasons.{holds_write_all}
-use Rattle.hq_states.proofs.States.{change_shaped}
+use Rattle.hq_tables.specs.Tables.{State, Tables, Row, text_cmp, own, change, change_all, write}
+use Rattle.hq_tables.specs.Tables.{write_all, row_of, pending_of, deal}
+use Rattle.hq_tables.specs.Sound.{ShapedState, SoundState, ShapedRecipients, Shaped, Sound}
+use Rattle.hq_isolation.specs.Fits.{AllFit}
+use Rattle.hq_isolation.proofs.Dealt.{Recipients, IsPlaced, placed_same, placed_other_message}
+use Rattle.hq_isolation.proofs.Dealt.{placed_other_owner, pending_same, pending_other_message}
+use Rattle.hq_isolation.proofs.Dealt.{pending_other_owner}
+use Rattle.hq_isolation.proofs.Own.{own_write_all, other_write_all}
+use Rattle.hq_tables.proofs.Customers.{cases_name}
+use Rattle.hq_isolation.proofs.Counted.{counts_stay}
+use Rattle.hq_isolation.proofs.Reasons.{holds_write_all}
+use Rattle.hq_isolation.proofs.States.{change_shaped}
 
 placed_deal : (c : List ℕ) (k : ℕ) (ps : List Pending) (rs : Recipients) →
     ((d : List ℕ) (serial : ℕ) → IsPlaced d serial rs) → (d : List ℕ) (serial : ℕ) →

@@ -6,45 +6,45 @@ use Rattle.std.specs.Cmp.{nat_cmp_total}
 use Rattle.std.specs.FinMap.{get, entries, len-entries}
 use Rattle.std.proofs.lemmas.Map.Lookups.{exact_unsigned}
 use Rattle.hq_values.specs.declared.failure.Refusal.TheVariants.{QuotaLines}
-use Rattle.hq_access.specs.declared.action.Action.{Action}
-use Rattle.hq_access.specs.declared.pattern.Class.{Class}
-use Rattle.hq_access.specs.declared.pattern.Line.{Line}
-use Rattle.hq_queue.specs.Moves.{is_on_hold}
-use Rattle.hq_queue.specs.Ends.{all_ended}
-use Rattle.hq_queue.specs.declared.account.Entry.{Entry}
-use Rattle.hq_queue.specs.declared.outcome.Fate.TheVariants as fate
+use Rattle.hq_kept.specs.declared.action.Action.{Action}
+use Rattle.hq_kept.specs.declared.pattern.Class.{Class}
+use Rattle.hq_kept.specs.declared.pattern.Line.{Line}
+use Rattle.hq_kept.specs.Messages.{is_on_hold}
+use Rattle.hq_rules.specs.Leaving.{all_ended}
+use Rattle.hq_kept.specs.declared.account.Entry.{Entry}
+use Rattle.hq_kept.specs.declared.outcome.Fate.TheVariants as fate
 use Rattle.hq_values.specs.Words.{customer_hold}
-use Rattle.hq_queue.specs.declared.message.Message.{Message}
-use Rattle.hq_queue.specs.declared.message.Pending.{Pending}
-use Rattle.hq_queue.specs.declared.message.QueueState.TheVariants.{Hold, Deferred}
-use Rattle.hq_store.specs.declared.change.Change.TheVariants.{PutHead, PutMessage, DropMessage}
-use Rattle.hq_store.specs.declared.change.Change.TheVariants.{DropLine}
-use Rattle.hq_store.specs.declared.notice.Notice.{Notice}
-use Rattle.hq_states.specs.Fits.{HeadFits, MessageFits}
-use Rattle.hq_store.specs.Readings.{Readings, read_state, read_tables, saturated}
-use Rattle.hq_store.specs.Sound.{Sound, SoundState, IsReasoned, AreApart}
-use Rattle.hq_store.specs.Tables.{State, Tables, own, change, change_all}
-use Rattle.hq_store.proofs.Read.{same_readings}
+use Rattle.hq_kept.specs.declared.message.Message.{Message}
+use Rattle.hq_kept.specs.declared.message.Pending.{Pending}
+use Rattle.hq_kept.specs.declared.message.QueueState.TheVariants.{Hold, Deferred}
+use Rattle.hq_tables.specs.declared.change.Change.TheVariants.{PutHead, PutMessage, DropMessage}
+use Rattle.hq_tables.specs.declared.change.Change.TheVariants.{DropLine}
+use Rattle.hq_kept.specs.declared.notice.Notice.{Notice}
+use Rattle.hq_isolation.specs.Fits.{HeadFits, MessageFits}
+use Rattle.hq_tables.specs.Readings.{Readings, read_state, read_tables, saturated}
+use Rattle.hq_tables.specs.Sound.{Sound, SoundState, IsReasoned, AreApart}
+use Rattle.hq_tables.specs.Tables.{State, Tables, own, change, change_all}
+use Rattle.hq_isolation.proofs.Read.{same_readings}
 use Rattle.hq_soundness.proofs.Remembered.{history_sound}
 use Rattle.hq_soundness.proofs.Shapes.{stays_sound}
 use Rattle.hq_owned.proofs.Cases.{none_some}
-use Rattle.hq_states.proofs.States.{change_shaped, left}
+use Rattle.hq_isolation.proofs.States.{change_shaped, left}
 use Rattle.hq_owned.proofs.Totals.{total-insert, total-remove}
 use Rattle.hq_owned.specs.Owned.{given}
-use Rattle.hq_calls.specs.AccessLines as lines
-use Rattle.hq_calls.specs.Answering.{tell, refuse}
-use Rattle.hq_calls.specs.Decision.{decide}
-use Rattle.hq_calls.specs.Machine.{step, shared}
-use Rattle.hq_calls.specs.Messages as rules
-use Rattle.hq_calls.specs.Notices.{show_notice}
-use Rattle.hq_calls.specs.Outcomes.{outcome}
-use Rattle.hq_calls.specs.declared.answer.Answer.TheVariants as answer
-use Rattle.hq_calls.specs.declared.answer.LinePut.TheVariants.{Added, Changed, Same}
-use Rattle.hq_calls.specs.Selections.{is_selected}
-use Rattle.hq_calls.specs.declared.call.Call.{Call}
-use Rattle.hq_calls.specs.declared.call.Call.TheVariants as call
-use Rattle.hq_calls.specs.declared.decision.Decision.{Decision}
-use Rattle.hq_calls.specs.declared.call.Move.TheVariants as move
+use Rattle.hq_rules.specs.AccessLines as lines
+use Rattle.hq_rules.specs.Answering.{tell, refuse}
+use Rattle.hq_rules.specs.Decision.{decide}
+use Rattle.hq_rules.specs.Machine.{step, shared}
+use Rattle.hq_rules.specs.Messages as rules
+use Rattle.hq_rules.specs.Notices.{show_notice}
+use Rattle.hq_rules.specs.Outcomes.{outcome}
+use Rattle.hq_rules.specs.declared.answer.Answer.TheVariants as answer
+use Rattle.hq_rules.specs.declared.answer.LinePut.TheVariants.{Added, Changed, Same}
+use Rattle.hq_rules.specs.Selections.{is_selected}
+use Rattle.hq_rules.specs.declared.call.Call.{Call}
+use Rattle.hq_rules.specs.declared.call.Call.TheVariants as call
+use Rattle.hq_rules.specs.declared.decision.Decision.{Decision}
+use Rattle.hq_rules.specs.declared.call.Move.TheVariants as move
 use Rattle.hq_soundness.proofs.Attempted.{outcome_kept}
 use Rattle.hq_soundness.proofs.Imported.{import_kept}
 use Rattle.hq_soundness.proofs.Kept.{Keeps, saturated_is, quota_of, below_quota, set_kept}

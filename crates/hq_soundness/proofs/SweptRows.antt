@@ -7,21 +7,21 @@ use Rattle.std.specs.List.{sum_by, flat_map}
 use Rattle.std.specs.FinMap.{get, values}
 use Rattle.std.proofs.lemmas.List.Folds.{flat_map-map}
 use Rattle.std.proofs.lemmas.List.Sums.{sum_by-cons}
-use Rattle.hq_queue.specs.Sweeps.{swept, after_sweep}
-use Rattle.hq_queue.specs.declared.account.Entry.{Entry}
-use Rattle.hq_queue.specs.declared.message.Message.{Message}
-use Rattle.hq_queue.specs.declared.sweep.Swept.{Swept}
-use Rattle.hq_queue.specs.declared.sweep.Swept.TheVariants.{Expired, Warned, Untouched}
-use Rattle.hq_store.specs.Readings.{saturated}
-use Rattle.hq_store.specs.Sound.{SoundState, ShapedState}
-use Rattle.hq_store.specs.Tables.{State, change_all}
-use Rattle.hq_states.proofs.Many.{Does, Done, each_done, stand_values, does_nothing, does_put}
-use Rattle.hq_states.proofs.Many.{does_drop}
-use Rattle.hq_calls.specs.Answering.{tell}
-use Rattle.hq_calls.specs.Notices.{carried_out}
-use Rattle.hq_calls.specs.Sweeps.{message_met, changed_by, given_up, messages_that, swept_all}
-use Rattle.hq_calls.specs.Sweeps.{sweep}
-use Rattle.hq_calls.specs.declared.answer.Answer.TheVariants as answer
+use Rattle.hq_rules.specs.Ages.{swept, after_sweep}
+use Rattle.hq_kept.specs.declared.account.Entry.{Entry}
+use Rattle.hq_kept.specs.declared.message.Message.{Message}
+use Rattle.hq_rules.specs.declared.swept.Swept.{Swept}
+use Rattle.hq_rules.specs.declared.swept.Swept.TheVariants.{Expired, Warned, Untouched}
+use Rattle.hq_tables.specs.Readings.{saturated}
+use Rattle.hq_tables.specs.Sound.{SoundState, ShapedState}
+use Rattle.hq_tables.specs.Tables.{State, change_all}
+use Rattle.hq_isolation.proofs.Many.{Does, Done, each_done, stand_values, does_nothing, does_put}
+use Rattle.hq_isolation.proofs.Many.{does_drop}
+use Rattle.hq_rules.specs.Answering.{tell}
+use Rattle.hq_rules.specs.Notices.{carried_out}
+use Rattle.hq_rules.specs.Sweeps.{message_met, changed_by, given_up, messages_that, swept_all}
+use Rattle.hq_rules.specs.Sweeps.{sweep}
+use Rattle.hq_rules.specs.declared.answer.Answer.TheVariants as answer
 use Rattle.hq_soundness.proofs.Kept.{Keeps, saturated_is}
 use Rattle.hq_soundness.proofs.Settled.{taken_fits, carried_out_kept}
 

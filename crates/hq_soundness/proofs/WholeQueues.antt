@@ -7,27 +7,27 @@ use Rattle.std.specs.Prelude.{if◌then◌else◌, ◌==◌}
 use Rattle.std.specs.List.{flat_map}
 use Rattle.std.specs.FinMap.{get, values}
 use Rattle.hq_values.specs.Words.{customer_hold}
-use Rattle.hq_queue.specs.Ends.{all_ended}
-use Rattle.hq_queue.specs.Moves.{is_on_hold}
-use Rattle.hq_queue.specs.declared.account.Entry.{Entry}
-use Rattle.hq_queue.specs.declared.account.Head.{Head}
-use Rattle.hq_queue.specs.declared.outcome.Fate.TheVariants as fate
-use Rattle.hq_queue.specs.declared.message.Message.{Message}
-use Rattle.hq_queue.specs.declared.message.QueueState.TheVariants as state
-use Rattle.hq_store.specs.Readings.{saturated}
-use Rattle.hq_store.specs.Sound.{SoundState, ShapedState, pending_count}
-use Rattle.hq_store.specs.Tables.{State, change, change_all}
-use Rattle.hq_store.specs.declared.change.Change.{Change}
-use Rattle.hq_store.specs.declared.change.Change.TheVariants.{PutHead}
-use Rattle.hq_states.proofs.Many.{Does, change_all-append, does_nothing, does_put, does_drop}
-use Rattle.hq_states.proofs.Many.{moved_sound, taken_sound}
-use Rattle.hq_calls.specs.Answering.{tell}
-use Rattle.hq_calls.specs.Histories.{kept_history}
-use Rattle.hq_calls.specs.Messages.{with_deleted}
-use Rattle.hq_calls.specs.Queues.{moved_by, put, move_all, drop, all_deleted, delete_all}
-use Rattle.hq_calls.specs.declared.answer.Answer.TheVariants as answer
-use Rattle.hq_calls.specs.declared.call.Move.{Move}
-use Rattle.hq_calls.specs.declared.call.Move.TheVariants.{Hold, Release}
+use Rattle.hq_rules.specs.Leaving.{all_ended}
+use Rattle.hq_kept.specs.Messages.{is_on_hold}
+use Rattle.hq_kept.specs.declared.account.Entry.{Entry}
+use Rattle.hq_kept.specs.declared.account.Head.{Head}
+use Rattle.hq_kept.specs.declared.outcome.Fate.TheVariants as fate
+use Rattle.hq_kept.specs.declared.message.Message.{Message}
+use Rattle.hq_kept.specs.declared.message.QueueState.TheVariants as state
+use Rattle.hq_tables.specs.Readings.{saturated}
+use Rattle.hq_tables.specs.Sound.{SoundState, ShapedState, pending_count}
+use Rattle.hq_tables.specs.Tables.{State, change, change_all}
+use Rattle.hq_tables.specs.declared.change.Change.{Change}
+use Rattle.hq_tables.specs.declared.change.Change.TheVariants.{PutHead}
+use Rattle.hq_isolation.proofs.Many.{Does, change_all-append, does_nothing, does_put, does_drop}
+use Rattle.hq_isolation.proofs.Many.{moved_sound, taken_sound}
+use Rattle.hq_rules.specs.Answering.{tell}
+use Rattle.hq_rules.specs.Histories.{kept_history}
+use Rattle.hq_rules.specs.Messages.{with_deleted}
+use Rattle.hq_rules.specs.Queues.{moved_by, put, move_all, drop, all_deleted, delete_all}
+use Rattle.hq_rules.specs.declared.answer.Answer.TheVariants as answer
+use Rattle.hq_rules.specs.declared.call.Move.{Move}
+use Rattle.hq_rules.specs.declared.call.Move.TheVariants.{Hold, Release}
 use Rattle.hq_soundness.proofs.Remembered.{history_sound}
 use Rattle.hq_soundness.proofs.Kept.{Keeps, saturated_is}
 

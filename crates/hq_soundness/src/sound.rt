@@ -1,13 +1,13 @@
 //! Sound tables stay sound by every call, and by changes.
 
 ghost use Rattle.std.specs.Prelude.{ℕ, List};
-ghost use Rattle.hq_queue.specs.declared.account.Entry.{Entry};
-ghost use Rattle.hq_store.specs.declared.change.Change.{Change};
-ghost use Rattle.hq_store.specs.Tables.{Tables, own, change_all, write_all};
-ghost use Rattle.hq_store.specs.Sound.{Shaped, Sound, SoundState};
-ghost use Rattle.hq_calls.specs.declared.call.Call.{Call};
-ghost use Rattle.hq_calls.specs.Machine.{shared};
-ghost use Rattle.hq_states.specs.Fits.{AllFit};
+ghost use Rattle.hq_kept.specs.declared.account.Entry.{Entry};
+ghost use Rattle.hq_tables.specs.declared.change.Change.{Change};
+ghost use Rattle.hq_tables.specs.Tables.{Tables, own, change_all, write_all};
+ghost use Rattle.hq_tables.specs.Sound.{Shaped, Sound, SoundState};
+ghost use Rattle.hq_rules.specs.declared.call.Call.{Call};
+ghost use Rattle.hq_rules.specs.Machine.{shared};
+ghost use Rattle.hq_isolation.specs.Fits.{AllFit};
 
 /// Sound tables stay sound by every call; so conservation holds for every customer afterwards.
 pub fn stays_sound()

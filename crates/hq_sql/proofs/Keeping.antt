@@ -13,7 +13,7 @@ use Rattle.hq_keyed.proofs.Known.{Orders, changes_rows, keeps_commit}
 use Rattle.hq_keyed.proofs.Left.{shown_unchanged, query_left, execute_left, left_keeps}
 use Rattle.hq_keyed.proofs.Stops.{may_end, ends_none, query_leaves_no_more, write_leaves_no_more}
 use Rattle.hq_schema.specs.Schema.{desk_schema}
-use Rattle.hq_store.specs.Tables.{Tables}
+use Rattle.hq_tables.specs.Tables.{Tables}
 use Rattle.hq_sql.specs.Tables.{IsDesk, Leaves}
 use Rattle.hq_sql.specs.Kept.{Intact, KeepsCommitted, Updated}
 

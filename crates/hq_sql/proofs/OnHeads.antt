@@ -17,9 +17,9 @@ use Rattle.sqlite_typed.proofs.TestLemmas.{last_term, then_value}
 use Rattle.hq_keyed.proofs.Terms.{text_is}
 use Rattle.hq_keyed.proofs.Writes.{cast_null, cast_int}
 use Rattle.hq_schema.specs.Schema as schema
-use Rattle.hq_store.specs.declared.account.Account.{Account}
+use Rattle.hq_tables.specs.declared.account.Account.{Account}
 use Rattle.hq_rows.specs.declared.rows.HeadRow.{HeadRow}
-use Rattle.hq_store.specs.Tables.{text_cmp}
+use Rattle.hq_tables.specs.Tables.{text_cmp}
 use Rattle.hq_rows.specs.Listed.{head_key, head_value}
 use Rattle.hq_sql.specs.Rows.{head_columns, head_stored, head_read, head_shown}
 use Rattle.hq_sql.specs.Tables.{IsDesk, Leaves, tables_in}

@@ -2,7 +2,7 @@
 use Rattle.std.proofs.Common.{IsTrue, sym, subst}
 use Rattle.sqlite.specs.State.{State, HasCleanDisk}
 use Rattle.hq_keyed.proofs.Left.{clean_before, quiet_then, keeps_then}
-use Rattle.hq_store.specs.Tables.{Tables}
+use Rattle.hq_tables.specs.Tables.{Tables}
 use Rattle.hq_sql.specs.Kept.{KeepsCommitted}
 use Rattle.hq_sql.specs.Tables.{IsDesk, Leaves}
 use Rattle.hq_sql.proofs.Tables.{leaves_keeps}

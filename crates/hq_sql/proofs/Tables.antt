@@ -16,7 +16,7 @@ use Rattle.hq_keyed.specs.Changed.{Sets}
 use Rattle.hq_keyed.specs.Stored.{IsStored}
 use Rattle.hq_keyed.proofs.Placed.{Kind, Place, Wrote, map_in}
 use Rattle.hq_schema.specs.Schema.{desk_schema}
-use Rattle.hq_store.specs.Tables.{Tables}
+use Rattle.hq_tables.specs.Tables.{Tables}
 use Rattle.hq_rows.specs.Listed.{heads_of, messages_of, recipients_of, holds_of, lines_of, marks_of}
 use Rattle.hq_rows.specs.Listed.{notices_of, ends_of}
 use Rattle.hq_sql.specs.Rows.{head_read, message_read, recipient_read, hold_read, line_read}

@@ -4,7 +4,7 @@ use Rattle.std.specs.Prelude.{ℕ, pos, List, [], ◌∷◌}
 use Rattle.sqlite.specs.declared.types.Value.TheVariants.{Text}
 use Rattle.sqlite.specs.Order.{Row}
 use Rattle.hq_keyed.specs.Values.{number}
-use Rattle.hq_store.specs.declared.account.Account.{Account}
+use Rattle.hq_tables.specs.declared.account.Account.{Account}
 use Rattle.hq_sql.specs.declared.bind.HeadNumbers.{HeadNumbers}
 
 abbrev pub head_numbers : Account → HeadNumbers

@@ -6,7 +6,7 @@ use Rattle.std.specs.Prelude.{IsTrue}
 use Rattle.sqlite.specs.declared.error.Error.{Error}
 use Rattle.sqlite.specs.State.{State, HasCleanDisk, IsUnchanged, KeepsCommit}
 use Rattle.hq_keyed.specs.Left.{IsQuiet, LeavesNoMore}
-use Rattle.hq_store.specs.Tables.{Tables}
+use Rattle.hq_tables.specs.Tables.{Tables}
 use Rattle.hq_sql.specs.Tables.{IsDesk, Leaves, tables_in}
 
 -- A query's answer, as `seen`, is `f` of the tables before.

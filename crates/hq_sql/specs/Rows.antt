@@ -11,16 +11,16 @@ use Rattle.sqlite.specs.Order.{Row, column}
 use Rattle.hq_values.specs.Senders.{sender_text}
 use Rattle.hq_values.specs.declared.address.Sender.{Sender}
 use Rattle.hq_values.specs.declared.address.Sender.TheVariants as sender
-use Rattle.hq_access.specs.Actions.{is_space, action_text}
-use Rattle.hq_access.specs.Patterns.{class_name}
-use Rattle.hq_access.specs.declared.action.Action.{Action}
-use Rattle.hq_access.specs.declared.action.Action.TheVariants as action
-use Rattle.hq_access.specs.declared.pattern.Class.{Class}
-use Rattle.hq_access.specs.declared.pattern.Class.TheVariants.{SenderSide, RecipientSide}
-use Rattle.hq_queue.specs.declared.message.QueueState.{QueueState}
-use Rattle.hq_queue.specs.declared.message.QueueState.TheVariants.{Incoming, Deferred, Hold}
-use Rattle.hq_queue.specs.declared.outcome.Fate.{Fate}
-use Rattle.hq_queue.specs.declared.outcome.Fate.TheVariants.{Delivered, Failed, Deleted, Expired}
+use Rattle.hq_kept.specs.Actions.{is_space, action_text}
+use Rattle.hq_kept.specs.Patterns.{class_name}
+use Rattle.hq_kept.specs.declared.action.Action.{Action}
+use Rattle.hq_kept.specs.declared.action.Action.TheVariants as action
+use Rattle.hq_kept.specs.declared.pattern.Class.{Class}
+use Rattle.hq_kept.specs.declared.pattern.Class.TheVariants.{SenderSide, RecipientSide}
+use Rattle.hq_kept.specs.declared.message.QueueState.{QueueState}
+use Rattle.hq_kept.specs.declared.message.QueueState.TheVariants.{Incoming, Deferred, Hold}
+use Rattle.hq_kept.specs.declared.outcome.Fate.{Fate}
+use Rattle.hq_kept.specs.declared.outcome.Fate.TheVariants.{Delivered, Failed, Deleted, Expired}
 use Rattle.hq_rows.specs.declared.rows.EndRow.{EndRow}
 use Rattle.hq_rows.specs.declared.rows.HeadRow.{HeadRow}
 use Rattle.hq_rows.specs.declared.rows.HoldRow.{HoldRow}
@@ -29,8 +29,8 @@ use Rattle.hq_rows.specs.declared.rows.MarkRow.{MarkRow}
 use Rattle.hq_rows.specs.declared.rows.MessageRow.{MessageRow}
 use Rattle.hq_rows.specs.declared.rows.NoticeRow.{NoticeRow}
 use Rattle.hq_rows.specs.declared.rows.RecipientRow.{RecipientRow}
-use Rattle.hq_queue.specs.declared.kind.Kind.{Kind}
-use Rattle.hq_queue.specs.declared.kind.Kind.TheVariants.{Failure, Delay}
+use Rattle.hq_kept.specs.declared.kind.Kind.{Kind}
+use Rattle.hq_kept.specs.declared.kind.Kind.TheVariants.{Failure, Delay}
 use Rattle.hq_keyed.specs.Values.{number}
 
 -- ---- values

@@ -6,8 +6,9 @@ use Rattle.sqlite.specs.Order.{Row, column}
 use Rattle.sqlite.specs.State.{State}
 use Rattle.hq_keyed.specs.Stored.{IsStored}
 use Rattle.hq_schema.specs.Schema.{desk_schema}
-use Rattle.hq_store.specs.Tables.{Tables, text_cmp, message_cmp, recipient_cmp, lines_cmp, mark_cmp}
-use Rattle.hq_store.specs.Tables.{notice_cmp, end_cmp}
+use Rattle.hq_tables.specs.Tables.{Tables, text_cmp, message_cmp, recipient_cmp, lines_cmp}
+use Rattle.hq_tables.specs.Tables.{mark_cmp}
+use Rattle.hq_tables.specs.Tables.{notice_cmp, end_cmp}
 use Rattle.hq_rows.specs.Listed.{head_key, message_key, recipient_key, hold_key, line_row_key}
 use Rattle.hq_rows.specs.Listed.{mark_key, notice_key, heads_of, messages_of, recipients_of}
 use Rattle.hq_rows.specs.Listed.{holds_of, lines_of, marks_of, notices_of, end_key, ends_of}

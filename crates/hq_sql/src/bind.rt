@@ -3,12 +3,12 @@
 ghost use Rattle.std.specs.Prelude.{◌≡◌, pos, [], ◌∷◌, IfOk};
 ghost use Rattle.sqlite.specs.Values.{bound};
 ghost use Rattle.sqlite.specs.declared.types.Value.TheVariants.{Text};
-ghost use Rattle.hq_store.specs.declared.account.Account.{Account};
+ghost use Rattle.hq_tables.specs.declared.account.Account.{Account};
 ghost use Rattle.hq_sql.specs.Rows.{head_columns};
 ghost use Rattle.hq_sql.specs.Bound.{head_numbers, message_key_columns, between_columns};
 
-use hq_queue::Head;
-use hq_store::Account;
+use hq_kept::Head;
+use hq_tables::Account;
 use hq_values::{Name, Serial};
 use sqlite::Error;
 use sqlite::types::ValueRef;

@@ -5,8 +5,8 @@ ghost use Rattle.hq_rows.specs.Listed.{head_value};
 ghost use Rattle.hq_sql.specs.Rows.{head_shown};
 
 use crate::read;
-use hq_queue::{Counts, Head, Tally};
-use hq_store::Account;
+use hq_kept::{Counts, Head, Tally};
+use hq_tables::Account;
 use sqlite::{Error, Row};
 
 fn tally(row: &Row) -> Result<Tally, Error>

@@ -10,7 +10,7 @@ ghost use Rattle.hq_sql.specs.Kept.{Shows, Yields, Writes, Inserts, Updates, Int
 ghost use Rattle.hq_sql.specs.Kept.{KeepsCommitted};
 
 use crate::{bind, decode};
-use hq_store::Account;
+use hq_tables::Account;
 use hq_values::Name;
 use sqlite::{Alter, Connection, Error, Row};
 

@@ -6,7 +6,7 @@ ghost use Rattle.sqlite.specs.Order.{column};
 ghost use Rattle.hq_sql.specs.Rows.{sender_of, status_read, value_number, value_text};
 
 use crate::read;
-use hq_queue::Status;
+use hq_kept::Status;
 use hq_values::{Address, Moment, Sender, Serial, Text};
 use sqlite::{Error, Row};
 use std::alloc::Global;

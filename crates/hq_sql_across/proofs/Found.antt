@@ -8,9 +8,9 @@ use Rattle.sqlite.specs.Tree.{Trees}
 use Rattle.sqlite_trees.specs.Objects.{catalog_tree}
 use Rattle.sqlite_catalog.specs.Listing.{Lists}
 use Rattle.sqlite_catalog.proofs.ReadLemmas.{lists_once}
-use Rattle.hq_store.specs.Sound.{Sound}
-use Rattle.hq_store.specs.Tables.{Tables, no_tables}
-use Rattle.hq_store.proofs.Empty.{none_counted, empty_sound}
+use Rattle.hq_tables.specs.Sound.{Sound}
+use Rattle.hq_tables.specs.Tables.{Tables, no_tables}
+use Rattle.hq_tables.proofs.Empty.{none_counted, empty_sound}
 use Rattle.hq_sql.specs.Tables.{tables_in}
 use Rattle.hq_sql_open.specs.Found.{HoldDesk, desk_with, tables_with}
 use Rattle.hq_sql_open.specs.Opening.{IsUnmade}

@@ -11,9 +11,9 @@ use Rattle.sqlite.specs.State.{State, HasCleanDisk}
 use Rattle.sqlite.specs.Tree.{Trees}
 use Rattle.sqlite_trees.specs.declared.store.Store.{Ghosts}
 use Rattle.hq_values.specs.declared.failure.Fault.{Fault}
-use Rattle.hq_store.specs.Shelves.{StopLeaves, StopLeavesTables}
-use Rattle.hq_store.specs.Sound.{Sound}
-use Rattle.hq_store.specs.Tables.{Tables}
+use Rattle.hq_tables.specs.Shelves.{StopLeaves, StopLeavesTables}
+use Rattle.hq_tables.specs.Sound.{Sound}
+use Rattle.hq_tables.specs.Tables.{Tables}
 use Rattle.hq_desk.specs.Desks.{host_of, on, shelf_of}
 use Rattle.hq_desk.specs.declared.desk.Desk.{Desk}
 use Rattle.hq_requests.specs.declared.directory.Directory.{Directory}
@@ -21,7 +21,7 @@ use Rattle.hq_requests.specs.declared.exchanges.Exchange.{Exchange}
 use Rattle.hq_wire.specs.Exchanges.{ask_of}
 use Rattle.hq_wire.specs.Replies.{IsSent}
 use Rattle.hq_wire.specs.Runs.{RunsSo}
-use Rattle.hq_wire.specs.declared.reply.Reply.{Reply}
+use Rattle.hq_requests.specs.declared.reply.Reply.{Reply}
 use Rattle.hq_wire.proofs.Alone.{alone}
 use Rattle.hq_wire.proofs.Serving.{tells_each}
 use Rattle.hq_across.specs.Histories.{Passed, Session, uncut}
@@ -97,8 +97,8 @@ module _ {S : Type 0} (g : Ghosts S) (d : Directory) (before : Trees → Type 0)
   )
 
   pub asked : (new : Desk (SqlShelf S)) (exchanges : List Exchange) (replies : List Reply)
-      → RunsSo (sight_over (state g)) d old (map (ask_of d) exchanges) replies new
-      → (on (sight_over (state g))).is_clean new
+      → RunsSo (on (sight_over (state g))) d old (map (ask_of d) exchanges) replies new
+      → (on (sight_over (state g))).store.is_clean new
       → KeepsDesk (state g (shelf_of new).conn).may_leave
       × ((t' : Tables) → MayKeep (state g (shelf_of new).conn).may_leave t' → (t : Tables)
       × MayKeep before t
@@ -107,12 +107,12 @@ module _ {S : Type 0} (g : Ghosts S) (d : Directory) (before : Trees → Type 0)
     after : Trees → Type 0
     after = (state g (shelf_of new).conn).may_leave
 
-    opened : IsJustOpened (sight_over (state g)) old
+    opened : IsJustOpened (on (sight_over (state g))) old
     opened = record { ours = found.0; sound = sound; rests = rests }
 
-    all : StopLeaves (on (sight_over (state g))) new
+    all : StopLeaves (on (sight_over (state g))).store new
         (IsSession (host_of old) d (map (ask_of d) exchanges) ran.told tables)
-    all = is_session (sight_over (state g)) d old new (map (ask_of d) exchanges) ran.told
+    all = is_session (on (sight_over (state g))) d old new (map (ask_of d) exchanges) ran.told
         ran.served.each opened clean
 
     session_to : (trees : Trees) (t : Tables) → after trees → tables_with trees ≡ t →
@@ -147,8 +147,8 @@ module _ {S : Type 0} (g : Ghosts S) (d : Directory) (before : Trees → Type 0)
           record {
             by = refl;
             told = ran.sent;
-            tells = tells_each (sight_over (state g)) d old (map (ask_of d) exchanges) ran.told new
-                ran.served.each;
+            tells = tells_each (on (sight_over (state g))) d old (map (ask_of d) exchanges) ran.told
+                new ran.served.each;
             asked = inl refl;
             stopped_at = one.stopped_at;
           },
@@ -191,7 +191,8 @@ module _ {S : Type 0} (g : Ghosts S) (d : Directory) (before : Trees → Type 0)
     (keeps : KeepsDesk before) (old new : Desk (SqlShelf S)) (taken : Taken g before (shelf_of old))
     (exchanges : List Exchange) (replies : List Reply) where
   -- where exchanges were replied to
-  pub asked_passed : RunsSo (sight_over (state g)) d old (map (ask_of d) exchanges) replies new
+  pub asked_passed : RunsSo (on (sight_over (state g))) d old (map (ask_of d) exchanges) replies
+      new
       → HasCleanDisk (state g (shelf_of new).conn)
       → is_doubtful (shelf_of new).standing ≡ false
       → KeepsDesk (state g (shelf_of new).conn).may_leave
@@ -199,7 +200,7 @@ module _ {S : Type 0} (g : Ghosts S) (d : Directory) (before : Trees → Type 0)
       × MayKeep before t
       × (s : Session) × IsServed d exchanges replies s × Passed (host_of old) s t t')
   asked_passed ran clean sure =
-      let seen : (on (sight_over (state g))).is_clean new =
+      let seen : (on (sight_over (state g))).store.is_clean new =
       (clean, stands_sure (shelf_of new).standing (state g (shelf_of new).conn) sure) in
       let was = (ran.served.stays.quiet seen).0 in
       asked g d before keeps old (taken.found was) (taken.rests was) new exchanges replies ran seen

@@ -5,7 +5,7 @@ use Rattle.hq_requests.specs.declared.directory.Directory.{Directory}
 use Rattle.hq_requests.specs.declared.exchanges.Exchange.{Exchange}
 use Rattle.hq_wire.specs.Exchanges.{Ask, Tells, ask_of}
 use Rattle.hq_wire.specs.Replies.{IsSent, SeenReply}
-use Rattle.hq_wire.specs.declared.reply.Reply.{Reply}
+use Rattle.hq_requests.specs.declared.reply.Reply.{Reply}
 use Rattle.hq_across.specs.Histories.{Session}
 use Rattle.hq_sql_across.specs.Stopped.{IsServed, IsReplyTo}
 

@@ -5,14 +5,14 @@ use Rattle.std.specs.List.{AllZip}
 use Rattle.sqlite.specs.Effect.{Database, IsDatabase}
 use Rattle.sqlite.specs.State.{State, Opens, IsLive}
 use Rattle.sqlite.specs.Tree.{Trees}
-use Rattle.hq_store.specs.Sound.{Sound}
+use Rattle.hq_tables.specs.Sound.{Sound}
 use Rattle.hq_sql_open.specs.Lifted.{lift, FirstSound}
-use Rattle.hq_store.specs.Tables.{Tables, no_tables, own}
+use Rattle.hq_tables.specs.Tables.{Tables, no_tables, own}
 use Rattle.hq_requests.specs.declared.directory.Directory.{Directory}
 use Rattle.hq_requests.specs.declared.exchanges.Exchange.{Exchange}
 use Rattle.hq_wire.specs.Exchanges.{Tells, ask_of}
 use Rattle.hq_wire.specs.Replies.{IsSent, SeenReply}
-use Rattle.hq_wire.specs.declared.reply.Reply.{Reply}
+use Rattle.hq_requests.specs.declared.reply.Reply.{Reply}
 use Rattle.hq_across.specs.Histories.{Session, Passed, InSessions, AloneAcross}
 use Rattle.hq_across.specs.Sessions.{StoppedAt}
 use Rattle.hq_sql_open.specs.Found.{tables_with}

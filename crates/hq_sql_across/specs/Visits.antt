@@ -1,7 +1,7 @@
 -- What sessions are asked and reply, as the code has it.
 use Rattle.std.specs.Prelude.{List, Vec}
 use Rattle.std.specs.Global.{Global}
-use Rattle.hq_wire.specs.declared.reply.Reply.{Reply}
+use Rattle.hq_requests.specs.declared.reply.Reply.{Reply}
 use Rattle.hq_sql_across.specs.Stopped.{Visit}
 use Rattle.hq_sql_across.specs.declared.histories.Visit.{Visit as Given}
 

@@ -3,7 +3,7 @@
 ghost use Rattle.std.specs.Prelude.{◌≡◌, ◌++◌, false, List, map, IfOk};
 ghost use Rattle.sqlite.specs.Held.{state};
 ghost use Rattle.sqlite.specs.State.{HasCleanDisk};
-ghost use Rattle.hq_wire.specs.declared.reply.Reply.{Reply};
+ghost use Rattle.hq_requests.specs.declared.reply.Reply.{Reply};
 ghost use Rattle.hq_sql_across.specs.Stopped.{PassesSessions, PassesHistory};
 ghost use Rattle.hq_sql_across.specs.Visits.{visit_of, replies_in};
 
@@ -16,10 +16,10 @@ use std::alloc::Global;
 
 /// What the sessions of a history replied, and their connection, which stops next.
 #[derive(Drop)]
-pub struct Served<S: Alter> {
+pub struct Served<'v, S: Alter> {
     /// Of each session one reply for each exchange; none where the store was not taken then, or
     /// memory was wanted.
-    pub replies: Vec<Vec<Reply>>,
+    pub replies: Vec<Vec<Reply<'v>>>,
     /// Whether a shelf was in doubt at the end of its session, or lost its connection so: then
     /// nothing is said.
     pub in_doubt: bool,
@@ -37,12 +37,12 @@ pub struct Visit {
 }
 
 /// Serves sessions, one after another, and adds what each replied.
-fn serve_all<S: Alter + Reopen + Drop>(
+fn serve_all<'v, S: Alter + Reopen + Drop>(
     alloc: Global,
     conn: Connection<S>,
     host: &Host,
-    visits: &[Visit],
-    told: &mut Vec<Vec<Reply>>,
+    visits: &'v [Visit],
+    told: &mut Vec<Vec<Reply<'v>>>,
 ) -> Result<(bool, Connection<S>), Fault>
     ensures passed { IfOk result (λ end. HasCleanDisk (state S.Store end.1) → end.0 ≡ false
         → (replies : List (List Reply))
@@ -81,12 +81,12 @@ fn serve_all<S: Alter + Reopen + Drop>(
 /// It asks for a store of a desk whose tables are sound, or in which nothing was made yet; and that
 /// the store returned what was written, and kept what was synced. 90 tells that memory was wanted
 /// for the replies, and 91 that the store could not be read after a stop.
-pub fn history<S: Alter + Reopen + Drop>(
+pub fn history<'v, S: Alter + Reopen + Drop>(
     alloc: Global,
     conn: Connection<S>,
     host: &Host,
-    visits: &[Visit],
-) -> Result<Served<S>, Fault>
+    visits: &'v [Visit],
+) -> Result<Served<'v, S>, Fault>
     ensures across { IfOk result (λ h. HasCleanDisk (state S.Store h.conn) → h.in_doubt ≡ false
         → PassesHistory host.now (map visit_of visits.now) (map replies_in h.replies.items)
         (state S.Store conn).may_leave (state S.Store h.conn).may_leave) }

@@ -11,7 +11,7 @@ ghost use Rattle.hq_sql_open.specs.Transactions.{IsSettled};
 ghost use Rattle.hq_sql_open.specs.Stores.{IsFirst, IsSecond};
 ghost use Rattle.hq_requests.specs.declared.directory.Directory.{Directory};
 ghost use Rattle.hq_requests.specs.declared.exchanges.Exchange.{Exchange};
-ghost use Rattle.hq_wire.specs.declared.reply.Reply.{Reply};
+ghost use Rattle.hq_requests.specs.declared.reply.Reply.{Reply};
 ghost use Rattle.hq_across.specs.Histories.{Session};
 ghost use Rattle.hq_sql_across.specs.Stopped.{BeginsHistory, BeginsUpgraded, IsServed, IsReplyTo};
 

@@ -16,9 +16,9 @@ use std::alloc::Global;
 
 /// What a session replied, and its connection, which stops next.
 #[derive(Drop)]
-pub struct Stopped<S: Alter> {
+pub struct Stopped<'d, S: Alter> {
     /// One reply for each exchange; none where the store was not taken, or memory was wanted.
-    pub replies: Vec<Reply>,
+    pub replies: Vec<Reply<'d>>,
     /// Whether the shelf was in doubt at the end, or lost its connection so: then nothing is said.
     pub in_doubt: bool,
     /// The connection, wherever it is by then.
@@ -49,13 +49,13 @@ fn reopened<S: Alter + Reopen + Drop>(
 /// order, up to the next stop: that comes wherever the connection that is given back is by then.
 /// Where the store was not taken, since a stop came in the opening, the session is empty. 91 tells
 /// that the store could not be read.
-pub fn session<S: Alter + Reopen + Drop>(
+pub fn session<'d, S: Alter + Reopen + Drop>(
     alloc: Global,
     conn: Connection<S>,
     host: Host,
-    directory: &Directory,
+    directory: &'d Directory,
     exchanges: &[Exchange],
-) -> Result<Stopped<S>, Fault>
+) -> Result<Stopped<'d, S>, Fault>
     ensures passed { IfOk result (λ s. HasCleanDisk (state S.Store s.conn) → s.in_doubt ≡ false
         → PassesSession host directory.now exchanges.now s.replies.items
         (state S.Store conn).may_leave (state S.Store s.conn).may_leave) }

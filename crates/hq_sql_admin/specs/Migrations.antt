@@ -4,7 +4,7 @@ use Rattle.std.specs.Prelude.{ℕ, ◌≡◌, ◌++◌, ◌⊎◌, List, codes, 
 use Rattle.hq_values.specs.Refusals.{no_memory}
 use Rattle.hq_values.specs.declared.failure.Fail.TheVariants.{Fault as AsFault}
 use Rattle.hq_values.specs.declared.failure.Fault.{Fault}
-use Rattle.hq_desk.specs.declared.desk.Rendered.{Rendered}
+use Rattle.hq_rules.specs.declared.render.Rendered.{Rendered}
 use Rattle.hq_settings.specs.declared.trouble.Trouble.{Trouble}
 use Rattle.hq_settings.specs.declared.trouble.Trouble.TheVariants.{Desk}
 use Rattle.hq_sql_admin.specs.Calls.{trouble_told}

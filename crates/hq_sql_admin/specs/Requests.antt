@@ -1,17 +1,17 @@
 -- What the words of an administrator ask for, each check before those behind it.
 use Rattle.std.specs.Prelude.{ℕ, ◌≡◌, List, codes, Option, None, Some, Result, Ok}
 use Rattle.hq_values.specs.Words.{host_in, label_in}
-use Rattle.hq_queue.specs.declared.account.Entry.{Entry}
-use Rattle.hq_calls.specs.declared.call.Call.{Call}
-use Rattle.hq_access.specs.Patterns.{pattern_in}
-use Rattle.hq_access.specs.declared.pattern.Class.{Class}
-use Rattle.hq_access.specs.declared.pattern.Class.TheVariants.{SenderSide, RecipientSide}
+use Rattle.hq_kept.specs.declared.account.Entry.{Entry}
+use Rattle.hq_rules.specs.declared.call.Call.{Call}
+use Rattle.hq_kept.specs.Patterns.{pattern_in}
+use Rattle.hq_kept.specs.declared.pattern.Class.{Class}
+use Rattle.hq_kept.specs.declared.pattern.Class.TheVariants.{SenderSide, RecipientSide}
 use Rattle.hq_values.specs.declared.failure.Refusal.{Refusal}
-use Rattle.hq_calls.specs.declared.call.Call.TheVariants.{Report, Import as OfImport}
-use Rattle.hq_calls.specs.declared.call.Call.TheVariants.{Sweep as OfSweep, HoldAll, ReleaseAll}
-use Rattle.hq_calls.specs.declared.call.Call.TheVariants.{DeleteAll, History, FindHistory}
+use Rattle.hq_rules.specs.declared.call.Call.TheVariants.{Report, Import as OfImport}
+use Rattle.hq_rules.specs.declared.call.Call.TheVariants.{Sweep as OfSweep, HoldAll, ReleaseAll}
+use Rattle.hq_rules.specs.declared.call.Call.TheVariants.{DeleteAll, History, FindHistory}
 use Rattle.hq_admin.specs.Customers.{entry_named}
-use Rattle.hq_admin.specs.declared.performing.Request.{Request}
+use Rattle.hq_admin.specs.declared.performing.AdminCall.{AdminCall}
 use Rattle.hq_settings.specs.declared.trouble.Trouble.{Trouble}
 use Rattle.hq_settings.specs.Steps.{Then, IsFile, IsRead}
 use Rattle.hq_sql_admin.specs.declared.requests.Done.{Done}
@@ -28,7 +28,7 @@ abbrev pub HasCustomer : List ℕ → Result Entry Trouble → Type 0
 HasCustomer name = Then IsFile (λ file. IsRead (entry_named file name))
 
 -- this call of a customer
-abbrev pub AsksFor : List ℕ → ℕ → Entry → Call → Result Request Trouble → Type 0
+abbrev pub AsksFor : List ℕ → ℕ → Entry → Call → Result AdminCall Trouble → Type 0
 AsksFor host at entry call result = result ≡ Ok (record {
   host = host;
   at = at;
@@ -60,7 +60,7 @@ history_call (Some pattern) = FindHistory pattern None
 
 -- what is told of a customer, of all or of what a pattern is for; its relay's name and moment show
 -- nowhere
-abbrev pub TellingAsks : (Option (Class × List ℕ) → Call) → Telling → Result Request Trouble →
+abbrev pub TellingAsks : (Option (Class × List ℕ) → Call) → Telling → Result AdminCall Trouble →
     Type 0
 TellingAsks call given = Then (IsRead (host_in (codes "localhost"))) (λ host.
     Then (HasCustomer given.customer.now) (λ entry.
@@ -68,22 +68,22 @@ TellingAsks call given = Then (IsRead (host_in (codes "localhost"))) (λ host.
     AsksFor host 0 entry (call pattern))))
 
 -- the report
-abbrev pub QueueAsks : Telling → Result Request Trouble → Type 0
+abbrev pub QueueAsks : Telling → Result AdminCall Trouble → Type 0
 QueueAsks = TellingAsks Report
 
 -- the history
-abbrev pub HistoryAsks : Telling → Result Request Trouble → Type 0
+abbrev pub HistoryAsks : Telling → Result AdminCall Trouble → Type 0
 HistoryAsks = TellingAsks history_call
 
 -- what is done to the messages that a pattern is for, at a moment; the relay's name shows nowhere
-abbrev pub MoveAsks : Moving → Done → Result Request Trouble → Type 0
+abbrev pub MoveAsks : Moving → Done → Result AdminCall Trouble → Type 0
 MoveAsks given done = Then (IsRead (host_in (codes "localhost"))) (λ host.
     Then (HasCustomer given.customer.now) (λ entry.
     Then (IsRead (pattern_read given.pattern)) (λ pattern.
     AsksFor host given.at entry (move_call done pattern))))
 
 -- the import of some file under a label; its relay's name and moment show nowhere
-abbrev pub ImportAsks : Import → Result Request Trouble → Type 0
+abbrev pub ImportAsks : Import → Result AdminCall Trouble → Type 0
 ImportAsks given = Then (IsRead (host_in (codes "localhost"))) (λ host.
     Then (HasCustomer given.customer.now) (λ entry.
     Then (IsRead (label_in given.label.now)) (λ label.
@@ -91,7 +91,7 @@ ImportAsks given = Then (IsRead (host_in (codes "localhost"))) (λ host.
     AsksFor host 0 entry (OfImport label lines)))))
 
 -- the sweep of the customer of this name, at a moment
-abbrev pub SweepAsks : Sweep → List ℕ → Result Request Trouble → Type 0
+abbrev pub SweepAsks : Sweep → List ℕ → Result AdminCall Trouble → Type 0
 SweepAsks given name = Then (IsRead (host_in given.host.now)) (λ host.
     Then (HasCustomer name) (λ entry.
     AsksFor host given.at entry OfSweep))

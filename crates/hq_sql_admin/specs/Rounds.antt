@@ -5,12 +5,12 @@ use Rattle.hq_values.specs.Refusals.{no_memory}
 use Rattle.hq_values.specs.declared.failure.Fail.TheVariants.{Fault as AsFault}
 use Rattle.hq_values.specs.declared.failure.Fault.{Fault}
 use Rattle.hq_values.specs.Words.{host_in}
-use Rattle.hq_queue.specs.declared.account.Customer.{Customer}
-use Rattle.hq_store.specs.Shelves.{Sight}
+use Rattle.hq_kept.specs.declared.account.Customer.{Customer}
+use Rattle.hq_tables.specs.Shelves.{Sight}
 use Rattle.hq_sql_shelf.specs.Opened.{OverFile}
-use Rattle.hq_calls.specs.declared.each.EachCall.{EachCall}
-use Rattle.hq_calls.specs.declared.each.EachCall.TheVariants.{Sweep as SweepOf, Usage as UsageOf}
-use Rattle.hq_desk.specs.Desks.{host_of, shelf_of}
+use Rattle.hq_rules.specs.declared.each.EachCall.{EachCall}
+use Rattle.hq_rules.specs.declared.each.EachCall.TheVariants.{Sweep as SweepOf, Usage as UsageOf}
+use Rattle.hq_desk.specs.Desks.{host_of, on, shelf_of}
 use Rattle.hq_desk.specs.declared.desk.Desk.{Desk}
 use Rattle.hq_admin.specs.Rounds.{CallsEach}
 use Rattle.hq_admin.specs.declared.rounds.ToldAll.{ToldAll}
@@ -18,7 +18,7 @@ use Rattle.hq_settings.specs.declared.trouble.Trouble.{Trouble}
 use Rattle.hq_settings.specs.declared.trouble.Trouble.TheVariants.{Desk as AsDesk}
 use Rattle.hq_settings.specs.Steps.{Then, HasCustomers, IsRead}
 use Rattle.hq_words.specs.declared.options.Sweep.{Sweep}
-use Rattle.hq_words.specs.declared.options.Usage.{Usage}
+use Rattle.hq_words.specs.declared.options.UsageWord.{UsageWord}
 use Rattle.hq_sql_admin.specs.declared.rounds.Round.{Round}
 
 -- the round of such a relay, moment and call, of these customers
@@ -45,7 +45,7 @@ UsageAsks = AsksRound (codes "localhost") 0 UsageOf
 abbrev pub RoundOver : {S : Type 0} → Sight S → S → Round → Result ToldAll Trouble → Type 0
 RoundOver {S} sight shelf asked (Ok told) = (old : Desk S) × (new : Desk S)
     × (host_of old ≡ asked.host) × (shelf_of old ≡ shelf)
-    × CallsEach sight old new asked.at asked.each asked.customers.items told
+    × CallsEach (on sight) old new asked.at asked.each asked.customers.items told
 RoundOver sight shelf asked (Err trouble) = trouble ≡ AsDesk (AsFault no_memory)
 
 -- That is done over a desk as it was opened; where it could not be, that is told.
@@ -63,5 +63,5 @@ module _ {S : Type 0} (sight : Sight S) where
   abbrev pub SweepAllEnds : Sweep → Result ToldAll Trouble → Type 0
   SweepAllEnds given = Then (SweepAllAsks given) RoundInFile
 
-  abbrev pub UsageEnds : Usage → Result ToldAll Trouble → Type 0
+  abbrev pub UsageEnds : UsageWord → Result ToldAll Trouble → Type 0
   UsageEnds given = Then UsageAsks RoundInFile

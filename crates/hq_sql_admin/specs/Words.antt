@@ -1,8 +1,8 @@
 -- How the words of an administrator end: with the trouble of what they are given, or as their call
 -- over the desk in some file does.
 use Rattle.std.specs.Prelude.{ℕ, List, Result}
-use Rattle.hq_store.specs.Shelves.{Sight}
-use Rattle.hq_desk.specs.declared.desk.Rendered.{Rendered}
+use Rattle.hq_tables.specs.Shelves.{Sight}
+use Rattle.hq_rules.specs.declared.render.Rendered.{Rendered}
 use Rattle.hq_settings.specs.declared.trouble.Trouble.{Trouble}
 use Rattle.hq_words.specs.declared.selecting.Moving.{Moving}
 use Rattle.hq_words.specs.declared.selecting.Telling.{Telling}

@@ -2,7 +2,7 @@
 
 ghost use Rattle.hq_sql_admin.specs.Migrations.{IsMigrationTold, MigrateEnds};
 
-use hq_desk::Rendered;
+use hq_rules::Rendered;
 use hq_settings::Trouble;
 use hq_sql_shelf::migrate_file;
 use hq_values::Fault;

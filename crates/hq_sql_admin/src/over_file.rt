@@ -4,11 +4,11 @@ ghost use Rattle.sqlite.specs.Held.{state};
 ghost use Rattle.hq_sql_shelf.specs.Shelf.{sight_over};
 ghost use Rattle.hq_sql_admin.specs.Calls.{PerformsOpened, PerformsInFile};
 
-use hq_admin::{Request, perform};
-use hq_desk::Rendered;
+use hq_admin::{AdminCall, perform};
+use hq_rules::Rendered;
 use hq_settings::Trouble;
 use hq_sql_shelf::{FileShelf, SqlShelf, open_file};
-use hq_store::Shelf;
+use hq_tables::Shelf;
 use hq_values::Fault;
 use sqlite::Alter;
 
@@ -16,7 +16,7 @@ use sqlite::Alter;
 fn perform_opened<S: Alter + Drop>(
     rt: &HostRuntime,
     opened: Result<SqlShelf<S>, Fault>,
-    request: Request,
+    request: AdminCall,
 ) -> Result<Rendered, Trouble>
     ensures { PerformsOpened (sight_over (state S.Store)) opened request result }
 {
@@ -29,7 +29,7 @@ fn perform_opened<S: Alter + Drop>(
 pub(crate) fn perform_in_file(
     rt: &HostRuntime,
     store: &str,
-    request: Request,
+    request: AdminCall,
 ) -> Result<Rendered, Trouble>
     ensures { PerformsInFile ⟦<FileShelf as Shelf>⟧.sight request result }
 {

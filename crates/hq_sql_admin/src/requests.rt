@@ -7,10 +7,9 @@ ghost use Rattle.hq_sql_admin.specs.Requests.{HasCustomer, HasPattern, QueueAsks
 ghost use Rattle.hq_sql_admin.specs.Requests.{MoveAsks, ImportAsks, SweepAsks, move_call};
 ghost use Rattle.hq_sql_admin.specs.Requests.{history_call, pattern_read};
 
-use hq_access::{Class, Pattern};
-use hq_admin::{Request, customer_in};
-use hq_desk::Call;
-use hq_queue::Entry;
+use hq_admin::{AdminCall, customer_in};
+use hq_kept::{Class, Entry, Pattern};
+use hq_rules::Call;
 use hq_settings::{Trouble, file_of};
 use hq_values::{Host, Items, Label, Moment};
 use hq_words::{Import, Matching, Moving, Sweep, Telling};
@@ -83,13 +82,13 @@ fn any_pattern_of(rt: &HostRuntime, matching: Option<Matching>) -> Result<Option
 }
 
 /// The queue report of a customer: of the messages that a pattern is for, or of all.
-pub(crate) fn queue_request(rt: &HostRuntime, given: &Telling) -> Result<Request, Trouble>
+pub(crate) fn queue_request(rt: &HostRuntime, given: &Telling) -> Result<AdminCall, Trouble>
     ensures { QueueAsks given.now result }
 {
     let host = Host::parse(rt.alloc(), LOCALHOST)?;
     let entry = customer_of(rt, given.directory, given.customer)?;
     let pattern = any_pattern_of(rt, given.pattern)?;
-    Ok(Request {
+    Ok(AdminCall {
         host,
         at: Moment::no_later(NO_MOMENT),
         entry,
@@ -98,13 +97,13 @@ pub(crate) fn queue_request(rt: &HostRuntime, given: &Telling) -> Result<Request
 }
 
 /// The history of a customer: what of it a pattern is for, or the newest of it.
-pub(crate) fn history_request(rt: &HostRuntime, given: &Telling) -> Result<Request, Trouble>
+pub(crate) fn history_request(rt: &HostRuntime, given: &Telling) -> Result<AdminCall, Trouble>
     ensures { HistoryAsks given.now result }
 {
     let host = Host::parse(rt.alloc(), LOCALHOST)?;
     let entry = customer_of(rt, given.directory, given.customer)?;
     let pattern = any_pattern_of(rt, given.pattern)?;
-    Ok(Request {
+    Ok(AdminCall {
         host,
         at: Moment::no_later(NO_MOMENT),
         entry,
@@ -113,13 +112,17 @@ pub(crate) fn history_request(rt: &HostRuntime, given: &Telling) -> Result<Reque
 }
 
 /// What is done to the messages of a customer that a pattern is for.
-pub(crate) fn move_request(rt: &HostRuntime, given: &Moving, done: Done) -> Result<Request, Trouble>
+pub(crate) fn move_request(
+    rt: &HostRuntime,
+    given: &Moving,
+    done: Done,
+) -> Result<AdminCall, Trouble>
     ensures { MoveAsks given.now done result }
 {
     let host = Host::parse(rt.alloc(), LOCALHOST)?;
     let entry = customer_of(rt, given.directory, given.customer)?;
     let pattern = pattern_of(rt, given.pattern)?;
-    Ok(Request {
+    Ok(AdminCall {
         host,
         at: given.at,
         entry,
@@ -128,14 +131,14 @@ pub(crate) fn move_request(rt: &HostRuntime, given: &Moving, done: Done) -> Resu
 }
 
 /// The import of a file into a customer's access tables.
-pub(crate) fn import_request(rt: &HostRuntime, given: &Import) -> Result<Request, Trouble>
+pub(crate) fn import_request(rt: &HostRuntime, given: &Import) -> Result<AdminCall, Trouble>
     ensures { ImportAsks given.now result }
 {
     let host = Host::parse(rt.alloc(), LOCALHOST)?;
     let entry = customer_of(rt, given.directory, given.customer)?;
     let label = Label::parse(rt.alloc(), given.label)?;
     let lines = file_of(rt, given.file)?;
-    Ok(Request {
+    Ok(AdminCall {
         host,
         at: Moment::no_later(NO_MOMENT),
         entry,
@@ -144,12 +147,16 @@ pub(crate) fn import_request(rt: &HostRuntime, given: &Import) -> Result<Request
 }
 
 /// The sweep of the queue of the customer of this name.
-pub(crate) fn sweep_request(rt: &HostRuntime, given: &Sweep, name: &str) -> Result<Request, Trouble>
+pub(crate) fn sweep_request(
+    rt: &HostRuntime,
+    given: &Sweep,
+    name: &str,
+) -> Result<AdminCall, Trouble>
     ensures { SweepAsks given.now name.now result }
 {
     let host = Host::parse(rt.alloc(), given.host)?;
     let entry = customer_of(rt, given.directory, name)?;
-    Ok(Request {
+    Ok(AdminCall {
         host,
         at: given.at,
         entry,

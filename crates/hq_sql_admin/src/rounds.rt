@@ -8,14 +8,14 @@ ghost use Rattle.hq_sql_admin.specs.Rounds.{SweepAllEnds, UsageEnds};
 
 use crate::requests::{LOCALHOST, NO_MOMENT};
 use hq_admin::{ToldAll, call_each};
-use hq_calls::EachCall;
 use hq_desk::Desk;
-use hq_queue::Customer;
+use hq_kept::Customer;
+use hq_rules::EachCall;
 use hq_settings::{Trouble, customers_of};
 use hq_sql_shelf::{FileShelf, SqlShelf, open_file};
-use hq_store::Shelf;
+use hq_tables::Shelf;
 use hq_values::{Fault, Host, Moment};
-use hq_words::{Sweep, Usage};
+use hq_words::{Sweep, UsageWord};
 use sqlite::Alter;
 
 /// A call of each customer that is asked for.
@@ -91,7 +91,7 @@ pub fn sweep_all(rt: &HostRuntime, given: &Sweep) -> Result<ToldAll, Trouble>
 
 /// What each customer of a directory uses, in its order, up to the first fault. Checked in the
 /// order directory, store, which is made where it is missing.
-pub fn usage(rt: &HostRuntime, given: &Usage) -> Result<ToldAll, Trouble>
+pub fn usage(rt: &HostRuntime, given: &UsageWord) -> Result<ToldAll, Trouble>
     ensures { UsageEnds ⟦<FileShelf as Shelf>⟧.sight given.now result }
 {
     let at = Moment::no_later(NO_MOMENT);

@@ -8,10 +8,10 @@ use crate::over_file::perform_in_file;
 use crate::requests::{
     Done, history_request, import_request, move_request, queue_request, sweep_request,
 };
-use hq_desk::Rendered;
+use hq_rules::Rendered;
 use hq_settings::Trouble;
 use hq_sql_shelf::FileShelf;
-use hq_store::Shelf;
+use hq_tables::Shelf;
 use hq_words::{Import, Moving, Sweep, Telling};
 
 /// The queue report of a customer. Checked in the order directory, customer, pattern, store.

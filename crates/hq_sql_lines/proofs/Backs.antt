@@ -3,13 +3,13 @@ use Rattle.std.proofs.Common.{◌≡◌, ℕ, ℤ, Bool, true, false, List, [], 
 use Rattle.hq_values.specs.Readers.{checked}
 use Rattle.hq_values.specs.declared.failure.Refusal.TheVariants.{BadPattern}
 use Rattle.hq_values.specs.Addresses.{folded}
-use Rattle.hq_access.specs.Actions.{action_text}
-use Rattle.hq_access.specs.Patterns.{class_name, is_pattern, pattern_in}
-use Rattle.hq_access.specs.declared.action.Action.{Action}
-use Rattle.hq_access.specs.declared.action.Action.TheVariants.{Okay, Reject, Defer, Dunno, Discard}
-use Rattle.hq_access.specs.declared.action.Action.TheVariants.{Hold, Redirect}
-use Rattle.hq_access.specs.declared.pattern.Class.{Class}
-use Rattle.hq_access.specs.declared.pattern.Class.TheVariants.{SenderSide, RecipientSide}
+use Rattle.hq_kept.specs.Actions.{action_text}
+use Rattle.hq_kept.specs.Patterns.{class_name, is_pattern, pattern_in}
+use Rattle.hq_kept.specs.declared.action.Action.{Action}
+use Rattle.hq_kept.specs.declared.action.Action.TheVariants.{Okay, Reject, Defer, Dunno, Discard}
+use Rattle.hq_kept.specs.declared.action.Action.TheVariants.{Hold, Redirect}
+use Rattle.hq_kept.specs.declared.pattern.Class.{Class}
+use Rattle.hq_kept.specs.declared.pattern.Class.TheVariants.{SenderSide, RecipientSide}
 use Rattle.hq_rows.specs.declared.rows.LineRow.{LineRow}
 use Rattle.hq_sql.specs.Rows.{class_of, action_of, line_stored, line_read}
 

@@ -15,14 +15,14 @@ use Rattle.sqlite_typed.proofs.TestLemmas.{last_key}
 use Rattle.sqlite_keyed.specs.Lists.{sort_by}
 use Rattle.sqlite_keyed.proofs.ListLemmas.{map-map}
 use Rattle.hq_keyed.proofs.Terms.{text_is}
-use Rattle.hq_access.specs.Patterns.{class_name}
-use Rattle.hq_access.specs.declared.pattern.Class.{Class}
-use Rattle.hq_access.specs.declared.pattern.Line.{Line}
+use Rattle.hq_kept.specs.Patterns.{class_name}
+use Rattle.hq_kept.specs.declared.pattern.Class.{Class}
+use Rattle.hq_kept.specs.declared.pattern.Line.{Line}
 use Rattle.hq_rows.specs.declared.rows.LineRow.{LineRow}
-use Rattle.hq_store.specs.Tables.{text_cmp, class_cmp, lines_cmp}
+use Rattle.hq_tables.specs.Tables.{text_cmp, class_cmp, lines_cmp}
 use Rattle.hq_rows.specs.Listed.{line_row_key}
 use Rattle.hq_rows.specs.Lookups.{is_after_pattern, AreUniqueLines, line_rows_with}
-use Rattle.hq_store.specs.Readings.{read_tables, after_pattern}
+use Rattle.hq_tables.specs.Readings.{read_tables, after_pattern}
 use Rattle.hq_rows.proofs.LinePages.{line_pages, after_is}
 use Rattle.hq_rows.proofs.Pages.{sorted_found}
 use Rattle.hq_sql.specs.Rows.{line_stored, line_read, line_shown}

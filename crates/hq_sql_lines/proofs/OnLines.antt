@@ -14,13 +14,13 @@ use Rattle.sqlite_typed.proofs.TestLemmas.{then_term, last_term, then_value}
 use Rattle.hq_keyed.proofs.Terms.{text_is}
 use Rattle.hq_keyed.proofs.Writes.{cast_null, cast_int}
 use Rattle.hq_schema.specs.Schema as schema
-use Rattle.hq_access.specs.Patterns.{class_name}
-use Rattle.hq_access.specs.declared.action.Action.{Action}
-use Rattle.hq_access.specs.declared.pattern.Class.{Class}
+use Rattle.hq_kept.specs.Patterns.{class_name}
+use Rattle.hq_kept.specs.declared.action.Action.{Action}
+use Rattle.hq_kept.specs.declared.pattern.Class.{Class}
 use Rattle.hq_rows.specs.declared.rows.LineRow.{LineRow}
-use Rattle.hq_store.specs.Tables.{text_cmp, class_cmp, line_cmp, lines_cmp}
+use Rattle.hq_tables.specs.Tables.{text_cmp, class_cmp, line_cmp, lines_cmp}
 use Rattle.hq_rows.specs.Listed.{line_row_key, line_row_value}
-use Rattle.hq_store.proofs.Orders.{lines_total, lines_exact}
+use Rattle.hq_tables.proofs.Orders.{lines_total, lines_exact}
 use Rattle.hq_sql.specs.Rows.{line_columns, line_stored, line_read, line_shown}
 use Rattle.hq_sql_lines.specs.Lines.{tables_with_line, tables_without_line, line_key_columns}
 use Rattle.hq_sql_lines.proofs.Backs.{line_back}

@@ -13,11 +13,11 @@ use Rattle.sqlite_typed.proofs.TestLemmas.{then_term, last_term, then_value}
 use Rattle.hq_keyed.proofs.Terms.{text_is}
 use Rattle.hq_keyed.proofs.Writes.{cast_null, cast_int}
 use Rattle.hq_schema.specs.Schema as schema
-use Rattle.hq_store.specs.declared.mark.Mark.{Mark}
+use Rattle.hq_kept.specs.declared.mark.Mark.{Mark}
 use Rattle.hq_rows.specs.declared.rows.MarkRow.{MarkRow}
-use Rattle.hq_store.specs.Tables.{text_cmp, mark_cmp}
+use Rattle.hq_tables.specs.Tables.{text_cmp, mark_cmp}
 use Rattle.hq_rows.specs.Listed.{mark_key, mark_value}
-use Rattle.hq_store.proofs.Orders.{mark_total, mark_exact}
+use Rattle.hq_tables.proofs.Orders.{mark_total, mark_exact}
 use Rattle.hq_sql.specs.Rows.{mark_columns, mark_stored, mark_read, mark_shown}
 use Rattle.hq_sql_lines.specs.Marks.{with_mark, without_mark, mark_key_columns}
 use Rattle.hq_sql.specs.Tables.{IsDesk, Leaves, tables_in}

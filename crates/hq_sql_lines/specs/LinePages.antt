@@ -3,9 +3,9 @@
 use Rattle.std.specs.Prelude.{ℕ, List, [], ◌∷◌, map}
 use Rattle.sqlite.specs.declared.types.Value.TheVariants.{Text}
 use Rattle.sqlite.specs.Order.{Row}
-use Rattle.hq_access.specs.Patterns.{class_name}
-use Rattle.hq_access.specs.declared.pattern.Class.{Class}
-use Rattle.hq_access.specs.declared.pattern.Line.{Line}
+use Rattle.hq_kept.specs.Patterns.{class_name}
+use Rattle.hq_kept.specs.declared.pattern.Class.{Class}
+use Rattle.hq_kept.specs.declared.pattern.Line.{Line}
 use Rattle.hq_keyed.specs.Values.{number}
 use Rattle.hq_sql.specs.Rows.{line_shown}
 

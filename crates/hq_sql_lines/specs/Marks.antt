@@ -4,10 +4,10 @@ use Rattle.std.specs.Prelude.{ℕ, pos, List, [], ◌∷◌}
 use Rattle.std.specs.FinMap.{insert, remove}
 use Rattle.sqlite.specs.declared.types.Value.TheVariants.{Text}
 use Rattle.sqlite.specs.Order.{Row}
-use Rattle.hq_store.specs.declared.mark.Mark.{Mark}
+use Rattle.hq_kept.specs.declared.mark.Mark.{Mark}
 use Rattle.hq_rows.specs.declared.rows.MarkRow.{MarkRow}
 use Rattle.hq_rows.specs.Listed.{mark_key, mark_value}
-use Rattle.hq_store.specs.Tables.{Tables}
+use Rattle.hq_tables.specs.Tables.{Tables}
 use Rattle.hq_sql_lines.specs.declared.bind.MarkNumbers.{MarkNumbers}
 
 abbrev pub mark_row : List ℕ → Mark → MarkRow

@@ -3,14 +3,13 @@
 ghost use Rattle.std.specs.Prelude.{◌≡◌, ℕ, pos, [], ◌∷◌, IfOk};
 ghost use Rattle.sqlite.specs.Values.{bound};
 ghost use Rattle.sqlite.specs.declared.types.Value.TheVariants.{Text};
-ghost use Rattle.hq_access.specs.Patterns.{class_name};
+ghost use Rattle.hq_kept.specs.Patterns.{class_name};
 ghost use Rattle.hq_sql.specs.Rows.{mark_columns};
 ghost use Rattle.hq_sql_lines.specs.LinePages.{first_columns, after_columns};
 ghost use Rattle.hq_sql_lines.specs.Marks.{mark_key_columns, mark_numbers, mark_row};
 
-use hq_access::{Class, Pattern};
+use hq_kept::{Class, Mark, Pattern};
 use hq_sql::bind::{RowLimit, large};
-use hq_store::Mark;
 use hq_values::{Label, Name};
 use sqlite::Error;
 use sqlite::types::ValueRef;

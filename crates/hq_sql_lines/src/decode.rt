@@ -6,9 +6,8 @@ ghost use Rattle.hq_sql.specs.Rows.{line_shown, mark_shown};
 ghost use Rattle.hq_sql_lines.specs.LinePages.{page_line};
 
 use crate::read;
-use hq_access::{Action, Line};
+use hq_kept::{Action, Line, Mark};
 use hq_sql::read::number;
-use hq_store::Mark;
 use sqlite::{Error, Row};
 use std::alloc::Global;
 

@@ -3,12 +3,12 @@
 
 ghost use Rattle.std.specs.Prelude.{◌≡◌, Some, [], ◌∷◌, ◌++◌, option_map, take};
 ghost use Rattle.sqlite.specs.Held.{state};
-ghost use Rattle.hq_store.specs.Readings.{read_tables, after_pattern};
+ghost use Rattle.hq_tables.specs.Readings.{read_tables, after_pattern};
 ghost use Rattle.hq_sql.specs.Kept.{Yields, Intact};
 ghost use Rattle.hq_sql_lines.specs.LinePages.{page_line};
 
 use crate::{bind, decode};
-use hq_access::{Line, Pattern};
+use hq_kept::{Line, Pattern};
 use hq_sql::lent;
 use hq_sql::lent::Taker;
 use hq_values::{Items, Name};

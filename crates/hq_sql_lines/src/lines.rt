@@ -3,7 +3,7 @@
 ghost use Rattle.std.specs.Prelude.{◌≡◌, IfOk, option_map, slice_get, is_some, string_bytes};
 ghost use Rattle.std.specs.FinMap.{get};
 ghost use Rattle.sqlite.specs.Held.{state};
-ghost use Rattle.hq_access.specs.Actions.{action_text};
+ghost use Rattle.hq_kept.specs.Actions.{action_text};
 ghost use Rattle.hq_rows.specs.Listed.{line_row_value};
 ghost use Rattle.hq_sql.specs.Kept.{Shows, Yields, Writes, Inserts, Updates, Intact};
 ghost use Rattle.hq_sql.specs.Kept.{KeepsCommitted};
@@ -11,7 +11,7 @@ ghost use Rattle.hq_sql_lines.specs.Lines.{line_row, tables_with_line, tables_wi
 ghost use Rattle.hq_sql.specs.Rows.{line_shown};
 
 use crate::{bind, decode};
-use hq_access::{Action, Class, Line, LookupKey, Pattern};
+use hq_kept::{Action, Class, Line, LookupKey, Pattern};
 use hq_values::Name;
 use sqlite::{Alter, Connection, Error, ErrorCode, Row};
 use std::alloc::Global;

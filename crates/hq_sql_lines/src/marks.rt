@@ -10,7 +10,7 @@ ghost use Rattle.hq_sql.specs.Rows.{mark_shown};
 ghost use Rattle.hq_sql_lines.specs.Marks.{mark_row, with_mark, without_mark};
 
 use crate::{bind, decode};
-use hq_store::Mark;
+use hq_kept::Mark;
 use hq_values::{Label, Name};
 use sqlite::{Alter, Connection, Error, Row};
 use std::alloc::Global;

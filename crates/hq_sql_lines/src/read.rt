@@ -4,10 +4,10 @@
 ghost use Rattle.std.specs.Prelude.{◌≡◌, IfOk};
 ghost use Rattle.std.specs.List.{after_first, before_first};
 ghost use Rattle.sqlite.specs.Order.{column};
-ghost use Rattle.hq_access.specs.Actions.{is_space};
+ghost use Rattle.hq_kept.specs.Actions.{is_space};
 ghost use Rattle.hq_sql.specs.Rows.{blob_in, value_text, class_of, action_of, action_of_verb};
 
-use hq_access::{Action, Class, Pattern};
+use hq_kept::{Action, Class, Pattern};
 use hq_sql::read::{text, unread};
 use hq_values::{Address, Fail, Label, Text};
 use sqlite::{Error, Row};

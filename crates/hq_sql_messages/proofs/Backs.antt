@@ -1,7 +1,7 @@
 -- A message can be read back from its columns.
 use Rattle.std.proofs.Common.{◌≡◌, ℤ, Bool, true, false, refl}
-use Rattle.hq_queue.specs.declared.message.QueueState.{QueueState}
-use Rattle.hq_queue.specs.declared.message.QueueState.TheVariants as state
+use Rattle.hq_kept.specs.declared.message.QueueState.{QueueState}
+use Rattle.hq_kept.specs.declared.message.QueueState.TheVariants as state
 use Rattle.hq_rows.specs.declared.rows.MessageRow.{MessageRow}
 use Rattle.hq_values.specs.Senders.{sender_text}
 use Rattle.hq_sql.specs.Rows.{sender_of, state_of, state_code, truth, truth_in, message_stored}

@@ -15,9 +15,9 @@ use Rattle.hq_keyed.proofs.Terms.{text_is, number_is}
 use Rattle.hq_keyed.proofs.Writes.{cast_null, cast_int}
 use Rattle.hq_schema.specs.Schema as schema
 use Rattle.hq_rows.specs.declared.rows.HoldRow.{HoldRow}
-use Rattle.hq_store.specs.Tables.{text_cmp, message_cmp}
+use Rattle.hq_tables.specs.Tables.{text_cmp, message_cmp}
 use Rattle.hq_rows.specs.Listed.{hold_key, hold_value}
-use Rattle.hq_store.proofs.Orders.{message_total, message_exact}
+use Rattle.hq_tables.proofs.Orders.{message_total, message_exact}
 use Rattle.hq_sql.specs.Bound.{message_key_columns}
 use Rattle.hq_sql.specs.Rows.{hold_columns, hold_stored, hold_read, hold_shown}
 use Rattle.hq_sql_messages.specs.Holds.{with_hold, without_hold}

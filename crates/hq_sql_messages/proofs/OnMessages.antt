@@ -28,11 +28,11 @@ use Rattle.sqlite_typed.proofs.TestLemmas.{then_key, last_key}
 use Rattle.hq_keyed.proofs.Terms.{number_above, number_order, above_none, above_some}
 use Rattle.hq_owned.specs.Rows.{pairs_of}
 use Rattle.hq_rows.specs.declared.rows.MessageRow.{MessageRow}
-use Rattle.hq_store.specs.Tables as store
-use Rattle.hq_store.specs.Tables.{text_cmp, message_cmp}
+use Rattle.hq_tables.specs.Tables as store
+use Rattle.hq_tables.specs.Tables.{text_cmp, message_cmp}
 use Rattle.hq_rows.specs.Listed.{message_key, message_value}
 use Rattle.hq_rows.specs.Lookups.{is_after}
-use Rattle.hq_store.proofs.Orders.{message_total, message_exact}
+use Rattle.hq_tables.proofs.Orders.{message_total, message_exact}
 use Rattle.hq_sql.specs.Rows.{state_code, message_columns, message_stored, message_read}
 use Rattle.hq_sql.specs.Rows.{message_shown}
 use Rattle.hq_sql_messages.proofs.Backs.{IsReadable, message_back}

@@ -4,7 +4,7 @@ use Rattle.std.specs.Prelude.{ℕ, List}
 use Rattle.std.specs.FinMap.{insert, remove}
 use Rattle.hq_rows.specs.declared.rows.HoldRow.{HoldRow}
 use Rattle.hq_rows.specs.Listed.{hold_key, hold_value}
-use Rattle.hq_store.specs.Tables.{Tables, give_reason}
+use Rattle.hq_tables.specs.Tables.{Tables, give_reason}
 
 abbrev pub hold_row : List ℕ → ℕ → List ℕ → HoldRow
 hold_row customer serial reason = record { customer = customer; serial = serial; reason = reason }

@@ -10,8 +10,8 @@ use Rattle.sqlite.specs.declared.error.Error.{Error}
 use Rattle.sqlite.specs.State.{State, HasCleanDisk}
 use Rattle.hq_sql.specs.Tables.{IsDesk, Leaves, tables_in}
 use Rattle.hq_keyed.specs.Values.{number}
-use Rattle.hq_queue.specs.declared.message.Message.{Message}
-use Rattle.hq_store.specs.Tables.{Tables, Row, text_cmp, row_of, message_of}
+use Rattle.hq_kept.specs.declared.message.Message.{Message}
+use Rattle.hq_tables.specs.Tables.{Tables, Row, text_cmp, row_of, message_of}
 use Rattle.hq_rows.specs.Listed.{message_value}
 use Rattle.hq_rows.specs.Lookups.{is_after}
 use Rattle.hq_sql.specs.Rows.{message_shown}

@@ -3,7 +3,7 @@
 ghost use Rattle.std.specs.Prelude.{option_map, slice_get};
 ghost use Rattle.std.specs.FinMap.{get};
 ghost use Rattle.sqlite.specs.Held.{state};
-ghost use Rattle.hq_store.specs.Tables.{reason_of};
+ghost use Rattle.hq_tables.specs.Tables.{reason_of};
 ghost use Rattle.hq_rows.specs.Listed.{hold_value};
 ghost use Rattle.hq_sql.specs.Kept.{Shows, Yields, Writes, Inserts, Intact};
 ghost use Rattle.hq_sql.specs.Kept.{KeepsCommitted};
@@ -36,7 +36,7 @@ fn query<S: Alter>(
 }
 
 /// The reason of the customer's message; empty where it is not on hold.
-#[tactic(auto, unfolding(hq_store::specs::Tables::reason_of))]
+#[tactic(auto, unfolding(hq_tables::specs::Tables::reason_of))]
 pub fn reason<S: Alter>(
     alloc: Global,
     conn: &mut Connection<S>,
@@ -102,7 +102,7 @@ fn set<S: Alter>(
 }
 
 /// Sets the reason of a message; an empty one is not kept.
-#[tactic(auto, unfolding(hq_store::specs::Tables::give_reason))]
+#[tactic(auto, unfolding(hq_tables::specs::Tables::give_reason))]
 pub fn put<S: Alter>(
     conn: &mut Connection<S>,
     customer: &Name,

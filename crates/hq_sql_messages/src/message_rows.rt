@@ -2,12 +2,12 @@
 
 ghost use Rattle.std.specs.Prelude.{◌≡◌, IfOk, option_map, slice_get};
 ghost use Rattle.sqlite.specs.Order.{column};
-ghost use Rattle.hq_store.specs.Tables.{message_of};
+ghost use Rattle.hq_tables.specs.Tables.{message_of};
 ghost use Rattle.hq_rows.specs.Listed.{message_value};
 ghost use Rattle.hq_sql.specs.Rows.{value_text, value_number, truth_in, state_of};
 ghost use Rattle.hq_sql.specs.Rows.{message_shown};
 
-use hq_queue::{Message, Pending, QueueState};
+use hq_kept::{Message, Pending, QueueState};
 use hq_sql::{read, values};
 use hq_values::{Items, Serial, Spool, Text};
 use sqlite::{Error, Row};

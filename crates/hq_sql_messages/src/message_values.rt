@@ -7,7 +7,7 @@ ghost use Rattle.hq_rows.specs.Lookups.{message_row};
 ghost use Rattle.hq_sql.specs.Rows.{sender_of, state_code, message_columns};
 ghost use Rattle.hq_sql_messages.specs.Messages.{above_number, message_page_columns, spool_columns};
 
-use hq_queue::{Message, QueueState};
+use hq_kept::{Message, QueueState};
 use hq_sql::bind::{RowLimit, serial, small};
 use hq_values::{Moment, Name, Sender, Serial, Spool};
 use sqlite::types::ValueRef;

@@ -14,7 +14,7 @@ ghost use Rattle.hq_sql_messages.specs.Messages.{is_on_page, has_spool_name};
 ghost use Rattle.hq_sql_messages.specs.Messages.{bare, bare_entry};
 
 use crate::{message_rows, message_values};
-use hq_queue::Message;
+use hq_kept::Message;
 use hq_sql::lent;
 use hq_sql::lent::Taker;
 use hq_values::{Items, Name, Serial, Spool, Text};

@@ -4,9 +4,9 @@ use Rattle.std.proofs.Common.{None, sym, ap, ◌∙◌, subst, arith}
 use Rattle.std.specs.FinMap.{get, insert}
 use Rattle.sqlite.specs.State.{State, HasCleanDisk}
 use Rattle.hq_keyed.proofs.Left.{clean_before}
-use Rattle.hq_queue.specs.declared.outcome.Ended.{Ended}
-use Rattle.hq_store.specs.Tables.{Tables, add_rows}
-use Rattle.hq_store.proofs.Added.{Rows, past, add_next, add_below, none_above}
+use Rattle.hq_kept.specs.declared.outcome.Ended.{Ended}
+use Rattle.hq_tables.specs.Tables.{Tables, add_rows}
+use Rattle.hq_tables.proofs.Added.{Rows, past, add_next, add_below, none_above}
 use Rattle.hq_sql.specs.Kept.{KeepsCommitted}
 use Rattle.hq_sql.specs.Tables.{IsDesk, Leaves, tables_in}
 use Rattle.hq_sql.proofs.Tables.{leaves_then}

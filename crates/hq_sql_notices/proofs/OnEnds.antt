@@ -25,13 +25,13 @@ use Rattle.hq_keyed.specs.Values.{number}
 use Rattle.hq_keyed.proofs.Terms.{text_is, number_order}
 use Rattle.hq_keyed.proofs.Writes.{cast_null, cast_int}
 use Rattle.hq_schema.specs.Schema as schema
-use Rattle.hq_queue.specs.declared.outcome.Fate.{Fate}
-use Rattle.hq_queue.specs.declared.outcome.Fate.TheVariants.{Delivered, Failed, Deleted, Expired}
-use Rattle.hq_store.specs.declared.end.End.{End}
+use Rattle.hq_kept.specs.declared.outcome.Fate.{Fate}
+use Rattle.hq_kept.specs.declared.outcome.Fate.TheVariants.{Delivered, Failed, Deleted, Expired}
+use Rattle.hq_kept.specs.declared.end.End.{End}
 use Rattle.hq_rows.specs.declared.rows.EndRow.{EndRow}
-use Rattle.hq_store.specs.Tables.{Past, text_cmp, end_cmp, end_of}
-use Rattle.hq_store.specs.Readings.{read_tables, before_end}
-use Rattle.hq_store.proofs.Orders.{end_total, end_exact}
+use Rattle.hq_tables.specs.Tables.{Past, text_cmp, end_cmp, end_of}
+use Rattle.hq_tables.specs.Readings.{read_tables, before_end}
+use Rattle.hq_tables.proofs.Orders.{end_total, end_exact}
 use Rattle.hq_rows.specs.Listed.{end_key, end_value}
 use Rattle.hq_rows.specs.Lookups.{is_before, AreUniqueEnds, end_rows_with}
 use Rattle.hq_rows.proofs.EndPages.{end_pages, before_is}

@@ -33,16 +33,16 @@ use Rattle.sqlite_keyed.specs.Lists.{sort_by}
 use Rattle.sqlite_keyed.proofs.ListLemmas.{map-map}
 use Rattle.hq_keyed.proofs.Select.{option_map-map}
 use Rattle.hq_keyed.proofs.Terms.{number_above, above_none, above_some, number_order}
-use Rattle.hq_queue.specs.declared.kind.Kind.{Kind}
-use Rattle.hq_queue.specs.declared.kind.Kind.TheVariants.{Failure, Delay}
-use Rattle.hq_store.specs.declared.notice.Notice.{Notice}
+use Rattle.hq_kept.specs.declared.kind.Kind.{Kind}
+use Rattle.hq_kept.specs.declared.kind.Kind.TheVariants.{Failure, Delay}
+use Rattle.hq_kept.specs.declared.notice.Notice.{Notice}
 use Rattle.hq_rows.specs.declared.rows.NoticeRow.{NoticeRow}
-use Rattle.hq_store.specs.Tables.{Noted, text_cmp, notice_cmp, notice_of}
+use Rattle.hq_tables.specs.Tables.{Noted, text_cmp, notice_cmp, notice_of}
 use Rattle.hq_rows.specs.Listed.{notice_key, notice_value}
 use Rattle.hq_rows.specs.Lookups.{is_after, is_notice, AreUniqueNotices, notice_rows_with}
-use Rattle.hq_store.specs.Readings.{read_tables, after_number}
+use Rattle.hq_tables.specs.Readings.{read_tables, after_number}
 use Rattle.hq_rows.proofs.Keys.{notice_found}
-use Rattle.hq_store.proofs.Orders.{message_total, message_exact}
+use Rattle.hq_tables.proofs.Orders.{message_total, message_exact}
 use Rattle.hq_rows.proofs.NoticePages.{notice_pages, after_is}
 use Rattle.hq_rows.proofs.Pages.{sorted_found}
 use Rattle.hq_sql.specs.Rows.{kind_code, kind_of, notice_columns, notice_stored, notice_read}

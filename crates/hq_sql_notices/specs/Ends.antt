@@ -6,12 +6,12 @@ use Rattle.sqlite.specs.declared.types.Value.TheVariants.{Text}
 use Rattle.sqlite.specs.Order.{Row}
 use Rattle.hq_values.specs.Senders.{sender_text}
 use Rattle.hq_keyed.specs.Values.{number}
-use Rattle.hq_queue.specs.declared.outcome.Ended.{Ended}
-use Rattle.hq_store.specs.declared.end.End.{End}
-use Rattle.hq_store.specs.declared.end.Ends.{Ends}
+use Rattle.hq_kept.specs.declared.outcome.Ended.{Ended}
+use Rattle.hq_kept.specs.declared.end.End.{End}
+use Rattle.hq_kept.specs.declared.end.Ends.{Ends}
 use Rattle.hq_rows.specs.declared.rows.EndRow.{EndRow}
 use Rattle.hq_rows.specs.Listed.{end_key, end_value}
-use Rattle.hq_store.specs.Tables.{Tables, left_of, last_before, add_rows}
+use Rattle.hq_tables.specs.Tables.{Tables, left_of, last_before, add_rows}
 use Rattle.hq_sql.specs.Rows.{fate_code, end_shown, sender_of, status_column, status_read}
 use Rattle.hq_sql_notices.specs.declared.end_values.EndNumbers.{EndNumbers}
 

@@ -5,10 +5,10 @@ use Rattle.std.specs.FinMap.{insert, remove, retain_keys}
 use Rattle.sqlite.specs.declared.types.Value.TheVariants.{Int, Text}
 use Rattle.sqlite.specs.Order.{Row}
 use Rattle.hq_keyed.specs.Values.{number}
-use Rattle.hq_store.specs.declared.notice.Notice.{Notice}
+use Rattle.hq_kept.specs.declared.notice.Notice.{Notice}
 use Rattle.hq_rows.specs.declared.rows.NoticeRow.{NoticeRow}
 use Rattle.hq_rows.specs.Listed.{notice_key, notice_value}
-use Rattle.hq_store.specs.Tables.{Tables, left_of}
+use Rattle.hq_tables.specs.Tables.{Tables, left_of}
 use Rattle.hq_sql.specs.Rows.{kind_code, notice_shown}
 use Rattle.hq_sql_notices.specs.declared.notice_values.NoticeNumbers.{NoticeNumbers}
 

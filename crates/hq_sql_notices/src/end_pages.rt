@@ -3,14 +3,14 @@
 
 ghost use Rattle.std.specs.Prelude.{◌≡◌, [], ◌∷◌, ◌++◌, Some, None, take};
 ghost use Rattle.sqlite.specs.Held.{state};
-ghost use Rattle.hq_store.specs.Readings.{read_tables, before_end};
+ghost use Rattle.hq_tables.specs.Readings.{read_tables, before_end};
 ghost use Rattle.hq_sql.specs.Kept.{Yields, Intact};
 ghost use Rattle.hq_sql_notices.specs.Ends.{end_in};
 
 use crate::{end_rows, end_values, numbered};
+use hq_kept::End;
 use hq_sql::bind::limit as row_limit;
 use hq_sql::lent::{Taker, walk};
-use hq_store::End;
 use hq_values::{Items, Name};
 use sqlite::{Alter, Connection, Error, Row};
 use std::alloc::Global;

@@ -5,9 +5,8 @@ ghost use Rattle.sqlite.specs.Order.{column};
 ghost use Rattle.hq_sql.specs.Rows.{fate_of, value_number};
 ghost use Rattle.hq_sql.specs.Rows.{end_shown};
 
-use hq_queue::{Ended, Fate};
+use hq_kept::{End, Ended, Fate};
 use hq_sql::{read, values};
-use hq_store::End;
 use sqlite::{Error, Row};
 use std::alloc::Global;
 

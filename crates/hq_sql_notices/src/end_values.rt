@@ -8,7 +8,7 @@ ghost use Rattle.hq_sql_notices.specs.Ends.{end_at, end_numbers, end_row};
 ghost use Rattle.hq_sql_notices.specs.Ends.{newest_columns, page_columns, AreReadable};
 
 use crate::numbered::NumberColumn;
-use hq_queue::{Ended, Fate, Status};
+use hq_kept::{Ended, Fate, Status};
 use hq_sql::bind::{RowLimit, large};
 use hq_values::{Moment, Name, Sender};
 use sqlite::Error;

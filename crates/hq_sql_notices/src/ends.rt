@@ -8,8 +8,7 @@ ghost use Rattle.hq_sql_notices.specs.Ends.{end_at, end_row, with_end, with_ends
 ghost use Rattle.hq_sql_notices.specs.Ends.{without_to};
 
 use crate::{end_values, numbered};
-use hq_queue::Ended;
-use hq_store::Ends;
+use hq_kept::{Ended, Ends};
 use hq_values::{Moment, Name};
 use sqlite::{Alter, Connection, Error};
 

@@ -3,14 +3,14 @@
 
 ghost use Rattle.std.specs.Prelude.{◌≡◌, [], ◌∷◌, ◌++◌, take};
 ghost use Rattle.sqlite.specs.Held.{state};
-ghost use Rattle.hq_store.specs.Readings.{read_tables, after_number};
+ghost use Rattle.hq_tables.specs.Readings.{read_tables, after_number};
 ghost use Rattle.hq_sql.specs.Kept.{Yields, Intact};
 ghost use Rattle.hq_sql_notices.specs.Notices.{notice_in};
 
 use crate::{notice_rows, notice_values};
+use hq_kept::Notice;
 use hq_sql::bind::limit as row_limit;
 use hq_sql::lent::{Taker, walk};
-use hq_store::Notice;
 use hq_values::{Items, Name};
 use sqlite::{Alter, Connection, Error, Row};
 use std::alloc::Global;

@@ -4,9 +4,8 @@ ghost use Rattle.std.specs.Prelude.{◌≡◌, IfOk, option_map, slice_get};
 ghost use Rattle.sqlite.specs.Order.{column};
 ghost use Rattle.hq_sql.specs.Rows.{kind_of, value_number, value_text, notice_shown};
 
-use hq_queue::Kind;
+use hq_kept::{Kind, Notice};
 use hq_sql::{read, values};
-use hq_store::Notice;
 use hq_values::WrittenText;
 use sqlite::{Error, Row};
 use std::alloc::Global;

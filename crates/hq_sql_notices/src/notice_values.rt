@@ -7,9 +7,8 @@ ghost use Rattle.hq_sql_notices.specs.Notices.{from_number, notice_numbers};
 ghost use Rattle.hq_sql_notices.specs.Notices.{notice_row, notice_page_columns};
 
 use crate::numbered::{NumberColumn, number};
-use hq_queue::Kind;
+use hq_kept::{Kind, Notice};
 use hq_sql::bind::{RowLimit, large};
-use hq_store::Notice;
 use hq_values::Name;
 use sqlite::Error;
 use sqlite::types::ValueRef;

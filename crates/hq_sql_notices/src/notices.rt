@@ -3,7 +3,7 @@
 ghost use Rattle.std.specs.Prelude.{option_map, slice_get};
 ghost use Rattle.std.specs.FinMap.{get};
 ghost use Rattle.sqlite.specs.Held.{state};
-ghost use Rattle.hq_store.specs.Tables.{Noted, notice_of};
+ghost use Rattle.hq_tables.specs.Tables.{Noted, notice_of};
 ghost use Rattle.hq_sql.specs.Kept.{Shows, Yields, Writes, Inserts, Intact};
 ghost use Rattle.hq_sql.specs.Kept.{KeepsCommitted};
 ghost use Rattle.hq_sql.specs.Rows.{notice_shown};
@@ -11,7 +11,7 @@ ghost use Rattle.hq_sql_notices.specs.Notices.{notice_row, with_notice, without_
 ghost use Rattle.hq_sql_notices.specs.Notices.{without_below};
 
 use crate::{notice_rows, notice_values, numbered};
-use hq_store::Notice;
+use hq_kept::Notice;
 use hq_values::Name;
 use sqlite::{Alter, Connection, Error, Row};
 use std::alloc::Global;

@@ -22,8 +22,8 @@ use Rattle.hq_keyed.proofs.Select.{answer_is}
 use Rattle.hq_keyed.proofs.Stops.{may_end, write_leaves_no_more, query_leaves_no_more}
 use Rattle.hq_keyed.proofs.Writes.{inserted, cast_null, cast_int}
 use Rattle.hq_schema.specs.Schema.{desk_schema, version_alone, version}
-use Rattle.hq_store.specs.Tables.{no_tables, text_cmp, message_cmp, recipient_cmp, lines_cmp}
-use Rattle.hq_store.specs.Tables.{mark_cmp, notice_cmp, end_cmp}
+use Rattle.hq_tables.specs.Tables.{no_tables, text_cmp, message_cmp, recipient_cmp, lines_cmp}
+use Rattle.hq_tables.specs.Tables.{mark_cmp, notice_cmp, end_cmp}
 use Rattle.hq_rows.specs.Listed.{head_key, message_key, recipient_key, hold_key, line_row_key}
 use Rattle.hq_rows.specs.Listed.{mark_key, notice_key, heads_of, messages_of, recipients_of}
 use Rattle.hq_rows.specs.Listed.{holds_of, lines_of, marks_of, notices_of, end_key, ends_of}

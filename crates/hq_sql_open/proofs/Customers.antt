@@ -4,8 +4,8 @@ use Rattle.sqlite.specs.Effect.{Database}
 use Rattle.sqlite.specs.Order.{column}
 use Rattle.hq_values.specs.Words.{earlier_hold}
 use Rattle.hq_sql_open.specs.Lifted.{lift, FirstSound}
-use Rattle.hq_store.specs.Sound.{Sound}
-use Rattle.hq_store.specs.Tables.{own}
+use Rattle.hq_tables.specs.Sound.{Sound}
+use Rattle.hq_tables.specs.Tables.{own}
 use Rattle.hq_sql_open.proofs.Lifted.{own_lifted, tables_lifted}
 use Rattle.hq_sql.specs.Tables.{IsDesk, tables_in}
 use Rattle.hq_sql_open.specs.Stores.{first_tables_in, lifted_in, IsThird, HoldsThird}

@@ -21,8 +21,8 @@ use Rattle.sqlite_value.proofs.OrderLemmas.{value_cmp-Text}
 use Rattle.hq_keyed.proofs.Keyed.{read_back}
 use Rattle.hq_keyed.proofs.Terms.{number_is, number_order}
 use Rattle.hq_keyed.proofs.Writes.{cast_null, cast_int}
-use Rattle.hq_queue.specs.declared.message.QueueState.{QueueState}
-use Rattle.hq_queue.specs.declared.message.QueueState.TheVariants.{Incoming, Deferred, Hold}
+use Rattle.hq_kept.specs.declared.message.QueueState.{QueueState}
+use Rattle.hq_kept.specs.declared.message.QueueState.TheVariants.{Incoming, Deferred, Hold}
 use Rattle.hq_owned.specs.Rows.{map_of, pairs_of, HasUniqueKeys}
 use Rattle.hq_owned.proofs.Pages.{sorted_rows}
 use Rattle.hq_owned.proofs.Unique.{unique_filter}
@@ -32,14 +32,14 @@ use Rattle.hq_rows.specs.declared.rows.MessageRow.{MessageRow}
 use Rattle.hq_sql_open.specs.Lifted.{on_hold, holds_for}
 use Rattle.hq_rows.specs.Listed.{message_key, message_value, messages_of, hold_key, hold_value}
 use Rattle.hq_rows.specs.Listed.{holds_of}
-use Rattle.hq_store.specs.Tables as store
-use Rattle.hq_store.specs.Tables.{message_cmp}
-use Rattle.hq_store.proofs.Orders.{message_total, message_exact}
-use Rattle.hq_store.proofs.Orders.{ascending}
+use Rattle.hq_tables.specs.Tables as store
+use Rattle.hq_tables.specs.Tables.{message_cmp}
+use Rattle.hq_tables.proofs.Orders.{message_total, message_exact}
+use Rattle.hq_tables.proofs.Orders.{ascending}
 use Rattle.hq_sql.specs.Rows.{state_code, message_stored, message_read, hold_stored, hold_read}
 use Rattle.hq_sql.specs.Tables.{AreMessages}
 use Rattle.hq_sql_open.specs.Migration.{AreReasons}
-use Rattle.hq_queue.specs.Moves.{is_on_hold}
+use Rattle.hq_kept.specs.Messages.{is_on_hold}
 use Rattle.hq_keyed.specs.Filled.{added}
 use Rattle.hq_keyed.proofs.Filling.{all_put, added_typed, added_rises}
 use Rattle.hq_keyed.proofs.Ordered as ordered

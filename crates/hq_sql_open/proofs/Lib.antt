@@ -3,7 +3,6 @@ pub mod Standings
 pub mod Making
 pub mod OpeningTexts
 pub mod Current
-pub mod Opened
 pub mod MigrationTexts
 pub mod Held
 pub mod Statements

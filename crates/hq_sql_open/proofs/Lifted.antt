@@ -12,22 +12,22 @@ use Rattle.std.specs.FinMap.{get-from_entries, len-entries, same_map}
 use Rattle.std.proofs.lemmas.Map.Lookups.{exact_unsigned}
 use Rattle.sqlite_trees.specs.Tree.{IsAscending}
 use Rattle.hq_values.specs.Words.{earlier_hold}
-use Rattle.hq_queue.specs.Moves.{is_on_hold}
-use Rattle.hq_queue.specs.declared.message.Message.{Message}
-use Rattle.hq_queue.specs.declared.message.QueueState.{QueueState}
-use Rattle.hq_queue.specs.declared.message.QueueState.TheVariants.{Incoming, Deferred, Hold}
+use Rattle.hq_kept.specs.Messages.{is_on_hold}
+use Rattle.hq_kept.specs.declared.message.Message.{Message}
+use Rattle.hq_kept.specs.declared.message.QueueState.{QueueState}
+use Rattle.hq_kept.specs.declared.message.QueueState.TheVariants.{Incoming, Deferred, Hold}
 use Rattle.hq_owned.specs.Owned.{part_of, map_values}
 use Rattle.hq_owned.proofs.Cases.{equal}
 use Rattle.hq_owned.proofs.Pages.{AreApart}
 use Rattle.hq_owned.proofs.Parts.{get_part, get-map_values, entries-map_values}
-use Rattle.hq_store.specs.Tables.{State, Tables, Row, text_cmp, message_cmp, own, joined}
-use Rattle.hq_store.specs.Tables.{message_of, pending_of, reason_of}
-use Rattle.hq_store.specs.Sound.{IsReasoned, IsQueuedBy, IsQueued, SoundStateBy, SoundState}
-use Rattle.hq_store.specs.Sound.{ShapedHolds, Sound, pending_count}
+use Rattle.hq_tables.specs.Tables.{State, Tables, Row, text_cmp, message_cmp, own, joined}
+use Rattle.hq_tables.specs.Tables.{message_of, pending_of, reason_of}
+use Rattle.hq_tables.specs.Sound.{IsReasoned, IsQueuedBy, IsQueued, SoundStateBy, SoundState}
+use Rattle.hq_tables.specs.Sound.{ShapedHolds, Sound, pending_count}
 use Rattle.hq_sql_open.specs.Lifted.{lifted, lift, on_hold, holds_for, lifted_tables, FirstSound}
-use Rattle.hq_store.proofs.Orders.{message_total, message_exact}
-use Rattle.hq_store.proofs.Read.{same_length, same_sum}
-use Rattle.hq_store.proofs.Orders.{ascending}
+use Rattle.hq_tables.proofs.Orders.{message_total, message_exact}
+use Rattle.hq_owned.proofs.Mapped.{same_length, same_sum}
+use Rattle.hq_tables.proofs.Orders.{ascending}
 use Rattle.hq_owned.proofs.Cases.{none_some, same_some}
 
 -- ---- a look-up among the reasons

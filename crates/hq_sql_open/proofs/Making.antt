@@ -1,13 +1,11 @@
 -- What making tables in turn leaves and keeps.
 use Rattle.std.proofs.Common.{◌≡◌, ℕ, List, [], ◌∷◌, ◌++◌, Result, Ok, Err, IsTrue, sym}
 use Rattle.std.proofs.Common.{ap, ◌∙◌, subst, arith}
-use Rattle.sqlite.specs.Change.{KeepsRows}
 use Rattle.sqlite.specs.Command.TheVariants.{CreateTable}
 use Rattle.sqlite.specs.Listing.{understood}
 use Rattle.sqlite.specs.Schema.{Schema}
 use Rattle.sqlite.specs.State.{State, HasCleanDisk, Executes, Survives, CommitsBy}
 use Rattle.sqlite.specs.Table.{Table}
-use Rattle.sqlite.specs.Tree.{Trees}
 use Rattle.sqlite.specs.declared.error.Error.{Error}
 use Rattle.sqlite_resolve.specs.declared.compiled.Compiled.{Compiled}
 use Rattle.sqlite_resolve.specs.declared.error.CompileError.{CompileError}
@@ -17,7 +15,7 @@ use Rattle.hq_keyed.specs.Made.{CreatesTable}
 use Rattle.hq_keyed.proofs.Left.{clean_before, execute_left, left_keeps, keeps_then}
 use Rattle.hq_keyed.proofs.Making.{makes, kept_by}
 use Rattle.hq_keyed.proofs.Stops.{may_end, write_leaves_no_more}
-use Rattle.hq_sql_open.specs.Making.{IsCreate, MakesTable, AreEmpty, GoesOn}
+use Rattle.hq_sql_open.specs.Making.{IsCreate, MakesTable, GoesOn}
 use Rattle.hq_sql_open.specs.Transactions.{KeepsAll}
 
 -- ---- what a text that makes a table is
@@ -84,15 +82,6 @@ keeps_itself a = record {
 }
 
 -- ---- no rows
-
-empty_on : (ts : List Table) (a b : Trees) → KeepsRows ts a b → AreEmpty ts a → AreEmpty ts b
-empty_on [] a b same empty = tt
-empty_on (t ∷ ts) a b same empty = (same.0 ∙ empty.0, empty_on ts a b same.1 empty.1)
-
-empty_and : (ts : List Table) (new : Table) (a : Trees) → AreEmpty ts a → a new.tree ≡ [] →
-    AreEmpty (ts ++ new ∷ []) a
-empty_and [] new a empty h = (h, tt)
-empty_and (t ∷ ts) new a empty h = (empty.0, empty_and ts new a empty.1 h)
 
 pub goes_then : (a b c : State) → GoesOn a b → GoesOn b c → GoesOn a c
 goes_then a b c p q = record {

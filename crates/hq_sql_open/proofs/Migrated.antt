@@ -16,20 +16,20 @@ use Rattle.hq_schema.proofs.Texts.{holds_made_last, ends_made_last}
 use Rattle.hq_sql_open.specs.Lifted.{holds_for}
 use Rattle.hq_rows.specs.Listed.{holds_of, heads_of, messages_of, recipients_of, lines_of, marks_of}
 use Rattle.hq_rows.specs.Listed.{notices_of, ends_of, end_key}
-use Rattle.hq_store.specs.Tables.{Tables, end_cmp}
+use Rattle.hq_tables.specs.Tables.{Tables, end_cmp}
 use Rattle.hq_sql.specs.Rows.{hold_read, head_read, message_read, recipient_read, line_read}
 use Rattle.hq_sql.specs.Rows.{mark_read, notice_read, end_read}
 use Rattle.hq_sql.specs.Tables.{AreHolds, AreHeads, AreMessages, AreRecipients, AreLines, AreMarks}
 use Rattle.hq_sql.specs.Tables.{AreNotices}
 use Rattle.hq_sql_open.specs.Found.{desk_with}
 use Rattle.hq_sql_open.specs.Making.{GoesOn}
-use Rattle.hq_sql_open.specs.Transactions.{IsBegun, IsDone, LeavesAlso, KeepsAll}
+use Rattle.hq_sql_open.specs.Transactions.{IsBegun, LeavesAlso, KeepsAll}
 use Rattle.hq_sql_open.proofs.Making.{goes_then, keeps_next}
 use Rattle.hq_sql_open.specs.Stores.{first_tables_in, second_tables_in, count_on_hold}
 use Rattle.hq_sql_open.specs.Stores.{HasVersion}
 use Rattle.hq_sql_open.specs.Stores.{HoldsRows, IsFirst, IsSecond, HoldsThird, lifted_in}
 use Rattle.hq_sql_open.specs.Migration.{HasEmptyHolds, SameRows, Widens, Fills, Stamps, Lifts}
-use Rattle.hq_sql_open.specs.Migration.{Raises, MakesThird, CommitsThird, TreesOfThird}
+use Rattle.hq_sql_open.specs.Migration.{Raises, MakesThird, TreesOfThird}
 use Rattle.hq_sql_open.specs.Migration.{LeavesThird}
 use Rattle.hq_sql.proofs.Tables.{no_index, apart}
 
@@ -44,16 +44,6 @@ same_then a b c p q = record {
   lines = q.lines ∙ p.lines;
   notices = q.notices ∙ p.notices;
   marks = q.marks ∙ p.marks;
-}
-
-rows_kept : (a b : Database) → HoldsRows a → SameRows a b → HoldsRows b
-rows_kept a b rows same = record {
-  heads = subst AreHeads (sym same.heads) rows.heads;
-  messages = subst AreMessages (sym same.messages) rows.messages;
-  recipients = subst AreRecipients (sym same.recipients) rows.recipients;
-  lines = subst AreLines (sym same.lines) rows.lines;
-  notices = subst AreNotices (sym same.notices) rows.notices;
-  marks = subst AreMarks (sym same.marks) rows.marks;
 }
 
 version_kept : (a b : Database) (n : ℕ) → HasVersion a n → SameRows a b → HasVersion b n
@@ -291,18 +281,6 @@ module _ (Is : Database → Type 0) (made : Database → Tables) (a b c d : Stat
   third_from begun makes = subst (λ db. HoldsThird (made db) c.now) begun.now_is
       (makes (begun_on begun)).holds
 
-  pub committed_third : IsBegun a b → (Is b.now → MakesThird (made b.now) b c) → IsDone c d →
-      CommitsThird (made a.now) d
-  committed_third begun makes done = record {
-    settled = record {
-      is_open = done.is_open;
-      mode = done.mode;
-      now = done.now_is
-          ∙ sym done.committed_is;
-    };
-    holds = subst (HoldsThird (made a.now)) (sym done.now_is) (third_from begun makes);
-  }
-
   -- the trees that the commit was to leave
   whole : IsDatabase c.now → HoldsThird (made a.now) c.now → TreesOfThird (made a.now) c.now.trees
   whole sound l =
@@ -324,10 +302,3 @@ module _ (Is : Database → Type 0) (made : Database → Tables) (a b c d : Stat
             (whole (live (makes clean_c (begun_on began)).is_open).0
             (third_from began (makes clean_c))))
       ]
-
--- how many are on hold is the same before a transaction began
-pub count_from : (a b : State) (count : ℕ) → IsBegun a b →
-    count ≡ count_on_hold (first_tables_in b.now).messages →
-    count ≡ count_on_hold (first_tables_in a.now).messages
-count_from a b count begun is = is ∙ ap
-    (λ (db : Database). count_on_hold (first_tables_in db).messages) begun.now_is

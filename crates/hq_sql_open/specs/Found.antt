@@ -3,7 +3,7 @@ use Rattle.std.specs.Prelude.{◌≡◌}
 use Rattle.sqlite.specs.Effect.{Database, IsDatabase}
 use Rattle.sqlite.specs.Tree.{Trees}
 use Rattle.hq_schema.specs.Schema.{desk_schema}
-use Rattle.hq_store.specs.Tables.{Tables}
+use Rattle.hq_tables.specs.Tables.{Tables}
 use Rattle.hq_sql.specs.Tables.{IsDesk, tables_in}
 
 -- a store with these trees, and the schema of a desk

@@ -2,10 +2,10 @@
 use Rattle.std.specs.Prelude.{ℕ, Bool, ⊤, List, [], map, filter, if◌then◌else◌}
 use Rattle.std.specs.FinMap.{FinMap, entries, from_entries}
 use Rattle.hq_values.specs.Words.{earlier_hold}
-use Rattle.hq_queue.specs.Moves.{is_on_hold}
-use Rattle.hq_queue.specs.declared.message.Message.{Message}
-use Rattle.hq_store.specs.Tables.{State, Tables, Row, message_cmp}
-use Rattle.hq_store.specs.Sound.{SoundBy}
+use Rattle.hq_kept.specs.Messages.{is_on_hold}
+use Rattle.hq_kept.specs.declared.message.Message.{Message}
+use Rattle.hq_tables.specs.Tables.{State, Tables, Row, message_cmp}
+use Rattle.hq_tables.specs.Sound.{SoundBy}
 use Rattle.hq_owned.specs.Owned.{map_values}
 
 -- a message on hold gets that reason, and any other none

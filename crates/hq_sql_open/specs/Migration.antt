@@ -11,7 +11,7 @@ use Rattle.sqlite_rules.specs.Edit.{IsNoIndex}
 use Rattle.hq_keyed.specs.Left.{IsQuiet, LeavesNoMore}
 use Rattle.hq_keyed.specs.Values.{number}
 use Rattle.hq_schema.specs.Schema.{first_schema, second_schema, desk_schema}
-use Rattle.hq_store.specs.Tables.{Tables}
+use Rattle.hq_tables.specs.Tables.{Tables}
 use Rattle.hq_sql_open.specs.Lifted.{holds_for}
 use Rattle.hq_rows.specs.Listed.{messages_of, holds_of}
 use Rattle.hq_sql.specs.Rows.{message_read, hold_read}

@@ -11,7 +11,7 @@ use Rattle.sqlite.specs.State.{State, HasCleanDisk, IsUnchanged, KeepsCommit}
 use Rattle.sqlite.specs.Tree.{Trees}
 use Rattle.hq_keyed.specs.Left.{IsQuiet, LeavesNoMore}
 use Rattle.hq_schema.specs.Schema.{no_schema, version_alone, desk_schema}
-use Rattle.hq_store.specs.Tables.{no_tables}
+use Rattle.hq_tables.specs.Tables.{no_tables}
 use Rattle.hq_sql_open.specs.Found.{HoldDesk}
 use Rattle.hq_sql_open.specs.Transactions.{IsSettled, Commits}
 

@@ -8,7 +8,7 @@ use Rattle.hq_keyed.specs.Values.{number}
 use Rattle.hq_schema.specs.Schema.{first_schema, second_schema, desk_schema}
 use Rattle.hq_sql_open.specs.Lifted.{on_hold, holds_for}
 use Rattle.hq_rows.specs.Listed.{holds_of}
-use Rattle.hq_store.specs.Tables.{Tables, Row, message_cmp}
+use Rattle.hq_tables.specs.Tables.{Tables, Row, message_cmp}
 use Rattle.hq_sql.specs.Rows.{hold_read}
 use Rattle.hq_sql.specs.Tables.{tables_in, AreHeads, AreMessages, AreRecipients, AreLines}
 use Rattle.hq_sql.specs.Tables.{AreNotices, AreMarks, AreHolds, AreEnds}

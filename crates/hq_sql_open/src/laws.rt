@@ -2,8 +2,8 @@
 //! them. Each is an empty function whose contract is the law.
 
 ghost use Rattle.std.specs.Prelude.{◌≡◌, ℕ, List};
-ghost use Rattle.hq_store.specs.Tables.{Tables, own};
-ghost use Rattle.hq_store.specs.Sound.{Sound};
+ghost use Rattle.hq_tables.specs.Tables.{Tables, own};
+ghost use Rattle.hq_tables.specs.Sound.{Sound};
 ghost use Rattle.hq_sql_open.specs.Lifted.{lift, lifted_tables, FirstSound};
 
 /// What a migration makes of the tables it makes of each customer's state.

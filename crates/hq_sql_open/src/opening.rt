@@ -9,7 +9,7 @@ ghost use Rattle.sqlite.specs.State.{HasCleanDisk, IsUnchanged};
 ghost use Rattle.sqlite.specs.Table.{Table};
 ghost use Rattle.hq_keyed.specs.Left.{IsQuiet};
 ghost use Rattle.hq_schema.specs.Schema.{no_schema, version_alone, desk_schema};
-ghost use Rattle.hq_store.specs.Tables.{no_tables};
+ghost use Rattle.hq_tables.specs.Tables.{no_tables};
 ghost use Rattle.hq_sql.specs.Tables.{Leaves};
 ghost use Rattle.hq_sql_open.specs.Making.{MakeTables, AreEmpty};
 ghost use Rattle.hq_sql_open.specs.Opening.{IsUnmade, IsVersioned, Opens, KeepsOpening};

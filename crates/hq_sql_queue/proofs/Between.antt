@@ -10,7 +10,7 @@ use Rattle.sqlite_keyed.proofs.ListLemmas.{map-map}
 use Rattle.hq_keyed.proofs.Terms.{text_is, number_from, number_to, number_order}
 use Rattle.hq_owned.specs.Rows.{pairs_of}
 use Rattle.hq_rows.specs.declared.rows.HoldRow.{HoldRow}
-use Rattle.hq_store.specs.Tables.{text_cmp}
+use Rattle.hq_tables.specs.Tables.{text_cmp}
 use Rattle.hq_rows.specs.Listed.{recipient_key, recipient_value, hold_key, hold_value}
 use Rattle.hq_sql.specs.Bound.{between_columns}
 use Rattle.hq_sql.specs.Rows.{recipient_shown, hold_shown}
@@ -18,7 +18,7 @@ use Rattle.hq_sql.specs.Tables.{IsDesk, tables_in}
 use Rattle.hq_sql.proofs.Statements.{lists_entries}
 use Rattle.hq_sql_messages.proofs.OnHolds.{holds_table}
 use Rattle.hq_sql_recipients.proofs.OnRecipients.{recipients_table}
-use Rattle.hq_queue.specs.Limits.{is_within}
+use Rattle.hq_kept.specs.Limits.{is_within}
 use Rattle.hq_sql_queue.specs.Dealt.{is_between}
 use Rattle.hq_sql_queue.specs.Giving.{hold_serial}
 use Rattle.hq_sql_queue.proofs.Texts as text

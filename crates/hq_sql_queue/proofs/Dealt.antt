@@ -21,19 +21,19 @@ use Rattle.sqlite_keyed.proofs.ListLemmas.{map-map, map_same, filter-map, filter
 use Rattle.sqlite_keyed.proofs.ListLemmas.{filter_same, all_weaker, all_unmap}
 use Rattle.sqlite_keyed.proofs.ListLemmas.{ascending-map, ascending-filter, ascending_weaker}
 use Rattle.sqlite_keyed.proofs.ListLemmas.{ascending_from_map}
-use Rattle.hq_queue.specs.Limits.{is_within}
-use Rattle.hq_queue.specs.declared.message.Message.{Message}
-use Rattle.hq_queue.specs.declared.message.Pending.{Pending}
+use Rattle.hq_kept.specs.Limits.{is_within}
+use Rattle.hq_kept.specs.declared.message.Message.{Message}
+use Rattle.hq_kept.specs.declared.message.Pending.{Pending}
 use Rattle.hq_owned.specs.Rows.{pairs_of}
 use Rattle.hq_owned.specs.Owned.{by_both, rows_of}
 use Rattle.hq_owned.proofs.OwnedPages.{owned}
 use Rattle.hq_owned.proofs.Parts.{rows_sorted}
 use Rattle.hq_rows.specs.declared.rows.RecipientRow.{RecipientRow}
-use Rattle.hq_store.specs.Tables as store
-use Rattle.hq_store.specs.Tables.{Tables, text_cmp, pending_of}
+use Rattle.hq_tables.specs.Tables as store
+use Rattle.hq_tables.specs.Tables.{Tables, text_cmp, pending_of}
 use Rattle.hq_rows.specs.Listed.{recipient_key, recipient_value}
 use Rattle.hq_rows.specs.Lookups.{is_after}
-use Rattle.hq_store.proofs.Orders.{ascending}
+use Rattle.hq_tables.proofs.Orders.{ascending}
 use Rattle.hq_sql.specs.Rows.{recipient_shown}
 use Rattle.hq_sql_recipients.specs.Places.{is_of}
 use Rattle.hq_sql_messages.specs.Messages.{is_on_page, bare_entry}

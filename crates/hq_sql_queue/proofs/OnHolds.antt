@@ -7,10 +7,10 @@ use Rattle.std.specs.List.{FoldsTo}
 use Rattle.std.specs.FinMap.{entries, get}
 use Rattle.sqlite.specs.Order.{Row}
 use Rattle.sqlite_keyed.proofs.ListLemmas.{map-map}
-use Rattle.hq_queue.specs.Limits.{is_within}
-use Rattle.hq_queue.specs.declared.message.Message.{Message}
-use Rattle.hq_store.specs.Tables as store
-use Rattle.hq_store.specs.Tables.{Tables, text_cmp, joined, message_of, pending_of, reason_of}
+use Rattle.hq_kept.specs.Limits.{is_within}
+use Rattle.hq_kept.specs.declared.message.Message.{Message}
+use Rattle.hq_tables.specs.Tables as store
+use Rattle.hq_tables.specs.Tables.{Tables, text_cmp, joined, message_of, pending_of, reason_of}
 use Rattle.hq_rows.specs.Listed.{hold_value}
 use Rattle.hq_sql.specs.Rows.{hold_shown}
 use Rattle.hq_sql_queue.specs.Dealt.{serials_of, Rise, Spans, with_dealt}

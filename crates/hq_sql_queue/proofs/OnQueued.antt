@@ -13,14 +13,14 @@ use Rattle.sqlite_keyed.proofs.ListLemmas.{map-map, map_same, filter-map, slice_
 use Rattle.sqlite_keyed.proofs.ListLemmas.{first_taken}
 use Rattle.hq_keyed.proofs.Left.{clean_before}
 use Rattle.hq_keyed.proofs.Select.{find-map}
-use Rattle.hq_queue.specs.declared.message.Message.{Message}
+use Rattle.hq_kept.specs.declared.message.Message.{Message}
 use Rattle.hq_owned.specs.Owned.{rows_of}
 use Rattle.hq_owned.proofs.OwnedPages.{owned}
 use Rattle.hq_rows.specs.declared.rows.MessageRow.{MessageRow}
-use Rattle.hq_store.specs.Tables.{Tables, Row, text_cmp, joined}
+use Rattle.hq_tables.specs.Tables.{Tables, Row, text_cmp, joined}
 use Rattle.hq_rows.specs.Listed.{message_key, message_value}
 use Rattle.hq_rows.specs.Lookups.{is_after}
-use Rattle.hq_store.specs.Readings.{read_tables, page_of, after_serial}
+use Rattle.hq_tables.specs.Readings.{read_tables, page_of, after_serial}
 use Rattle.hq_sql.specs.Kept.{Intact}
 use Rattle.hq_sql.specs.Rows.{message_shown}
 use Rattle.hq_sql.specs.Tables.{IsDesk, tables_in}

@@ -17,13 +17,13 @@ use Rattle.sqlite.specs.Order.{Row}
 use Rattle.sqlite_trees.specs.Tree.{IsAscending}
 use Rattle.sqlite_keyed.proofs.ListLemmas.{map-map, all_weaker, all_unmap, ascending-filter}
 use Rattle.sqlite_keyed.proofs.ListLemmas.{ascending_weaker, ascending_from_map}
-use Rattle.hq_queue.specs.Limits.{is_within}
-use Rattle.hq_queue.specs.declared.message.Message.{Message}
+use Rattle.hq_kept.specs.Limits.{is_within}
+use Rattle.hq_kept.specs.declared.message.Message.{Message}
 use Rattle.hq_owned.specs.Owned.{rows_of, part_of}
 use Rattle.hq_owned.proofs.OwnedPages.{owned}
 use Rattle.hq_owned.proofs.Parts.{rows_sorted, entries_part, get_part}
-use Rattle.hq_store.specs.Tables.{text_cmp, message_cmp}
-use Rattle.hq_store.proofs.Orders.{ascending}
+use Rattle.hq_tables.specs.Tables.{text_cmp, message_cmp}
+use Rattle.hq_tables.proofs.Orders.{ascending}
 use Rattle.hq_sql_queue.specs.Dealt.{serials_of, Rise, Spans}
 use Rattle.hq_sql_queue.specs.Giving.{Gives, first_given}
 use Rattle.hq_sql_queue.proofs.GivenRows.{gets, given_all, one_put, rises_at, same_some}

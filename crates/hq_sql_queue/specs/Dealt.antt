@@ -5,11 +5,11 @@ use Rattle.std.specs.Prelude.{List, [], ◌∷◌, ◌++◌, map, Some, slice_ge
 use Rattle.std.specs.Ordering.{eq_by_cmp}
 use Rattle.sqlite.specs.Order.{Row}
 use Rattle.sqlite_trees.specs.Tree.{IsAscending}
-use Rattle.hq_queue.specs.Limits.{is_within}
-use Rattle.hq_queue.specs.declared.message.Message.{Message}
-use Rattle.hq_queue.specs.declared.message.Pending.{Pending}
+use Rattle.hq_kept.specs.Limits.{is_within}
+use Rattle.hq_kept.specs.declared.message.Message.{Message}
+use Rattle.hq_kept.specs.declared.message.Pending.{Pending}
 use Rattle.hq_rows.specs.Listed.{recipient_value}
-use Rattle.hq_store.specs.Tables.{Tables, text_cmp, pending_of}
+use Rattle.hq_tables.specs.Tables.{Tables, text_cmp, pending_of}
 use Rattle.hq_sql.specs.Rows.{recipient_shown}
 
 -- ---- the rows of all messages of a page

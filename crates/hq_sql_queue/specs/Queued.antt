@@ -2,8 +2,8 @@
 -- Inner: it serves proofs alone, and no promise rests on it.
 use Rattle.std.specs.Prelude.{ℕ, List}
 use Rattle.sqlite.specs.Order.{Row}
-use Rattle.hq_queue.specs.declared.message.Message.{Message}
-use Rattle.hq_store.specs.Tables.{Tables, joined}
+use Rattle.hq_kept.specs.declared.message.Message.{Message}
+use Rattle.hq_tables.specs.Tables.{Tables, joined}
 use Rattle.hq_rows.specs.Listed.{message_value}
 use Rattle.hq_sql.specs.Rows.{message_shown}
 

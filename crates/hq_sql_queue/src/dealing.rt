@@ -7,7 +7,7 @@ ghost use Rattle.hq_sql.specs.Kept.{Shows, Intact};
 ghost use Rattle.hq_sql_queue.specs.Dealt.{serials_of, Rise, with_dealt, dealt_one, at_place};
 ghost use Rattle.hq_sql_queue.specs.Dealt.{IsPlaceFrom, Deals, Spans};
 
-use hq_queue::{Message, Pending};
+use hq_kept::{Message, Pending};
 use hq_sql::lent::Taker;
 use hq_sql::{bind, lent, read};
 use hq_sql_recipients::places;

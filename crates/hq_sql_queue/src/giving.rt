@@ -10,7 +10,7 @@ ghost use Rattle.hq_sql_queue.specs.Giving.{give_row_reason};
 ghost use Rattle.hq_sql_queue.specs.Giving.{with_held};
 
 use crate::dealing::place_from;
-use hq_queue::Message;
+use hq_kept::Message;
 use hq_sql::lent::Taker;
 use hq_sql::{bind, lent, read, values};
 use hq_values::{Name, Serial, Text};

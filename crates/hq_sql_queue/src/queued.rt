@@ -2,9 +2,9 @@
 
 ghost use Rattle.sqlite.specs.Held.{state};
 ghost use Rattle.std.specs.Prelude.{map};
-ghost use Rattle.hq_store.specs.Tables.{joined, pending_of, reason_of};
+ghost use Rattle.hq_tables.specs.Tables.{joined, pending_of, reason_of};
 ghost use Rattle.hq_rows.specs.Listed.{message_value};
-ghost use Rattle.hq_store.specs.Readings.{read_tables, page_of};
+ghost use Rattle.hq_tables.specs.Readings.{read_tables, page_of};
 ghost use Rattle.hq_sql.specs.Rows.{message_shown};
 ghost use Rattle.hq_sql.specs.Kept.{Yields, Shows, Intact};
 ghost use Rattle.hq_sql_queue.specs.Queued.{whole};
@@ -12,7 +12,7 @@ ghost use Rattle.hq_sql_queue.specs.Dealt.{Spans, Rise, serials_of};
 ghost use Rattle.hq_sql_queue.specs.Giving.{with_parts};
 
 use crate::{dealing, giving};
-use hq_queue::{Message, Pending};
+use hq_kept::{Message, Pending};
 use hq_sql_messages::{holds, message_rows, messages};
 use hq_sql_recipients::recipients;
 use hq_values::{Items, Name, Serial, Spool, Text};

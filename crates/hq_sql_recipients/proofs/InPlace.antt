@@ -12,8 +12,8 @@ use Rattle.std.specs.FinMap.{FinMap, get, insert, retain_keys, get-insert, get-r
 use Rattle.std.specs.FinMap.{same_map}
 use Rattle.std.proofs.lemmas.Bool.Decides.{nat_tests}
 use Rattle.std.proofs.lemmas.Map.Lookups.{CmpEqualImpliesEq, exact_bytes, exact_unsigned}
-use Rattle.hq_queue.specs.declared.message.Pending.{Pending}
-use Rattle.hq_store.specs.Tables.{text_cmp, recipient_cmp, place_all, deal}
+use Rattle.hq_kept.specs.declared.message.Pending.{Pending}
+use Rattle.hq_tables.specs.Tables.{text_cmp, recipient_cmp, place_all, deal}
 use Rattle.hq_owned.proofs.Cases.{equal}
 use Rattle.hq_owned.proofs.Parts.{both_total, both_exact}
 use Rattle.hq_sql_recipients.specs.Places.{is_far, is_beside}

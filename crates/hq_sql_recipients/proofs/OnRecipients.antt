@@ -27,12 +27,12 @@ use Rattle.sqlite_value.proofs.OrderLemmas.{value_cmp-Text}
 use Rattle.sqlite_typed.proofs.TestLemmas.{then_key, last_key}
 use Rattle.sqlite_keyed.proofs.ListLemmas.{map-map}
 use Rattle.hq_keyed.proofs.Terms.{number_beside, number_order}
-use Rattle.hq_queue.specs.declared.message.Pending.{Pending}
+use Rattle.hq_kept.specs.declared.message.Pending.{Pending}
 use Rattle.hq_owned.specs.Rows.{pairs_of}
 use Rattle.hq_owned.specs.Owned.{by_both, rows_of}
 use Rattle.hq_owned.proofs.Parts.{entries_part}
 use Rattle.hq_rows.specs.declared.rows.RecipientRow.{RecipientRow}
-use Rattle.hq_store.specs.Tables.{text_cmp, recipient_cmp, pending_of}
+use Rattle.hq_tables.specs.Tables.{text_cmp, recipient_cmp, pending_of}
 use Rattle.hq_rows.specs.Listed.{recipient_key, recipient_value}
 use Rattle.hq_sql.specs.Rows.{status_read, status_column, recipient_columns, recipient_stored}
 use Rattle.hq_sql.specs.Rows.{recipient_read, recipient_shown}

@@ -3,8 +3,8 @@
 use Rattle.std.specs.Prelude.{◌≡◌, ◌+◌, ℕ, Bool, ◌&&◌, ◌||◌, nat_lt, List, Some, option_map}
 use Rattle.std.specs.Prelude.{slice_get}
 use Rattle.std.specs.Ordering.{nat_cmp, eq_by_cmp}
-use Rattle.hq_queue.specs.declared.message.Pending.{Pending}
-use Rattle.hq_store.specs.Tables.{text_cmp}
+use Rattle.hq_kept.specs.declared.message.Pending.{Pending}
+use Rattle.hq_tables.specs.Tables.{text_cmp}
 use Rattle.hq_rows.specs.Listed.{recipient_value}
 use Rattle.hq_sql.specs.Rows.{recipient_shown}
 use Rattle.sqlite.specs.Order.{Row}

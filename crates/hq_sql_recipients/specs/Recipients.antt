@@ -7,10 +7,10 @@ use Rattle.sqlite.specs.declared.error.Error.{Error}
 use Rattle.sqlite.specs.Order.{Row}
 use Rattle.sqlite.specs.State.{State, HasCleanDisk}
 use Rattle.hq_keyed.specs.Values.{number}
-use Rattle.hq_queue.specs.declared.message.Pending.{Pending}
+use Rattle.hq_kept.specs.declared.message.Pending.{Pending}
 use Rattle.hq_rows.specs.declared.rows.RecipientRow.{RecipientRow}
 use Rattle.hq_rows.specs.Listed.{recipient_key, recipient_value}
-use Rattle.hq_store.specs.Tables.{Tables, deal}
+use Rattle.hq_tables.specs.Tables.{Tables, deal}
 use Rattle.hq_sql.specs.Tables.{IsDesk, Leaves, tables_in}
 use Rattle.hq_sql_recipients.specs.Places.{is_beside}
 

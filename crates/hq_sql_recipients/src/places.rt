@@ -10,7 +10,7 @@ ghost use Rattle.hq_sql.specs.Rows.{recipient_columns, recipient_shown};
 ghost use Rattle.hq_sql_recipients.specs.Places.{is_far, StandsAfter};
 ghost use Rattle.hq_sql_recipients.specs.Recipients.{recipient_row, range_columns};
 
-use hq_queue::{Pending, Status};
+use hq_kept::{Pending, Status};
 use hq_sql::{bind, read, values};
 use hq_values::{Items, Name, Serial, Text};
 use sqlite::types::ValueRef;

@@ -4,7 +4,7 @@ ghost use Rattle.std.specs.Prelude.{[], map, filter};
 ghost use Rattle.std.specs.FinMap.{get, entries};
 ghost use Rattle.sqlite.specs.Held.{state};
 ghost use Rattle.hq_owned.specs.Rows.{pairs_of};
-ghost use Rattle.hq_store.specs.Tables.{pending_of};
+ghost use Rattle.hq_tables.specs.Tables.{pending_of};
 ghost use Rattle.hq_rows.specs.Listed.{recipient_key, recipient_value};
 ghost use Rattle.hq_sql.specs.Rows.{recipient_shown};
 ghost use Rattle.hq_sql.specs.Kept.{Shows, Yields, Writes, Inserts, Updates, Intact};
@@ -14,7 +14,7 @@ ghost use Rattle.hq_sql_recipients.specs.Recipients.{Puts, recipient_row, with_r
 ghost use Rattle.hq_sql_recipients.specs.Recipients.{without_beside, with_pending};
 
 use crate::places;
-use hq_queue::Pending;
+use hq_kept::Pending;
 use hq_sql::bind;
 use hq_values::{Items, Name, Serial};
 use sqlite::{Alter, Connection, Error, Row};

@@ -7,9 +7,9 @@ use Rattle.sqlite.specs.Steps.{over_memory}
 use Rattle.sqlite.proofs.Callers.{memory_is_clean}
 use Rattle.sqlite_trees.specs.declared.memory.MemStore.{MemStore}
 use Rattle.hq_values.specs.declared.failure.Fault.{Fault}
-use Rattle.hq_store.specs.Sound.{Sound}
-use Rattle.hq_store.specs.Tables.{no_tables}
-use Rattle.hq_store.proofs.Empty.{empty_sound}
+use Rattle.hq_tables.specs.Sound.{Sound}
+use Rattle.hq_tables.specs.Tables.{no_tables}
+use Rattle.hq_tables.proofs.Empty.{empty_sound}
 use Rattle.hq_sql.specs.Tables.{tables_in}
 use Rattle.hq_sql_open.specs.declared.transaction.Standing.{Standing}
 use Rattle.hq_sql_open.specs.declared.transaction.Standing.TheVariants.{Open, Gone, InDoubt, Lost}
@@ -43,20 +43,20 @@ pub from_empty : (settings : Settings) (shelf : SqlShelf MemStore) →
     tables_in (state over_memory shelf.conn).committed ≡ no_tables
     → (old new : Desk (SqlShelf MemStore)) → host_of old ≡ settings.host → shelf_of old ≡ shelf
     → (asks : List Ask) (replies : List SeenReply) →
-    Served memory settings.directory old asks replies new → FromEmpty settings asks replies new
+    Served (on memory) settings.directory old asks replies new → FromEmpty settings asks replies new
 from_empty settings shelf ours none old new named is asks replies p =
     let d = settings.directory in
     let empty = ap memory.tables is ∙ none in
-    let after = (on memory).tables new in
+    let after = (on memory).store.tables new in
     let sound = subst Sound (sym empty) empty_sound in
-    let clean : (on memory).is_clean new = (
+    let clean : (on memory).store.is_clean new = (
       memory_is_clean (shelf_of new).conn,
       stands_in_memory (shelf_of new).standing (shelf_of new).conn,
     ) in
     let owned = subst memory.is_ours (sym is) ours in
     record {
       replied = λ stays.
-          let all = all_replied memory d old new asks replies p.each clean owned stays sound in
+          let all = all_replied (on memory) d old new asks replies p.each clean owned stays sound in
           subst (λ n. AllReplied memory.may_answer n d no_tables asks replies after) named
           (subst (λ t. AllReplied memory.may_answer (host_of old) d t asks replies after) empty
           all);

@@ -5,7 +5,7 @@ use Rattle.sqlite.specs.Held.{state}
 use Rattle.sqlite.specs.Steps.{over_memory}
 use Rattle.sqlite_trees.specs.declared.memory.MemStore.{MemStore}
 use Rattle.hq_values.specs.declared.failure.Fault.{Fault}
-use Rattle.hq_store.specs.Tables.{no_tables}
+use Rattle.hq_tables.specs.Tables.{no_tables}
 use Rattle.hq_sql.specs.Tables.{tables_in}
 use Rattle.hq_sql_shelf.specs.Shelf.{IsOurs}
 use Rattle.hq_sql_shelf.specs.declared.shelf.SqlShelf.{SqlShelf}

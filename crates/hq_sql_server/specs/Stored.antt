@@ -5,8 +5,8 @@ use Rattle.sqlite.specs.Steps.{over_memory}
 use Rattle.sqlite_trees.specs.declared.memory.MemStore.{MemStore}
 use Rattle.hq_values.specs.declared.failure.Fail.TheVariants.{Fault as AsFault}
 use Rattle.hq_values.specs.declared.failure.Fault.{Fault}
-use Rattle.hq_store.specs.Shelves.{Sight}
-use Rattle.hq_store.specs.Tables.{no_tables}
+use Rattle.hq_tables.specs.Shelves.{Sight}
+use Rattle.hq_tables.specs.Tables.{no_tables}
 use Rattle.hq_sql_shelf.specs.Opened.{OverOpened, OverMemory, OverStore}
 use Rattle.hq_sql_shelf.specs.Shelf.{sight_over}
 use Rattle.hq_sql_shelf.specs.declared.shelf.SqlShelf.{SqlShelf}
@@ -44,11 +44,11 @@ memory = sight_over (state over_memory)
 -- was replied to as its exchange is, and to each customer the desk is its own.
 pub record FromEmpty (settings : Settings) (asks : List Ask) (replies : List SeenReply)
     (new : Desk (SqlShelf MemStore)) : Type 0 where
-  pub replied : (on memory).is_closed new ≡ false
+  pub replied : (on memory).store.is_closed new ≡ false
       → AllReplied memory.may_answer settings.host settings.directory no_tables asks replies
-      ((on memory).tables new)
-  pub alone : (on memory).is_closed new ≡ false
-      → Alone settings.host settings.directory asks replies no_tables ((on memory).tables new)
+      ((on memory).store.tables new)
+  pub alone : (on memory).store.is_closed new ≡ false
+      → Alone settings.host settings.directory asks replies no_tables ((on memory).store.tables new)
 
 -- Lines are replied to as a batch of these customers over a shelf in memory, which began with empty
 -- tables.

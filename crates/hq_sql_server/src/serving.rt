@@ -10,23 +10,23 @@ ghost use Rattle.hq_sql_server.specs.Runs.{StoreServerEnds, ServeEnds};
 use crate::listening::{limits, listen};
 use hq_desk::Desk;
 use hq_log::log_of;
-use hq_serve::{Connections, End, serve_on};
+use hq_serve::{Connections, ServiceEnd, serve_on};
 use hq_settings::{Settings, Trouble, set_up};
 use hq_sql_shelf::{FileShelf, SqlShelf, open_file};
-use hq_store::Shelf;
+use hq_tables::Shelf;
 use hq_values::Fault;
 use hq_words::Serve;
 use sqlite::Alter;
 use std::io::Write;
 
 /// Why no more connections are served, as the program tells it.
-fn ended(end: End) -> Result<(), Trouble>
+fn ended(end: ServiceEnd) -> Result<(), Trouble>
     ensures { IsEnd result }
 {
     match end {
-        End::Done => Ok(()),
-        End::Network => Err(Trouble::Network),
-        End::Clock => Err(Trouble::Clock),
+        ServiceEnd::Done => Ok(()),
+        ServiceEnd::Network => Err(Trouble::Network),
+        ServiceEnd::Clock => Err(Trouble::Clock),
     }
 }
 

@@ -9,7 +9,7 @@ use hq_batch::run_batch;
 use hq_log::Log;
 use hq_settings::{Settings, Trouble};
 use hq_sql_shelf::{FileShelf, SqlShelf, open_file};
-use hq_store::Shelf;
+use hq_tables::Shelf;
 use hq_values::Fault;
 use sqlite::Alter;
 use std::io::{Read, Write};

@@ -2,7 +2,7 @@
 use Rattle.std.proofs.Common.{◌≡◌, inl, inr, ℕ, Some, sym, ◌∙◌, subst}
 use Rattle.sqlite.specs.State.{State}
 use Rattle.hq_values.specs.Words.{earlier_hold}
-use Rattle.hq_store.specs.Sound.{Sound}
+use Rattle.hq_tables.specs.Sound.{Sound}
 use Rattle.hq_sql_open.specs.Migration.{MigratesBy}
 use Rattle.hq_sql_open.specs.Stores.{IsFirst, IsSecond, HoldsThird, lifted_in, second_tables_in}
 use Rattle.hq_sql_open.proofs.Customers.{third_is_desk, customers_lifted, sound_lifted}

@@ -3,9 +3,9 @@ use Rattle.std.proofs.Common.{◌≡◌, inl, inr, true, length, sym, ap, ◌∙
 use Rattle.sqlite.specs.Effect.{Database}
 use Rattle.sqlite.specs.Schema.{Schema}
 use Rattle.sqlite.specs.State.{State, HasCleanDisk}
-use Rattle.hq_store.specs.Sound.{AreCounted}
-use Rattle.hq_store.specs.Tables.{Tables, no_tables}
-use Rattle.hq_store.proofs.Empty.{none_counted}
+use Rattle.hq_tables.specs.Sound.{AreCounted}
+use Rattle.hq_tables.specs.Tables.{Tables, no_tables}
+use Rattle.hq_tables.proofs.Empty.{none_counted}
 use Rattle.hq_schema.specs.Schema.{no_schema, version_alone, desk_schema}
 use Rattle.hq_sql.specs.Tables.{IsDesk, tables_in}
 use Rattle.hq_sql_open.specs.Opening.{IsUnmade, Opens}

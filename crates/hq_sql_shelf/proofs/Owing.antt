@@ -5,15 +5,15 @@ use Rattle.std.proofs.Common.{◌∙◌, Some, None, Option}
 use Rattle.std.specs.Prelude.{option_map}
 use Rattle.std.specs.Cmp.Lexicographic.{nat_list_cmp_total}
 use Rattle.std.specs.FinMap.{get, insert, get-insert}
-use Rattle.hq_queue.specs.declared.account.Counts.{Counts}
-use Rattle.hq_queue.specs.declared.account.Head.{Head}
-use Rattle.hq_queue.specs.declared.message.Message.{Message}
-use Rattle.hq_store.specs.declared.account.Account.{Account}
-use Rattle.hq_store.specs.declared.change.Change.{Change}
-use Rattle.hq_store.specs.declared.change.Change.TheVariants.{PutHead, PutMessage, DropMessage}
-use Rattle.hq_store.specs.Tables.{Tables, Row, account, recounted, headed, counted, with_message}
-use Rattle.hq_store.specs.Tables.{without_message, uncounted_message, write}
-use Rattle.hq_store.proofs.Accounts.{Heads, or_opening, is_headed, is_counted, at_size}
+use Rattle.hq_kept.specs.declared.account.Counts.{Counts}
+use Rattle.hq_kept.specs.declared.account.Head.{Head}
+use Rattle.hq_kept.specs.declared.message.Message.{Message}
+use Rattle.hq_tables.specs.declared.account.Account.{Account}
+use Rattle.hq_tables.specs.declared.change.Change.{Change}
+use Rattle.hq_tables.specs.declared.change.Change.TheVariants.{PutHead, PutMessage, DropMessage}
+use Rattle.hq_tables.specs.Tables.{Tables, Row, account, recounted, headed, counted, with_message}
+use Rattle.hq_tables.specs.Tables.{without_message, uncounted_message, write}
+use Rattle.hq_isolation.proofs.Accounts.{Heads, or_opening, is_headed, is_counted, at_size}
 use Rattle.hq_owned.specs.Owned.{given}
 use Rattle.hq_owned.proofs.Parts.{tied_true}
 use Rattle.hq_sql.specs.Heads.{with_account}

@@ -11,7 +11,7 @@ use Rattle.hq_values.specs.declared.failure.Fault.TheVariants.{WantOfMemory, Dis
 use Rattle.hq_values.specs.declared.failure.Fault.TheVariants.{Closed}
 use Rattle.hq_keyed.specs.Left.{IsQuiet, LeavesNoMore}
 use Rattle.hq_keyed.proofs.Left.{clean_before}
-use Rattle.hq_store.specs.Shelves.{Sight, Keeps, IsTallied, one_more}
+use Rattle.hq_tables.specs.Shelves.{Sight, Keeps, IsTallied, one_more}
 use Rattle.hq_sql.specs.Kept.{Intact}
 use Rattle.hq_sql.specs.Tables.{IsDesk, tables_in}
 use Rattle.hq_sql_open.specs.Standings.{Settles}

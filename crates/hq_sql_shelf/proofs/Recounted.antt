@@ -10,19 +10,21 @@ use Rattle.std.proofs.lemmas.Bool.Decides.{nat_tests}
 use Rattle.std.proofs.lemmas.Map.Lookups.{exact_bytes}
 use Rattle.sqlite.specs.declared.error.Error.{Error}
 use Rattle.sqlite.specs.State.{State}
-use Rattle.hq_queue.specs.declared.account.Counts.{Counts}
-use Rattle.hq_store.specs.declared.account.Account.{Account}
-use Rattle.hq_store.specs.declared.change.Change.{Change}
-use Rattle.hq_store.specs.declared.change.Change.TheVariants.{PutHead, PutMessage, DropMessage}
-use Rattle.hq_store.specs.declared.change.Change.TheVariants.{PutLine, DropLine, PutMark, AddNotice}
-use Rattle.hq_store.specs.declared.change.Change.TheVariants.{DropNoticesBelow, PutEnds, DropEndsTo}
-use Rattle.hq_store.specs.Readings.{kept_in}
-use Rattle.hq_store.specs.Sound.{AreCounted}
-use Rattle.hq_store.specs.Tables.{Tables, Row, text_cmp, account, recounted, counted, with_message}
-use Rattle.hq_store.specs.Tables.{without_message, uncounted_message, message_of, write, write_all}
-use Rattle.hq_store.proofs.Accounts.{Heads, or_opening, counted_own}
-use Rattle.hq_store.proofs.Counted.{found_after, counts_stay}
-use Rattle.hq_store.proofs.Orders.{message_total, message_exact}
+use Rattle.hq_kept.specs.declared.account.Counts.{Counts}
+use Rattle.hq_tables.specs.declared.account.Account.{Account}
+use Rattle.hq_tables.specs.declared.change.Change.{Change}
+use Rattle.hq_tables.specs.declared.change.Change.TheVariants.{PutHead, PutMessage, DropMessage}
+use Rattle.hq_tables.specs.declared.change.Change.TheVariants.{PutLine, DropLine, PutMark}
+use Rattle.hq_tables.specs.declared.change.Change.TheVariants.{AddNotice}
+use Rattle.hq_tables.specs.declared.change.Change.TheVariants.{DropNoticesBelow, PutEnds}
+use Rattle.hq_tables.specs.declared.change.Change.TheVariants.{DropEndsTo}
+use Rattle.hq_tables.specs.Readings.{kept_in}
+use Rattle.hq_tables.specs.Sound.{AreCounted}
+use Rattle.hq_tables.specs.Tables.{Tables, Row, text_cmp, account, recounted, counted, with_message}
+use Rattle.hq_tables.specs.Tables.{without_message, uncounted_message, message_of, write, write_all}
+use Rattle.hq_isolation.proofs.Accounts.{Heads, or_opening, counted_own}
+use Rattle.hq_isolation.proofs.Counted.{found_after, counts_stay}
+use Rattle.hq_tables.proofs.Orders.{message_total, message_exact}
 use Rattle.hq_owned.specs.Owned.{given}
 use Rattle.hq_sql.specs.Tables.{tables_in}
 use Rattle.hq_sql_recipients.proofs.InPlace.{put_same}

@@ -3,8 +3,8 @@ use Rattle.std.proofs.Common.{◌≡◌, ℕ, List, sym, ap, ◌∙◌, subst}
 use Rattle.std.specs.FinMap.{FinMap, insert}
 use Rattle.sqlite.specs.State.{State, IsUnchanged}
 use Rattle.sqlite.proofs.Callers.{unchanged_then}
-use Rattle.hq_store.specs.Tables.{Tables, account, text_cmp}
-use Rattle.hq_store.specs.declared.account.Account.{Account}
+use Rattle.hq_tables.specs.Tables.{Tables, account, text_cmp}
+use Rattle.hq_tables.specs.declared.account.Account.{Account}
 use Rattle.hq_sql.specs.Heads.{with_account}
 use Rattle.hq_sql.specs.Tables.{IsDesk, Leaves, tables_in}
 use Rattle.hq_sql.proofs.Tables.{leaves_then}

@@ -11,11 +11,11 @@ use Rattle.hq_keyed.specs.Left.{IsQuiet, LeavesNoMore}
 use Rattle.hq_keyed.proofs.Left.{clean_before}
 use Rattle.hq_schema.specs.Schema.{desk_schema}
 use Rattle.hq_values.specs.declared.failure.Fault.{Fault}
-use Rattle.hq_store.specs.declared.change.Change.{Change}
-use Rattle.hq_store.specs.Shelves.{Keeps, StopLeavesTables, StopLeavesNoMore}
-use Rattle.hq_store.specs.Sound.{AreCounted}
-use Rattle.hq_store.specs.Tables.{Tables, write_all}
-use Rattle.hq_store.proofs.Counted.{counts_stay}
+use Rattle.hq_tables.specs.declared.change.Change.{Change}
+use Rattle.hq_tables.specs.Shelves.{Keeps, StopLeavesTables, StopLeavesNoMore}
+use Rattle.hq_tables.specs.Sound.{AreCounted}
+use Rattle.hq_tables.specs.Tables.{Tables, write_all}
+use Rattle.hq_isolation.proofs.Counted.{counts_stay}
 use Rattle.hq_sql.specs.Tables.{tables_in}
 use Rattle.hq_sql_open.specs.Found.{HoldDesk, desk_with, tables_with}
 use Rattle.hq_sql_open.specs.declared.transaction.Standing.TheVariants.{Open}

@@ -5,15 +5,15 @@ use Rattle.std.specs.Prelude.{Result, IfOk, cond, nat_eq}
 use Rattle.std.specs.FinMap.{FinMap, get, insert}
 use Rattle.sqlite.specs.declared.error.Error.{Error}
 use Rattle.sqlite.specs.State.{State, HasCleanDisk}
-use Rattle.hq_access.specs.declared.pattern.Class.{Class}
-use Rattle.hq_queue.specs.declared.account.Head.{Head}
-use Rattle.hq_queue.specs.declared.message.Message.{Message}
-use Rattle.hq_store.specs.declared.account.Account.{Account}
-use Rattle.hq_store.specs.declared.change.Change.{Change}
-use Rattle.hq_store.specs.declared.change.Change.TheVariants.{PutMessage, DropMessage}
-use Rattle.hq_store.specs.Tables.{Tables, Row, text_cmp, row_of, write, headed, counted, recounted}
-use Rattle.hq_store.specs.Tables.{with_message, without_message, with_line, without_line}
-use Rattle.hq_store.specs.Tables.{uncounted_message}
+use Rattle.hq_kept.specs.declared.pattern.Class.{Class}
+use Rattle.hq_kept.specs.declared.account.Head.{Head}
+use Rattle.hq_kept.specs.declared.message.Message.{Message}
+use Rattle.hq_tables.specs.declared.account.Account.{Account}
+use Rattle.hq_tables.specs.declared.change.Change.{Change}
+use Rattle.hq_tables.specs.declared.change.Change.TheVariants.{PutMessage, DropMessage}
+use Rattle.hq_tables.specs.Tables.{Tables, Row, text_cmp, row_of, write, headed, counted, recounted}
+use Rattle.hq_tables.specs.Tables.{with_message, without_message, with_line, without_line}
+use Rattle.hq_tables.specs.Tables.{uncounted_message}
 use Rattle.hq_sql.specs.Heads.{with_account}
 use Rattle.hq_sql.specs.Tables.{IsDesk, Leaves, tables_in}
 use Rattle.hq_owned.specs.Owned.{given}

@@ -1,7 +1,7 @@
 -- A desk as it was opened: in memory, or in a file.
 use Rattle.std.specs.Prelude.{◌≡◌, ◌⊎◌, ℕ, false, List, Option, Some, None, Result, Ok, Err, IfOk}
 use Rattle.hq_values.specs.declared.failure.Fault.{Fault}
-use Rattle.hq_store.specs.Shelves.{Sight}
+use Rattle.hq_tables.specs.Shelves.{Sight}
 
 -- a shelf that is open, and told no fault so far
 pub record IsOpened {S : Type 0} (sight : Sight S) (shelf : S) : Type 0 where

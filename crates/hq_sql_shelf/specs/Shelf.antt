@@ -10,9 +10,9 @@ use Rattle.sqlite.specs.Tree.{Trees}
 use Rattle.hq_values.specs.declared.failure.Fault.{Fault}
 use Rattle.hq_values.specs.declared.failure.Fault.TheVariants.{WantOfMemory, Disk, BadSchema}
 use Rattle.hq_values.specs.declared.failure.Fault.TheVariants.{Closed}
-use Rattle.hq_store.specs.Shelves.{Sight, IsTallied, one_more}
-use Rattle.hq_store.specs.Sound.{AreCounted}
-use Rattle.hq_store.specs.Tables.{no_tables}
+use Rattle.hq_tables.specs.Shelves.{Sight, IsTallied, one_more}
+use Rattle.hq_tables.specs.Sound.{AreCounted}
+use Rattle.hq_tables.specs.Tables.{no_tables}
 use Rattle.hq_sql.specs.Tables.{IsDesk, tables_in}
 use Rattle.hq_sql_open.specs.Found.{desk_with, tables_with}
 use Rattle.hq_sql_open.specs.Opening.{IsUnmade, IsForeign}

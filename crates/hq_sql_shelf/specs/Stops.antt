@@ -5,8 +5,8 @@ use Rattle.sqlite.specs.declared.error.Error.{Error}
 use Rattle.sqlite.specs.State.{State, HasCleanDisk, KeepsCommit}
 use Rattle.sqlite.specs.Tree.{Trees}
 use Rattle.hq_keyed.specs.Left.{IsQuiet}
-use Rattle.hq_store.specs.Sound.{AreCounted}
-use Rattle.hq_store.specs.Tables.{Tables}
+use Rattle.hq_tables.specs.Sound.{AreCounted}
+use Rattle.hq_tables.specs.Tables.{Tables}
 use Rattle.hq_sql.specs.Tables.{tables_in}
 use Rattle.hq_sql_open.specs.Found.{HoldDesk, tables_with}
 use Rattle.hq_sql_open.specs.Transactions.{IsAtRest}

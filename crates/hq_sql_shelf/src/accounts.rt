@@ -2,7 +2,7 @@
 
 ghost use Rattle.std.specs.Prelude.{◌≡◌, IfOk};
 ghost use Rattle.std.specs.FinMap.{get};
-ghost use Rattle.hq_store.specs.Tables.{account};
+ghost use Rattle.hq_tables.specs.Tables.{account};
 ghost use Rattle.sqlite.specs.Held.{state};
 ghost use Rattle.hq_sql.specs.Kept.{Yields, Writes, Intact, KeepsCommitted};
 ghost use Rattle.hq_sql_shelf.specs.Accounts.{with_head, counted_message, not_counted};
@@ -10,12 +10,11 @@ ghost use Rattle.hq_sql_shelf.specs.Accounts.{counted_line, uncounted_line};
 ghost use Rattle.hq_sql_shelf.specs.Accounts.{resized_message, recounted_message, TellsFree, sized};
 ghost use Rattle.hq_sql_shelf.specs.Accounts.{unsized};
 
-use hq_access::Pattern;
-use hq_queue::Head;
+use hq_kept::{Head, Pattern};
 use hq_sql::heads;
 use hq_sql_lines::lines;
 use hq_sql_messages::messages;
-use hq_store::Account;
+use hq_tables::Account;
 use hq_values::{Name, Serial};
 use sqlite::{Alter, Connection, Error, ErrorCode};
 

@@ -2,12 +2,11 @@
 
 use crate::accounts;
 use crate::shelf::SqlShelf;
-use hq_access::{Action, Class, Line, LookupKey, Pattern};
-use hq_queue::{Counts, Head, Message};
+use hq_kept::{Action, Class, Counts, End, Head, Line, LookupKey, Mark, Message, Notice, Pattern};
 use hq_sql_lines::{line_pages, lines, marks};
 use hq_sql_notices::{end_pages, notice_pages, notices};
 use hq_sql_queue::queued;
-use hq_store::{Change, End, Mark, Notice, Shelf};
+use hq_tables::{Change, Shelf};
 use hq_values::{Fault, Items, Label, Name, Serial, Spool};
 use sqlite::Alter;
 

@@ -1,15 +1,16 @@
 //! Changes, made in the tables of a store.
 
 ghost use Rattle.std.specs.Prelude.{IsTrue, OnOk, ◌∷◌};
-ghost use Rattle.hq_store.specs.Tables.{write, write_all};
-ghost use Rattle.hq_store.specs.declared.change.Change.TheVariants.{PutHead, PutMessage};
-ghost use Rattle.hq_store.specs.declared.change.Change.TheVariants.{DropMessage, PutLine, DropLine};
+ghost use Rattle.hq_tables.specs.Tables.{write, write_all};
+ghost use Rattle.hq_tables.specs.declared.change.Change.TheVariants.{PutHead, PutMessage};
+ghost use Rattle.hq_tables.specs.declared.change.Change.TheVariants.{DropMessage, PutLine};
+ghost use Rattle.hq_tables.specs.declared.change.Change.TheVariants.{DropLine};
 ghost use Rattle.sqlite.specs.Held.{state};
 ghost use Rattle.sqlite.specs.State.{HasCleanDisk};
 ghost use Rattle.hq_sql.specs.Kept.{Writes, KeepsCommitted};
 ghost use Rattle.hq_sql.specs.Tables.{tables_in};
 ghost use Rattle.hq_sql_open.specs.Transactions.{IsAtRest, Commits};
-ghost use Rattle.hq_store.specs.Sound.{AreCounted};
+ghost use Rattle.hq_tables.specs.Sound.{AreCounted};
 ghost use Rattle.hq_sql_messages.specs.Messages.{with_row};
 ghost use Rattle.hq_sql_shelf.specs.Accounts.{MakesTelling, size_at, with_counted_row, with_rows};
 ghost use Rattle.hq_sql_shelf.specs.Accounts.{without_rows};
@@ -17,15 +18,14 @@ ghost use Rattle.hq_sql_shelf.specs.Accounts.{made_by, made_by_all, made_owing};
 ghost use Rattle.hq_sql_shelf.specs.Stops.{KeepsTransaction};
 
 use crate::accounts;
-use hq_access::{Line, Pattern};
-use hq_queue::{Head, Message};
+use hq_kept::{Head, Line, Message, Pattern};
 use hq_sql::heads;
 use hq_sql_lines::{lines, marks};
 use hq_sql_messages::{holds, messages};
 use hq_sql_notices::{ends, notices};
 use hq_sql_open::transaction::{begin, commit, sees_database};
 use hq_sql_recipients::recipients;
-use hq_store::{Account, Change};
+use hq_tables::{Account, Change};
 use hq_values::{Name, Serial};
 use sqlite::{Alter, Connection, Error};
 use std::alloc::Global;
@@ -116,7 +116,7 @@ fn put_uncounted<S: Alter>(
 }
 
 /// Drops all rows of a message, which stays counted.
-#[tactic(auto, unfolding(hq_store::specs::Tables::give_reason))]
+#[tactic(auto, unfolding(hq_tables::specs::Tables::give_reason))]
 fn drop_rows<S: Alter>(
     conn: &mut Connection<S>,
     customer: &Name,

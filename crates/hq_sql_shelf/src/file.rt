@@ -3,13 +3,13 @@
 ghost use Rattle.std.specs.Prelude.{IfOk};
 ghost use Rattle.sqlite.specs.Files.{file_state};
 ghost use Rattle.sqlite.specs.State.{HasCleanDisk};
-ghost use Rattle.hq_store.specs.Shelves.{StopLeavesTables};
+ghost use Rattle.hq_tables.specs.Shelves.{StopLeavesTables};
 ghost use Rattle.hq_sql_open.specs.Transactions.{IsSettled};
 ghost use Rattle.hq_sql_shelf.specs.Shelf.{IsOurs};
 ghost use Rattle.hq_sql_shelf.specs.Opened.{IsOpened};
 
 use crate::{SqlShelf, fault_of, migrate};
-use hq_store::Shelf;
+use hq_tables::Shelf;
 use hq_values::Fault;
 use sqlite::{Connection, File, FileStore};
 use std::fs::{self, OpenOptions};

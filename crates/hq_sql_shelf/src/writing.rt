@@ -3,8 +3,8 @@
 ghost use Rattle.std.specs.Prelude.{◌≡◌, true, false, OnOk};
 ghost use Rattle.sqlite.specs.Held.{state};
 ghost use Rattle.sqlite.specs.State.{HasCleanDisk};
-ghost use Rattle.hq_store.specs.Shelves.{OnClean, KeepsOnErr};
-ghost use Rattle.hq_store.specs.Tables.{write_all};
+ghost use Rattle.hq_tables.specs.Shelves.{OnClean, KeepsOnErr};
+ghost use Rattle.hq_tables.specs.Tables.{write_all};
 ghost use Rattle.hq_sql.specs.Tables.{tables_in};
 ghost use Rattle.hq_sql_shelf.specs.Shelf.{sight_over, is_gone, IsOurs};
 ghost use Rattle.hq_sql_shelf.specs.Stops.{LeavesWhole, LeavesOnly};
@@ -12,7 +12,7 @@ ghost use Rattle.hq_sql_shelf.specs.Stops.{LeavesWhole, LeavesOnly};
 use crate::changes;
 use crate::shelf::SqlShelf;
 use hq_sql_open::transaction::sees_database;
-use hq_store::Change;
+use hq_tables::Change;
 use hq_values::{Fault, Name};
 use sqlite::Alter;
 

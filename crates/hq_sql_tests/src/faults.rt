@@ -1,7 +1,7 @@
 //! What a shelf tells of rows that are no values, and of want of memory.
 
 use hq_sql_shelf::SqlShelf;
-use hq_store::Shelf;
+use hq_tables::Shelf;
 use hq_values::{Fault, Label, Name};
 use sqlite::{Connection, MemStore};
 use std::alloc::Global;

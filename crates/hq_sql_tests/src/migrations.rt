@@ -2,7 +2,7 @@
 
 use crate::openings::{FIRST_TABLES, number, opened};
 use hq_sql_shelf::{SqlShelf, migrate};
-use hq_store::Shelf;
+use hq_tables::Shelf;
 use hq_values::{Fault, Name, Serial, Text};
 use sqlite::{Connection, MemStore};
 use std::alloc::Global;

@@ -6,7 +6,7 @@ use Rattle.std.specs.List.{repeat}
 use Rattle.std.specs.Fmt.{padded_integral, format_spec, char_count}
 use Rattle.std.proofs.Math.Nat.{sub_self}
 use lib.Utf8.{encode}
-use Rattle.hq_text.specs.Reports.{right_in}
+use Rattle.hq_rules.specs.QueueReports.{right_in}
 
 abbrev space : List ℕ
 space = 32 ∷ []

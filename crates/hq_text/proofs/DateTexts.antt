@@ -11,8 +11,8 @@ use Rattle.std.proofs.lemmas.List.{length-append, append_cancel_right}
 use Rattle.jiff_core.specs.Calendar.{days_from_civil}
 use Rattle.jiff_core.proofs.CalendarLemmas.{days_in_month_bounds}
 use Rattle.hq_values.specs.Moments.{last_moment}
-use Rattle.hq_text.specs.Dates.{Civil, civil, weekday_names, weekday_name, month_names, month_name}
-use Rattle.hq_text.specs.Dates.{two, day_text, clock_text, date_text}
+use Rattle.hq_rules.specs.Dates.{Civil, civil, weekday_names, weekday_name, month_names, month_name}
+use Rattle.hq_rules.specs.Dates.{two, day_text, clock_text, date_text}
 use Rattle.hq_text.proofs.Days.{civil_is}
 use Rattle.hq_text.proofs.Printed.{is_printed, printed-append, decimal_printed}
 

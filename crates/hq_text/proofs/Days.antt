@@ -10,7 +10,7 @@ use Rattle.jiff_core.proofs.DateLemmas.{days_from_civil-day, days_from_civil-nex
 use Rattle.jiff_core.proofs.DateLemmas.{days_from_civil-next_year, epoch_day_injective}
 use Rattle.jiff_core.proofs.StandardFacts.{known_days}
 use Rattle.jiff_core.proofs.SignedLemmas.{signed_arith}
-use Rattle.hq_text.specs.Dates.{Civil, next_day, civil}
+use Rattle.hq_rules.specs.Dates.{Civil, next_day, civil}
 
 pub record IsDay (n : ℕ) (c : Civil) : Type 0 where
   pub month_low : 1 ≤ c.month

@@ -10,15 +10,16 @@ use Rattle.hq_values.specs.Serials.{serial_text, serial_in}
 use Rattle.hq_values.proofs.QueueIds.{read_of_text}
 use Rattle.hq_values.specs.Addresses.{is_address}
 use Rattle.hq_values.specs.Words.{is_text}
-use Rattle.hq_queue.specs.Statuses.{is_status}
-use Rattle.hq_queue.specs.declared.message.Message.{Message}
-use Rattle.hq_queue.specs.declared.outcome.Told.{Told}
-use Rattle.hq_text.specs.Dates.{date_text}
+use Rattle.hq_kept.specs.Statuses.{is_status}
+use Rattle.hq_kept.specs.declared.message.Message.{Message}
+use Rattle.hq_kept.specs.declared.outcome.Told.{Told}
+use Rattle.hq_rules.specs.Dates.{date_text}
 use Rattle.hq_text.specs.Determined.{is_told, AreValues, AreAlike}
-use Rattle.hq_text.specs.Notices.{action, diagnostic_lines, retry_lines, retry_date, retry_until}
-use Rattle.hq_text.specs.Notices.{recipient_fields, message_fields, status_lines, status_text}
-use Rattle.hq_queue.specs.declared.kind.Kind.{Kind}
-use Rattle.hq_queue.specs.declared.kind.Kind.TheVariants.{Failure, Delay}
+use Rattle.hq_rules.specs.NoticeTexts.{action, diagnostic_lines, retry_lines, retry_date}
+use Rattle.hq_rules.specs.NoticeTexts.{retry_until}
+use Rattle.hq_rules.specs.NoticeTexts.{recipient_fields, message_fields, status_lines, status_text}
+use Rattle.hq_kept.specs.declared.kind.Kind.{Kind}
+use Rattle.hq_kept.specs.declared.kind.Kind.TheVariants.{Failure, Delay}
 use Rattle.hq_text.proofs.DateTexts.{date_printed, date_determines}
 use Rattle.hq_text.proofs.Parted.{heads_same, parted}
 use Rattle.hq_text.proofs.Printed.{both, is_printed, printed-append, host_printed, address_printed}

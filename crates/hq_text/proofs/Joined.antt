@@ -5,7 +5,7 @@ use Rattle.std.specs.List.{flat_map}
 use Rattle.std.proofs.lemmas.List.{flat_map_more, take_more}
 use Rattle.std.proofs.lemmas.List.Concat.{flat_map_single}
 use Rattle.std.proofs.lemmas.Grind.{flat_map-append}
-use Rattle.hq_text.specs.Lines.{text_of}
+use Rattle.hq_rules.specs.TextLines.{text_of}
 
 pub text_of-nil : (end : List ℕ) → text_of end [] ≡ []
 unfolding text_of

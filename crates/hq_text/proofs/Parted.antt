@@ -5,7 +5,7 @@ use Rattle.std.specs.List.{list_all}
 use Rattle.std.proofs.lemmas.Bool.{false≢true}
 use Rattle.std.proofs.lemmas.List.{length-append}
 use Rattle.hq_values.specs.Words.{is_text_byte}
-use Rattle.hq_text.specs.Lines.{crlf, text_of}
+use Rattle.hq_rules.specs.TextLines.{crlf, text_of}
 use Rattle.hq_text.proofs.Joined.{text_of-nil, text_of-cons}
 use Rattle.hq_text.proofs.Printed.{both, is_printed}
 

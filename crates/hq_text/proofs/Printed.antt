@@ -13,8 +13,8 @@ use Rattle.hq_values.specs.Addresses.{is_label_byte, is_local_byte, is_dot, is_d
 use Rattle.hq_values.specs.Addresses.{is_domain, is_local, is_address, parts_of, last_at}
 use Rattle.hq_values.specs.Addresses.{has_good_parts}
 use Rattle.hq_values.specs.Words.{is_text_byte, is_text, is_host}
-use Rattle.hq_queue.specs.Statuses.{is_digit, is_leading_digit, is_class, is_number, is_status}
-use Rattle.hq_queue.specs.Statuses.{are_status_parts}
+use Rattle.hq_kept.specs.Statuses.{is_digit, is_leading_digit, is_class, is_number, is_status}
+use Rattle.hq_kept.specs.Statuses.{are_status_parts}
 
 pub both : (a b : Bool) → (a && b) ≡ true → (a ≡ true) × (b ≡ true)
 both true true h = (refl, refl)

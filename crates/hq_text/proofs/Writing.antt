@@ -5,12 +5,13 @@ use Rattle.std.specs.Prelude.{codes, if◌then◌else◌}
 use Rattle.std.proofs.lemmas.Bool.Decides.{nat_tests}
 use Rattle.std.specs.List.{flat_map}
 use Rattle.std.proofs.lemmas.Grind.{common_steps, flat_map-append}
-use Rattle.hq_queue.specs.declared.message.Message.{Message}
-use Rattle.hq_queue.specs.Moves.{is_on_hold}
-use Rattle.hq_text.specs.Lines.{lf, text_of}
-use Rattle.hq_text.specs.Reports.{Written, header, head_lines, message_lines, bytes_of, held_of}
-use Rattle.hq_text.specs.Reports.{written, written_with, added_lines, last_lines, summary}
-use Rattle.hq_text.specs.Reports.{report_lines, report_text}
+use Rattle.hq_kept.specs.declared.message.Message.{Message}
+use Rattle.hq_kept.specs.Messages.{is_on_hold}
+use Rattle.hq_rules.specs.TextLines.{lf, text_of}
+use Rattle.hq_rules.specs.QueueReports.{Written, header, head_lines, message_lines, bytes_of}
+use Rattle.hq_rules.specs.QueueReports.{held_of}
+use Rattle.hq_rules.specs.QueueReports.{written, written_with, added_lines, last_lines, summary}
+use Rattle.hq_rules.specs.QueueReports.{report_lines, report_text}
 use Rattle.hq_text.proofs.Joined.{text_of-nil, text_of-append}
 
 length_more : (ms : List Message) (m : Message) → length (ms ++ m ∷ []) ≡ length ms + 1

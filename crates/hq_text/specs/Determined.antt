@@ -4,10 +4,10 @@ use Rattle.std.specs.List.{list_all}
 use Rattle.hq_values.specs.Moments.{last_moment}
 use Rattle.hq_values.specs.Addresses.{is_address}
 use Rattle.hq_values.specs.Words.{is_host, is_text, is_text_byte}
-use Rattle.hq_queue.specs.Statuses.{is_status}
-use Rattle.hq_queue.specs.declared.message.Message.{Message}
-use Rattle.hq_queue.specs.declared.outcome.Told.{Told}
-use Rattle.hq_queue.specs.declared.kind.Kind.{Kind}
+use Rattle.hq_kept.specs.Statuses.{is_status}
+use Rattle.hq_kept.specs.declared.message.Message.{Message}
+use Rattle.hq_kept.specs.declared.outcome.Told.{Told}
+use Rattle.hq_kept.specs.declared.kind.Kind.{Kind}
 
 -- all of it may stand in a line: printable ASCII and spaces
 abbrev pub stands_in_line : List ℕ → Bool

@@ -1,5 +1,1 @@
-pub mod Dates
 pub mod Determined
-pub mod Lines
-pub mod Notices
-pub mod Reports

@@ -2,8 +2,8 @@
 
 ghost use Rattle.std.specs.Prelude.{◌≡◌, ◌<◌, ◌≤◌, pos, IfOk, string_bytes};
 ghost use Rattle.jiff.specs.Words.{epoch_day};
-ghost use Rattle.hq_text.specs.Dates.{two, civil, weekday_name, month_name, day_text, clock_text};
-ghost use Rattle.hq_text.specs.Dates as dates;
+ghost use Rattle.hq_rules.specs.Dates.{two, civil, weekday_name, month_name, day_text, clock_text};
+ghost use Rattle.hq_rules.specs.Dates as dates;
 
 use hq_values::Moment;
 use jiff::ToSpan;
@@ -42,7 +42,7 @@ fn parts(days: u32) -> (u16, u8, u8)
     )
 }
 
-#[tactic(auto, unfolding(crate::specs::Dates::weekday_name))]
+#[tactic(auto, unfolding(hq_rules::specs::Dates::weekday_name))]
 fn weekday_name(days: u32) -> &'static str
     ensures { result.now ≡ weekday_name days }
 {
@@ -57,7 +57,7 @@ fn weekday_name(days: u32) -> &'static str
     }
 }
 
-#[tactic(auto, unfolding(crate::specs::Dates::month_name))]
+#[tactic(auto, unfolding(hq_rules::specs::Dates::month_name))]
 fn month_name(month: u8) -> &'static str
     requires low { 1 ≤ month }
     requires high { month ≤ 12 }
@@ -86,7 +86,7 @@ fn two(alloc: Global, number: u32) -> Result<String, AllocError>
     format!(in alloc; "{}{}", number / 10, number % 10)
 }
 
-#[tactic(auto, unfolding(crate::specs::Dates::clock_text))]
+#[tactic(auto, unfolding(hq_rules::specs::Dates::clock_text))]
 fn clock_text(alloc: Global, seconds: u32) -> Result<String, AllocError>
     ensures { IfOk result (λ text. string_bytes text ≡ clock_text seconds) }
 {
@@ -96,7 +96,7 @@ fn clock_text(alloc: Global, seconds: u32) -> Result<String, AllocError>
     format!(in alloc; "{hour}:{minute}:{second}")
 }
 
-#[tactic(auto, unfolding(crate::specs::Dates::day_text))]
+#[tactic(auto, unfolding(hq_rules::specs::Dates::day_text))]
 fn day_text(alloc: Global, days: u32) -> Result<String, AllocError>
     requires { days < 47482 }
     ensures { IfOk result (λ text. string_bytes text ≡ day_text days) }
@@ -110,7 +110,7 @@ fn day_text(alloc: Global, days: u32) -> Result<String, AllocError>
 
 /// The date of a moment, as in `Thu, 01 Jan 2026 00:00:00 +0000` (RFC 5322, 3.3): in UTC, the day
 /// and the clock in two digits, the year in four. The only error is want of memory.
-#[tactic(auto, unfolding(crate::specs::Dates::date_text))]
+#[tactic(auto, unfolding(hq_rules::specs::Dates::date_text))]
 pub fn date_text(alloc: Global, at: Moment) -> Result<String, AllocError>
     ensures { IfOk result (λ text. string_bytes text ≡ dates.date_text at) }
 {

@@ -4,12 +4,12 @@
 ghost use Rattle.std.specs.Prelude.{◌≡◌, ℕ, List, IsTrue};
 ghost use Rattle.hq_values.specs.Addresses.{is_address};
 ghost use Rattle.hq_values.specs.Words.{is_host, is_text};
-ghost use Rattle.hq_queue.specs.Statuses.{is_status};
-ghost use Rattle.hq_queue.specs.declared.message.Message.{Message};
-ghost use Rattle.hq_queue.specs.declared.outcome.Told.{Told};
+ghost use Rattle.hq_kept.specs.Statuses.{is_status};
+ghost use Rattle.hq_kept.specs.declared.message.Message.{Message};
+ghost use Rattle.hq_kept.specs.declared.outcome.Told.{Told};
 ghost use Rattle.hq_text.specs.Determined.{stands_in_line, AreValues, AreAlike};
-ghost use Rattle.hq_text.specs.Notices.{status_text};
-ghost use Rattle.hq_queue.specs.declared.kind.Kind.{Kind};
+ghost use Rattle.hq_rules.specs.NoticeTexts.{status_text};
+ghost use Rattle.hq_kept.specs.declared.kind.Kind.{Kind};
 
 /// No value of a notice ends a line: hosts, addresses, status codes and texts are printable ASCII
 /// and spaces.

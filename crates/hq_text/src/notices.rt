@@ -3,11 +3,12 @@
 
 ghost use Rattle.std.specs.Prelude.{◌≡◌, [], ◌∷◌, ◌++◌, IfOk, OnOk, Some, option_map, string_bytes};
 ghost use Rattle.hq_values.specs.Serials.{serial_text};
-ghost use Rattle.hq_text.specs.Lines.{crlf, said, text_of};
-ghost use Rattle.hq_text.specs.Notices as notices;
+ghost use Rattle.hq_rules.specs.TextLines.{crlf, said, text_of};
+ghost use Rattle.hq_rules.specs.NoticeTexts as notices;
 
 use crate::dates::date_text;
-use hq_queue::{EXPIRY_SECONDS, Kind, Message, Told};
+use hq_kept::{Kind, Message, Told};
+use hq_rules::EXPIRY_SECONDS;
 use hq_values::{Host, Moment, Serial};
 use std::alloc::{AllocError, Global};
 use std::fmt::Write;
@@ -74,7 +75,7 @@ fn put_message(
 }
 
 /// What is done about a recipient (RFC 3464, 2.3.3).
-#[tactic(auto, unfolding(crate::specs::Notices::action))]
+#[tactic(auto, unfolding(hq_rules::specs::NoticeTexts::action))]
 fn action(kind: Kind) -> &'static str
     ensures { result.now ≡ notices.action kind }
 {
@@ -133,7 +134,7 @@ fn put_recipient(
 /// The body of `message/delivery-status` for those who are told of (RFC 3464, 2.1 to 2.3): the
 /// fields of the message, and for each of them, in order, an empty line and the fields of that
 /// recipient. Every line ends in CR LF. The only error is want of memory.
-#[tactic(auto, unfolding(crate::specs::Notices::status_text, crate::specs::Notices::status_lines))]
+#[tactic(auto, unfolding(hq_rules::specs::NoticeTexts::status_text, hq_rules::specs::NoticeTexts::status_lines))]
 pub fn status_text(
     alloc: Global,
     host: &Host,
@@ -165,7 +166,7 @@ fn put_line(text: &mut String, before: &str, value: &str, after: &str) -> Result
 }
 
 /// What happened to the message.
-#[tactic(auto, unfolding(crate::specs::Notices::what_happened))]
+#[tactic(auto, unfolding(hq_rules::specs::NoticeTexts::what_happened))]
 fn what_happened(kind: Kind) -> &'static str
     ensures { result.now ≡ notices.what_happened kind }
 {
@@ -224,7 +225,7 @@ fn put_told(text: &mut String, told: &Told) -> Result<(), AllocError>
 /// The text of the notice for a person: which message it is, what happened and what follows, and a
 /// line for each of those who are told of, in order. Every line ends in CR LF. The only error is
 /// want of memory.
-#[tactic(auto, unfolding(crate::specs::Notices::human_text, crate::specs::Notices::human_lines))]
+#[tactic(auto, unfolding(hq_rules::specs::NoticeTexts::human_text, hq_rules::specs::NoticeTexts::human_lines))]
 pub fn human_text(
     alloc: Global,
     host: &Host,

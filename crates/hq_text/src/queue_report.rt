@@ -3,14 +3,14 @@
 
 ghost use Rattle.std.specs.Prelude.{◌≡◌, [], ◌∷◌, ◌++◌, ◌+◌, ◌==◌, List, IfOk, OnOk, OnErr, codes};
 ghost use Rattle.std.specs.Prelude.{decimal, string_bytes, if◌then◌else◌};
-ghost use Rattle.hq_queue.specs.declared.message.Message.{Message};
-ghost use Rattle.hq_queue.specs.Moves.{is_on_hold};
-ghost use Rattle.hq_text.specs.Lines.{lf, text_of};
-ghost use Rattle.hq_text.specs.Reports as reports;
+ghost use Rattle.hq_kept.specs.declared.message.Message.{Message};
+ghost use Rattle.hq_kept.specs.Messages.{is_on_hold};
+ghost use Rattle.hq_rules.specs.TextLines.{lf, text_of};
+ghost use Rattle.hq_rules.specs.QueueReports as reports;
 
 use crate::dates::date_text;
 use crate::notices::queue_id;
-use hq_queue::{Message, Pending, QueueState, Status};
+use hq_kept::{Message, Pending, QueueState, Status};
 use hq_values::Sender;
 use std::alloc::{AllocError, Global};
 use std::fmt::Write;
@@ -45,7 +45,7 @@ fn held_count(state: QueueState) -> u64
 }
 
 /// The queue ID, the mark and the size.
-#[tactic(auto, unfolding(crate::specs::Reports::left_columns))]
+#[tactic(auto, unfolding(hq_rules::specs::QueueReports::left_columns))]
 fn left_columns(alloc: Global, message: &Message) -> Result<String, AllocError>
     ensures { IfOk result (λ text. string_bytes text ≡ reports.left_columns message.now) }
 {
@@ -56,7 +56,7 @@ fn left_columns(alloc: Global, message: &Message) -> Result<String, AllocError>
 }
 
 /// The sender, `<>` where it is the null sender.
-#[tactic(auto, unfolding(crate::specs::Reports::shown_sender))]
+#[tactic(auto, unfolding(hq_rules::specs::QueueReports::shown_sender))]
 fn shown_sender(sender: &Sender) -> &str
     ensures { result.now ≡ reports.shown_sender sender.now }
 {
@@ -75,7 +75,7 @@ fn spaced(alloc: Global, one: &str, two: &str, three: &str) -> Result<String, Al
 }
 
 /// The line of a message.
-#[tactic(auto, unfolding(crate::specs::Reports::message_line))]
+#[tactic(auto, unfolding(hq_rules::specs::QueueReports::message_line))]
 fn message_line(alloc: Global, message: &Message) -> Result<String, AllocError>
     ensures { IfOk result (λ text. string_bytes text ≡ reports.message_line message.now) }
 {
@@ -162,7 +162,7 @@ fn put_recipient(text: &mut String, pending: &Pending) -> Result<(), AllocError>
 }
 
 /// The lines of a message and of its recipients.
-#[tactic(auto, unfolding(crate::specs::Reports::message_lines))]
+#[tactic(auto, unfolding(hq_rules::specs::QueueReports::message_lines))]
 fn message_text(alloc: Global, message: &Message) -> Result<String, AllocError>
     ensures { IfOk result (λ text. string_bytes text
         ≡ text_of lf (reports.message_lines message.now)) }
@@ -178,7 +178,7 @@ fn message_text(alloc: Global, message: &Message) -> Result<String, AllocError>
 const HEADER: &str = "Queue ID          Size Arrival                         Sender/Recipient";
 
 /// The header, and lines below it.
-#[tactic(auto, unfolding(crate::specs::Reports::header))]
+#[tactic(auto, unfolding(hq_rules::specs::QueueReports::header))]
 fn below_header(alloc: Global, lines: &str) -> Result<String, AllocError>
     ensures { IfOk result (λ text. string_bytes text ≡ reports.header ++ lf ++ lines.now) }
 {
@@ -222,7 +222,7 @@ fn put_last(text: &mut String, queued: u64, bytes: u64, held: u64) -> Result<(),
 }
 
 /// Adds how many messages there are, their bytes together, and how many are on hold.
-#[tactic(auto, unfolding(crate::specs::Reports::summary))]
+#[tactic(auto, unfolding(hq_rules::specs::QueueReports::summary))]
 fn put_summary(text: &mut String, queued: u64, bytes: u64, held: u64) -> Result<(), AllocError>
     ensures { OnOk result (string_bytes text.new
         ≡ string_bytes text.old ++ (reports.summary queued bytes held ++ lf)) }
@@ -245,7 +245,7 @@ pub struct Report {
 
 impl Model for Report {
     ghost use Rattle.std.specs.Prelude.{string_bytes};
-    ghost use Rattle.hq_text.specs.Reports.{Written};
+    ghost use Rattle.hq_rules.specs.QueueReports.{Written};
 
     ghost Value = { Written };
 

@@ -6,7 +6,7 @@ use Rattle.std.specs.Prelude.{Result, Ok, Err}
 use Rattle.hq_values.specs.declared.failure.Fault.{Fault}
 use Rattle.hq_values.specs.declared.failure.Fault.TheVariants.{WantOfMemory, Disk, BadSchema}
 use Rattle.hq_values.specs.declared.failure.Fault.TheVariants.{Closed}
-use Rattle.hq_store.specs.Shelves.{one_more}
+use Rattle.hq_tables.specs.Shelves.{one_more}
 use Rattle.hq_trial.specs.declared.failure.Failure.{Failure}
 use Rattle.hq_trial.specs.declared.failure.Failure.TheVariants.{DiskOnce, ClosedFrom}
 use Rattle.hq_trial.specs.declared.failure.Trial.{Trial}

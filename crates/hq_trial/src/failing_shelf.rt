@@ -5,9 +5,8 @@ ghost use Rattle.hq_trial.specs.Trials.{uncalled};
 ghost use Rattle.hq_trial.specs.Shelves.{inner_of, trial_of, greatest_limit_of};
 
 use crate::failure::{Failure, Trial};
-use hq_access::{Action, Class, Line, LookupKey, Pattern};
-use hq_queue::{Counts, Head, Message};
-use hq_store::{Change, End, Mark, Notice, Shelf};
+use hq_kept::{Action, Class, Counts, End, Head, Line, LookupKey, Mark, Message, Notice, Pattern};
+use hq_tables::{Change, Shelf};
 use hq_values::{Fault, Items, Label, Name, Serial, Spool};
 
 /// A shelf before another: it hands each call on, or fails it as told without handing it on.
@@ -34,13 +33,6 @@ impl<S> FailingShelf<S> {
             trial: Trial::new(failure),
             greatest_limit: 0,
         }
-    }
-
-    /// The other shelf again. Takes no memory.
-    pub fn into_inner(self) -> S
-        ensures { result ≡ inner_of self }
-    {
-        self.inner
     }
 
     /// How many calls were made of it, those among them that it failed; at the greatest `u64` it

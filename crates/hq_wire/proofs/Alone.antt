@@ -12,13 +12,13 @@ use Rattle.hq_values.specs.Refusals.{no_memory}
 use Rattle.hq_values.specs.declared.failure.Fault.{Fault}
 use Rattle.hq_values.specs.declared.failure.Fault.TheVariants.{WantOfMemory}
 use Rattle.hq_values.specs.declared.failure.Refusal.{Refusal}
-use Rattle.hq_queue.specs.declared.account.Entry.{Entry}
-use Rattle.hq_store.specs.Tables.{Tables, State, text_cmp, own}
+use Rattle.hq_kept.specs.declared.account.Entry.{Entry}
+use Rattle.hq_tables.specs.Tables.{Tables, State, text_cmp, own}
 use Rattle.hq_owned.proofs.Parts.{tied_true}
-use Rattle.hq_calls.specs.Answers.{answer_number}
-use Rattle.hq_calls.specs.Machine.{step, shared, answers, state_after}
-use Rattle.hq_calls.specs.declared.answer.Answer.{Answer}
-use Rattle.hq_calls.proofs.Isolation.{caller, others}
+use Rattle.hq_rules.specs.Answers.{answer_number}
+use Rattle.hq_rules.specs.Machine.{step, shared, answers, state_after}
+use Rattle.hq_rules.specs.declared.answer.Answer.{Answer}
+use Rattle.hq_isolation.proofs.Isolation.{caller, others}
 use Rattle.hq_requests.specs.Calls.{Asked, CallOf, CallOfAll}
 use Rattle.hq_requests.specs.Directories.{entry_of}
 use Rattle.hq_wire.specs.Exchanges.{AllDone, Ask, CallsAll, Deed, IsStruck, MayReplyTo, Whole}

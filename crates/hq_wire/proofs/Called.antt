@@ -10,16 +10,15 @@ use Rattle.hq_values.specs.Refusals.{no_memory}
 use Rattle.hq_values.specs.declared.failure.Fault.{Fault}
 use Rattle.hq_values.specs.declared.failure.Fault.TheVariants.{WantOfMemory, Disk, BadSchema}
 use Rattle.hq_values.specs.declared.failure.Fault.TheVariants.{Closed}
-use Rattle.hq_queue.specs.declared.account.Entry.{Entry}
-use Rattle.hq_store.specs.Shelves.{Sight, IsTallied, KeepsOnErr, OnSound, OnOpenSound}
-use Rattle.hq_store.specs.Shelves.{StopLeavesTables, StopLeavesWhole}
-use Rattle.hq_store.specs.Sound.{Sound}
-use Rattle.hq_store.specs.Tables.{Tables}
-use Rattle.hq_calls.specs.Machine.{shared}
-use Rattle.hq_calls.specs.declared.call.Call.{Call}
-use Rattle.hq_desk.specs.Desks.{Stays, IsRendered, host_of, on, stepped}
-use Rattle.hq_desk.specs.declared.desk.Desk.{Desk}
-use Rattle.hq_desk.specs.declared.desk.Rendered.{Rendered}
+use Rattle.hq_kept.specs.declared.account.Entry.{Entry}
+use Rattle.hq_tables.specs.Shelves.{IsTallied, KeepsOnErr, OnSound, OnOpenSound}
+use Rattle.hq_tables.specs.Shelves.{StopLeavesTables, StopLeavesWhole}
+use Rattle.hq_tables.specs.Sound.{Sound}
+use Rattle.hq_tables.specs.Tables.{Tables}
+use Rattle.hq_rules.specs.Machine.{shared}
+use Rattle.hq_rules.specs.declared.call.Call.{Call}
+use Rattle.hq_rules.specs.Desks.{DeskSight, IsRendered, Stays, or_memory, stepped}
+use Rattle.hq_rules.specs.declared.render.Rendered.{Rendered}
 use Rattle.hq_requests.specs.Calls.{CallOfAll}
 use Rattle.hq_requests.specs.Directories.{entry_of, names_of}
 use Rattle.hq_wire.specs.Exchanges.{AllDone, Exchanged, InPart, StopsClosed, Unheard, after_calls}
@@ -87,26 +86,26 @@ no_customers [] none = refl
 no_customers (x ∷ xs) none = absurd (let some = ap (λ (ns : List (List ℕ)). length ns) none in
     omega (arith, some))
 
-module _ {S : Type 0} (sight : Sight S) (d : Directory) (at : ℕ) (call : Call) where
-  abbrev tables : Desk S → Tables
-  tables = (on sight).tables
+module _ {D : Type 0} (sight : DeskSight D) (d : Directory) (at : ℕ) (call : Call) where
+  abbrev tables : D → Tables
+  tables = sight.store.tables
 
   -- The customers of these names are done, and their parts stand in the body.
-  pub record SoFar (old : Desk S) (names : List (List ℕ)) (new : Desk S) (body : List ℕ)
+  pub record SoFar (old : D) (names : List (List ℕ)) (new : D) (body : List ℕ)
       (is_first : Bool) : Type 0 where
     pub parts : List Part
     pub text : body ≡ parts_opening ++ comma_joined parts
     pub first : is_first ≡ has_none parts
     pub whose : map customer_of_part parts ≡ names
-    pub done : OnOpenSound (on sight) old new
-        (AllDone (host_of old) d (tables old) (map (of_part at call) parts) (tables new))
-    pub sound : OnOpenSound (on sight) old new (Sound (tables new))
-    pub stays : Stays (on sight) old new
-    pub tally : (on sight).fault_count new ≡ (on sight).fault_count old
+    pub done : OnOpenSound sight.store old new
+        (AllDone (sight.host old) d (tables old) (map (of_part at call) parts) (tables new))
+    pub sound : OnOpenSound sight.store old new (Sound (tables new))
+    pub stays : Stays sight old new
+    pub tally : sight.store.fault_count new ≡ sight.store.fault_count old
     pub objects : AreObjects parts
-    pub open_ : ((names ≡ []) × (new ≡ old)) ⊎ ((on sight).is_closed new ≡ false)
+    pub open_ : ((names ≡ []) × (new ≡ old)) ⊎ (sight.store.is_closed new ≡ false)
 
-  pub none_yet : (old : Desk S) (body : List ℕ) → body ≡ parts_opening → SoFar old [] old body true
+  pub none_yet : (old : D) (body : List ℕ) → body ≡ parts_opening → SoFar old [] old body true
   none_yet old body is = record {
     parts = [];
     text = is ∙ sym (append-nil parts_opening);
@@ -114,33 +113,33 @@ module _ {S : Type 0} (sight : Sight S) (d : Directory) (at : ℕ) (call : Call)
     whose = refl;
     done = λ clean ours open_ sound. refl;
     sound = λ clean ours open_ sound. sound;
-    stays = stay_put (on sight) old;
+    stays = stay_put sight old;
     tally = refl;
     objects = tt;
     open_ = inl (refl, refl);
   }
 
   -- What holds of a desk of which so much was told, whether it is closed or not.
-  record Reached (old new : Desk S) (parts : List Part) : Type 0 where
-    pub ours : (on sight).is_ours new
+  record Reached (old new : D) (parts : List Part) : Type 0 where
+    pub ours : sight.store.is_ours new
     pub sound : Sound (tables new)
-    pub rests : StopLeavesTables (on sight) new
-    pub done : AllDone (host_of old) d (tables old) (map (of_part at call) parts) (tables new)
+    pub rests : StopLeavesTables sight.store new
+    pub done : AllDone (sight.host old) d (tables old) (map (of_part at call) parts) (tables new)
 
-  reached : (old new : Desk S) (names : List (List ℕ)) (body : List ℕ) (is_first : Bool)
-      (so_far : SoFar old names new body is_first) → (on sight).is_clean new →
-      (on sight).is_ours old → Sound (tables old) → StopLeavesTables (on sight) old →
+  reached : (old new : D) (names : List (List ℕ)) (body : List ℕ) (is_first : Bool)
+      (so_far : SoFar old names new body is_first) → sight.store.is_clean new →
+      sight.store.is_ours old → Sound (tables old) → StopLeavesTables sight.store old →
       Reached old new so_far.parts
   reached old new names body is_first so_far clean ours fit rests = ⊎_elim
       (λ (none : (names ≡ []) × (new ≡ old)). record {
-        ours = subst (on sight).is_ours (sym none.1) ours;
+        ours = subst sight.store.is_ours (sym none.1) ours;
         sound = subst (λ n. Sound (tables n)) (sym none.1) fit;
-        rests = subst (StopLeavesTables (on sight)) (sym none.1) rests;
-        done = subst (λ ps. AllDone (host_of old) d (tables old) (map (of_part at call) ps)
+        rests = subst (StopLeavesTables sight.store) (sym none.1) rests;
+        done = subst (λ ps. AllDone (sight.host old) d (tables old) (map (of_part at call) ps)
             (tables new)) (sym (no_customers so_far.parts (so_far.whose ∙ none.0)))
             (ap tables none.1);
       })
-      (λ (open_ : (on sight).is_closed new ≡ false). record {
+      (λ (open_ : sight.store.is_closed new ≡ false). record {
         ours = so_far.stays.ours clean ours open_;
         sound = so_far.sound clean ours open_ fit;
         rests = so_far.stays.rests clean ours open_ rests;
@@ -148,13 +147,13 @@ module _ {S : Type 0} (sight : Sight S) (d : Directory) (at : ℕ) (call : Call)
       }) so_far.open_
 
   -- a desk that was closed did nothing
-  closed_told_none : (old new : Desk S) (names : List (List ℕ)) (body : List ℕ) (is_first : Bool)
-      (so_far : SoFar old names new body is_first) → (on sight).is_closed old ≡ true →
+  closed_told_none : (old new : D) (names : List (List ℕ)) (body : List ℕ) (is_first : Bool)
+      (so_far : SoFar old names new body is_first) → sight.store.is_closed old ≡ true →
       map (of_part at call) so_far.parts ≡ []
   closed_told_none old new names body is_first so_far closed = ⊎_elim
       (λ (none : (names ≡ []) × (new ≡ old)). ap (map (of_part at call))
       (no_customers so_far.parts (so_far.whose ∙ none.0)))
-      (λ (open_ : (on sight).is_closed new ≡ false). apart
+      (λ (open_ : sight.store.is_closed new ≡ false). apart
       (sym (so_far.stays.stays_open open_) ∙ closed)) so_far.open_
 
   -- the call behind these parts
@@ -169,25 +168,25 @@ module _ {S : Type 0} (sight : Sight S) (d : Directory) (at : ℕ) (call : Call)
   next_is (x ∷ xs) name more = next_is xs name more
 
   -- the call of one customer was done
-  pub one_more_done : (old mid new : Desk S) (names : List (List ℕ)) (body longer : List ℕ)
+  pub one_more_done : (old mid new : D) (names : List (List ℕ)) (body longer : List ℕ)
       (is_first : Bool) (entry : Entry) (made_call : Call) (rendered : Rendered)
       → SoFar old names mid body is_first
       → entry ≡ entry_of d entry.name
       → made_call ≡ call
       → longer ≡ body ++ separated is_first rendered.bytes.items
-      → OnSound (on sight) mid new (IsRendered (part_text entry.name)
-      (stepped (on sight) mid entry at made_call).0 rendered)
-      → OnSound (on sight) mid new (tables new ≡ (stepped (on sight) mid entry at made_call).1)
-      → OnOpenSound (on sight) mid new (Sound (tables new))
-      → KeepsOnErr (on sight) mid new (Ok rendered)
-      → host_of new ≡ host_of mid
+      → OnSound sight.store mid new (IsRendered (part_text entry.name)
+      (stepped sight mid entry at made_call).0 rendered)
+      → OnSound sight.store mid new (tables new ≡ (stepped sight mid entry at made_call).1)
+      → OnOpenSound sight.store mid new (Sound (tables new))
+      → KeepsOnErr (or_memory sight.store) mid new (Ok rendered)
+      → sight.host new ≡ sight.host mid
       → IsObject rendered.bytes.items
       → SoFar old (names ++ entry.name ∷ []) new longer false
   one_more_done old mid new names body longer is_first entry made_call rendered before known same
       put answer made sound kept host object =
       let p : Part = record { customer = entry.name; text = rendered.bytes.items } in
       let was_open = kept.tally.0 in
-      let keeps : Stays (on sight) mid new =
+      let keeps : Stays sight mid new =
       record {
         ours = kept.ours;
         quiet = kept.quiet;
@@ -213,27 +212,27 @@ module _ {S : Type 0} (sight : Sight S) (d : Directory) (at : ℕ) (call : Call)
             let rows = before.stays.ours then ours was_open in
             let fit = before.sound then ours was_open sound in
             let told = answer clean rows fit in
-            let this : step (host_of old) (entry_of d entry.name) call =
+            let this : step (sight.host old) (entry_of d entry.name) call =
             subst (λ h. step h (entry_of d entry.name) call) before.stays.host
-            (subst (λ e. step (host_of mid) e call) known
-            (subst (step (host_of mid) entry) same (ap InPart told.1, made clean rows fit))) in
-            subst (λ ds. AllDone (host_of old) d (tables old) ds (tables new))
+            (subst (λ e. step (sight.host mid) e call) known
+            (subst (step (sight.host mid) entry) same (ap InPart told.1, made clean rows fit))) in
+            subst (λ ds. AllDone (sight.host old) d (tables old) ds (tables new))
             (sym (map-append (of_part at call) before.parts (p ∷ [])))
-            (all_done_on (host_of old) d (tables old) (tables mid) (tables new)
+            (all_done_on (sight.host old) d (tables old) (tables mid) (tables new)
             (map (of_part at call) before.parts) (of_part at call p ∷ []) (before.done then
             ours was_open sound) this);
         sound = λ clean ours open_ fit.
             let then = kept.quiet clean in
             sound clean (before.stays.ours then ours was_open) open_ (before.sound then
             ours was_open fit);
-        stays = stay_on (on sight) old mid new before.stays keeps;
+        stays = stay_on sight old mid new before.stays keeps;
         tally = kept.tally.2 ∙ before.tally;
         objects = more_objects before.parts p before.objects object;
         open_ = inr kept.tally.1;
       }
 
   -- all customers were done
-  pub done_by_all : (old new : Desk S) (names : List (List ℕ)) (body : List ℕ) (is_first : Bool)
+  pub done_by_all : (old new : D) (names : List (List ℕ)) (body : List ℕ) (is_first : Bool)
       (so_far : SoFar old names new body is_first) → names ≡ names_of d →
       Exchanged sight d old (record { at = at; called = Ok (CallOfAll call) })
       (parted_reply so_far.parts None) new
@@ -265,32 +264,32 @@ module _ {S : Type 0} (sight : Sight S) (d : Directory) (at : ℕ) (call : Call)
     shut = closed_told_none old new names body is_first so_far;
     counted = λ small. let same = so_far.tally in omega (arith, same);
   } where
-    either : ((names ≡ []) × (new ≡ old)) ⊎ ((on sight).is_closed new ≡ false) →
-        (on sight).is_closed new ≡ true →
+    either : ((names ≡ []) × (new ≡ old)) ⊎ (sight.store.is_closed new ≡ false) →
+        sight.store.is_closed new ≡ true →
         ((parted_reply so_far.parts None ≡ reply_of_fault no_memory) ⊎ (names_of d ≡ []))
         × (new ≡ old)
     either (inl none) closed = (inr (sym all ∙ none.0), none.1)
     either (inr open_) closed = apart (sym open_ ∙ closed)
 
   -- a fault stopped it at a customer
-  pub stopped_at : (old mid new : Desk S) (names : List (List ℕ)) (body : List ℕ) (is_first : Bool)
+  pub stopped_at : (old mid new : D) (names : List (List ℕ)) (body : List ℕ) (is_first : Bool)
       (entry : Entry) (made_call : Call) (more : List (List ℕ)) (fault : Fault)
       (so_far : SoFar old names mid body is_first)
       → names_of d ≡ names ++ entry.name ∷ more
       → entry ≡ entry_of d entry.name
       → made_call ≡ call
-      → OnOpenSound (on sight) mid new (Sound (tables new))
-      → OnSound (on sight) mid new (StopLeavesWhole (on sight) mid new
-      (stepped (on sight) mid entry at made_call).1)
-      → KeepsOnErr {X = Rendered} (on sight) mid new (Err fault)
-      → host_of new ≡ host_of mid
+      → OnOpenSound sight.store mid new (Sound (tables new))
+      → OnSound sight.store mid new (StopLeavesWhole sight.store mid new
+      (stepped sight mid entry at made_call).1)
+      → KeepsOnErr {X = Rendered} (or_memory sight.store) mid new (Err fault)
+      → sight.host new ≡ sight.host mid
       → Exchanged sight d old (record { at = at; called = Ok (CallOfAll call) })
       (parted_reply so_far.parts (Some (record { customer = entry.name; fault = fault }))) new
   stopped_at old mid new names body is_first entry made_call more fault so_far all known same sound
       stops kept host =
       let name = entry.name in
       let opens = was_open fault _ _ _ _ kept.tally in
-      let keeps : Stays (on sight) mid new =
+      let keeps : Stays sight mid new =
       record {
         ours = kept.ours;
         quiet = kept.quiet;
@@ -299,10 +298,10 @@ module _ {S : Type 0} (sight : Sight S) (d : Directory) (at : ℕ) (call : Call)
         rests = kept.rests;
         shut = kept.shut;
       } in
-      let next : (stepped (on sight) mid entry at made_call).1 ≡ after_calls (host_of old) d
+      let next : (stepped sight mid entry at made_call).1 ≡ after_calls (sight.host old) d
       (tables mid) (called_next so_far.parts (names_of d)) =
       (λ i. (shared (so_far.stays.host i) (known i) (tables mid) at (same i)).1)
-      ∙ ap (after_calls (host_of old) d (tables mid)) (sym (next_is so_far.parts name more)
+      ∙ ap (after_calls (sight.host old) d (tables mid)) (sym (next_is so_far.parts name more)
       ∙ ap (called_next so_far.parts) (sym (all ∙ ap (λ ns. ns ++ name ∷ more)
       (sym so_far.whose)))) in
       record {
@@ -312,7 +311,7 @@ module _ {S : Type 0} (sight : Sight S) (d : Directory) (at : ℕ) (call : Call)
             inl (record {
               left = name ∷ more;
               order = all ∙ ap (λ ns. ns ++ name ∷ more) (sym so_far.whose);
-              done = subst (λ t. AllDone (host_of old) d (tables old)
+              done = subst (λ t. AllDone (sight.host old) d (tables old)
                   (map (of_part at call) so_far.parts) t) (sym (kept.none clean rows open_))
                   (so_far.done then ours (opens open_) fit);
               ends = (kept.cause, (more, refl));
@@ -332,7 +331,7 @@ module _ {S : Type 0} (sight : Sight S) (d : Directory) (at : ℕ) (call : Call)
             let then = kept.quiet clean in
             sound clean (so_far.stays.ours then ours (opens open_)) open_ (so_far.sound then
             ours (opens open_) fit);
-        stays = stay_on (on sight) old mid new so_far.stays keeps;
+        stays = stay_on sight old mid new so_far.stays keeps;
         stops = λ clean ours fit rests.
             let so = reached old mid names body is_first so_far (kept.quiet clean) ours fit rests in
             let left = stops clean so.ours so.sound so.rests in (
@@ -341,14 +340,14 @@ module _ {S : Type 0} (sight : Sight S) (d : Directory) (at : ℕ) (call : Call)
                 tables mid,
                 so.done,
                 ⊎_elim (λ (is : t ≡ tables mid). inl is)
-                    (λ (is : t ≡ (stepped (on sight) mid entry at made_call).1). inr (is ∙ next))
+                    (λ (is : t ≡ (stepped sight mid entry at made_call).1). inr (is ∙ next))
                     (left.1 t may),
               ),
             );
         shut = closed_told_none old mid names body is_first so_far;
         counted = λ small. let told = counts fault _ _ _ _ kept.tally small in let same =
             so_far.tally in subst (λ n. cond (not (is_memory fault)) 1 0 + n ≡
-            (on sight).fault_count new) same told;
+            sight.store.fault_count new) same told;
       }
 
 -- a list at a place of it

@@ -11,15 +11,14 @@ use Rattle.hq_values.specs.declared.failure.Fault.{Fault}
 use Rattle.hq_values.specs.declared.failure.Fault.TheVariants.{WantOfMemory, Disk, BadSchema}
 use Rattle.hq_values.specs.declared.failure.Fault.TheVariants.{Closed}
 use Rattle.hq_values.specs.declared.failure.Refusal.{Refusal}
-use Rattle.hq_store.specs.Shelves.{Sight, IsTallied, StopLeaves, StopLeavesTables, one_more}
-use Rattle.hq_store.specs.Tables.{Tables}
-use Rattle.hq_queue.specs.declared.account.Entry.{Entry}
-use Rattle.hq_calls.specs.Machine.{shared}
-use Rattle.hq_calls.specs.declared.call.Call.{Call}
+use Rattle.hq_tables.specs.Shelves.{Sight, IsTallied, StopLeaves, StopLeavesTables, one_more}
+use Rattle.hq_tables.specs.Tables.{Tables}
+use Rattle.hq_kept.specs.declared.account.Entry.{Entry}
+use Rattle.hq_rules.specs.Machine.{shared}
+use Rattle.hq_rules.specs.declared.call.Call.{Call}
 use Rattle.hq_requests.specs.Directories.{entry_of}
-use Rattle.hq_desk.specs.Desks.{Stays, host_of, on}
-use Rattle.hq_desk.specs.declared.desk.Desk.{Desk}
-use Rattle.hq_desk.specs.declared.desk.Rendered.{Rendered}
+use Rattle.hq_rules.specs.Desks.{DeskSight, Stays}
+use Rattle.hq_rules.specs.declared.render.Rendered.{Rendered}
 use Rattle.hq_requests.specs.Calls.{Asked, CallOf, CallOfAll}
 use Rattle.hq_wire.specs.Exchanges.{Ask, MayReplyTo, IsRefused, RepliesAnyway, StopsClosed}
 use Rattle.hq_wire.specs.Exchanges.{TellsClosed, TellsOf, Exchanged, AllDone, Deed, StopMayLeave}
@@ -33,7 +32,7 @@ pub apart : {A : Type 0} → false ≡ true → A
 apart e = absurd (false≢true e)
 
 -- no calls keep all
-pub stay_put : {S : Type 0} (sight : Sight (Desk S)) (desk : Desk S) → Stays sight desk desk
+pub stay_put : {D : Type 0} (sight : DeskSight D) (desk : D) → Stays sight desk desk
 stay_put sight desk = record {
   ours = λ clean ours open_. ours;
   quiet = λ clean. clean;
@@ -44,16 +43,16 @@ stay_put sight desk = record {
 }
 
 -- what was closed is closed
-pub stays_closed : {S : Type 0} (sight : Sight (Desk S)) (old new : Desk S) → Stays sight old new →
-    sight.is_closed old ≡ true → sight.is_closed new ≡ true
-stays_closed sight old new kept closed = elim (sight.is_closed new) as
-    (λ b. sight.is_closed new ≡ b → sight.is_closed new ≡ true) [
+pub stays_closed : {D : Type 0} (sight : DeskSight D) (old new : D) → Stays sight old new →
+    sight.store.is_closed old ≡ true → sight.store.is_closed new ≡ true
+stays_closed sight old new kept closed = elim (sight.store.is_closed new) as
+    (λ b. sight.store.is_closed new ≡ b → sight.store.is_closed new ≡ true) [
       | true ↦ λ is. is
       | false ↦ λ is. apart (sym (kept.stays_open is) ∙ closed)
     ] refl
 
 -- what two stretches of calls keep, they keep together
-pub stay_on : {S : Type 0} (sight : Sight (Desk S)) (old mid new : Desk S) → Stays sight old mid →
+pub stay_on : {D : Type 0} (sight : DeskSight D) (old mid new : D) → Stays sight old mid →
     Stays sight mid new → Stays sight old new
 stay_on sight old mid new first next = record {
   ours = λ clean ours open_. next.ours clean
@@ -92,8 +91,8 @@ no_deeds fault at (Ok (CallOfAll call)) r h =
     ap (map (of_part at call)) (ap (λ (x : SeenReply). x.parts) h ∙ no_parts fault)
 
 -- so a stop leaves the tables that there were
-pub leaves_as_before : {S : Type 0} (sight : Sight (Desk S)) (host : List ℕ) (d : Directory)
-    (desk : Desk S) (a : Ask) (r : SeenReply) → deeds_of a.at a.called r ≡ [] →
+pub leaves_as_before : {D : Type 0} (sight : Sight D) (host : List ℕ) (d : Directory)
+    (desk : D) (a : Ask) (r : SeenReply) → deeds_of a.at a.called r ≡ [] →
     StopLeavesTables sight desk →
     StopLeaves sight desk (StopMayLeave host d (sight.tables desk) a.at a.called r)
 leaves_as_before sight host d desk a r none rests = (
@@ -107,8 +106,8 @@ leaves_as_before sight host d desk a r none rests = (
 )
 
 -- where a call of one customer tells of nothing, a stop leaves the tables before or behind it
-pub leaves_one : {S : Type 0} (sight : Sight (Desk S)) (host : List ℕ) (d : Directory)
-    (old new : Desk S) (entry : Entry) (at : ℕ) (call : Call) (r : SeenReply)
+pub leaves_one : {D : Type 0} (sight : Sight D) (host : List ℕ) (d : Directory)
+    (old new : D) (entry : Entry) (at : ℕ) (call : Call) (r : SeenReply)
     → deeds_of at (Ok (CallOf entry.name call)) r ≡ []
     → entry ≡ entry_of d entry.name
     → StopLeaves sight new (λ t. (t ≡ sight.tables old)
@@ -141,7 +140,7 @@ without_room may host d t at (Err e) r h = (inr h, refl)
 without_room may host d t at (Ok (CallOf name call)) r h = inr (no_memory, inl refl, (h, refl))
 without_room may host d t at (Ok (CallOfAll call)) r h = inr (h, refl)
 
-room_anyway : {S : Type 0} (sight : Sight (Desk S)) (d : Directory) (desk : Desk S)
+room_anyway : {D : Type 0} (sight : Sight D) (d : Directory) (desk : D)
     (called : Result Asked Refusal) (r : SeenReply) → r ≡ reply_of_fault no_memory →
     RepliesAnyway sight d desk called r desk
 room_anyway sight d desk (Err e) r h = (inr h, refl)
@@ -272,18 +271,18 @@ stop_closes Disk was is m n parts name h told = by_another Disk parts name refl 
 stop_closes BadSchema was is m n parts name h told = absurd h
 stop_closes Closed was is m n parts name h told = h.0
 
-module _ {S : Type 0} (sight : Sight S) (d : Directory) (desk : Desk S) where
+module _ {D : Type 0} (sight : DeskSight D) (d : Directory) (desk : D) where
   -- there was no room for it, and nothing was done
   pub no_room : (a : Ask) (r : SeenReply) → r ≡ reply_of_fault no_memory →
       Exchanged sight d desk a r desk
   no_room a r h = record {
-    replied = λ clean ours open_ sound. without_room sight.may_answer _ d _ a.at a.called r h;
+    replied = λ clean ours open_ sound. without_room sight.store.may_answer _ d _ a.at a.called r h;
     tells = room_tells d a.called r h;
-    anyway = room_anyway (on sight) d desk a.called r h;
+    anyway = room_anyway sight.store d desk a.called r h;
     closed = tells_none r (ap tells_store h ∙ memory_is_none);
     sound = λ clean ours open_ sound. sound;
-    stays = stay_put (on sight) desk;
-    stops = λ clean ours sound. leaves_as_before (on sight) (host_of desk) d desk a r
+    stays = stay_put sight desk;
+    stops = λ clean ours sound. leaves_as_before sight.store (sight.host desk) d desk a r
         (no_deeds no_memory a.at a.called r h);
     shut = λ closed. no_deeds no_memory a.at a.called r h;
     counted = λ small. none_more (tells_store r) _ (ap tells_store h ∙ memory_is_none);
@@ -298,8 +297,8 @@ module _ {S : Type 0} (sight : Sight S) (d : Directory) (desk : Desk S) where
     anyway = (h, refl);
     closed = tells_none r none;
     sound = λ clean ours open_ sound. sound;
-    stays = stay_put (on sight) desk;
-    stops = λ clean ours sound. leaves_as_before (on sight) (host_of desk) d desk
+    stays = stay_put sight desk;
+    stops = λ clean ours sound. leaves_as_before sight.store (sight.host desk) d desk
         (record { at = at; called = Err e }) r refl;
     shut = λ closed. refl;
     counted = λ small. none_more (tells_store r) _ none;

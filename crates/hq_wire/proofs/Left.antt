@@ -4,16 +4,16 @@ use Rattle.std.proofs.Common.{Result, Ok, Err, refl, ap, ◌∙◌}
 use Rattle.hq_values.specs.Refusals.{no_memory}
 use Rattle.hq_values.specs.declared.failure.Fault.{Fault}
 use Rattle.hq_values.specs.declared.failure.Refusal.{Refusal}
-use Rattle.hq_store.specs.Readings.{read_tables}
-use Rattle.hq_store.specs.Tables.{Tables, write_all}
-use Rattle.hq_store.specs.declared.change.Change.{Change}
-use Rattle.hq_calls.specs.Answers.{answer_number}
-use Rattle.hq_calls.specs.Machine.{shared}
-use Rattle.hq_calls.specs.Unchanged.{only_reads, tells_no_change}
-use Rattle.hq_calls.specs.declared.answer.Answer.{Answer}
-use Rattle.hq_calls.specs.declared.answer.Answer.TheVariants.{Refused}
-use Rattle.hq_calls.specs.declared.call.Call.{Call}
-use Rattle.hq_calls.proofs.Unchanged.{no_changes, reading_has_none}
+use Rattle.hq_tables.specs.Readings.{read_tables}
+use Rattle.hq_tables.specs.Tables.{Tables, write_all}
+use Rattle.hq_tables.specs.declared.change.Change.{Change}
+use Rattle.hq_rules.specs.Answers.{answer_number}
+use Rattle.hq_rules.specs.Machine.{shared}
+use Rattle.hq_rules.specs.Unchanged.{only_reads, tells_no_change}
+use Rattle.hq_rules.specs.declared.answer.Answer.{Answer}
+use Rattle.hq_rules.specs.declared.answer.Answer.TheVariants.{Refused}
+use Rattle.hq_rules.specs.declared.call.Call.{Call}
+use Rattle.hq_rules.proofs.Unchanged.{no_changes, reading_has_none}
 use Rattle.hq_requests.specs.Calls.{Asked, CallOf, CallOfAll, call_in}
 use Rattle.hq_requests.specs.Directories.{entry_of}
 use Rattle.hq_wire.specs.Exchanges.{AllDone, CallsAll, IsStruck, MayReplyTo, of_part}

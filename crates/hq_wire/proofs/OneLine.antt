@@ -13,10 +13,10 @@ use Rattle.hq_values.specs.declared.failure.Fault.TheVariants.{WantOfMemory, Dis
 use Rattle.hq_values.specs.declared.failure.Fault.TheVariants.{Closed}
 use Rattle.hq_values.specs.declared.failure.Refusal.{Refusal}
 use Rattle.hq_values.specs.Words.{is_name, is_name_byte}
-use Rattle.hq_store.specs.Tables.{Tables}
-use Rattle.hq_calls.specs.Machine.{shared}
-use Rattle.hq_calls.specs.declared.answer.Answer.TheVariants.{Refused}
-use Rattle.hq_calls.specs.declared.call.Call.{Call}
+use Rattle.hq_tables.specs.Tables.{Tables}
+use Rattle.hq_rules.specs.Machine.{shared}
+use Rattle.hq_rules.specs.declared.answer.Answer.TheVariants.{Refused}
+use Rattle.hq_rules.specs.declared.call.Call.{Call}
 use Rattle.hq_json.specs.OneLine.{is_in_line, is_one_line}
 use Rattle.hq_json.specs.Replies.{answer_text}
 use Rattle.hq_json.proofs.OneLine.{answer_one_line, both_one_line}

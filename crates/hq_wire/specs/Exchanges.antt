@@ -7,15 +7,14 @@ use Rattle.hq_values.specs.Refusals.{no_memory}
 use Rattle.hq_values.specs.declared.failure.Fault.{Fault}
 use Rattle.hq_values.specs.declared.failure.Fault.TheVariants.{Closed}
 use Rattle.hq_values.specs.declared.failure.Refusal.{Refusal}
-use Rattle.hq_store.specs.Shelves.{Sight, OnSound, OnOpenSound, StopLeaves, StopLeavesTables}
-use Rattle.hq_store.specs.Sound.{Sound}
-use Rattle.hq_store.specs.Tables.{Tables}
-use Rattle.hq_desk.specs.Desks.{Stays, host_of, on}
-use Rattle.hq_calls.specs.Machine.{shared}
-use Rattle.hq_calls.specs.declared.answer.Answer.{Answer}
-use Rattle.hq_calls.specs.declared.answer.Answer.TheVariants.{Refused}
-use Rattle.hq_calls.specs.declared.call.Call.{Call}
-use Rattle.hq_desk.specs.declared.desk.Desk.{Desk}
+use Rattle.hq_tables.specs.Shelves.{Sight, OnSound, OnOpenSound, StopLeaves, StopLeavesTables}
+use Rattle.hq_tables.specs.Sound.{Sound}
+use Rattle.hq_tables.specs.Tables.{Tables}
+use Rattle.hq_rules.specs.Desks.{DeskSight, Stays}
+use Rattle.hq_rules.specs.Machine.{shared}
+use Rattle.hq_rules.specs.declared.answer.Answer.{Answer}
+use Rattle.hq_rules.specs.declared.answer.Answer.TheVariants.{Refused}
+use Rattle.hq_rules.specs.declared.call.Call.{Call}
 use Rattle.hq_requests.specs.Calls.{Asked, CallOf, CallOfAll, call_of}
 use Rattle.hq_requests.specs.Directories.{entry_of, names_of}
 use Rattle.hq_wire.specs.Replies.{SeenReply, Part, Stop, AreObjects, part_text, reply_of}
@@ -189,8 +188,8 @@ TellsClosed r = (r ≡ reply_of_fault Closed) ⊎ StopsClosed r.stopped
 -- Whatever the store is: a refusal is told, and the desk stays as it is; and where the store is
 -- closed after a call, the reply tells this, or want of memory before anything was done; and so of
 -- a call of all, unless there is no customer.
-abbrev pub RepliesAnyway : {S : Type 0} → Sight (Desk S) → Directory → Desk S → Result Asked Refusal
-    → SeenReply → Desk S → Type 0
+abbrev pub RepliesAnyway : {D : Type 0} → Sight D → Directory → D → Result Asked Refusal
+    → SeenReply → D → Type 0
 RepliesAnyway sight d old (Err refusal) r new = IsRefused refusal r × (new ≡ old)
 RepliesAnyway sight d old (Ok (CallOf name call)) r new = sight.is_closed new ≡ true →
     (r ≡ reply_of_fault Closed) ⊎ ((r ≡ reply_of_fault no_memory) × (new ≡ old))
@@ -199,24 +198,24 @@ RepliesAnyway sight d old (Ok (CallOfAll call)) r new = sight.is_closed new ≡ 
     ⊎ (((r ≡ reply_of_fault no_memory) ⊎ (names_of d ≡ [])) × (new ≡ old))
 
 -- What one exchange does to a desk, by what is seen of its shelf.
-pub record Exchanged {S : Type 0} (sight : Sight S) (d : Directory) (old : Desk S) (a : Ask)
-    (r : SeenReply) (new : Desk S) : Type 0 where
-  pub replied : OnOpenSound (on sight) old new
-      (MayReply sight.may_answer (host_of old) d ((on sight).tables old) a r
-      ((on sight).tables new))
+pub record Exchanged {D : Type 0} (sight : DeskSight D) (d : Directory) (old : D) (a : Ask)
+    (r : SeenReply) (new : D) : Type 0 where
+  pub replied : OnOpenSound sight.store old new
+      (MayReply sight.store.may_answer (sight.host old) d (sight.store.tables old) a r
+      (sight.store.tables new))
   pub tells : Tells d a r
-  pub anyway : RepliesAnyway (on sight) d old a.called r new
+  pub anyway : RepliesAnyway sight.store d old a.called r new
   -- 93 is told only where the store is closed then
-  pub closed : TellsClosed r → (on sight).is_closed new ≡ true
-  pub sound : OnOpenSound (on sight) old new (Sound ((on sight).tables new))
-  pub stays : Stays (on sight) old new
+  pub closed : TellsClosed r → sight.store.is_closed new ≡ true
+  pub sound : OnOpenSound sight.store old new (Sound (sight.store.tables new))
+  pub stays : Stays sight old new
   -- wherever in it a stop comes
-  pub stops : OnSound (on sight) old new (StopLeavesTables (on sight) old →
-      StopLeaves (on sight) new
-      (StopMayLeave (host_of old) d ((on sight).tables old) a.at a.called r))
+  pub stops : OnSound sight.store old new (StopLeavesTables sight.store old →
+      StopLeaves sight.store new
+      (StopMayLeave (sight.host old) d (sight.store.tables old) a.at a.called r))
   -- a desk that was closed does nothing
-  pub shut : (on sight).is_closed old ≡ true → deeds_of a.at a.called r ≡ []
+  pub shut : sight.store.is_closed old ≡ true → deeds_of a.at a.called r ≡ []
   -- 91 and 93 are told exactly where the shelf counted a fault, as long as its count does not stand
   -- still
-  pub counted : (on sight).fault_count new < 2 ^ 64 - 1 →
-      (if tells_store r then 1 else 0) + (on sight).fault_count old ≡ (on sight).fault_count new
+  pub counted : sight.store.fault_count new < 2 ^ 64 - 1 →
+      (if tells_store r then 1 else 0) + sight.store.fault_count old ≡ sight.store.fault_count new

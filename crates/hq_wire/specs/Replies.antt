@@ -6,12 +6,11 @@ use Rattle.std.specs.List.{flat_map, list_all}
 use Rattle.hq_values.specs.declared.failure.Fault.{Fault}
 use Rattle.hq_values.specs.declared.failure.Fault.TheVariants.{WantOfMemory, Disk, BadSchema}
 use Rattle.hq_values.specs.declared.failure.Fault.TheVariants.{Closed}
-use Rattle.hq_calls.specs.Answers.{answer_number}
-use Rattle.hq_calls.specs.declared.answer.Answer.{Answer}
+use Rattle.hq_rules.specs.Answers.{answer_number}
+use Rattle.hq_rules.specs.declared.answer.Answer.{Answer}
 use Rattle.hq_json.specs.Replies.{answer_text}
-use Rattle.hq_wire.specs.declared.reply.Body.{Body}
-use Rattle.hq_wire.specs.declared.reply.Body.TheVariants as body
-use Rattle.hq_wire.specs.declared.reply.Reply.{Reply}
+use Rattle.hq_requests.specs.Bodies.{body_bytes}
+use Rattle.hq_requests.specs.declared.reply.Reply.{Reply}
 
 -- what one customer is told in the reply to a call of all
 pub record Part : Type 0 where
@@ -33,10 +32,6 @@ pub record SeenReply : Type 0 where
 -- a reply without parts
 abbrev pub plain : ℕ → List ℕ → SeenReply
 plain status body = record { status = status; body = body; parts = []; stopped = None }
-
-abbrev pub body_bytes : Body → List ℕ
-body_bytes (body.Bytes bytes) = bytes.items
-body_bytes (body.Fixed text) = text.now
 
 abbrev pub seen : Reply → SeenReply
 seen reply = plain reply.status (body_bytes reply.body)

@@ -5,18 +5,17 @@ use Rattle.std.specs.List.{AllZip}
 use Rattle.std.specs.Ordering.{eq_by_cmp}
 use Rattle.hq_values.specs.Turns.{InTurn}
 use Rattle.hq_values.specs.declared.failure.Fault.{Fault}
-use Rattle.hq_store.specs.Shelves.{Sight, OnOpenSound}
-use Rattle.hq_store.specs.Sound.{Sound}
-use Rattle.hq_store.specs.Tables.{Tables, text_cmp, own}
-use Rattle.hq_desk.specs.Desks.{Stays, host_of, on}
-use Rattle.hq_calls.specs.Machine.{answers, state_after}
-use Rattle.hq_calls.specs.declared.answer.Answer.{Answer}
-use Rattle.hq_calls.specs.declared.call.Call.{Call}
-use Rattle.hq_desk.specs.declared.desk.Desk.{Desk}
+use Rattle.hq_tables.specs.Shelves.{OnOpenSound}
+use Rattle.hq_tables.specs.Sound.{Sound}
+use Rattle.hq_tables.specs.Tables.{Tables, text_cmp, own}
+use Rattle.hq_rules.specs.Desks.{DeskSight, Stays}
+use Rattle.hq_rules.specs.Machine.{answers, state_after}
+use Rattle.hq_rules.specs.declared.answer.Answer.{Answer}
+use Rattle.hq_rules.specs.declared.call.Call.{Call}
 use Rattle.hq_requests.specs.Directories.{entry_of}
 use Rattle.hq_wire.specs.Exchanges.{Ask, Deed, Told, deeds_of, told_as, MayReply, Exchanged}
 use Rattle.hq_wire.specs.Replies.{SeenReply, IsSent, store_faults}
-use Rattle.hq_wire.specs.declared.reply.Reply.{Reply}
+use Rattle.hq_requests.specs.declared.reply.Reply.{Reply}
 use Rattle.hq_requests.specs.declared.directory.Directory.{Directory}
 
 -- what was asked, the replies to it in order, and the tables before and after
@@ -78,33 +77,33 @@ pub record Alone (host : List ℕ) (d : Directory) (asks : List Ask) (rs : List 
       (calls_in (share c asks rs))
 
 -- What many exchanges do to a desk, by what is seen of its shelf.
-pub record Served {S : Type 0} (sight : Sight S) (d : Directory) (old : Desk S) (asks : List Ask)
-    (rs : List SeenReply) (new : Desk S) : Type 0 where
+pub record Served {D : Type 0} (sight : DeskSight D) (d : Directory) (old : D) (asks : List Ask)
+    (rs : List SeenReply) (new : D) : Type 0 where
   -- one after the other, each as one exchange does
   pub each : InTurn (Exchanged sight d) old asks rs new
   -- the headline
-  pub alone : OnOpenSound (on sight) old new
-      (Alone (host_of old) d asks rs ((on sight).tables old) ((on sight).tables new))
-  pub sound : OnOpenSound (on sight) old new (Sound ((on sight).tables new))
-  pub stays : Stays (on sight) old new
+  pub alone : OnOpenSound sight.store old new
+      (Alone (sight.host old) d asks rs (sight.store.tables old) (sight.store.tables new))
+  pub sound : OnOpenSound sight.store old new (Sound (sight.store.tables new))
+  pub stays : Stays sight old new
   -- 91 and 93 are told as often as the shelf counted a fault, as long as its count does not stand
   -- still
-  pub counted : (on sight).fault_count new < 2 ^ 64 - 1 →
-      store_faults rs + (on sight).fault_count old ≡ (on sight).fault_count new
+  pub counted : sight.store.fault_count new < 2 ^ 64 - 1 →
+      store_faults rs + sight.store.fault_count old ≡ sight.store.fault_count new
 
 -- What one exchange does to a desk, with the reply as it is sent; and the headline, of one
 -- exchange.
-pub record RepliesSo {S : Type 0} (sight : Sight S) (d : Directory) (old : Desk S) (a : Ask)
-    (reply : Reply) (new : Desk S) : Type 0 where
+pub record RepliesSo {D : Type 0} (sight : DeskSight D) (d : Directory) (old : D) (a : Ask)
+    (reply : Reply) (new : D) : Type 0 where
   pub told : SeenReply
   pub sent : IsSent reply told
   pub done : Exchanged sight d old a told new
-  pub alone : OnOpenSound (on sight) old new (Alone (host_of old) d (a ∷ []) (told ∷ [])
-      ((on sight).tables old) ((on sight).tables new))
+  pub alone : OnOpenSound sight.store old new (Alone (sight.host old) d (a ∷ []) (told ∷ [])
+      (sight.store.tables old) (sight.store.tables new))
 
 -- the same of many, one after the other
-pub record RunsSo {S : Type 0} (sight : Sight S) (d : Directory) (old : Desk S) (asks : List Ask)
-    (replies : List Reply) (new : Desk S) : Type 0 where
+pub record RunsSo {D : Type 0} (sight : DeskSight D) (d : Directory) (old : D) (asks : List Ask)
+    (replies : List Reply) (new : D) : Type 0 where
   pub told : List SeenReply
   pub sent : AllZip IsSent replies told
   pub served : Served sight d old asks told new

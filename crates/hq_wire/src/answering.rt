@@ -1,57 +1,87 @@
 //! How the desk replies to one exchange.
 
-ghost use Rattle.std.specs.Prelude.{◌≡◌, Ok, false};
+ghost use Rattle.std.specs.Prelude.{◌≡◌, Ok, Some, false, option_map};
 ghost use Rattle.hq_requests.specs.Calls.{CallOf};
 ghost use Rattle.hq_requests.specs.Directories.{entry_of};
+ghost use Rattle.hq_requests.specs.Bodies.{error_told, number_shown};
 ghost use Rattle.hq_wire.specs.Exchanges.{Exchanged, IsRefused, ask_of};
-ghost use Rattle.hq_wire.specs.Replies.{seen, tells_store};
+ghost use Rattle.hq_requests.specs.Named.{customer_of_exchange, customer_told};
+ghost use Rattle.hq_wire.specs.Replies.{plain, seen, status_of, tells_store};
 ghost use Rattle.hq_wire.specs.Runs.{RepliesSo};
 ghost use Rattle.hq_requests.specs.declared.directory.Directory.{Directory};
 
 use crate::calling::call_all;
-use crate::reply::{Body, Reply, fault_reply, status_of};
-use hq_desk::{Call, Desk};
+use crate::faults::fault_reply;
 use hq_json::{Json, refusal_text};
-use hq_queue::Entry;
-use hq_requests::{Asking, Directory, Exchange, call_of};
-use hq_store::Shelf;
-use hq_values::{Fail, Fault, Moment, Refusal};
+use hq_kept::Entry;
+use hq_requests::{Asking, Body, Directory, Exchange, Reply, call_of, customer_named};
+use hq_rules::{Acts, Call};
+use hq_values::{Fail, Fault, Moment, Name, Refusal};
 use std::alloc::Global;
 
-/// The reply to a refusal that no call was made for, or to want of memory where its text has no
-/// room.
-pub fn refusal_reply(alloc: Global, refusal: Refusal) -> Reply
+/// The HTTP status of an answer, by its number.
+#[tactic(auto, unfolding(crate::specs::Replies::status_of))]
+fn status_of(number: u16) -> u16
+    ensures { result ≡ status_of number }
+{
+    match number {
+        0 => 200,
+        2 => 401,
+        3 => 403,
+        4 | 10..=13 => 404,
+        5 => 405,
+        6 => 413,
+        30 | 40..=44 | 52 => 409,
+        _ => 400,
+    }
+}
+
+/// The reply of an answer with this number, which its bytes tell, to this customer.
+fn answer_reply<'d>(customer: Option<&'d Name>, number: u16, bytes: Vec<u8>) -> Reply<'d>
+    requires { number_shown number ≡ error_told (status_of number) bytes.items }
+    ensures told { seen result ≡ plain (status_of number) bytes.items }
+    ensures customer { customer_told result ≡ option_map (λ c. c.now) customer.entry }
+{
+    Reply {
+        status: status_of(number),
+        number,
+        customer,
+        body: Body::Bytes(bytes),
+    }
+}
+
+/// The reply to a refusal that no call was made for, of this customer; or to want of memory where
+/// its text has no room.
+pub fn refusal_reply<'d>(alloc: Global, customer: Option<&'d Name>, refusal: Refusal) -> Reply<'d>
     ensures told { IsRefused refusal (seen result) }
     ensures store { tells_store (seen result) ≡ false }
+    ensures customer { customer_told result
+        ≡ option_map (λ c. c.now) customer.entry }
 {
-    let status = status_of(refusal.number());
+    let number = refusal.number();
     match refusal_text(alloc, refusal) {
-        Ok(bytes) => Reply {
-            status,
-            body: Body::Bytes(bytes),
-        },
-        Err(_) => fault_reply(Fault::WantOfMemory),
+        Ok(bytes) => answer_reply(customer, number, bytes),
+        Err(_) => fault_reply(customer, Fault::WantOfMemory),
     }
 }
 
 /// The reply to a call of a customer, under any directory that has this entry.
-fn call_reply<S: Shelf + Drop>(
+fn call_reply<'d, D: Acts>(
     alloc: Global,
-    desk: &mut Desk<S>,
+    desk: &mut D,
     at: Moment,
-    entry: &Entry,
+    entry: &'d Entry,
     call: Call,
-) -> Reply
-    ensures { (d : Directory) → entry.now ≡ entry_of d entry.now.name
-        → Exchanged S.sight d desk.old
+) -> Reply<'d>
+    ensures done { (d : Directory) → entry.now ≡ entry_of d entry.now.name
+        → Exchanged D.sight d desk.old
         (record { at = at; called = Ok (CallOf entry.now.name call) }) (seen result) desk.new }
+    ensures customer { customer_told result ≡ Some entry.now.name }
 {
+    let customer = Some(&entry.name);
     match desk.act(alloc, at, entry, call, &Json) {
-        Ok(rendered) => Reply {
-            status: status_of(rendered.number),
-            body: Body::Bytes(rendered.bytes),
-        },
-        Err(fault) => fault_reply(fault),
+        Ok(rendered) => answer_reply(customer, rendered.number, rendered.bytes),
+        Err(fault) => fault_reply(customer, fault),
     }
 }
 
@@ -67,19 +97,25 @@ fn call_reply<S: Shelf + Drop>(
 /// those of the tables before, and the tables were sound. Whatever the store is, a refusal is told
 /// as such, and where the store is closed after a call the reply is 93 `Closed`, or 90; 93 is told
 /// only then.
-pub fn exchange<S: Shelf + Drop>(
+///
+/// The reply is of the customer whose key is shown, or whom the relay names, also where it refuses.
+pub fn exchange<'d, D: Acts>(
     alloc: Global,
-    desk: &mut Desk<S>,
-    directory: &Directory,
+    desk: &mut D,
+    directory: &'d Directory,
     exchange: &Exchange,
-) -> Reply
-    ensures { RepliesSo S.sight directory.now desk.old (ask_of directory.now exchange.now) result
-        desk.new }
+) -> Reply<'d>
+    ensures done { RepliesSo D.sight directory.now desk.old (ask_of directory.now exchange.now)
+        result desk.new }
+    ensures customer { customer_told result
+        ≡ customer_of_exchange directory.now exchange.now }
 {
     match call_of(alloc, directory, exchange) {
         Ok(Asking::CallOf(entry, call)) => call_reply(alloc, desk, exchange.at, entry, call),
         Ok(Asking::CallOfAll(each)) => call_all(alloc, desk, directory, exchange.at, each),
-        Err(Fail::Refused(refusal)) => refusal_reply(alloc, refusal),
-        Err(Fail::Fault(fault)) => fault_reply(fault),
+        Err(Fail::Refused(refusal)) => {
+            refusal_reply(alloc, customer_named(directory, exchange), refusal)
+        }
+        Err(Fail::Fault(fault)) => fault_reply(customer_named(directory, exchange), fault),
     }
 }

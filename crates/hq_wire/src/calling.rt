@@ -3,18 +3,19 @@
 ghost use Rattle.std.specs.Prelude.{◌≡◌, ◌+◌, ◌*◌, ◌≤◌, ◌++◌, true, Ok, Some, None, length, drop};
 ghost use Rattle.std.specs.Prelude.{vec_len, vec_capacity, IfOk, IfSome};
 ghost use Rattle.std.specs.List.{list_all};
-ghost use Rattle.hq_calls.specs.Each.{each_call};
+ghost use Rattle.hq_rules.specs.Each.{each_call};
 ghost use Rattle.hq_requests.specs.Calls.{CallOfAll};
+ghost use Rattle.hq_requests.specs.Bodies.{body_bytes};
 ghost use Rattle.hq_wire.specs.Exchanges.{Exchanged};
-ghost use Rattle.hq_wire.specs.Replies.{SeenReply, IsSent, Closes, is_inside, for_customer};
-ghost use Rattle.hq_wire.specs.Replies.{fault_text, separated, parts_opening, closing};
+ghost use Rattle.hq_requests.specs.Named.{customer_told};
+ghost use Rattle.hq_wire.specs.Replies.{SeenReply, IsSent, Closes, is_inside};
+ghost use Rattle.hq_wire.specs.Replies.{for_customer, fault_text, separated, parts_opening};
+ghost use Rattle.hq_wire.specs.Replies.{closing};
 
-use crate::reply::{Body, Reply, fault_reply, fault_text};
-use hq_calls::EachCall;
-use hq_desk::{Answer, Desk, Render};
+use crate::faults::{fault_reply, fault_text};
 use hq_json::Json;
-use hq_requests::Directory;
-use hq_store::Shelf;
+use hq_requests::{Body, Directory, Reply};
+use hq_rules::{Acts, Answer, EachCall, Render};
 use hq_values::{Fault, Moment, Name};
 use std::alloc::{AllocError, Global};
 
@@ -102,7 +103,7 @@ impl Render for PartText<'_> {
 
     ghost text = { λ part answer. part_text part.name.now answer };
 
-    ghost fits = { λ part bytes. (1 + length bytes ≤ part.room) × IsObject bytes };
+    ghost fits = { λ part answer bytes. (1 + length bytes ≤ part.room) × IsObject bytes };
 
     fn render(&self, alloc: Global, answer: &Answer) -> Result<Vec<u8>, AllocError> {
         let told = Json.render(alloc, answer)?;
@@ -177,25 +178,40 @@ fn put_stop(body: &mut Vec<u8>, name: &Name, fault: Fault)
     put(body, b"}");
 }
 
+/// The reply of these bytes, which is of no one customer.
+fn parted(body: Vec<u8>) -> Reply<'static>
+    ensures status { result.status ≡ 200 }
+    ensures body { body_bytes result.body ≡ body.items }
+    ensures customer { customer_told result ≡ None }
+{
+    Reply {
+        status: 200,
+        number: 0,
+        customer: None,
+        body: Body::Bytes(body),
+    }
+}
+
 /// Makes a call for every customer at a moment, in the order of the directory, and stops at the
 /// first fault. A refusal is told as the customer's part.
 ///
 /// Room for the longest reply is taken first; where it is refused, nothing is done, and 90 is told.
 /// Each part is written before its customer's changes are made, and added without taking memory.
-pub(crate) fn call_all<S: Shelf + Drop>(
+pub(crate) fn call_all<D: Acts>(
     alloc: Global,
-    desk: &mut Desk<S>,
+    desk: &mut D,
     directory: &Directory,
     at: Moment,
     each: EachCall,
-) -> Reply
-    ensures { (r : SeenReply) × IsSent result r × Exchanged S.sight directory.now desk.old
+) -> Reply<'static>
+    ensures done { (r : SeenReply) × IsSent result r × Exchanged D.sight directory.now desk.old
         (record { at = at; called = Ok (CallOfAll (each_call each)) }) r desk.new }
+    ensures customer { customer_told result ≡ None }
 {
     let customers = directory.customers();
     let room = part_room(each);
     let Some(mut body) = room_for(alloc, customers.len(), room) else {
-        return fault_reply(Fault::WantOfMemory);
+        return fault_reply(None, Fault::WantOfMemory);
     };
     let mut is_first = true;
     for customer in customers {
@@ -205,17 +221,11 @@ pub(crate) fn call_all<S: Shelf + Drop>(
             Ok(rendered) => put_part(&mut body, is_first, rendered.bytes.as_slice()),
             Err(fault) => {
                 put_stop(&mut body, name, fault);
-                return Reply {
-                    status: 200,
-                    body: Body::Bytes(body),
-                };
+                return parted(body);
             }
         }
         is_first = false;
     }
     put_all_done(&mut body);
-    Reply {
-        status: 200,
-        body: Body::Bytes(body),
-    }
+    parted(body)
 }

@@ -5,10 +5,8 @@ ghost use Rattle.hq_wire.specs.Exchanges.{ask_of};
 ghost use Rattle.hq_wire.specs.Runs.{RunsSo};
 
 use crate::answering::exchange;
-use crate::reply::Reply;
-use hq_desk::Desk;
-use hq_requests::{Directory, Exchange};
-use hq_store::Shelf;
+use hq_requests::{Directory, Exchange, Reply};
+use hq_rules::Acts;
 use std::alloc::{AllocError, Allocator, Global};
 
 /// Replies to exchanges in order, one reply each.
@@ -18,14 +16,14 @@ use std::alloc::{AllocError, Allocator, Global};
 /// calls alone, whatever other calls come between. A call that is answered 503 does not count.
 ///
 /// Room for all replies is taken first from `room`; where it is refused, nothing was done.
-pub fn run<S: Shelf + Drop, A: Allocator>(
+pub fn run<'d, D: Acts, A: Allocator>(
     alloc: Global,
     room: A,
-    desk: &mut Desk<S>,
-    directory: &Directory,
+    desk: &mut D,
+    directory: &'d Directory,
     exchanges: &[Exchange],
-) -> Result<Vec<Reply, A>, AllocError>
-    ensures served { IfOk result (λ replies. RunsSo S.sight directory.now desk.old
+) -> Result<Vec<Reply<'d>, A>, AllocError>
+    ensures served { IfOk result (λ replies. RunsSo D.sight directory.now desk.old
         (map (ask_of directory.now) exchanges.now) replies.items desk.new) }
     ensures none { OnErr result (desk.new ≡ desk.old) }
 {

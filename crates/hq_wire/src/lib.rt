@@ -1,4 +1,4 @@
-//! The wire: exchanges done by the desk, answers turned into replies, and the headline: to each
+//! The wire: exchanges done by any desk, answers turned into replies, and the headline: to each
 //! customer the desk is its own, whatever the other customers do.
 //!
 //! ```
@@ -13,11 +13,11 @@
 
 mod answering;
 mod calling;
+mod faults;
 mod headline;
 pub mod laws;
-mod reply;
 
 pub use answering::{exchange, refusal_reply};
+pub use faults::fault_reply;
 pub use headline::run;
-pub use hq_requests::{Directory, Exchange, are_customers};
-pub use reply::{Body, Reply, fault_reply};
+pub use hq_requests::{Body, Directory, Exchange, Reply, are_customers};

@@ -1,9 +1,9 @@
 //! The relay of these tests, its two customers, and what they ask as lines `METHOD PATH KEY BODY`.
 
 use hq_desk::Desk;
+use hq_kept::{Customer, Entry, Quota};
 use hq_lists::ListShelf;
-use hq_queue::{Customer, Entry, Quota};
-use hq_store::Shelf;
+use hq_tables::Shelf;
 use hq_values::{Fail as Failure, Host, Key, Moment, Name};
 use hq_wire::{Directory, Exchange, Reply, are_customers, exchange};
 use std::alloc::{AllocError, Global};
@@ -113,18 +113,18 @@ pub fn asked(alloc: Global, line: &str) -> Result<Exchange, Fail> {
 }
 
 /// A reply as a line `STATUS BODY`.
-pub fn line_of(alloc: Global, reply: &Reply) -> Result<String, Fail> {
+pub fn line_of(alloc: Global, reply: &Reply<'_>) -> Result<String, Fail> {
     let body = str::from_utf8(reply.body.as_bytes())?;
     Ok(format!(in alloc; "{} {body}", reply.status)?)
 }
 
 /// A reply, in a function of its own: its callers need nothing of the contract of an exchange.
-fn replied(
+fn replied<'d>(
     alloc: Global,
     desk: &mut Desk<ListShelf>,
-    directory: &Directory,
+    directory: &'d Directory,
     asked: &Exchange,
-) -> Reply {
+) -> Reply<'d> {
     exchange(alloc, desk, directory, asked)
 }
 

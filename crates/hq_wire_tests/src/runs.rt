@@ -4,7 +4,7 @@ use crate::relay::{asked, desk_over, directory, expect_rows, line_of};
 use hq_desk::Desk;
 use hq_lists::ListShelf;
 use hq_sql_shelf::SqlShelf;
-use hq_store::Shelf;
+use hq_tables::Shelf;
 use hq_wire::{Directory, Exchange, Reply, run};
 use linked_list_allocator::LocalHeap;
 use std::alloc::{AllocError, Allocator, Global};
@@ -33,20 +33,20 @@ const LISTED_BIRCH: &str =
      \"more\":false}";
 
 /// The replies of one run, in this room.
-fn replies_in<S: Shelf + Drop, A: Allocator>(
+fn replies_in<'d, S: Shelf + Drop, A: Allocator>(
     alloc: Global,
     room: A,
     desk: &mut Desk<S>,
-    directory: &Directory,
+    directory: &'d Directory,
     exchanges: &[Exchange],
-) -> Result<Vec<Reply, A>, AllocError> {
+) -> Result<Vec<Reply<'d>, A>, AllocError> {
     run(alloc, room, desk, directory, exchanges)
 }
 
 /// The replies are those of the rows, in order.
 fn expect_replies(
     rt: &(impl Abort + AllocGlobal),
-    replies: &[Reply],
+    replies: &[Reply<'_>],
     rows: &[(&str, &str)],
 ) -> Result<(), Fail> {
     assert_eq!(rt; replies.len(), rows.len());

@@ -2,10 +2,10 @@
 //! messages a report asks a shelf for at once.
 
 use crate::relay::{desk_over, expect_at};
+use hq_kept::{Head, Tally};
 use hq_lists::ListShelf;
-use hq_queue::{Head, Tally};
 use hq_sql_shelf::SqlShelf;
-use hq_store::{Change, Shelf};
+use hq_tables::{Change, Shelf};
 use hq_trial::{FailingShelf, Failure as Plan};
 use hq_values::Name;
 use std::process::Abort;

@@ -4,7 +4,7 @@ use crate::relay::{desk_over, expect_at};
 use hq_desk::Desk;
 use hq_lists::ListShelf;
 use hq_sql_shelf::SqlShelf;
-use hq_store::Shelf;
+use hq_tables::Shelf;
 use hq_trial::{FailingShelf, Failure as Plan};
 use std::process::Abort;
 use std::test::Fail;

@@ -2,11 +2,11 @@
 
 use crate::relay::{desk_over, expect_at};
 use crate::sweeps::{expect_stop, submit_both};
-use hq_calls::{Answer, Render, Usage};
 use hq_json::Json;
+use hq_kept::{Counts, Head, Tally};
 use hq_lists::ListShelf;
-use hq_queue::{Counts, Head, Tally};
-use hq_store::{Change, Shelf};
+use hq_rules::{Answer, Render, Usage};
+use hq_tables::{Change, Shelf};
 use hq_trial::Failure as Plan;
 use hq_values::Name;
 use std::test::Fail;

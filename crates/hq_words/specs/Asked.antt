@@ -24,7 +24,7 @@ use Rattle.hq_words.specs.declared.selecting.Matching.{Matching}
 use Rattle.hq_words.specs.declared.selecting.Matching.TheVariants as matching
 use Rattle.hq_words.specs.declared.selecting.Moving.{Moving}
 use Rattle.hq_words.specs.declared.selecting.Telling.{Telling}
-use Rattle.hq_words.specs.declared.options.Usage.{Usage}
+use Rattle.hq_words.specs.declared.options.UsageWord.{UsageWord}
 use Rattle.hq_words.specs.declared.options.Import.{Import}
 use Rattle.hq_words.specs.declared.options.Sweep.{Sweep}
 use Rattle.hq_words.specs.declared.options.Migrate.{Migrate}
@@ -115,7 +115,7 @@ MovingIs (Some given) None = IsMoment given.at None
 MovingIs None (Some moving) = ⊥
 MovingIs None None = ⊤
 
-abbrev pub usage_of : Usage → UsageGiven
+abbrev pub usage_of : UsageWord → UsageGiven
 usage_of u = record { directory = u.directory.now; store = u.store.now }
 
 abbrev pub import_of : Import → ImportGiven

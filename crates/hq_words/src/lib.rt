@@ -8,6 +8,6 @@ mod selecting;
 mod texts;
 mod words;
 
-pub use options::{Batch, Check, Import, Migrate, RelayKey, Serve, Sweep, Usage};
+pub use options::{Batch, Check, Import, Migrate, RelayKey, Serve, Sweep, UsageWord};
 pub use selecting::{Matching, Moving, Telling};
 pub use words::{Word, Words, read_words};

@@ -73,7 +73,7 @@ pub struct Check<'w> {
 
 /// What the word `usage` is given, as it was written.
 #[derive(Clone, Copy, Debug, PartialEq, Eq, Drop)]
-pub struct Usage<'w> {
+pub struct UsageWord<'w> {
     /// The path of the file of the customers.
     pub directory: &'w str,
     /// The path of the store.
@@ -231,12 +231,12 @@ pub(crate) fn check_in<'w>(given: &ArgMatches<'w>) -> Option<Check<'w>>
 }
 
 /// What matches give the word `usage`.
-pub(crate) fn usage_in<'w>(given: &ArgMatches<'w>) -> Option<Usage<'w>>
+pub(crate) fn usage_in<'w>(given: &ArgMatches<'w>) -> Option<UsageWord<'w>>
     ensures { option_map usage_of result ≡ usage_in (rows_of (found_of given.now)) }
 {
     let directory = value(given, "directory")?;
     let store = value(given, "store")?;
-    Some(Usage { directory, store })
+    Some(UsageWord { directory, store })
 }
 
 /// What matches give the word `import`.

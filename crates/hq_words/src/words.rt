@@ -13,8 +13,8 @@ ghost use Rattle.hq_words.specs.Program.{program};
 
 use crate::command::program;
 use crate::options::{
-    Batch, Check, Import, Migrate, Serve, Sweep, Usage, batch_in, check_in, import_in, migrate_in,
-    serve_in, sweep_in, usage_in,
+    Batch, Check, Import, Migrate, Serve, Sweep, UsageWord, batch_in, check_in, import_in,
+    migrate_in, serve_in, sweep_in, usage_in,
 };
 use crate::selecting::{Moving, Telling, moving_in, telling_in};
 use crate::texts::{ONE_KEY, ONE_PATTERN, ONE_PATTERN_AT_MOST};
@@ -42,7 +42,7 @@ pub enum Word<'w> {
     /// `delete`: messages of a customer deleted.
     Delete(Moving<'w>),
     /// `usage`: what each customer of a directory uses of its quota.
-    Usage(Usage<'w>),
+    Usage(UsageWord<'w>),
     /// `import`: lines of a customer's access tables, from a file.
     Import(Import<'w>),
     /// `sweep`: messages of a customer, or of all, that are too old given up, and late ones warned

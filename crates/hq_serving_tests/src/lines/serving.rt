@@ -3,7 +3,7 @@
 
 use crate::lines::echo::Echo;
 use crate::readers::MANNERS;
-use hq_lines::serve_lines;
+use hq_lines::answer_lines;
 use hq_trial::{Narrow, Pieces};
 use hq_values::EngineFault;
 use std::alloc::{AllocError, Global};
@@ -23,7 +23,7 @@ fn expect_served(
 ) {
     let mut output = Vec::new(rt.alloc());
     let mut echo = Echo { steps_done: 0 };
-    let outcome = serve_lines(rt.alloc(), reader, &mut output, &mut echo);
+    let outcome = answer_lines(rt.alloc(), reader, &mut output, &mut echo);
     assert_eq!(rt;
         (outcome, output.as_slice(), echo.steps_done),
         (ended, written, steps)
@@ -113,7 +113,7 @@ fn failed_write(rt: HostRuntime) {
     for (room, steps) in [(0, 1), (1, 2), (2, 3)] {
         let mut reader = Pieces::new(THREE_LINES, usize::MAX);
         let mut echo = Echo { steps_done: 0 };
-        let ended = serve_lines(rt.alloc(), &mut reader, &mut Narrow { room }, &mut echo);
+        let ended = answer_lines(rt.alloc(), &mut reader, &mut Narrow { room }, &mut echo);
         assert_eq!(rt; (ended, echo.steps_done), (Err(EngineFault::Write), steps));
     }
 }

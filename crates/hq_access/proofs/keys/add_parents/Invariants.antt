@@ -1,7 +1,7 @@
 use Rattle.std.proofs.Common.{◌≡◌, ◌++◌, length}
 use denote.Text.{Utf8}
 use denote.Shadow.{shadow}
-use Rattle.hq_access.specs.Keys.{parents}
+use Rattle.hq_kept.specs.Keys.{parents}
 use Rattle.hq_access.proofs.Domains.{labels_of}
 use Rattle.hq_access.proofs.keys.add_parents.Given as goal
 

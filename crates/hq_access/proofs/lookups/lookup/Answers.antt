@@ -2,8 +2,8 @@ use Rattle.std.proofs.Common.{◌++◌, [], ◌∷◌, Option, Some, Result, Ok,
 use Rattle.std.proofs.Common.{subst, append_assoc}
 use Rattle.std.proofs.lemmas.Result.{err_from_is_err_and}
 use Rattle.hq_values.specs.declared.failure.Fault.{Fault}
-use Rattle.hq_access.specs.Keys.{keys_of}
-use Rattle.hq_access.specs.declared.action.Action.{Action}
+use Rattle.hq_kept.specs.Keys.{keys_of}
+use Rattle.hq_kept.specs.declared.action.Action.{Action}
 use Rattle.hq_access.proofs.Asking.{looks_until, looks_through, looks_found, looks_keep}
 use Rattle.hq_access.proofs.Asking.{passes_more}
 use Rattle.hq_access.proofs.lookups.lookup.Goals as goal

@@ -1,5 +1,5 @@
 use Rattle.std.proofs.Common.{◌≡◌, ◌++◌}
-use Rattle.hq_access.specs.Keys.{keys_of}
+use Rattle.hq_kept.specs.Keys.{keys_of}
 use Rattle.hq_access.proofs.Asking.{Passes}
 use Rattle.hq_access.proofs.lookups.lookup.Given as goal
 

@@ -1,5 +1,5 @@
 use Rattle.std.proofs.Common.{ap, ◌∙◌, arith, option_map}
-use Rattle.hq_access.specs.Verdicts.{holding}
+use Rattle.hq_rules.specs.Verdicts.{holding}
 use Rattle.hq_access.proofs.Weighing.{held_next}
 use Rattle.hq_access.proofs.verdicts.held_by.Goals as goal
 

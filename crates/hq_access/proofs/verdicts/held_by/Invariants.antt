@@ -1,5 +1,5 @@
 use Rattle.std.proofs.Common.{◌≡◌, take, option_map}
-use Rattle.hq_access.specs.Verdicts.{found_in, held_by}
+use Rattle.hq_rules.specs.Verdicts.{found_in, held_by}
 use Rattle.hq_access.proofs.verdicts.held_by.Given as goal
 
 abbrev pub invariant-loop-recipient : goal.invariant-loop-recipient

@@ -2,7 +2,7 @@ use Rattle.std.proofs.Common.{◌≡◌, ◌||◌, map, sym, ap, ◌∙◌, rule
 use Rattle.std.specs.List.{list_any}
 use Rattle.std.proofs.lemmas.Iterator.{YieldsList-from_slice}
 use Rattle.std.proofs.lemmas.Iterator.Search.{any_from_yields_List}
-use Rattle.hq_access.specs.Verdicts.{discards, not_refused}
+use Rattle.hq_rules.specs.Verdicts.{discards, not_refused}
 use Rattle.hq_access.proofs.Weighing.{Recipient, discards_kept}
 use Rattle.hq_access.proofs.verdicts.is_discarded.Goals as goal
 

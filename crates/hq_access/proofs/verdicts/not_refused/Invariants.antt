@@ -1,5 +1,5 @@
 use Rattle.std.proofs.Common.{◌≡◌, take, map}
-use Rattle.hq_access.specs.Verdicts.{not_refused}
+use Rattle.hq_rules.specs.Verdicts.{not_refused}
 use Rattle.hq_access.proofs.verdicts.not_refused.Given as goal
 
 abbrev pub invariant-loop-recipient : goal.invariant-loop-recipient

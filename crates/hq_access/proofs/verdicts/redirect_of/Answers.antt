@@ -1,5 +1,5 @@
 use Rattle.std.proofs.Common.{ap, ◌∙◌, arith, option_map}
-use Rattle.hq_access.specs.Verdicts.{redirection}
+use Rattle.hq_rules.specs.Verdicts.{redirection}
 use Rattle.hq_access.proofs.Weighing.{redirect_next}
 use Rattle.hq_access.proofs.verdicts.redirect_of.Goals as goal
 

@@ -1,5 +1,5 @@
 use Rattle.std.proofs.Common.{Some, None, sym, ap, ◌∙◌, arith, append-nil, Vec, Global}
-use Rattle.hq_access.specs.declared.verdicts.Refused.{Refused}
+use Rattle.hq_rules.specs.declared.verdict.Refused.{Refused}
 use Rattle.hq_access.proofs.Weighing.{refused_next}
 use Rattle.hq_access.proofs.verdicts.refused_in.Goals as goal
 use Rattle.hq_access.proofs.verdicts.refused_in.Goals.{in-Some+in_ok-push, in_default}

@@ -1,5 +1,5 @@
 use Rattle.std.proofs.Common.{◌≡◌, take}
-use Rattle.hq_access.specs.Verdicts.{refused_in}
+use Rattle.hq_rules.specs.Verdicts.{refused_in}
 use Rattle.hq_access.proofs.verdicts.refused_in.Given as goal
 
 abbrev pub invariant-loop-recipient : goal.invariant-loop-recipient

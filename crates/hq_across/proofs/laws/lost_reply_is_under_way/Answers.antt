@@ -2,4 +2,4 @@ use Rattle.hq_across.proofs.Lost.{lost}
 use Rattle.hq_across.proofs.laws.lost_reply_is_under_way.Goals as goal
 
 pub returns : goal.returns
-returns g c = lost g.S.Shelf.sight.may_answer
+returns g c = lost g.D.Acts.sight.store.may_answer

@@ -1,7 +1,7 @@
 use Rattle.std.proofs.Common.{◌≡◌, ◌+◌, ◌++◌, ◌∷◌, [], suc, map, take, drop, refl, sym}
 use Rattle.std.proofs.Common.{ap, ◌∙◌, subst, arith}
 use Rattle.std.proofs.lemmas.List.{take_all, take_more, map-append}
-use Rattle.hq_calls.specs.Each.{each_call}
+use Rattle.hq_rules.specs.Each.{each_call}
 use Rattle.hq_admin.specs.Rounds.{customer_entry}
 use Rattle.hq_admin.proofs.Called.{SoFar, on_end, one_more, split_at}
 use Rattle.hq_admin.proofs.rounds.call_each.Goals as goal
@@ -17,12 +17,12 @@ loop-customer-preserved g c =
     ap (map customer_entry) (take_more xs i item c.loop-customer-test.true ∙ ap (λ x. take i xs ++ x
     ∷ []) (sym c.customer-item.is)) ∙ map-append customer_entry (take i xs) (item ∷ []) in
     record {
-      so_far = subst (λ called. SoFar g.S.Shelf.sight c.args.at (each_call c.args.each) old called
+      so_far = subst (λ called. SoFar g.D.Acts.sight c.args.at (each_call c.args.each) old called
           c.push_reserved.new.self.items c.act.new.self) (sym more)
-          (subst (λ told. SoFar g.S.Shelf.sight c.args.at (each_call c.args.each) old
+          (subst (λ told. SoFar g.D.Acts.sight c.args.at (each_call c.args.each) old
           (map customer_entry (take i xs)
           ++ item.entry ∷ []) told c.act.new.self) (sym c.push_reserved.ensures.items)
-          (one_more g.S.Shelf.sight c.args.at (each_call c.args.each) old c.loop-customer.desk
+          (one_more g.D.Acts.sight c.args.at (each_call c.args.each) old c.loop-customer.desk
           c.act.new.self
           (map customer_entry (take i xs)) c.loop-customer.told.items item.entry c.in-Ok.rendered
           c.loop-customer.invariant.so_far (rw c.call.ensures at c.in-Ok.ensures.answer)

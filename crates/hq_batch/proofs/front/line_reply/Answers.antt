@@ -7,7 +7,7 @@ use Rattle.hq_batch.proofs.front.line_reply.Goals as goal
 
 pub returns-in-None : goal.returns-in-None
 returns-in-None g c =
-    let sight = g.S.Shelf.sight in
+    let sight = g.D.Acts.sight in
     let d = c.args.directory.now in
     let desk = c.args.desk.now in
     let r = seen c.refusal_reply.result in
@@ -23,4 +23,5 @@ returns-in-None g c =
           c.refusal_reply.ensures.store;
       moment = refl;
       holds = inl refl;
+      customer = c.refusal_reply.ensures.customer;
     })

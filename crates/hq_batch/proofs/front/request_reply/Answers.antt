@@ -12,15 +12,16 @@ pub returns-in-Ok : goal.returns-in-Ok
 returns-in-Ok g c =
     let d = c.args.directory.now in
     let is = c.in-Ok.ensures in
-    let so = c.exchange-reply.ensures in
+    let so = c.exchange-reply.ensures.done in
     record {
       told = so.told;
       sent = so.sent;
-      done = subst (λ (a : ℕ × Result Asked Refusal). Exchanged g.S.Shelf.sight d c.args.desk.now
+      done = subst (λ (a : ℕ × Result Asked Refusal). Exchanged g.D.Acts.sight d c.args.desk.now
           (record { at = a.0; called = a.1 }) so.told c.exchange-reply.new.desk)
           (λ i. (is.0 i, call_from d (is.1 i) (is.2 i) (is.3 i) (is.4 i))) so.done;
       moment = refl;
       holds = (line_request c.args.line.now, refl, is);
+      customer = c.exchange-reply.ensures.customer;
     }
 
 pub returns-in-Err : goal.returns-in-Err
@@ -31,7 +32,8 @@ returns-in-Err g c =
     record {
       told = r;
       sent = (refl, refl);
-      done = no_room g.S.Shelf.sight d c.args.desk.now ask r c.fault_reply.ensures.told;
+      done = no_room g.D.Acts.sight d c.args.desk.now ask r c.fault_reply.ensures.told;
       moment = refl;
       holds = inr (c.fault_reply.ensures.told, refl);
+      customer = c.fault_reply.ensures.customer;
     }

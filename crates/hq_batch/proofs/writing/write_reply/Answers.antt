@@ -4,7 +4,7 @@ use Rattle.std.proofs.KnownBytes.{Appends-trans}
 use Rattle.hq_lines.specs.Written.{AppendsPart}
 use Rattle.hq_lines.proofs.Written.{part_first, part_behind, out_cut, out_flushed}
 use Rattle.hq_batch.specs.Batches.{three_digits}
-use Rattle.hq_wire.specs.Replies.{body_bytes}
+use Rattle.hq_requests.specs.Bodies.{body_bytes}
 use Rattle.hq_batch.proofs.writing.write_reply.Goals as goal
 
 pub returns-in_err-write_whole : goal.returns-in_err-write_whole

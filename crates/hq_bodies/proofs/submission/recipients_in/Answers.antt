@@ -1,6 +1,6 @@
 use Rattle.std.proofs.Common.{map, string_bytes, ap, ◌∙◌, rules}
 use Rattle.std.proofs.lemmas.List.{length-map}
-use Rattle.hq_calls.specs.Limits.{is_recipient_count}
+use Rattle.hq_rules.specs.Limits.{is_recipient_count}
 use Rattle.hq_bodies.proofs.Submitted.{recipients_taken, recipients_refused}
 use Rattle.hq_bodies.proofs.submission.recipients_in.Goals as goal
 

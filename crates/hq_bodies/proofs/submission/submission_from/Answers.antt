@@ -1,6 +1,6 @@
 use Rattle.std.proofs.Common.{◌≡◌, Ok, List, ℕ, IsTrue, length, map, string_bytes, sym, ap, subst}
 use Rattle.std.proofs.Common.{◌∙◌}
-use Rattle.hq_calls.specs.Limits.{is_recipient_count}
+use Rattle.hq_rules.specs.Limits.{is_recipient_count}
 use Rattle.hq_bodies.specs.Submissions.{addresses_in, texts_shown}
 use Rattle.hq_bodies.proofs.Submitted.{texts_read, submission_taken}
 use Rattle.hq_bodies.proofs.submission.submission_from.Goals as goal

@@ -1,7 +1,7 @@
 use Rattle.std.proofs.Common.{[], ◌∷◌, ◌++◌, sym, ap, ◌∙◌}
 use Rattle.std.specs.Prelude.{if◌then◌else◌}
 use Rattle.std.specs.List.{list_any}
-use Rattle.hq_store.specs.Sound.{same_address}
+use Rattle.hq_tables.specs.Sound.{same_address}
 use Rattle.hq_decisions.proofs.SameAddresses.{distinct_more}
 use Rattle.hq_decisions.proofs.distinct.distinct.Goals as goal
 

@@ -1,5 +1,5 @@
 use Rattle.std.proofs.Common.{◌≡◌}
-use Rattle.hq_calls.specs.Submissions.{distinct}
+use Rattle.hq_rules.specs.Submissions.{distinct}
 use Rattle.hq_decisions.proofs.distinct.distinct.Given as goal
 
 abbrev pub invariant-loop-address : goal.invariant-loop-address

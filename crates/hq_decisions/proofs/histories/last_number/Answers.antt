@@ -1,5 +1,5 @@
 use Rattle.std.proofs.Common.{◌-◌, length, None, option_map, sym, ap, arith}
-use Rattle.hq_store.specs.declared.end.End.{End}
+use Rattle.hq_kept.specs.declared.end.End.{End}
 use Rattle.hq_decisions.proofs.Last.{last_is}
 use Rattle.hq_decisions.proofs.histories.last_number.Goals as goal
 

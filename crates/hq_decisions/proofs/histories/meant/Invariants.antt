@@ -1,5 +1,5 @@
 use Rattle.std.proofs.Common.{◌≡◌, filter}
-use Rattle.hq_calls.specs.Histories.{is_meant}
+use Rattle.hq_rules.specs.Histories.{is_meant}
 use Rattle.hq_decisions.proofs.histories.meant.Given as goal
 
 -- those of the ends so far that are meant

@@ -1,5 +1,5 @@
 use Rattle.std.proofs.Common.{◌≡◌, ◌+◌, ◌++◌, length}
-use Rattle.hq_calls.specs.Notices.{added_from}
+use Rattle.hq_rules.specs.Notices.{added_from}
 use Rattle.hq_decisions.proofs.notices.add_from.Given as goal
 
 -- the notices so far have the numbers from the first on

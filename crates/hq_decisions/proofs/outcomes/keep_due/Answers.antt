@@ -1,6 +1,6 @@
 use Rattle.std.proofs.Common.{rules}
 use Rattle.std.proofs.lemmas.Fn.{filter_same}
-use Rattle.hq_queue.specs.Moves.{is_due}
+use Rattle.hq_rules.specs.Moves.{is_due}
 use Rattle.hq_decisions.proofs.outcomes.keep_due.Goals as goal
 
 pub returns : goal.returns

@@ -1,7 +1,7 @@
 use Rattle.std.proofs.Common.{◌≡◌, IfOk, Ok, sym, subst, ap, ◌∙◌}
-use Rattle.hq_queue.specs.Attempts.{reported}
-use Rattle.hq_calls.specs.Notices.{carried_out}
-use Rattle.hq_calls.specs.Outcomes.{outcome_with}
+use Rattle.hq_rules.specs.Attempts.{reported}
+use Rattle.hq_rules.specs.Notices.{carried_out}
+use Rattle.hq_rules.specs.Outcomes.{outcome_with}
 use Rattle.hq_decisions.proofs.outcomes.take_report.Goals as goal
 
 pub returns : goal.returns

@@ -1,6 +1,6 @@
 use Rattle.std.proofs.Common.{◌≡◌, take}
-use Rattle.hq_store.specs.Readings.{saturated}
-use Rattle.hq_store.specs.Sound.{pending_count}
+use Rattle.hq_tables.specs.Readings.{saturated}
+use Rattle.hq_tables.specs.Sound.{pending_count}
 use Rattle.hq_decisions.proofs.queues.all_pending.Given as goal
 
 -- those of the messages so far

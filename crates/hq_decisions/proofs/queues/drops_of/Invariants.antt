@@ -1,5 +1,5 @@
 use Rattle.std.proofs.Common.{◌≡◌, map, take}
-use Rattle.hq_calls.specs.Queues.{drop}
+use Rattle.hq_rules.specs.Queues.{drop}
 use Rattle.hq_decisions.proofs.queues.drops_of.Given as goal
 
 -- the messages so far are dropped

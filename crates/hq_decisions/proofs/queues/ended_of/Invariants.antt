@@ -1,7 +1,7 @@
 use Rattle.std.proofs.Common.{◌≡◌, take}
 use Rattle.std.specs.List.{flat_map}
-use Rattle.hq_queue.specs.Ends.{all_ended}
-use Rattle.hq_queue.specs.declared.outcome.Fate.TheVariants.{Deleted}
+use Rattle.hq_rules.specs.Leaving.{all_ended}
+use Rattle.hq_kept.specs.declared.outcome.Fate.TheVariants.{Deleted}
 use Rattle.hq_decisions.proofs.queues.ended_of.Given as goal
 
 -- the recipients of the messages so far

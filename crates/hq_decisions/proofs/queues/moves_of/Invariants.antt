@@ -1,5 +1,5 @@
 use Rattle.std.proofs.Common.{◌≡◌}
-use Rattle.hq_calls.specs.Queues.{moves_of}
+use Rattle.hq_rules.specs.Queues.{moves_of}
 use Rattle.hq_decisions.proofs.queues.moves_of.Given as goal
 
 -- the changes of the messages so far

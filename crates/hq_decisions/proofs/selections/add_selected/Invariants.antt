@@ -1,5 +1,5 @@
 use Rattle.std.proofs.Common.{◌≡◌, ◌++◌, filter, option_map}
-use Rattle.hq_calls.specs.Selections.{is_selected}
+use Rattle.hq_rules.specs.Selections.{is_selected}
 use Rattle.hq_decisions.proofs.selections.add_selected.Given as goal
 
 -- those of the messages so far are added

@@ -1,8 +1,8 @@
 use Rattle.std.proofs.Common.{◌≡◌, false, take}
 use Rattle.std.specs.List.{list_any}
-use Rattle.hq_access.specs.Keys.{is_key_of}
+use Rattle.hq_kept.specs.Keys.{is_key_of}
 use Rattle.hq_values.specs.declared.address.Sender.TheVariants.{From}
-use Rattle.hq_queue.specs.declared.message.Pending.{Pending}
+use Rattle.hq_kept.specs.declared.message.Pending.{Pending}
 use Rattle.hq_decisions.proofs.selections.is_for_any.Given as goal
 
 -- it is for none of the recipients so far

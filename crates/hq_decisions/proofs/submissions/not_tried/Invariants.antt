@@ -1,5 +1,5 @@
 use Rattle.std.proofs.Common.{◌≡◌, map}
-use Rattle.hq_calls.specs.Submissions.{not_tried}
+use Rattle.hq_rules.specs.Submissions.{not_tried}
 use Rattle.hq_decisions.proofs.submissions.not_tried.Given as goal
 
 abbrev pub invariant-loop-address : goal.invariant-loop-address

@@ -1,6 +1,6 @@
 use Rattle.std.proofs.Common.{◌≡◌, take}
 use Rattle.std.specs.List.{flat_map}
-use Rattle.hq_calls.specs.Sweeps.{drafts_of}
+use Rattle.hq_rules.specs.Sweeps.{drafts_of}
 use Rattle.hq_decisions.proofs.sweeps.drafts_of.Given as goal
 
 -- the notices of the messages so far

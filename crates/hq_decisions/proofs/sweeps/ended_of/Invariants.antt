@@ -1,6 +1,6 @@
 use Rattle.std.proofs.Common.{◌≡◌, take}
 use Rattle.std.specs.List.{flat_map}
-use Rattle.hq_calls.specs.Sweeps.{ended_in}
+use Rattle.hq_rules.specs.Sweeps.{ended_in}
 use Rattle.hq_decisions.proofs.sweeps.ended_of.Given as goal
 
 -- the recipients of the messages so far

@@ -1,5 +1,5 @@
 use Rattle.std.proofs.Common.{◌≡◌, ◌≤◌, take}
-use Rattle.hq_calls.specs.Sweeps.{messages_that}
+use Rattle.hq_rules.specs.Sweeps.{messages_that}
 use Rattle.hq_decisions.proofs.sweeps.how_many.Given as goal
 
 -- those of the rows so far

@@ -1,6 +1,6 @@
 use Rattle.std.proofs.Common.{sym, arith, IsTrue}
 use Rattle.std.proofs.lemmas.Bool.Decides.{nat_tests}
-use Rattle.hq_queue.specs.Limits.{is_delay}
+use Rattle.hq_kept.specs.Limits.{is_delay}
 use Rattle.hq_import.proofs.Limits.{entry_taken, entry_refused, span_refused}
 use Rattle.hq_import.proofs.directory.limited_entry.Goals as goal
 

@@ -1,7 +1,7 @@
 use Rattle.std.proofs.Common.{◌≡◌, ◌≤◌, [], drop, length, map}
 use Rattle.csv.specs.Records.{fields_of}
 use Rattle.hq_import.specs.Seen.{KnowsPatterns}
-use Rattle.hq_import.specs.Tables.{lines_under}
+use Rattle.hq_rules.specs.TableFiles.{lines_under}
 use Rattle.hq_import.proofs.table.lines_under.Given as goal
 
 -- the rows that are left go on from the lines so far, whose patterns are noted

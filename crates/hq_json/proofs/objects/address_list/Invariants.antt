@@ -1,7 +1,7 @@
 use Rattle.std.proofs.Common.{◌≡◌, ◌++◌, map, drop}
 use Rattle.serde_json.specs.Data.{string}
 use Rattle.serde_json.specs.View.{view}
-use Rattle.hq_queue.specs.declared.message.Pending.{Pending}
+use Rattle.hq_kept.specs.declared.message.Pending.{Pending}
 use Rattle.hq_json.proofs.objects.address_list.Given as goal
 
 -- the values so far, and those of what is left

@@ -1,9 +1,9 @@
 use Rattle.std.proofs.Common.{◌≡◌, IsPermutation, subst, ap, ◌∙◌, take, rules}
 use Rattle.std.specs.Ordering.{is_lt}
-use Rattle.hq_store.proofs.Orders.{newest_total}
+use Rattle.hq_tables.proofs.Orders.{newest_total}
 use Rattle.std.proofs.lemmas.Fn.{always_returns_same}
 use Rattle.std.proofs.lemmas.List.MinMax.{ranks_by}
-use Rattle.hq_store.specs.declared.end.End.{End}
+use Rattle.hq_kept.specs.declared.end.End.{End}
 use Rattle.hq_rows.proofs.EndPages.{ends_are, by_newest}
 use Rattle.hq_lists.proofs.ends.page_in.Goals as goal
 

@@ -1,5 +1,5 @@
 use Rattle.std.proofs.Common.{◌++◌, ◌∷◌, [], List, ℕ, ap, ◌∙◌, subst, sym}
-use Rattle.hq_store.specs.declared.end.End.{End}
+use Rattle.hq_kept.specs.declared.end.End.{End}
 use Rattle.hq_rows.specs.declared.rows.EndRow.{EndRow}
 use Rattle.hq_rows.specs.Listed.{ends_of}
 use Rattle.hq_rows.specs.Lookups.{AreUniqueEnds}

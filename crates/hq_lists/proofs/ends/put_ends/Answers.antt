@@ -3,8 +3,8 @@ use Rattle.std.proofs.Common.{arith}
 use Rattle.std.proofs.lemmas.Grind.{common_steps}
 use Rattle.std.specs.Prelude.{ℕ, suc, nat_le}
 use Rattle.std.specs.FinMap.{get, insert, retain_keys}
-use Rattle.hq_store.specs.Tables.{add_rows, left_of}
-use Rattle.hq_store.proofs.Added.{Rows, past, add_next, add_below, none_above}
+use Rattle.hq_tables.specs.Tables.{add_rows, left_of}
+use Rattle.hq_tables.proofs.Added.{Rows, past, add_next, add_below, none_above}
 use Rattle.hq_rows.specs.Listed.{ends_of}
 use Rattle.hq_rows.specs.Lookups.{AreUniqueEnds}
 use Rattle.hq_rows.proofs.Keys.{ends_earlier, unique_ends_earlier}

@@ -1,7 +1,7 @@
 use Rattle.std.proofs.Common.{◌≡◌, ◌+◌, take}
 use Rattle.std.specs.Prelude.{nat_le}
 use Rattle.std.specs.FinMap.{retain_keys}
-use Rattle.hq_store.specs.Tables.{add_rows, left_of}
+use Rattle.hq_tables.specs.Tables.{add_rows, left_of}
 use Rattle.hq_rows.specs.Listed.{ends_of}
 use Rattle.hq_rows.specs.Lookups.{AreUniqueEnds}
 use Rattle.hq_lists.proofs.ends.put_ends.Given as goal

@@ -1,6 +1,6 @@
 use Rattle.std.proofs.Common.{option_map, ap, ◌∙◌}
 use Rattle.hq_rows.specs.Listed.{head_value}
-use Rattle.hq_store.proofs.Accounts.{or_opening}
+use Rattle.hq_isolation.proofs.Accounts.{or_opening}
 use Rattle.hq_rows.proofs.Keys.{head_found}
 use Rattle.hq_lists.proofs.heads.account_in.Goals as goal
 

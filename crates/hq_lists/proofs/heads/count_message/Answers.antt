@@ -1,7 +1,7 @@
 use Rattle.std.proofs.Common.{ap, ◌∙◌}
-use Rattle.hq_store.specs.Tables.{account, with_message}
+use Rattle.hq_tables.specs.Tables.{account, with_message}
 use Rattle.hq_rows.specs.Listed.{heads_of}
-use Rattle.hq_store.proofs.Accounts.{is_counted}
+use Rattle.hq_isolation.proofs.Accounts.{is_counted}
 use Rattle.hq_lists.proofs.heads.count_message.Goals as goal
 
 pub returns : goal.returns

@@ -1,8 +1,8 @@
 use Rattle.std.proofs.Common.{sym, ap, ◌∙◌}
 use Rattle.std.specs.FinMap.{get}
-use Rattle.hq_store.specs.Tables.{account, counted, without_line}
+use Rattle.hq_tables.specs.Tables.{account, counted, without_line}
 use Rattle.hq_rows.specs.Listed.{heads_of, lines_of}
-use Rattle.hq_store.proofs.Accounts.{is_counted, at_some}
+use Rattle.hq_isolation.proofs.Accounts.{is_counted, at_some}
 use Rattle.hq_lists.proofs.heads.uncount_line.Goals as goal
 
 pub returns : goal.returns

@@ -1,8 +1,8 @@
 use Rattle.std.proofs.Common.{ap, ◌∙◌}
 use Rattle.std.specs.FinMap.{get}
-use Rattle.hq_store.specs.Tables.{account, counted, without_message}
+use Rattle.hq_tables.specs.Tables.{account, counted, without_message}
 use Rattle.hq_rows.specs.Listed.{heads_of, messages_of}
-use Rattle.hq_store.proofs.Accounts.{is_counted, at_size}
+use Rattle.hq_isolation.proofs.Accounts.{is_counted, at_size}
 use Rattle.hq_lists.proofs.heads.uncount_message.Goals as goal
 
 pub returns : goal.returns

@@ -2,7 +2,7 @@ use Rattle.std.proofs.Common.{is_some, ap, ◌∙◌, sym}
 use Rattle.std.specs.List as list
 use Rattle.hq_rows.specs.Listed.{line_row_value}
 use Rattle.hq_rows.specs.Lookups.{is_line}
-use Rattle.hq_store.proofs.Accounts.{is_some_map}
+use Rattle.hq_isolation.proofs.Accounts.{is_some_map}
 use Rattle.hq_rows.proofs.Keys.{line_found}
 use Rattle.hq_lists.proofs.lines.has_line.Goals as goal
 

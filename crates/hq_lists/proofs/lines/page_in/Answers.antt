@@ -2,8 +2,8 @@ use Rattle.std.proofs.Common.{◌≡◌, IsPermutation, subst, ap, ◌∙◌, ta
 use Rattle.std.specs.Ordering.{is_lt}
 use Rattle.std.proofs.lemmas.Fn.{always_returns_same}
 use Rattle.std.proofs.lemmas.List.MinMax.{ranks_by}
-use Rattle.hq_access.specs.declared.pattern.Line.{Line}
-use Rattle.hq_store.proofs.Orders.{line_total}
+use Rattle.hq_kept.specs.declared.pattern.Line.{Line}
+use Rattle.hq_tables.proofs.Orders.{line_total}
 use Rattle.hq_rows.proofs.LinePages.{lines_are, by_pattern}
 use Rattle.hq_lists.proofs.lines.page_in.Goals as goal
 

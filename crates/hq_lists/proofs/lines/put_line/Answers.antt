@@ -1,5 +1,5 @@
 use Rattle.std.proofs.Common.{◌++◌, ◌∷◌, [], List, ℕ, ap, ◌∙◌, subst, sym}
-use Rattle.hq_access.specs.declared.pattern.Line.{Line}
+use Rattle.hq_kept.specs.declared.pattern.Line.{Line}
 use Rattle.hq_rows.specs.declared.rows.LineRow.{LineRow}
 use Rattle.hq_rows.specs.Listed.{lines_of}
 use Rattle.hq_rows.specs.Lookups.{AreUniqueLines}

@@ -1,6 +1,6 @@
 use Rattle.std.proofs.Common.{option_map, Some, ap, ◌∙◌}
-use Rattle.hq_queue.specs.declared.message.Message.{Message}
-use Rattle.hq_store.specs.Tables.{Row, message_of, reason_of, pending_of}
+use Rattle.hq_kept.specs.declared.message.Message.{Message}
+use Rattle.hq_tables.specs.Tables.{Row, message_of, reason_of, pending_of}
 use Rattle.hq_rows.specs.Listed.{message_value, recipients_of, holds_of}
 use Rattle.hq_rows.proofs.Keys.{message_found}
 use Rattle.hq_lists.proofs.DealtRows.{dealt_is}

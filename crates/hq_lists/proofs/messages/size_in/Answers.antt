@@ -1,5 +1,5 @@
 use Rattle.std.proofs.Common.{option_map, ap, ◌∙◌}
-use Rattle.hq_store.specs.Tables.{Row}
+use Rattle.hq_tables.specs.Tables.{Row}
 use Rattle.hq_rows.specs.Listed.{message_value}
 use Rattle.hq_rows.proofs.Keys.{message_found}
 use Rattle.hq_lists.proofs.messages.size_in.Goals as goal

@@ -1,5 +1,5 @@
 use Rattle.std.proofs.Common.{Some, option_map, ap, ◌∙◌}
-use Rattle.hq_store.specs.declared.notice.Notice.{Notice}
+use Rattle.hq_kept.specs.declared.notice.Notice.{Notice}
 use Rattle.hq_rows.specs.declared.rows.NoticeRow.{NoticeRow}
 use Rattle.hq_rows.proofs.Keys.{notice_found}
 use Rattle.hq_lists.proofs.notices.notice_in.Goals as goal

@@ -3,7 +3,7 @@ use Rattle.std.specs.Ordering.{is_lt}
 use Rattle.std.specs.Cmp.{nat_cmp_total}
 use Rattle.std.proofs.lemmas.Fn.{always_returns_same}
 use Rattle.std.proofs.lemmas.List.MinMax.{ranks_by}
-use Rattle.hq_store.specs.declared.notice.Notice.{Notice}
+use Rattle.hq_kept.specs.declared.notice.Notice.{Notice}
 use Rattle.hq_rows.proofs.NoticePages.{notices_are, by_number}
 use Rattle.hq_lists.proofs.notices.page_in.Goals as goal
 

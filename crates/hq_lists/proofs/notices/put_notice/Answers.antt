@@ -1,5 +1,5 @@
 use Rattle.std.proofs.Common.{◌++◌, ◌∷◌, [], List, ℕ, ap, ◌∙◌, subst, sym}
-use Rattle.hq_store.specs.declared.notice.Notice.{Notice}
+use Rattle.hq_kept.specs.declared.notice.Notice.{Notice}
 use Rattle.hq_rows.specs.declared.rows.NoticeRow.{NoticeRow}
 use Rattle.hq_rows.specs.Listed.{notices_of}
 use Rattle.hq_rows.specs.Lookups.{AreUniqueNotices}

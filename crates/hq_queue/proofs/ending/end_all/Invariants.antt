@@ -1,5 +1,5 @@
 use Rattle.std.proofs.Common.{◌≡◌, ◌++◌, map, take}
-use Rattle.hq_queue.specs.Ends.{ended_as}
+use Rattle.hq_rules.specs.Leaving.{ended_as}
 use Rattle.hq_queue.proofs.ending.end_all.Given as goal
 
 abbrev pub invariant-loop-pending : goal.invariant-loop-pending

@@ -1,5 +1,5 @@
 use Rattle.std.proofs.Common.{◌≡◌, take}
-use Rattle.hq_queue.specs.Attempts as rules
+use Rattle.hq_rules.specs.Attempts as rules
 use Rattle.hq_queue.proofs.reporting.ended.Given as goal
 
 abbrev pub invariant-loop-recipient : goal.invariant-loop-recipient

@@ -1,6 +1,6 @@
 use Rattle.std.proofs.Common.{slice_set, sym, ap, ◌∙◌, arith}
 use Rattle.std.proofs.lemmas.List.Edits.{map_over_more}
-use Rattle.hq_queue.specs.Moves.{cleared}
+use Rattle.hq_rules.specs.Moves.{cleared}
 use Rattle.hq_queue.proofs.requeueing.clear_all.Goals as goal
 
 pub loop-recipient-preserved : goal.loop-recipient-preserved

@@ -1,5 +1,5 @@
 use Rattle.std.proofs.Common.{rules}
-use Rattle.hq_access.specs.Keys.{keys_of}
+use Rattle.hq_kept.specs.Keys.{keys_of}
 use Rattle.hq_reads.proofs.ShelfLines.{shelf_looked}
 use Rattle.hq_reads.proofs.customer_lines.look_up.Goals as goal
 

@@ -1,7 +1,7 @@
 use Rattle.std.proofs.Common.{◌≡◌, false, Ok, map}
-use Rattle.hq_store.specs.Shelves.{Finds, Keeps}
+use Rattle.hq_tables.specs.Shelves.{Finds, Keeps}
 use Rattle.hq_reads.specs.Memory.{with_memory}
-use Rattle.hq_calls.specs.Submissions.{with_action}
+use Rattle.hq_rules.specs.Submissions.{with_action}
 use Rattle.hq_reads.proofs.customer_lines.with_actions.Given as goal
 
 -- the shelf was kept so far, and what was found is found in its first tables

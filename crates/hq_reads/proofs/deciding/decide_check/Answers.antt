@@ -1,10 +1,10 @@
 use Rattle.std.proofs.Common.{◌≡◌, sym, subst, ap, ◌∙◌}
-use Rattle.hq_store.specs.Readings.{read_tables}
+use Rattle.hq_tables.specs.Readings.{read_tables}
 use Rattle.hq_reads.proofs.Then.{finds_on}
-use Rattle.hq_calls.specs.AccessLines.{found_for}
-use Rattle.hq_calls.specs.Answering.{tell}
+use Rattle.hq_rules.specs.AccessLines.{found_for}
+use Rattle.hq_rules.specs.Answering.{tell}
 use Rattle.hq_reads.specs.Memory.{with_memory}
-use Rattle.hq_calls.specs.declared.answer.Answer.TheVariants as answer
+use Rattle.hq_rules.specs.declared.answer.Answer.TheVariants as answer
 use Rattle.hq_reads.proofs.NoLines.{nobody_found}
 use Rattle.hq_reads.proofs.Reading.{keeps_more}
 use Rattle.hq_reads.proofs.deciding.decide_check.Goals as goal

@@ -1,7 +1,7 @@
 use Rattle.std.proofs.Common.{◌≡◌, sym, ap, ◌∙◌}
-use Rattle.hq_store.specs.Readings.{read_tables}
-use Rattle.hq_calls.specs.AccessLines.{drop_line}
-use Rattle.hq_store.proofs.Read.{no_line}
+use Rattle.hq_tables.specs.Readings.{read_tables}
+use Rattle.hq_rules.specs.AccessLines.{drop_line}
+use Rattle.hq_isolation.proofs.Read.{no_line}
 use Rattle.hq_reads.proofs.deciding.decide_drop_line.Goals as goal
 
 pub returns-then-branch-eq0-clause-found : goal.returns-then-branch-eq0-clause-found

@@ -1,7 +1,7 @@
 use Rattle.std.proofs.Common.{sym, ap, ◌∙◌}
-use Rattle.hq_store.specs.Readings.{read_tables}
+use Rattle.hq_tables.specs.Readings.{read_tables}
 use Rattle.hq_reads.proofs.Then.{finds_on}
-use Rattle.hq_calls.specs.AccessLines.{put_line}
+use Rattle.hq_rules.specs.AccessLines.{put_line}
 use Rattle.hq_reads.proofs.deciding.decide_put_line.Goals as goal
 
 pub returns-in-Some-clause-found : goal.returns-in-Some-clause-found

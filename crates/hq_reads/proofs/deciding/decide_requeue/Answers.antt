@@ -1,8 +1,8 @@
 use Rattle.std.proofs.Common.{◌≡◌, ◌<◌, ◌≤◌, ◌^◌, Some, sym, ap, subst, ◌∙◌}
-use Rattle.hq_queue.specs.declared.account.Head.{Head}
-use Rattle.hq_store.specs.Readings.{read_tables}
+use Rattle.hq_kept.specs.declared.account.Head.{Head}
+use Rattle.hq_tables.specs.Readings.{read_tables}
 use Rattle.hq_reads.proofs.Then.{finds_on}
-use Rattle.hq_calls.specs.Messages as rules
+use Rattle.hq_rules.specs.Messages as rules
 use Rattle.hq_reads.proofs.deciding.decide_requeue.Goals as goal
 
 pub returns-clause-found : goal.returns-clause-found

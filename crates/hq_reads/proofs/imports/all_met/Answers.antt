@@ -1,8 +1,8 @@
 use Rattle.std.proofs.Common.{◌≡◌, ◌∷◌, [], ◌++◌, Ok, sym, ap, ◌∙◌}
 use Rattle.std.proofs.lemmas.List.{map-append}
-use Rattle.hq_store.specs.Readings.{read_tables}
-use Rattle.hq_store.specs.Tables.{Tables}
-use Rattle.hq_calls.specs.Imports.{line_met}
+use Rattle.hq_tables.specs.Readings.{read_tables}
+use Rattle.hq_tables.specs.Tables.{Tables}
+use Rattle.hq_rules.specs.Imports.{line_met}
 use Rattle.hq_reads.specs.Memory.{with_memory}
 use Rattle.hq_reads.proofs.Reading.{keeps_on, keeps_ok}
 use Rattle.hq_reads.proofs.imports.all_met.Goals as goal

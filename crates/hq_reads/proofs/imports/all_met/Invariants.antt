@@ -1,7 +1,7 @@
 use Rattle.std.proofs.Common.{◌≡◌, false, Ok, map}
-use Rattle.hq_store.specs.Shelves.{Finds, Keeps}
+use Rattle.hq_tables.specs.Shelves.{Finds, Keeps}
 use Rattle.hq_reads.specs.Memory.{with_memory}
-use Rattle.hq_calls.specs.Imports.{line_met}
+use Rattle.hq_rules.specs.Imports.{line_met}
 use Rattle.hq_reads.proofs.imports.all_met.Given as goal
 
 -- the shelf was kept so far, and what the rows do was found in its first tables

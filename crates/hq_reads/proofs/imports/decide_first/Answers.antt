@@ -1,9 +1,9 @@
 use Rattle.std.proofs.Common.{◌≡◌, map, sym, ap, ◌∙◌}
 use Rattle.sha2.specs.Sha256.{sha256}
-use Rattle.hq_store.specs.Readings.{read_tables}
+use Rattle.hq_tables.specs.Readings.{read_tables}
 use Rattle.hq_reads.proofs.Then.{finds_on}
 use Rattle.hq_reads.specs.Memory.{with_memory}
-use Rattle.hq_calls.specs.Imports.{line_met, taken, first_import}
+use Rattle.hq_rules.specs.Imports.{line_met, taken, first_import}
 use Rattle.hq_reads.proofs.Reading.{keeps_more}
 use Rattle.hq_reads.proofs.imports.decide_first.Goals as goal
 

@@ -1,9 +1,9 @@
 use Rattle.std.proofs.Common.{◌≡◌, Some, None, take, drop, option_map, sym, ap, subst, ◌∙◌, arith}
 use Rattle.std.specs.Prelude.{OnOk}
 use Rattle.std.proofs.lemmas.List.{take_all}
-use Rattle.hq_store.specs.Readings.{read_tables, after_serial}
-use Rattle.hq_store.specs.Sound.{Sound}
-use Rattle.hq_calls.specs.Selections.{is_selected}
+use Rattle.hq_tables.specs.Readings.{read_tables, after_serial}
+use Rattle.hq_tables.specs.Sound.{Sound}
+use Rattle.hq_rules.specs.Selections.{is_selected}
 use Rattle.hq_reads.specs.Reports.{last_serial, next_serial}
 use Rattle.hq_reads.proofs.Found.{goes_on, last_page, enough, no_next, some_next}
 use Rattle.hq_reads.proofs.Paged.{messages_rise, behind_page, fewer_behind}

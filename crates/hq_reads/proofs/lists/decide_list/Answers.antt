@@ -1,7 +1,7 @@
 use Rattle.std.proofs.Common.{◌∙◌, ◌++◌, ap, filter, option_map, take}
-use Rattle.hq_store.specs.Readings.{read_tables, after_serial}
-use Rattle.hq_calls.specs.Messages.{page}
-use Rattle.hq_calls.specs.Selections.{is_selected}
+use Rattle.hq_tables.specs.Readings.{read_tables, after_serial}
+use Rattle.hq_rules.specs.Messages.{page}
+use Rattle.hq_rules.specs.Selections.{is_selected}
 use Rattle.hq_reads.proofs.Found.{page_of_found}
 use Rattle.hq_reads.proofs.Whole.{few_after, few_messages}
 use Rattle.hq_reads.proofs.lists.decide_list.Goals as goal

@@ -1,8 +1,8 @@
 use Rattle.std.proofs.Common.{◌≡◌, None, ap, ◌∙◌, filter, option_map}
-use Rattle.hq_calls.specs.Selections.{is_selected}
-use Rattle.hq_store.specs.Readings.{read_tables}
+use Rattle.hq_rules.specs.Selections.{is_selected}
+use Rattle.hq_tables.specs.Readings.{read_tables}
 use Rattle.hq_reads.proofs.Then.{finds_on}
-use Rattle.hq_calls.specs.Queues.{delete_all}
+use Rattle.hq_rules.specs.Queues.{delete_all}
 use Rattle.hq_reads.proofs.Whole.{whole}
 use Rattle.hq_reads.proofs.queues.decide_delete_all.Goals as goal
 

@@ -1,6 +1,6 @@
 use Rattle.std.proofs.Common.{None, ap, ◌∙◌, filter, option_map}
-use Rattle.hq_calls.specs.Selections.{is_selected}
-use Rattle.hq_calls.specs.Queues.{move_all}
+use Rattle.hq_rules.specs.Selections.{is_selected}
+use Rattle.hq_rules.specs.Queues.{move_all}
 use Rattle.hq_reads.proofs.Whole.{whole}
 use Rattle.hq_reads.proofs.queues.decide_move_all.Goals as goal
 

@@ -1,9 +1,9 @@
 use Rattle.std.proofs.Common.{◌≡◌, sym, subst, ◌∙◌}
-use Rattle.hq_queue.specs.declared.account.Head.{Head}
-use Rattle.hq_store.specs.Readings.{Readings, read_tables}
-use Rattle.hq_store.proofs.Read.{same_readings}
+use Rattle.hq_kept.specs.declared.account.Head.{Head}
+use Rattle.hq_tables.specs.Readings.{Readings, read_tables}
+use Rattle.hq_isolation.proofs.Read.{same_readings}
 use Rattle.hq_reads.proofs.Then.{finds_on}
-use Rattle.hq_calls.specs.Queues.{AreTold, usage}
+use Rattle.hq_rules.specs.Queues.{AreTold, usage}
 use Rattle.hq_reads.proofs.queues.decide_usage.Goals as goal
 
 pub returns-clause-found : goal.returns-clause-found

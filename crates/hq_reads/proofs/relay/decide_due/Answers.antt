@@ -1,6 +1,6 @@
 use Rattle.std.proofs.Common.{filter, ap, ◌∙◌}
-use Rattle.hq_queue.specs.Moves.{is_due}
-use Rattle.hq_calls.specs.Outcomes.{due_page}
+use Rattle.hq_rules.specs.Moves.{is_due}
+use Rattle.hq_rules.specs.Outcomes.{due_page}
 use Rattle.hq_reads.proofs.Whole.{whole}
 use Rattle.hq_reads.proofs.relay.decide_due.Goals as goal
 

@@ -1,7 +1,7 @@
 use Rattle.std.proofs.Common.{◌≡◌, None, ◌∙◌}
-use Rattle.hq_store.specs.Readings.{read_tables}
+use Rattle.hq_tables.specs.Readings.{read_tables}
 use Rattle.hq_reads.proofs.Then.{finds_on}
-use Rattle.hq_calls.specs.Sweeps.{sweep}
+use Rattle.hq_rules.specs.Sweeps.{sweep}
 use Rattle.hq_reads.proofs.Whole.{whole}
 use Rattle.hq_reads.proofs.relay.decide_sweep.Goals as goal
 

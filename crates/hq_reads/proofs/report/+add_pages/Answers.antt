@@ -2,10 +2,10 @@ use Rattle.std.proofs.Common.{◌≡◌, ◌++◌, Some, None, take, drop, filte
 use Rattle.std.proofs.Common.{sym, ap, subst, ◌∙◌, arith}
 use Rattle.std.specs.Prelude.{OnOk}
 use Rattle.std.proofs.lemmas.List.{take_all}
-use Rattle.hq_store.specs.Readings.{read_tables, after_serial}
-use Rattle.hq_store.specs.Sound.{Sound}
-use Rattle.hq_text.specs.Reports.{written}
-use Rattle.hq_calls.specs.Selections.{is_selected}
+use Rattle.hq_tables.specs.Readings.{read_tables, after_serial}
+use Rattle.hq_tables.specs.Sound.{Sound}
+use Rattle.hq_rules.specs.QueueReports.{written}
+use Rattle.hq_rules.specs.Selections.{is_selected}
 use Rattle.hq_reads.specs.Reports.{last_serial}
 use Rattle.hq_reads.proofs.Found.{found_on}
 use Rattle.hq_reads.proofs.Paged.{messages_rise, behind_page, no_page, fewer_behind}

@@ -1,8 +1,8 @@
 use Rattle.std.proofs.Common.{[], ap, ◌∙◌, filter, option_map}
-use Rattle.hq_store.specs.Readings.{read_tables}
-use Rattle.hq_calls.specs.Answering.{tell}
-use Rattle.hq_calls.specs.Selections.{is_selected}
-use Rattle.hq_calls.specs.declared.answer.Answer.TheVariants as answer
+use Rattle.hq_tables.specs.Readings.{read_tables}
+use Rattle.hq_rules.specs.Answering.{tell}
+use Rattle.hq_rules.specs.Selections.{is_selected}
+use Rattle.hq_rules.specs.declared.answer.Answer.TheVariants as answer
 use Rattle.hq_reads.proofs.Whole.{few_messages}
 use Rattle.hq_reads.proofs.report.decide_report.Goals as goal
 

@@ -1,13 +1,13 @@
 use Rattle.std.proofs.Common.{◌≡◌, ℕ, ◌<◌, ◌≤◌, ◌^◌, List, sym, subst, ap, ◌∙◌}
 use Rattle.std.specs.Prelude.{option_map}
-use Rattle.hq_access.specs.Verdicts.{verdict}
-use Rattle.hq_access.specs.declared.pattern.Class.TheVariants.{SenderSide}
-use Rattle.hq_queue.specs.Admission.{admitted}
-use Rattle.hq_queue.specs.declared.account.Head.{Head}
-use Rattle.hq_store.specs.Readings.{read_tables}
+use Rattle.hq_rules.specs.Verdicts.{verdict}
+use Rattle.hq_kept.specs.declared.pattern.Class.TheVariants.{SenderSide}
+use Rattle.hq_rules.specs.Admission.{admitted}
+use Rattle.hq_kept.specs.declared.account.Head.{Head}
+use Rattle.hq_tables.specs.Readings.{read_tables}
 use Rattle.hq_reads.proofs.Then.{finds_on}
 use Rattle.hq_reads.specs.Memory.{with_memory}
-use Rattle.hq_calls.specs.Submissions as rules
+use Rattle.hq_rules.specs.Submissions as rules
 use Rattle.hq_reads.proofs.NoLines.{nobody_found, no_actions}
 use Rattle.hq_reads.proofs.Reading.{keeps_on, keeps_more}
 use Rattle.hq_reads.proofs.submit.decide_new.Goals as goal

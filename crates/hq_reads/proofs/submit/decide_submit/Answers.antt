@@ -1,9 +1,9 @@
 use Rattle.std.proofs.Common.{◌≡◌, None, sym, subst, ◌∙◌}
 use Rattle.std.specs.Prelude.{IfOk}
-use Rattle.hq_store.specs.Readings.{read_tables}
-use Rattle.hq_store.specs.Sound.{Sound}
-use Rattle.hq_calls.specs.declared.decision.Decision.{Decision}
-use Rattle.hq_calls.specs.Submissions as rules
+use Rattle.hq_tables.specs.Readings.{read_tables}
+use Rattle.hq_tables.specs.Sound.{Sound}
+use Rattle.hq_rules.specs.declared.decision.Decision.{Decision}
+use Rattle.hq_rules.specs.Submissions as rules
 use Rattle.hq_reads.proofs.submit.decide_submit.Goals as goal
 
 pub returns-in-None-clause-found : goal.returns-in-None-clause-found

@@ -4,7 +4,7 @@ use Rattle.hq_serve.proofs.listening.serve_between.Goals as goal
 
 pub returns : goal.returns
 returns g c =
-    by_end g.S.Shelf.sight c.args.directory.now c.args.at
+    by_end g.D.Acts.sight c.args.directory.now c.args.at
     (record {
       input = g.R.Read.remaining c.args.reader.now;
       output = g.W.Write.contents c.args.writer.now;

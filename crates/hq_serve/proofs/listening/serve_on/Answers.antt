@@ -5,13 +5,13 @@ use Rattle.hq_serve.proofs.listening.serve_on.Goals as goal
 
 pub loop-stream-init : goal.loop-stream-init
 loop-stream-init g c =
-    none_came g.S.Shelf.sight c.args.directory.now (connections_left c.args.connections.now)
+    none_came g.D.Acts.sight c.args.directory.now (connections_left c.args.connections.now)
     c.args.desk.now
 
 pub returns-in_default : goal.returns-in_default
 returns-in_default g c =
     let came = rw c.in-Ok-Some.field-0-is at c.in-Ok-Some.ensures in
-    one_unserved g.S.Shelf.sight c.args.directory.now (connections_left c.args.connections.now)
+    one_unserved g.D.Acts.sight c.args.directory.now (connections_left c.args.connections.now)
     (connections_left c.loop-stream.connections) (connections_left c.accept.new.self)
     c.args.desk.now
     c.loop-stream.desk c.loop-stream.invariant came.0 (ap connections_left came.1)
@@ -19,7 +19,7 @@ returns-in_default g c =
 pub loop-stream-preserved : goal.loop-stream-preserved
 loop-stream-preserved g c =
     let came = rw c.in-Ok-Some.field-0-is at c.in-Ok-Some.ensures in
-    one_more g.S.Shelf.sight c.args.directory.now (connections_left c.args.connections.now)
+    one_more g.D.Acts.sight c.args.directory.now (connections_left c.args.connections.now)
     (connections_left c.loop-stream.connections) (connections_left c.accept.new.self)
     c.args.desk.now
     c.loop-stream.desk c.serve_stream-served.new.desk c.loop-stream.invariant came.0
@@ -28,7 +28,7 @@ loop-stream-preserved g c =
 pub loop-stream-preserved-in-Some : goal.loop-stream-preserved-in-Some
 loop-stream-preserved-in-Some g c =
     let came = rw c.in-Ok-Some.field-0-is at c.in-Ok-Some.ensures in
-    one_more g.S.Shelf.sight c.args.directory.now (connections_left c.args.connections.now)
+    one_more g.D.Acts.sight c.args.directory.now (connections_left c.args.connections.now)
     (connections_left c.loop-stream.connections) (connections_left c.accept.new.self)
     c.args.desk.now
     c.loop-stream.desk c.serve_stream-served.new.desk c.loop-stream.invariant came.0

@@ -10,9 +10,10 @@ returns-in-Nothing g c = λ a b h. record {
   asked = nothing;
   reply = None;
   sent = tt;
-  answered = of_nothing g.S.Shelf.sight c.args.directory.now c.args.at a b c.args.desk.now
+  answered = of_nothing g.D.Acts.sight c.args.directory.now c.args.at a b c.args.desk.now
       (subst (InputIs a b) c.in-Nothing.is h);
   holds = tt;
+  customer = tt;
 }
 
 pub returns-in-Refused : goal.returns-in-Refused
@@ -20,10 +21,11 @@ returns-in-Refused g c = λ a b h. let r = seen c.refusal_reply.result in record
   asked = refused c.in-Refused.refusal;
   reply = Some r;
   sent = (refl, refl);
-  answered = of_refusal g.S.Shelf.sight c.args.directory.now c.args.at a b
+  answered = of_refusal g.D.Acts.sight c.args.directory.now c.args.at a b
       c.args.desk.now c.in-Refused.refusal r (subst (InputIs a b) c.in-Refused.is h)
       c.refusal_reply.ensures.told c.refusal_reply.ensures.store;
   holds = tt;
+  customer = c.refusal_reply.ensures.customer;
 }
 
 pub returns-in-NoRoom : goal.returns-in-NoRoom
@@ -38,17 +40,19 @@ returns-in-NoRoom g c = λ a b h. record {
     refl,
   );
   holds = tt;
+  customer = c.fault_reply.ensures.customer;
 }
 
 pub returns-in-Request : goal.returns-in-Request
-returns-in-Request g c = λ a b h. let so = c.exchange-reply.ensures in record {
+returns-in-Request g c = λ a b h. let so = c.exchange-reply.ensures.done in record {
   asked = request (request_seen c.in-Request.request);
   reply = Some so.told;
   sent = so.sent;
-  answered = of_request g.S.Shelf.sight c.args.directory.now c.args.at a b
+  answered = of_request g.D.Acts.sight c.args.directory.now c.args.at a b
       c.args.desk.now (request_seen c.in-Request.request) c.exchange_of-asked.result so.told
       c.exchange-reply.new.desk (subst (InputIs a b) c.in-Request.is h)
       c.exchange_of-asked.ensures
       so.done;
   holds = c.exchange_of-asked.ensures;
+  customer = c.exchange-reply.ensures.customer;
 }

@@ -2,7 +2,7 @@ use Rattle.std.proofs.Common.{Bor, List, ℕ, ◌∙◌, refl, ap, inl, inr, Som
 use Rattle.csv.specs.Reading.{Reached, default_config, strip_bom}
 use Rattle.csv.specs.Records.{fields_of}
 use Rattle.csv.proofs.ReadFacts.{rows-more, rows-end}
-use Rattle.hq_import.specs.Records.{records_from, records_in}
+use Rattle.hq_rules.specs.Records.{records_from, records_in}
 use Rattle.hq_settings.proofs.Places.{here, further, no_more}
 use Rattle.hq_settings.proofs.records.record_at.Goals as goal
 

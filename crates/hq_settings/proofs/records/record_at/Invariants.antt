@@ -1,7 +1,7 @@
 use Rattle.std.proofs.Common.{◌≡◌, ◌<◌, ℕ, List, [], Some, slice_get}
 use Rattle.csv.specs.Reading.{Ready, default_config, source_of}
 use Rattle.csv.specs.declared.reader.Trim.TheVariants.{None as NoTrim}
-use Rattle.hq_import.specs.Records.{records_from, records_in}
+use Rattle.hq_rules.specs.Records.{records_from, records_in}
 use Rattle.hq_settings.proofs.records.record_at.Given as goal
 
 -- the reader goes on, and the record is so far behind those that it has left

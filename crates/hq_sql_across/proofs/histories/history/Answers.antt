@@ -1,6 +1,6 @@
 use Rattle.std.proofs.Common.{◌≡◌, ◌++◌, List, Vec, Global, map, sym, ap, ◌∙◌, subst}
 use Rattle.sqlite.specs.Held.{state}
-use Rattle.hq_wire.specs.declared.reply.Reply.{Reply}
+use Rattle.hq_requests.specs.declared.reply.Reply.{Reply}
 use Rattle.hq_sql_across.specs.Stopped.{PassesSessions}
 use Rattle.hq_sql_across.specs.Visits.{visit_of, replies_in}
 use Rattle.hq_sql_across.proofs.Passing.{alone_in_history}

@@ -2,11 +2,11 @@ use Rattle.std.proofs.Common.{◌≡◌, ℕ, false, List, map, sym, ap, ◌∙�
 use Rattle.sqlite.specs.Held.{Held, state}
 use Rattle.sqlite.specs.State.{HasCleanDisk}
 use Rattle.hq_keyed.proofs.Left.{clean_before}
-use Rattle.hq_store.specs.Tables.{Tables}
-use Rattle.hq_desk.specs.Desks.{host_of, shelf_of}
+use Rattle.hq_tables.specs.Tables.{Tables}
+use Rattle.hq_desk.specs.Desks.{host_of, on, shelf_of}
 use Rattle.hq_wire.specs.Exchanges.{ask_of}
 use Rattle.hq_wire.specs.Runs.{RunsSo}
-use Rattle.hq_wire.specs.declared.reply.Reply.{Reply}
+use Rattle.hq_requests.specs.declared.reply.Reply.{Reply}
 use Rattle.hq_across.specs.Histories.{Passed, Session}
 use Rattle.hq_sql_shelf.specs.declared.shelf.SqlShelf.{SqlShelf}
 use Rattle.hq_sql_shelf.specs.Shelf.{is_doubtful, sight_over}
@@ -60,7 +60,7 @@ returns-clause-passed g c clean sure keeps =
     let passed : Passes (host_of old) (shelf_of new).conn = elim c.match-run.branch [
       | in-Ok-run w ↦ asked_passed g.S.Store d before keeps old new here c.args.exchanges.now
           replies
-          (subst (λ (r : List Reply). RunsSo (sight_over (state g.S.Store)) d old
+          (subst (λ (r : List Reply). RunsSo (on (sight_over (state g.S.Store))) d old
           (map (ask_of d) c.args.exchanges.now) r new) (sym (ap (λ v. v.items) w.replies-is))
           w.in-Ok-run.ensures.served) end_clean not_doubtful
       | in-Err-run w ↦ unasked_passed g.S.Store d before keeps old new here c.args.exchanges.now

@@ -1,6 +1,7 @@
 use Rattle.std.proofs.Common.{Ok, sym, subst}
 use Rattle.sqlite.specs.Held.{state}
 use Rattle.hq_sql_shelf.specs.Shelf.{sight_over}
+use Rattle.hq_desk.specs.Desks.{on}
 use Rattle.hq_admin.specs.Rounds.{CallsEach}
 use Rattle.hq_sql_admin.specs.Rounds.{RoundOpened}
 use Rattle.hq_sql_admin.proofs.rounds.round_opened.Goals as goal
@@ -13,6 +14,7 @@ returns-in-Ok g c =
       c.call_each.new.desk,
       c.new-desk.ensures.host,
       c.new-desk.ensures.shelf,
-      subst (λ customers. CallsEach sight c.new-desk.result c.call_each.new.desk c.args.asked.at
-          c.args.asked.each customers c.in-Ok.told) c.as_slice.ensures.value c.in-Ok.ensures.done,
+      subst (λ customers. CallsEach (on sight) c.new-desk.result c.call_each.new.desk
+          c.args.asked.at c.args.asked.each customers c.in-Ok.told) c.as_slice.ensures.value
+          c.in-Ok.ensures.done,
     )

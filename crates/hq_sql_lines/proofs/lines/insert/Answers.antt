@@ -1,7 +1,7 @@
 use Rattle.std.proofs.Common.{refl, [], ◌∷◌, ◌∙◌}
 use Rattle.sqlite.specs.Held.{state}
 use Rattle.sqlite.specs.declared.types.Value.TheVariants.{Text}
-use Rattle.hq_access.specs.Patterns.{class_name}
+use Rattle.hq_kept.specs.Patterns.{class_name}
 use Rattle.hq_sql_lines.specs.Lines.{line_row}
 use Rattle.hq_sql.proofs.Keeping.{write_done, write_failed}
 use Rattle.hq_sql_lines.proofs.OnLines.{line_inserted}

@@ -1,6 +1,6 @@
 use Rattle.sqlite.specs.Held.{state}
 use Rattle.hq_keyed.proofs.Left.{clean_before}
-use Rattle.hq_store.specs.Tables.{noted_of}
+use Rattle.hq_tables.specs.Tables.{noted_of}
 use Rattle.hq_sql.proofs.Statements.{anew}
 use Rattle.hq_sql_notices.proofs.OnNotices.{notices_table}
 use Rattle.hq_sql_notices.proofs.notices.put.Goals as goal

@@ -1,5 +1,5 @@
 use Rattle.std.proofs.Common.{ap, arith}
-use Rattle.hq_queue.specs.declared.message.Message.{Message}
+use Rattle.hq_kept.specs.declared.message.Message.{Message}
 use Rattle.hq_sql_queue.specs.Dealt.{serials_of}
 use Rattle.hq_sql_queue.proofs.Dealt.{serial_at, passes_more, found_none}
 use Rattle.hq_sql_queue.proofs.dealing.place_from.Goals as goal

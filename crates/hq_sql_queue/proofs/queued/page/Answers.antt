@@ -1,6 +1,6 @@
 use Rattle.std.proofs.Common.{List, map, length, refl, ap, sym, subst, ◌∙◌}
 use Rattle.sqlite.specs.Held.{state}
-use Rattle.hq_queue.specs.declared.message.Message.{Message}
+use Rattle.hq_kept.specs.declared.message.Message.{Message}
 use Rattle.hq_sql.specs.Tables.{tables_in}
 use Rattle.hq_sql_queue.specs.Dealt.{Rise, serials_of}
 use Rattle.hq_sql_queue.specs.Giving.{with_parts}

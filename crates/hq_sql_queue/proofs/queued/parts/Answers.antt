@@ -1,5 +1,5 @@
 use Rattle.sqlite.specs.Held.{state}
-use Rattle.hq_store.specs.Tables.{reason_of}
+use Rattle.hq_tables.specs.Tables.{reason_of}
 use Rattle.hq_sql_queue.proofs.OnQueued.{finds_both, first_found}
 use Rattle.hq_sql_queue.proofs.queued.parts.Goals as goal
 

@@ -1,4 +1,5 @@
 use Rattle.std.proofs.Common.{inr, subst}
+use Rattle.hq_desk.specs.Desks.{on}
 use Rattle.hq_serve.specs.Listening.{DoesSome, connections_left}
 use Rattle.hq_serve.proofs.Runs.{of_coming}
 use Rattle.hq_sql_server.proofs.serving.serve_over.Goals as goal
@@ -14,9 +15,9 @@ returns g c =
         host_is = c.new-desk.ensures.host;
         shelf_is = c.new-desk.ensures.shelf;
         new = c.serve_on.new.desk;
-        served = subst (λ n. DoesSome g.S.Shelf.sight directory n c.new-desk.result
+        served = subst (λ n. DoesSome (on g.S.Shelf.sight) directory n c.new-desk.result
             c.serve_on.new.desk) c.new-connections.ensures
-            (of_coming g.S.Shelf.sight directory (connections_left c.new-connections.result)
+            (of_coming (on g.S.Shelf.sight) directory (connections_left c.new-connections.result)
             (connections_left c.serve_on.new.connections) c.serve_on.result c.new-desk.result
             c.serve_on.new.desk c.serve_on.ensures);
       },

@@ -1,7 +1,7 @@
 use Rattle.std.proofs.Common.{ap}
 use Rattle.sqlite.specs.Held.{state}
-use Rattle.hq_store.specs.Tables.{Tables, with_message}
-use Rattle.hq_store.proofs.Accounts.{is_counted}
+use Rattle.hq_tables.specs.Tables.{Tables, with_message}
+use Rattle.hq_isolation.proofs.Accounts.{is_counted}
 use Rattle.hq_sql.specs.Heads.{with_account}
 use Rattle.hq_sql.specs.Tables.{tables_in}
 use Rattle.hq_keyed.proofs.Left.{clean_before}

@@ -1,6 +1,6 @@
 use Rattle.std.proofs.Common.{◌≡◌, Some, ap, sym, ◌∙◌, subst, rules}
 use Rattle.sqlite.specs.Held.{state}
-use Rattle.hq_store.specs.Tables.{Tables}
+use Rattle.hq_tables.specs.Tables.{Tables}
 use Rattle.hq_sql.specs.Tables.{Leaves, tables_in}
 use Rattle.hq_sql_shelf.proofs.Recounted.{size_same, size_none, size_other}
 use Rattle.hq_sql_shelf.proofs.Steps.{made_after, unchanged_leaves, desk_after}

@@ -1,8 +1,8 @@
 use Rattle.std.proofs.Common.{sym, ◌∙◌}
 use Rattle.std.specs.FinMap.{get}
 use Rattle.sqlite.specs.Held.{state}
-use Rattle.hq_store.specs.Tables.{Tables, counted, without_message}
-use Rattle.hq_store.proofs.Accounts.{is_counted, at_size}
+use Rattle.hq_tables.specs.Tables.{Tables, counted, without_message}
+use Rattle.hq_isolation.proofs.Accounts.{is_counted, at_size}
 use Rattle.hq_sql.specs.Tables.{tables_in}
 use Rattle.hq_keyed.proofs.Left.{clean_before}
 use Rattle.hq_sql_shelf.proofs.Steps.{put_after}

@@ -1,9 +1,9 @@
 use Rattle.std.proofs.Common.{◌∷◌, OnOk, sym, refl, ap, ◌∙◌, subst}
 use Rattle.std.proofs.lemmas.Result.{on_ok_weaker}
 use Rattle.sqlite.specs.Held.{state}
-use Rattle.hq_store.specs.declared.account.Account.{Account}
-use Rattle.hq_store.specs.declared.change.Change.{Change}
-use Rattle.hq_store.specs.Tables.{Tables, account}
+use Rattle.hq_tables.specs.declared.account.Account.{Account}
+use Rattle.hq_tables.specs.declared.change.Change.{Change}
+use Rattle.hq_tables.specs.Tables.{Tables, account}
 use Rattle.hq_sql.specs.Tables.{Leaves, tables_in}
 use Rattle.hq_sql.proofs.Tables.{leaves_then}
 use Rattle.hq_keyed.proofs.Left.{clean_before}

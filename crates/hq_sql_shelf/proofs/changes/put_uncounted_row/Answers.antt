@@ -2,7 +2,7 @@ use Rattle.std.proofs.Common.{◌≡◌, Option, Some, None, refl, sym, ◌∙�
 use Rattle.std.specs.Option.{option_map}
 use Rattle.std.specs.FinMap.{get}
 use Rattle.sqlite.specs.Held.{state}
-use Rattle.hq_store.specs.Tables.{Row}
+use Rattle.hq_tables.specs.Tables.{Row}
 use Rattle.hq_sql.specs.Tables.{tables_in}
 use Rattle.hq_sql_messages.specs.Messages.{with_row}
 use Rattle.hq_keyed.proofs.Left.{clean_before}

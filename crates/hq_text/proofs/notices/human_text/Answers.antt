@@ -1,7 +1,7 @@
 use Rattle.std.proofs.Common.{arith}
 use Rattle.hq_text.proofs.Joined.{one_line_more}
-use Rattle.hq_text.specs.Lines.{crlf}
-use Rattle.hq_text.specs.Notices.{told_line}
+use Rattle.hq_rules.specs.TextLines.{crlf}
+use Rattle.hq_rules.specs.NoticeTexts.{told_line}
 use Rattle.hq_text.proofs.notices.human_text.Goals as goal
 
 pub loop-one-preserved : goal.loop-one-preserved

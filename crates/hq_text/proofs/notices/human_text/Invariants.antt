@@ -1,6 +1,6 @@
 use Rattle.std.proofs.Common.{◌≡◌, ◌++◌, map, take, string_bytes}
-use Rattle.hq_text.specs.Lines.{crlf, text_of}
-use Rattle.hq_text.specs.Notices.{opening_lines, told_line}
+use Rattle.hq_rules.specs.TextLines.{crlf, text_of}
+use Rattle.hq_rules.specs.NoticeTexts.{opening_lines, told_line}
 use Rattle.hq_text.proofs.notices.human_text.Given as goal
 
 abbrev pub invariant-loop-one : goal.invariant-loop-one

@@ -1,7 +1,7 @@
 use Rattle.std.proofs.Common.{◌≡◌, ◌==◌, true, false, length, codes, sym, refl, ◌∙◌}
 use Rattle.hq_text.proofs.Joined.{field_then, no_line}
-use Rattle.hq_text.specs.Lines.{crlf}
-use Rattle.hq_text.specs.Notices.{diagnostic_lines}
+use Rattle.hq_rules.specs.TextLines.{crlf}
+use Rattle.hq_rules.specs.NoticeTexts.{diagnostic_lines}
 use Rattle.hq_text.proofs.notices.put_diagnostic.Goals as goal
 
 pub returns-then-is_empty : goal.returns-then-is_empty

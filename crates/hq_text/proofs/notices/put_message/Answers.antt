@@ -1,7 +1,7 @@
 use Rattle.std.proofs.Common.{codes, ◌∙◌}
 use Rattle.hq_text.proofs.Joined.{field_then, no_line}
-use Rattle.hq_text.specs.Lines.{crlf}
-use Rattle.hq_text.specs.Notices.{message_fields}
+use Rattle.hq_rules.specs.TextLines.{crlf}
+use Rattle.hq_rules.specs.NoticeTexts.{message_fields}
 use Rattle.hq_text.proofs.notices.put_message.Goals as goal
 
 pub returns : goal.returns

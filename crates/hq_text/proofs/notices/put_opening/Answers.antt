@@ -1,8 +1,8 @@
 use Rattle.std.proofs.Common.{[], ◌++◌, codes, refl, ap, ◌∙◌}
 use Rattle.hq_values.specs.Serials.{serial_text}
 use Rattle.hq_text.proofs.Joined.{line_then, no_line}
-use Rattle.hq_text.specs.Lines.{crlf}
-use Rattle.hq_text.specs.Notices.{opening_lines, what_follows}
+use Rattle.hq_rules.specs.TextLines.{crlf}
+use Rattle.hq_rules.specs.NoticeTexts.{opening_lines, what_follows}
 use Rattle.hq_text.proofs.notices.put_opening.Goals as goal
 
 pub returns : goal.returns

@@ -1,7 +1,7 @@
 use Rattle.std.proofs.Common.{[], codes, refl}
 use Rattle.hq_text.proofs.Joined.{field_then, lines_then}
-use Rattle.hq_text.specs.Lines.{crlf}
-use Rattle.hq_text.specs.Notices.{recipient_fields}
+use Rattle.hq_rules.specs.TextLines.{crlf}
+use Rattle.hq_rules.specs.NoticeTexts.{recipient_fields}
 use Rattle.hq_text.proofs.notices.put_recipient.Goals as goal
 
 pub returns : goal.returns

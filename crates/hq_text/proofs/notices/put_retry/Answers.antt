@@ -1,7 +1,7 @@
 use Rattle.std.proofs.Common.{codes, refl}
 use Rattle.hq_text.proofs.Joined.{field_then, no_line}
-use Rattle.hq_text.specs.Lines.{crlf}
-use Rattle.hq_text.specs.Notices.{retry_lines}
+use Rattle.hq_rules.specs.TextLines.{crlf}
+use Rattle.hq_rules.specs.NoticeTexts.{retry_lines}
 use Rattle.hq_text.proofs.notices.put_retry.Goals as goal
 
 pub returns-in-None : goal.returns-in-None

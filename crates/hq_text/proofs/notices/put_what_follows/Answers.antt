@@ -1,4 +1,4 @@
-use Rattle.hq_text.specs.Notices.{what_follows}
+use Rattle.hq_rules.specs.NoticeTexts.{what_follows}
 use Rattle.hq_text.proofs.notices.put_what_follows.Goals as goal
 
 pub returns-in-None : goal.returns-in-None

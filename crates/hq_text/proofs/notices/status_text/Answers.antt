@@ -1,6 +1,6 @@
 use Rattle.std.proofs.Common.{arith}
 use Rattle.hq_text.proofs.Joined.{one_more}
-use Rattle.hq_text.specs.Lines.{crlf}
+use Rattle.hq_rules.specs.TextLines.{crlf}
 use Rattle.hq_text.proofs.notices.status_text.Goals as goal
 
 pub loop-one-preserved : goal.loop-one-preserved

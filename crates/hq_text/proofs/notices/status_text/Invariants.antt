@@ -1,8 +1,8 @@
 use Rattle.std.proofs.Common.{◌≡◌, ◌++◌, take, string_bytes}
 use Rattle.std.specs.Prelude.{option_map}
 use Rattle.std.specs.List.{flat_map}
-use Rattle.hq_text.specs.Lines.{crlf, text_of}
-use Rattle.hq_text.specs.Notices.{message_fields, recipient_fields}
+use Rattle.hq_rules.specs.TextLines.{crlf, text_of}
+use Rattle.hq_rules.specs.NoticeTexts.{message_fields, recipient_fields}
 use Rattle.hq_text.proofs.notices.status_text.Given as goal
 
 abbrev pub invariant-loop-one : goal.invariant-loop-one

@@ -1,8 +1,8 @@
 use Rattle.std.proofs.Common.{◌≡◌, ◌==◌, ◌++◌, true, eq-eqb, sym, ap, ◌∙◌}
 use Rattle.std.proofs.lemmas.Result.{IfOk-weaker}
 use Rattle.hq_text.proofs.Joined.{text_of-cons}
-use Rattle.hq_text.specs.Lines.{lf}
-use Rattle.hq_text.specs.Reports.{header, message_lines}
+use Rattle.hq_rules.specs.TextLines.{lf}
+use Rattle.hq_rules.specs.QueueReports.{header, message_lines}
 use Rattle.hq_text.proofs.queue_report.added_text.Goals as goal
 
 pub returns-then-queued-eq0 : goal.returns-then-queued-eq0

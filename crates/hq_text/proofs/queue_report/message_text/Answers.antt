@@ -1,7 +1,7 @@
 use Rattle.std.proofs.Common.{length, sym, ap, ◌∙◌, append-nil, arith}
 use Rattle.hq_text.proofs.Joined.{one_more}
-use Rattle.hq_text.specs.Lines.{lf, text_of}
-use Rattle.hq_text.specs.Reports.{top_lines, recipient_lines}
+use Rattle.hq_rules.specs.TextLines.{lf, text_of}
+use Rattle.hq_rules.specs.QueueReports.{top_lines, recipient_lines}
 use Rattle.hq_text.proofs.queue_report.message_text.Goals as goal
 
 pub loop-pending-init : goal.loop-pending-init

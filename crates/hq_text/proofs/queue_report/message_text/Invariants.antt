@@ -1,7 +1,7 @@
 use Rattle.std.proofs.Common.{◌≡◌, ◌++◌, take, string_bytes}
 use Rattle.std.specs.List.{flat_map}
-use Rattle.hq_text.specs.Lines.{lf, text_of}
-use Rattle.hq_text.specs.Reports.{top_lines, recipient_lines}
+use Rattle.hq_rules.specs.TextLines.{lf, text_of}
+use Rattle.hq_rules.specs.QueueReports.{top_lines, recipient_lines}
 use Rattle.hq_text.proofs.queue_report.message_text.Given as goal
 
 abbrev pub invariant-loop-pending : goal.invariant-loop-pending

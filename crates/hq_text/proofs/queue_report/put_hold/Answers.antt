@@ -1,9 +1,9 @@
 use Rattle.std.proofs.Common.{◌≡◌, ℕ, List, ◌++◌, ◌⊎◌, inl, inr, ap}
-use Rattle.hq_queue.specs.declared.message.Message.{Message}
-use Rattle.hq_queue.specs.declared.message.QueueState.TheVariants.{Incoming, Deferred}
+use Rattle.hq_kept.specs.declared.message.Message.{Message}
+use Rattle.hq_kept.specs.declared.message.QueueState.TheVariants.{Incoming, Deferred}
 use Rattle.hq_text.proofs.Joined.{line_then, no_line}
-use Rattle.hq_text.specs.Lines.{lf, text_of}
-use Rattle.hq_text.specs.Reports.{hold_line, hold_lines}
+use Rattle.hq_rules.specs.TextLines.{lf, text_of}
+use Rattle.hq_rules.specs.QueueReports.{hold_line, hold_lines}
 use Rattle.hq_text.proofs.queue_report.put_hold.Goals as goal
 
 pub returns-in_ok-put_hold_line-in-Hold : goal.returns-in_ok-put_hold_line-in-Hold

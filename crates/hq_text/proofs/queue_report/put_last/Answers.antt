@@ -1,7 +1,7 @@
 use Rattle.std.proofs.Common.{◌≡◌, ◌==◌, true, codes, refl, eq-eqb}
 use Rattle.hq_text.proofs.Joined.{line_then, no_line}
 use Rattle.hq_text.proofs.Writing.{not_none}
-use Rattle.hq_text.specs.Lines.{lf}
+use Rattle.hq_rules.specs.TextLines.{lf}
 use Rattle.hq_text.proofs.queue_report.put_last.Goals as goal
 
 pub returns-in_ok-push_str : goal.returns-in_ok-push_str

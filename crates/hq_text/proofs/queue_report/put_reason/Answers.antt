@@ -1,7 +1,7 @@
 use Rattle.std.proofs.Common.{ap, ◌∙◌}
 use Rattle.hq_text.proofs.Joined.{line_then, no_line}
-use Rattle.hq_text.specs.Lines.{lf}
-use Rattle.hq_text.specs.Reports.{reason_line, reason_lines}
+use Rattle.hq_rules.specs.TextLines.{lf}
+use Rattle.hq_rules.specs.QueueReports.{reason_line, reason_lines}
 use Rattle.hq_text.proofs.queue_report.put_reason.Goals as goal
 
 pub returns-in-None : goal.returns-in-None

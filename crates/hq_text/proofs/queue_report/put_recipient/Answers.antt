@@ -1,7 +1,7 @@
 use Rattle.std.proofs.Common.{codes}
 use Rattle.hq_text.proofs.Joined.{field_then, lines_then, no_line}
-use Rattle.hq_text.specs.Lines.{lf}
-use Rattle.hq_text.specs.Reports.{recipient_lines}
+use Rattle.hq_rules.specs.TextLines.{lf}
+use Rattle.hq_rules.specs.QueueReports.{recipient_lines}
 use Rattle.hq_text.proofs.queue_report.put_recipient.Goals as goal
 
 pub returns : goal.returns

@@ -1,7 +1,7 @@
 use Rattle.std.proofs.Common.{[]}
 use Rattle.hq_text.proofs.Joined.{line_then}
-use Rattle.hq_text.specs.Lines.{lf}
-use Rattle.hq_text.specs.Reports.{top_lines}
+use Rattle.hq_rules.specs.TextLines.{lf}
+use Rattle.hq_rules.specs.QueueReports.{top_lines}
 use Rattle.hq_text.proofs.queue_report.top_text.Goals as goal
 
 pub returns : goal.returns

@@ -2,16 +2,17 @@ use Rattle.std.proofs.Common.{◌≡◌, Result, Ok, Err, refl, sym, ap, ◌∙�
 use Rattle.hq_values.specs.Readers.{Fails}
 use Rattle.hq_values.specs.declared.failure.Refusal.{Refusal}
 use Rattle.hq_requests.specs.Calls.{Asked, CallOf, CallOfAll, IsKnown, asked_seen, call_of}
-use Rattle.hq_calls.specs.Each.{each_call}
+use Rattle.hq_rules.specs.Each.{each_call}
+use Rattle.hq_requests.proofs.Whose.{whose_all, whose_call}
 use Rattle.hq_wire.specs.Exchanges.{ask_of, Exchanged}
 use Rattle.hq_wire.specs.Replies.{seen, reply_of_fault}
 use Rattle.hq_wire.proofs.Exchanging.{no_room, refused}
 use Rattle.hq_wire.proofs.Serving.{told_once}
 use Rattle.hq_wire.proofs.answering.exchange.Goals as goal
 
-pub returns-in-Ok-CallOf : goal.returns-in-Ok-CallOf
-returns-in-Ok-CallOf g c =
-    let sight = g.S.Shelf.sight in
+pub returns-in-Ok-CallOf-clause-done : goal.returns-in-Ok-CallOf-clause-done
+returns-in-Ok-CallOf-clause-done g c =
+    let sight = g.D.Acts.sight in
     let d = c.args.directory.now in
     let x = c.args.exchange.now in
     let old = c.args.desk.now in
@@ -19,29 +20,29 @@ returns-in-Ok-CallOf g c =
     let r = seen c.call_reply.result in
     let called : call_of d x ≡ Ok (CallOf c.in-Ok-CallOf.entry.now.name c.in-Ok-CallOf.call) =
     c.in-Ok-CallOf.ensures.call ∙ (λ i. Ok (asked_seen (c.in-Ok-CallOf.field-0-is i))) in
-    let done = c.call_reply.ensures d
+    let done = c.call_reply.ensures.done d
     (subst (IsKnown d) c.in-Ok-CallOf.field-0-is c.in-Ok-CallOf.ensures.known) in
     told_once sight d old new (ask_of d x) c.call_reply.result r (refl, refl)
     (subst (λ (asked : Result Asked Refusal). Exchanged sight d old
     (record { at = x.at; called = asked }) r new) (sym called) done)
 
-pub returns-in-Ok-CallOfAll : goal.returns-in-Ok-CallOfAll
-returns-in-Ok-CallOfAll g c =
-    let sight = g.S.Shelf.sight in
+pub returns-in-Ok-CallOfAll-clause-done : goal.returns-in-Ok-CallOfAll-clause-done
+returns-in-Ok-CallOfAll-clause-done g c =
+    let sight = g.D.Acts.sight in
     let d = c.args.directory.now in
     let x = c.args.exchange.now in
     let old = c.args.desk.now in
     let new = c.call_all.new.desk in
-    let so = c.call_all.ensures in
+    let so = c.call_all.ensures.done in
     let called : call_of d x ≡ Ok (CallOfAll (each_call c.in-Ok-CallOfAll.each)) =
     c.in-Ok-CallOfAll.ensures.call ∙ (λ i. Ok (asked_seen (c.in-Ok-CallOfAll.field-0-is i))) in
     told_once sight d old new (ask_of d x) c.call_all.result so.0 so.1
     (subst (λ (asked : Result Asked Refusal). Exchanged sight d old
     (record { at = x.at; called = asked }) so.0 new) (sym called) so.2)
 
-pub returns-in-Err-Refused : goal.returns-in-Err-Refused
-returns-in-Err-Refused g c =
-    let sight = g.S.Shelf.sight in
+pub returns-in-Err-Refused-clause-done : goal.returns-in-Err-Refused-clause-done
+returns-in-Err-Refused-clause-done g c =
+    let sight = g.D.Acts.sight in
     let d = c.args.directory.now in
     let x = c.args.exchange.now in
     let desk = c.args.desk.now in
@@ -55,13 +56,25 @@ returns-in-Err-Refused g c =
     (refused sight d desk x.at c.in-Err-Refused.refusal r c.refusal_reply.ensures.told
     c.refusal_reply.ensures.store))
 
-pub returns-in-Err-Fault : goal.returns-in-Err-Fault
-returns-in-Err-Fault g c =
+pub returns-in-Err-Fault-clause-done : goal.returns-in-Err-Fault-clause-done
+returns-in-Err-Fault-clause-done g c =
     let d = c.args.directory.now in
     let x = c.args.exchange.now in
     let desk = c.args.desk.now in
     let r = seen c.fault_reply.result in
-    told_once g.S.Shelf.sight d desk desk (ask_of d x) c.fault_reply.result r (refl, refl)
-    (no_room g.S.Shelf.sight d desk (ask_of d x) r (c.fault_reply.ensures.told
+    told_once g.D.Acts.sight d desk desk (ask_of d x) c.fault_reply.result r (refl, refl)
+    (no_room g.D.Acts.sight d desk (ask_of d x) r (c.fault_reply.ensures.told
     ∙ ap reply_of_fault (subst (λ e. Fails e (call_of d x)) c.in-Err-Fault.field-0-is
     c.in-Err-Fault.ensures.call)))
+
+pub returns-in-Ok-CallOf-clause-customer : goal.returns-in-Ok-CallOf-clause-customer
+returns-in-Ok-CallOf-clause-customer g c = c.call_reply.ensures.customer
+    ∙ sym (whose_call c.args.directory.now c.args.exchange.now c.in-Ok-CallOf.entry.now.name
+    c.in-Ok-CallOf.call (c.in-Ok-CallOf.ensures.call
+    ∙ (λ i. Ok (asked_seen (c.in-Ok-CallOf.field-0-is i)))))
+
+pub returns-in-Ok-CallOfAll-clause-customer : goal.returns-in-Ok-CallOfAll-clause-customer
+returns-in-Ok-CallOfAll-clause-customer g c =
+    c.call_all.ensures.customer
+    ∙ sym (whose_all c.args.directory.now c.args.exchange.now (each_call c.in-Ok-CallOfAll.each)
+    (c.in-Ok-CallOfAll.ensures.call ∙ (λ i. Ok (asked_seen (c.in-Ok-CallOfAll.field-0-is i)))))

@@ -1,8 +1,8 @@
 use Rattle.std.proofs.Common.{◌≡◌, ◌≤◌, ◌+◌, ◌++◌, ◌∷◌, [], List, ℕ, suc, true, false, Ok, Some}
 use Rattle.std.proofs.Common.{None, length, map, take, drop, refl, sym, ap, ◌∙◌, subst, arith}
 use Rattle.std.proofs.lemmas.List.{take_all, take_more, map-append}
-use Rattle.hq_queue.specs.Customers.{are_customers}
-use Rattle.hq_calls.specs.Each.{each_call}
+use Rattle.hq_kept.specs.Customers.{are_customers}
+use Rattle.hq_rules.specs.Each.{each_call}
 use Rattle.hq_requests.specs.Calls.{CallOfAll}
 use Rattle.hq_requests.specs.Directories.{entry_in, entry_of, name_of, names_of}
 use Rattle.hq_wire.specs.Replies.{Stop, closing, seen, separated, parted_reply}
@@ -11,26 +11,26 @@ use Rattle.hq_wire.proofs.Exchanging.{no_room}
 use Rattle.hq_wire.proofs.Called.{SoFar, done_by_all, none_yet, one_more_done, split_at, stopped_at}
 use Rattle.hq_wire.proofs.calling.call_all.Goals as goal
 
-pub returns-in_default : goal.returns-in_default
-returns-in_default g c =
+pub returns-in_default-clause-done : goal.returns-in_default-clause-done
+returns-in_default-clause-done g c =
     let r = seen c.fault_reply.result in (
       r,
       (refl, refl),
-      no_room g.S.Shelf.sight c.args.directory.now c.args.desk.now
+      no_room g.D.Acts.sight c.args.directory.now c.args.desk.now
           (record { at = c.args.at; called = Ok (CallOfAll (each_call c.args.each)) }) r
           c.fault_reply.ensures.told,
     )
 
 pub loop-customer-init : goal.loop-customer-init
 loop-customer-init g c = record {
-  so_far = none_yet g.S.Shelf.sight c.args.directory.now c.args.at (each_call c.args.each)
+  so_far = none_yet g.D.Acts.sight c.args.directory.now c.args.at (each_call c.args.each)
       c.args.desk.now c.in-Some.body.items c.in-Some.ensures.opened;
   room = omega (arith, c.in-Some.ensures.room);
 }
 
 pub loop-customer-preserved : goal.loop-customer-preserved
 loop-customer-preserved g c =
-    let sight = g.S.Shelf.sight in
+    let sight = g.D.Acts.sight in
     let d = c.args.directory.now in
     let call = each_call c.args.each in
     let i = c.loop-customer.customer-index in
@@ -53,7 +53,7 @@ loop-customer-preserved g c =
     ∷ []) (sym c.customer-item.is)) ∙ map-append name_of (take i xs) (item ∷ []) in
     let short : 1 + length c.as_slice.result.now ≤ c.part_room-room.result = subst
     (λ (part : List ℕ). 1 + length part ≤ c.part_room-room.result)
-    (sym c.as_slice.ensures.value) c.in-Ok.ensures.fits.0 in
+    (sym c.as_slice.ensures.value) c.in-Ok.ensures.shown.2.0 in
     record {
       so_far = subst (λ names. SoFar sight d c.args.at call c.args.desk.now names c.act.new.self
           c.put_part.new.body.items false) (sym more)
@@ -61,7 +61,7 @@ loop-customer-preserved g c =
           (map name_of (take i xs)) c.loop-customer.body.items c.put_part.new.body.items
           is_first item.entry c.call.result c.in-Ok.rendered so_far known c.call.ensures put
           c.in-Ok.ensures.answer c.in-Ok.ensures.tables c.in-Ok.ensures.sound c.in-Ok.ensures.kept
-          c.in-Ok.ensures.host c.in-Ok.ensures.fits.1);
+          c.in-Ok.ensures.host c.in-Ok.ensures.shown.2.1);
       room = omega (
         arith,
         c.put_part.ensures.len,
@@ -71,8 +71,8 @@ loop-customer-preserved g c =
       );
     }
 
-pub returns-in-Err : goal.returns-in-Err
-returns-in-Err g c =
+pub returns-in-Err-clause-done : goal.returns-in-Err-clause-done
+returns-in-Err-clause-done g c =
     let d = c.args.directory.now in
     let i = c.loop-customer.customer-index in
     let xs = c.customers-customers.result.now in
@@ -87,16 +87,20 @@ returns-in-Err g c =
     c.loop-customer-test.true c.customer-item.is)
     ∙ ap (λ cs. entry_in cs item.entry.name) c.customers-customers.ensures in (
       parted_reply so_far.parts (Some stop),
-      (refl, sym (c.put_stop.ensures ∙ ap (λ body. body ++ closing (Some stop)) so_far.text)),
-      stopped_at g.S.Shelf.sight d c.args.at (each_call c.args.each) c.args.desk.now
+      (
+        sym c.parted.ensures.status,
+        sym (c.parted.ensures.body ∙ c.put_stop.ensures
+            ∙ ap (λ body. body ++ closing (Some stop)) so_far.text),
+      ),
+      stopped_at g.D.Acts.sight d c.args.at (each_call c.args.each) c.args.desk.now
           c.loop-customer.desk c.act.new.self (map name_of (take i xs)) c.loop-customer.body.items
           c.loop-customer.is_first item.entry c.call.result (map name_of (drop (suc i) xs))
           c.in-Err.fault so_far all known c.call.ensures c.in-Err.ensures.sound
           c.in-Err.ensures.stops c.in-Err.ensures.kept c.in-Err.ensures.host,
     )
 
-pub returns : goal.returns
-returns g c =
+pub returns-clause-done : goal.returns-clause-done
+returns-clause-done g c =
     let d = c.args.directory.now in
     let i = c.loop-customer.customer-index in
     let xs = c.customers-customers.result.now in
@@ -104,8 +108,12 @@ returns g c =
     let all : map name_of (take i xs) ≡ names_of d =
     ap (map name_of) (take_all i xs (omega arith) ∙ c.customers-customers.ensures) in (
       parted_reply so_far.parts None,
-      (refl, sym (c.put_all_done.ensures ∙ ap (λ body. body ++ closing None) so_far.text)),
-      done_by_all g.S.Shelf.sight d c.args.at (each_call c.args.each) c.args.desk.now
+      (
+        sym c.parted-2.ensures.status,
+        sym (c.parted-2.ensures.body ∙ c.put_all_done.ensures
+            ∙ ap (λ body. body ++ closing None) so_far.text),
+      ),
+      done_by_all g.D.Acts.sight d c.args.at (each_call c.args.each) c.args.desk.now
           c.loop-customer.desk (map name_of (take i xs)) c.loop-customer.body.items
           c.loop-customer.is_first so_far all,
     )

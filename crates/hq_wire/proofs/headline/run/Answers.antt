@@ -21,9 +21,9 @@ loop-item-preserved g c =
     let d = c.args.directory.now in
     let i = c.loop-item.item-index in
     let xs = c.args.exchanges.now in
-    let step = Exchanged g.S.Shelf.sight d in
+    let step = Exchanged g.D.Acts.sight d in
     let item = c.item-item.result in
-    let so = c.exchange-reply.ensures in
+    let so = c.exchange-reply.ensures.done in
     let was = c.loop-item.invariant.each in
     let told = was.0 ++ so.told ∷ [] in
     let asked : map (ask_of d) (take (i + 1) xs) ≡ map (ask_of d) (take i xs) ++ ask_of d item
@@ -53,8 +53,8 @@ returns-clause-served g c =
     record {
       told = was.0;
       sent = was.1;
-      served = served g.S.Shelf.sight d _ _ _ was.0
-          (subst (λ xs. InTurn (Exchanged g.S.Shelf.sight d) c.args.desk.now (map (ask_of d) xs)
+      served = served g.D.Acts.sight d _ _ _ was.0
+          (subst (λ xs. InTurn (Exchanged g.D.Acts.sight d) c.args.desk.now (map (ask_of d) xs)
           was.0 c.loop-item.desk) (take_all c.loop-item.item-index c.args.exchanges.now
           (omega arith)) was.2);
     }

@@ -8,7 +8,7 @@ use Rattle.hq_wire.proofs.headline.run.Given as goal
 abbrev pub invariant-loop-item : goal.invariant-loop-item
 invariant-loop-item g l = record {
   each : (told : List SeenReply) × AllZip IsSent l.replies.items told
-      × InTurn (Exchanged g.S.Shelf.sight l.directory) l.fn.desk
+      × InTurn (Exchanged g.D.Acts.sight l.directory) l.fn.desk
       (map (ask_of l.directory) (take l.item-index l.exchanges)) told l.desk;
   count : vec_len l.replies ≡ l.item-index;
   room : length l.exchanges ≤ vec_capacity l.replies;

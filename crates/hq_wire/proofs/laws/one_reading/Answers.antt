@@ -3,5 +3,6 @@ use Rattle.hq_wire.proofs.laws.one_reading.Goals as goal
 
 pub returns : goal.returns
 returns g c = λ host d a r q t t' u u' one other status body.
-    one_reading g.S.Shelf.sight.may_answer g.R.Shelf.sight.may_answer host host d t t' u u' a.at
-    a.at a.called r q one other status body
+    let may = g.D.Acts.sight.store.may_answer in
+    one_reading may g.E.Acts.sight.store.may_answer host host d t t' u u' a.at a.at a.called r q one
+    other status body

@@ -3,4 +3,4 @@ use Rattle.hq_wire.proofs.laws.replies_are_one_line.Goals as goal
 
 pub returns : goal.returns
 returns g c = λ host d a r t t' names replied.
-    reply_one_line g.S.Shelf.sight.may_answer host d t t' a.at names a.called r replied
+    reply_one_line g.D.Acts.sight.store.may_answer host d t t' a.at names a.called r replied

@@ -17,7 +17,7 @@ returns g c =
         reply = so.told;
         line_is = same;
         done = so.done;
-        logged = λ keeps. logged_as g.S.Shelf.sight _ _ _ _ _ _ _ _ _ c.answered.result
+        logged = λ keeps. logged_as g.D.Acts.sight _ _ _ _ _ _ _ _ _ c.answered.result
             c.line_reply-replied.result c.begin.ensures.losing c.begin.ensures.contents
             c.answered.ensures so (c.replied.ensures keeps);
       },

@@ -1,5 +1,5 @@
 use Rattle.std.proofs.Common.{◌≡◌, drop}
-use Rattle.hq_store.specs.Tables.{write_all}
+use Rattle.hq_tables.specs.Tables.{write_all}
 use Rattle.hq_lists.specs.Lists.{tables_of}
 use Rattle.hq_lists.specs.Lists.{AreInOrder}
 use Rattle.hq_lists.proofs.list_rows.ListRows.change_all.Given as goal

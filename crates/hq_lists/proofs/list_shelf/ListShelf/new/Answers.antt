@@ -3,8 +3,8 @@ use Rattle.hq_rows.specs.Listed.{heads_of, messages_of, recipients_of, holds_of,
 use Rattle.hq_rows.specs.Listed.{notices_of, ends_of}
 use Rattle.hq_rows.specs.Lookups.{AreUnique, AreDealt, AreUniqueLines, AreUniqueNotices}
 use Rattle.hq_rows.specs.Lookups.{AreUniqueEnds}
-use Rattle.hq_store.specs.Sound.{AreCounted}
-use Rattle.hq_store.proofs.Empty.{none_counted}
+use Rattle.hq_tables.specs.Sound.{AreCounted}
+use Rattle.hq_tables.proofs.Empty.{none_counted}
 use Rattle.hq_rows.proofs.NoRows.{none_unique, none_dealt, none_unique_lines, none_unique_notices}
 use Rattle.hq_rows.proofs.NoRows.{none_unique_ends, no_rows}
 use Rattle.hq_lists.proofs.list_shelf.ListShelf.new.Goals as goal

@@ -1,8 +1,8 @@
 use Rattle.std.proofs.Common.{ap, sym, subst, ◌∙◌}
-use Rattle.hq_store.specs.Tables.{write_all}
+use Rattle.hq_tables.specs.Tables.{write_all}
 use Rattle.hq_lists.specs.Lists.{tables_of}
-use Rattle.hq_store.specs.Sound.{AreCounted}
-use Rattle.hq_store.proofs.Counted.{counts_stay}
+use Rattle.hq_tables.specs.Sound.{AreCounted}
+use Rattle.hq_isolation.proofs.Counted.{counts_stay}
 use Rattle.hq_lists.proofs.list_shelf.ListShelfShelf.apply.Goals as goal
 
 pub invariant_of-self : goal.invariant_of-self

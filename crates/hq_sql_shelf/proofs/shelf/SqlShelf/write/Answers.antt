@@ -3,9 +3,9 @@ use Rattle.std.specs.Prelude.{⊤}
 use Rattle.sqlite.specs.Held.{state}
 use Rattle.sqlite.specs.State.{HasCleanDisk}
 use Rattle.hq_keyed.proofs.Left.{clean_before}
-use Rattle.hq_store.proofs.Counted.{counts_stay}
-use Rattle.hq_store.specs.Shelves.{StopLeavesTables}
-use Rattle.hq_store.specs.Tables.{write_all}
+use Rattle.hq_isolation.proofs.Counted.{counts_stay}
+use Rattle.hq_tables.specs.Shelves.{StopLeavesTables}
+use Rattle.hq_tables.specs.Tables.{write_all}
 use Rattle.hq_sql.specs.Tables.{tables_in}
 use Rattle.hq_sql_open.specs.Found.{tables_with}
 use Rattle.hq_sql_shelf.specs.Shelf.{IsOurs, sight_over}

@@ -1,5 +1,5 @@
 use Rattle.std.proofs.Common.{◌+◌, ◌++◌, string_bytes, ap, ◌∙◌}
-use Rattle.hq_text.specs.Reports.{Written}
+use Rattle.hq_rules.specs.QueueReports.{Written}
 use Rattle.hq_text.proofs.Writing.{added_is}
 use Rattle.hq_text.proofs.queue_report.Report.add.Goals as goal
 

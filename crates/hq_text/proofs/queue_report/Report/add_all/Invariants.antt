@@ -1,6 +1,6 @@
 use Rattle.std.proofs.Common.{◌≡◌, List, ◌++◌, take}
-use Rattle.hq_queue.specs.declared.message.Message.{Message}
-use Rattle.hq_text.specs.Reports.{written}
+use Rattle.hq_kept.specs.declared.message.Message.{Message}
+use Rattle.hq_rules.specs.QueueReports.{written}
 use Rattle.hq_text.proofs.queue_report.Report.add_all.Given as goal
 
 -- those so far stand behind what was written before

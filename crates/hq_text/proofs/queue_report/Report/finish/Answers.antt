@@ -1,5 +1,5 @@
 use Rattle.std.proofs.Common.{string_bytes, ◌∙◌}
-use Rattle.hq_text.specs.Reports.{Written}
+use Rattle.hq_rules.specs.QueueReports.{Written}
 use Rattle.hq_text.proofs.Writing.{finished_is}
 use Rattle.hq_text.proofs.queue_report.Report.finish.Goals as goal
 

@@ -1,6 +1,0 @@
-use Rattle.hq_access.proofs.Spaces.{drop_spaces_is}
-use Rattle.hq_access.proofs.action.drop_spaces.Goals as goal
-
-pub returns : goal.returns
-returns c =
-    drop_spaces_is c.args.text.now c.trim_end_matches.result.now c.trim_end_matches.ensures.matches

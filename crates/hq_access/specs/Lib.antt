@@ -1,5 +1,0 @@
-pub mod Actions
-pub mod Keys
-pub mod Lookups
-pub mod Patterns
-pub mod Verdicts

@@ -1,4 +1,0 @@
-pub mod Isolation
-pub mod Own
-pub mod Reasons
-pub mod Unchanged

@@ -1,0 +1,11 @@
+pub mod Accounts
+pub mod Conserved
+pub mod Counted
+pub mod Dealt
+pub mod Isolation
+pub mod Many
+pub mod Own
+pub mod Read
+pub mod Reasons
+pub mod Recipients
+pub mod States

@@ -1,5 +1,0 @@
-use Rattle.hq_queue.proofs.Forms.{cut_at_dot}
-use Rattle.hq_queue.proofs.status.cut.Goals as goal
-
-pub returns : goal.returns
-returns c = cut_at_dot c.args.text.now c.split_once.result c.split_once.ensures.cases

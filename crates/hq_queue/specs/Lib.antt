@@ -1,9 +1,0 @@
-pub mod Admission
-pub mod Attempts
-pub mod Backoff
-pub mod Customers
-pub mod Ends
-pub mod Limits
-pub mod Moves
-pub mod Statuses
-pub mod Sweeps

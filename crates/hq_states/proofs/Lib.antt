@@ -1,4 +1,0 @@
-pub mod Conserved
-pub mod Many
-pub mod Recipients
-pub mod States

@@ -1,8 +1,0 @@
-use Rattle.hq_store.proofs.Counted.{counts_stay, counts_kept}
-use Rattle.hq_store.proofs.laws.counts_are_kept.Goals as goal
-
-pub returns-clause-stay : goal.returns-clause-stay
-returns-clause-stay c = counts_stay
-
-pub returns-clause-read : goal.returns-clause-read
-returns-clause-read c = counts_kept

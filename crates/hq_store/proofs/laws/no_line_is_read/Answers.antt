@@ -1,5 +1,0 @@
-use Rattle.hq_store.proofs.Read.{no_line}
-use Rattle.hq_store.proofs.laws.no_line_is_read.Goals as goal
-
-pub returns : goal.returns
-returns c = no_line

@@ -1,4 +1,0 @@
-pub mod Tables
-pub mod Readings
-pub mod Sound
-pub mod Shelves

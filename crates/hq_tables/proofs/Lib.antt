@@ -1,0 +1,4 @@
+pub mod Added
+pub mod Customers
+pub mod Empty
+pub mod Orders

@@ -1,0 +1,4 @@
+pub mod Readings
+pub mod Shelves
+pub mod Sound
+pub mod Tables
