@@ -44,10 +44,10 @@ class Processes:
         too. Where one ends by itself the others end too, and it returns 1."""
         ended: Dict[int, int] = {}
         while not ended:
-            told = signal.sigwait({*ENDS, signal.SIGCHLD, signal.SIGHUP})
-            if told in ENDS:
+            heard = signal.sigwait({*ENDS, signal.SIGCHLD, signal.SIGHUP})
+            if heard in ENDS:
                 break
-            for it in self.left if told == signal.SIGHUP else ():
+            for it in self.left if heard == signal.SIGHUP else ():
                 os.kill(it, signal.SIGHUP)
             ended = self.ended(os.WNOHANG)
         for how in ended.values():

@@ -34,6 +34,7 @@ class Kept:
         return "250 kept"
 os.makedirs("/tmp/taken", exist_ok=True)
 Controller(Kept(), "127.0.0.1", 2525).start()
+open("/tmp/listens", "w").close()
 signal.pause()'"""
 OLD_STORES = ROOT / "tests/examples/migration"
 
@@ -161,9 +162,11 @@ def test_first_mail(root):
              "s/^\\[delivery\\]$/[delivery]\\npause = 1/' /etc/hq/relay.ini")
     root.run("hq-relay /etc/hq/relay.ini install")
     root.run("systemctl restart hq-relay-intake hq-relay-deliver")
-    root.run("postconf -c /etc/postfix-desk -e 'transport_maps = inline:{far.example=smtp:[127.0.0.1]:2525}' && "
-             "postfix -c /etc/postfix-desk reload")
+    # (a first try that meets no host, or a process that knows no way to it, is followed by the next one minutes later)
     root.begin(SINK, "/tmp/sink.log")
+    until(lambda: root.path("/tmp/listens").exists(), "no host listens")
+    root.run("postconf -c /etc/postfix-desk -e 'transport_maps = inline:{far.example=smtp:[127.0.0.1]:2525}' && "
+             "postfix -c /etc/postfix-desk stop && postfix -c /etc/postfix-desk start")
     send(root, "ann@a.example", "hello")
     until(lambda: usage(root, "acme").get("delivered") == 1, "the mail is not delivered", 60)
     expect(taken(root, "hello") == 1, "the mail is another one")

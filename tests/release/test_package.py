@@ -27,10 +27,11 @@ def stand_in(folder, version):
 
 
 def test_lintian(releases):
-    """lintian finds nothing, down to what it is least sure of, and each override is one that is needed."""
+    """lintian finds nothing, down to what it is least sure of, and each override is one that is needed. (Of the machine code
+    of a program it takes some bytes for misspelled words.)"""
     needs.command("lintian")
     found = run("lintian", "--info", "--display-info", "--display-experimental", "--pedantic", "--no-tag-display-limit",
-                "--fail-on", "error,warning,info,pedantic,experimental", package_in(releases.now))
+                "--suppress-tags", "spelling-error-in-binary", "--fail-on", "error,warning,info,pedantic,experimental", package_in(releases.now))
     expect(found.returncode == 0 and not re.search(r"(?m)^[A-Z]: ", found.stdout), "lintian:", found.stdout, found.stderr)
 
 
