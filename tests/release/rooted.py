@@ -11,7 +11,7 @@ import urllib.request
 from pathlib import Path
 
 import needs
-from serving import LONGEST, Wrong, expect, until
+from serving import LONGEST, Wrong, until
 
 HERE = Path(__file__).resolve().parent
 DEBIAN, KEYS = "debian", "/usr/share/keyrings/debian-archive-keyring.gpg"
@@ -46,15 +46,22 @@ def place():
     return tempfile.TemporaryDirectory(dir="/var/tmp" if kept else None)
 
 
+def fetched(begin):
+    """What comes from the mirror; the test is skipped where that fails, or takes too long."""
+    try:
+        begin()
+    except (Wrong, subprocess.SubprocessError) as fault:
+        needs.that(False, f"mirror of Debian that gives all in time: {str(fault)[-300:]}")
+
+
 class Root:
     """A Debian of the smallest kind in this folder."""
 
     def __init__(self, folder):
         self.folder, self.holder = Path(folder), None
         address, name = mirror()
-        made = subprocess.run(["debootstrap", "--variant=minbase", name, self.folder, address], capture_output=True, text=True,
-                              timeout=TO_MAKE)
-        expect(made.returncode == 0, "debootstrap:", made.stdout[-800:], made.stderr[-800:])
+        fetched(lambda: subprocess.run(["debootstrap", "--variant=minbase", name, self.folder, address], capture_output=True,
+                                       text=True, check=True, timeout=TO_MAKE))
         self.put("/usr/sbin/policy-rc.d", POLICY, 0o755)
         self.put("/etc/apt/apt.conf.d/99quick", QUICK)
         self.hold()

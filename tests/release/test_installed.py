@@ -13,7 +13,7 @@ from pathlib import Path
 import needs
 import pytest
 from releasing import ROOT, package_in
-from rooted import Root, place
+from rooted import Root, fetched, place
 from serving import expect, until
 
 PRODUCTION, RELAY, README = "docs/PRODUCTION.md", "docs/RELAY.md", "README.md"
@@ -52,7 +52,7 @@ def blocks(page, title):
 @pytest.fixture(scope="module")
 def debian(begun):
     with place() as folder, Root(Path(folder) / "debian") as it:
-        it.run("apt-get -qq update", longest=120)
+        fetched(lambda: it.run("apt-get -qq update", longest=120))
         yield it
 
 
@@ -61,6 +61,9 @@ def root(debian, releases):
     """A Debian into which the release before was installed, as a stranger does it."""
     it = debian
     package = it.take(package_in(releases.before))
+    # (there is all that it wants, by their lists; a mirror may fail as it gives them)
+    it.run(f"apt-get -qq install --simulate {package} curl")
+    fetched(lambda: it.run(f"apt-get -qq install -y --download-only {package} curl", longest=240))
     it.run(blocks(PRODUCTION, "The package")[0], longest=240, PACKAGE=package)
     it.run("apt-get -qq install -y --no-install-recommends curl", longest=120)
     it.alone()
