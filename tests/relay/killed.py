@@ -1,5 +1,5 @@
 #!/usr/bin/env python3
-"""Runs a worker that kills itself: tests/relay_killed.py WORKER STEP WHEN COUNT WORDS..
+"""Runs a worker that kills itself: tests/relay/killed.py WORKER STEP WHEN COUNT WORDS..
 
 STEP is a function of one of the worker's modules, as `spool.Spool.keep`; WHEN is `before` or
 `behind`; COUNT says at which of its calls. The worker itself knows nothing of it: the function is
