@@ -1,8 +1,8 @@
 //! The fields of a row.
 
-ghost use Rattle.std.specs.Prelude.{◌≡◌, ℕ, option_map, Result};
+ghost use Rattle.std.specs.Prelude.{◌≡◌, ⊤, ℕ, option_map, Result};
 ghost use Rattle.csv.specs.Records.{fields_of};
-ghost use Rattle.hq_values.specs.Readers.{Reads};
+ghost use Rattle.hq_values.specs.Readers.{Reads, ReadsIn};
 ghost use Rattle.hq_values.specs.declared.failure.Refusal.{Refusal as AnyRefusal};
 ghost use Rattle.hq_rules.specs.Fields.{utf8_in, text_field, number_field, refused_as};
 
@@ -45,7 +45,7 @@ pub(crate) fn number_field(row: &ByteRecord, place: usize) -> Option<u64>
 
 /// A reading, whose refusal is told as that of the row.
 pub(crate) fn refused_as<T: Drop>(bad: Refusal, reading: Result<T, Fail>) -> Result<T, Fail>
-    ensures { (read : Result T AnyRefusal) → Reads reading read
+    ensures { (read : Result T AnyRefusal) → ReadsIn ⊤ reading read
         → Reads result (refused_as bad read) }
 {
     match reading {

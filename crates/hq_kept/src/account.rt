@@ -4,8 +4,9 @@ ghost use Rattle.std.specs.Prelude.{◌≡◌, IsTrue};
 ghost use Rattle.hq_kept.specs.Limits.{is_quota, is_delay, is_history};
 ghost use Rattle.hq_kept.specs.Tallies.{last_gone};
 
+use hq_memory::Memory;
 use hq_values::{Key, Name, TryCopy};
-use std::alloc::{AllocError, Global};
+use std::alloc::AllocError;
 
 /// How much a customer may keep: each number is within its limits.
 #[derive(Clone, Copy, Debug, PartialEq, Eq, Drop)]
@@ -37,8 +38,8 @@ pub struct Entry {
 }
 
 impl TryCopy for Entry {
-    fn copy(&self, alloc: Global) -> Result<Entry, AllocError> {
-        let name = self.name.copy(alloc)?;
+    fn copy<M: Memory>(&self, memory: M) -> Result<Entry, AllocError> {
+        let name = self.name.copy(memory)?;
         Ok(Entry {
             name,
             quota: self.quota,
@@ -58,9 +59,9 @@ pub struct Customer {
 }
 
 impl TryCopy for Customer {
-    fn copy(&self, alloc: Global) -> Result<Customer, AllocError> {
-        let entry = self.entry.copy(alloc)?;
-        let key = self.key.copy(alloc)?;
+    fn copy<M: Memory>(&self, memory: M) -> Result<Customer, AllocError> {
+        let entry = self.entry.copy(memory)?;
+        let key = self.key.copy(memory)?;
         Ok(Customer { entry, key })
     }
 }

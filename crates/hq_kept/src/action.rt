@@ -1,11 +1,13 @@
 //! Actions: what a line of an access table does.
 
-ghost use Rattle.std.specs.Prelude.{◌≡◌, IfOk, string_bytes};
-ghost use Rattle.hq_values.specs.Readers.{Reads};
+ghost use Rattle.std.specs.Prelude.{◌≡◌, string_bytes};
+ghost use Rattle.hq_memory.specs.Making.{MadeIn};
+ghost use Rattle.hq_values.specs.Readers.{ReadsIn};
 ghost use Rattle.hq_kept.specs.Actions as rules;
 
+use hq_memory::Memory;
 use hq_values::{Address, Fail, Refusal, Text, TryCopy};
-use std::alloc::{AllocError, Global};
+use std::alloc::AllocError;
 
 /// What a line does with the address that it is for.
 #[derive(Debug, Drop)]
@@ -61,10 +63,10 @@ fn is_verb(verb: &str, name: &str) -> bool
 }
 
 /// Reads the text of an action, or refuses it as 25 `BadAction`.
-fn text_argument(alloc: Global, argument: &str) -> Result<Text, Fail>
-    ensures { Reads result (rules.argument_in argument.now) }
+fn text_argument<M: Memory>(memory: M, argument: &str) -> Result<Text, Fail>
+    ensures { ReadsIn M.refused result (rules.argument_in argument.now) }
 {
-    match Text::parse(alloc, argument) {
+    match Text::parse(memory, argument) {
         Ok(text) => Ok(text),
         Err(Fail::Refused(_)) => Err(Fail::Refused(Refusal::BadAction)),
         Err(Fail::Fault(fault)) => Err(Fail::Fault(fault)),
@@ -72,10 +74,10 @@ fn text_argument(alloc: Global, argument: &str) -> Result<Text, Fail>
 }
 
 /// Reads the address of an action, or refuses it as 25 `BadAction`.
-fn address_argument(alloc: Global, argument: &str) -> Result<Address, Fail>
-    ensures { Reads result (rules.verb_address argument.now) }
+fn address_argument<M: Memory>(memory: M, argument: &str) -> Result<Address, Fail>
+    ensures { ReadsIn M.refused result (rules.verb_address argument.now) }
 {
-    match Address::parse(alloc, argument) {
+    match Address::parse(memory, argument) {
         Ok(address) => Ok(address),
         Err(Fail::Refused(_)) => Err(Fail::Refused(Refusal::BadAction)),
         Err(Fail::Fault(fault)) => Err(Fail::Fault(fault)),
@@ -83,75 +85,76 @@ fn address_argument(alloc: Global, argument: &str) -> Result<Address, Fail>
 }
 
 /// The action of a verb and an argument.
-fn action_with(alloc: Global, verb: &str, argument: &str) -> Result<Action, Fail>
-    ensures { Reads result (rules.action_with verb.now argument.now) }
+fn action_with<M: Memory>(memory: M, verb: &str, argument: &str) -> Result<Action, Fail>
+    ensures { ReadsIn M.refused result (rules.action_with verb.now argument.now) }
 {
     if is_verb(verb, "OK") {
-        Ok(Action::Okay(text_argument(alloc, argument)?))
+        Ok(Action::Okay(text_argument(memory, argument)?))
     } else if is_verb(verb, "REJECT") {
-        Ok(Action::Reject(text_argument(alloc, argument)?))
+        Ok(Action::Reject(text_argument(memory, argument)?))
     } else if is_verb(verb, "DEFER") {
-        Ok(Action::Defer(text_argument(alloc, argument)?))
+        Ok(Action::Defer(text_argument(memory, argument)?))
     } else if is_verb(verb, "DUNNO") {
-        Ok(Action::Dunno(text_argument(alloc, argument)?))
+        Ok(Action::Dunno(text_argument(memory, argument)?))
     } else if is_verb(verb, "DISCARD") {
-        Ok(Action::Discard(text_argument(alloc, argument)?))
+        Ok(Action::Discard(text_argument(memory, argument)?))
     } else if is_verb(verb, "HOLD") {
-        Ok(Action::Hold(text_argument(alloc, argument)?))
+        Ok(Action::Hold(text_argument(memory, argument)?))
     } else if is_verb(verb, "REDIRECT") {
-        Ok(Action::Redirect(address_argument(alloc, argument)?))
+        Ok(Action::Redirect(address_argument(memory, argument)?))
     } else {
         Err(Fail::Refused(Refusal::BadAction))
     }
 }
 
 /// A verb, and then a space and the argument where that is not empty.
-fn with_argument(alloc: Global, verb: &str, argument: &str) -> Result<String, AllocError>
-    ensures { IfOk result (λ text. string_bytes text ≡ rules.with_argument verb.now argument.now) }
+fn with_argument<M: Memory>(memory: M, verb: &str, argument: &str) -> Result<String, AllocError>
+    ensures { MadeIn M.refused result (λ text. string_bytes text
+        ≡ rules.with_argument verb.now argument.now) }
 {
     if argument.is_empty() {
-        String::from_str(alloc, verb)
+        memory.text(verb)
     } else {
-        format!(in alloc; "{verb} {argument}")
+        memory.show(format_args!("{verb} {argument}"))
     }
 }
 
 impl Action {
     /// Reads an action: a verb in any case, and an argument; or refuses it as 25 `BadAction`.
-    pub fn parse(alloc: Global, text: &str) -> Result<Action, Fail>
-        ensures { Reads result (rules.action_in text.now) }
+    pub fn parse<M: Memory>(memory: M, text: &str) -> Result<Action, Fail>
+        ensures { ReadsIn M.refused result (rules.action_in text.now) }
     {
         let (verb, argument) = parts(text);
-        action_with(alloc, verb, argument)
+        action_with(memory, verb, argument)
     }
 
     /// The written form: the verb in capitals, and then a space and the argument, where that is
     /// not empty.
-    pub fn text(&self, alloc: Global) -> Result<String, AllocError>
-        ensures { IfOk result (λ text. string_bytes text ≡ rules.action_text self.now) }
+    pub fn text<M: Memory>(&self, memory: M) -> Result<String, AllocError>
+        ensures { MadeIn M.refused result (λ text. string_bytes text ≡ rules.action_text self.now) }
     {
         match self {
-            Action::Okay(text) => with_argument(alloc, "OK", text.as_str()),
-            Action::Reject(text) => with_argument(alloc, "REJECT", text.as_str()),
-            Action::Defer(text) => with_argument(alloc, "DEFER", text.as_str()),
-            Action::Dunno(text) => with_argument(alloc, "DUNNO", text.as_str()),
-            Action::Discard(text) => with_argument(alloc, "DISCARD", text.as_str()),
-            Action::Hold(text) => with_argument(alloc, "HOLD", text.as_str()),
-            Action::Redirect(address) => with_argument(alloc, "REDIRECT", address.as_str()),
+            Action::Okay(text) => with_argument(memory, "OK", text.as_str()),
+            Action::Reject(text) => with_argument(memory, "REJECT", text.as_str()),
+            Action::Defer(text) => with_argument(memory, "DEFER", text.as_str()),
+            Action::Dunno(text) => with_argument(memory, "DUNNO", text.as_str()),
+            Action::Discard(text) => with_argument(memory, "DISCARD", text.as_str()),
+            Action::Hold(text) => with_argument(memory, "HOLD", text.as_str()),
+            Action::Redirect(address) => with_argument(memory, "REDIRECT", address.as_str()),
         }
     }
 }
 
 impl TryCopy for Action {
-    fn copy(&self, alloc: Global) -> Result<Action, AllocError> {
+    fn copy<M: Memory>(&self, memory: M) -> Result<Action, AllocError> {
         match self {
-            Action::Okay(text) => Ok(Action::Okay(text.copy(alloc)?)),
-            Action::Reject(text) => Ok(Action::Reject(text.copy(alloc)?)),
-            Action::Defer(text) => Ok(Action::Defer(text.copy(alloc)?)),
-            Action::Dunno(text) => Ok(Action::Dunno(text.copy(alloc)?)),
-            Action::Discard(text) => Ok(Action::Discard(text.copy(alloc)?)),
-            Action::Hold(text) => Ok(Action::Hold(text.copy(alloc)?)),
-            Action::Redirect(address) => Ok(Action::Redirect(address.copy(alloc)?)),
+            Action::Okay(text) => Ok(Action::Okay(text.copy(memory)?)),
+            Action::Reject(text) => Ok(Action::Reject(text.copy(memory)?)),
+            Action::Defer(text) => Ok(Action::Defer(text.copy(memory)?)),
+            Action::Dunno(text) => Ok(Action::Dunno(text.copy(memory)?)),
+            Action::Discard(text) => Ok(Action::Discard(text.copy(memory)?)),
+            Action::Hold(text) => Ok(Action::Hold(text.copy(memory)?)),
+            Action::Redirect(address) => Ok(Action::Redirect(address.copy(memory)?)),
         }
     }
 }

@@ -1,8 +1,9 @@
 //! What is kept of a recipient that left the queue.
 
 use crate::outcome::Ended;
+use hq_memory::Memory;
 use hq_values::{Items, Moment, TryCopy};
-use std::alloc::{AllocError, Global};
+use std::alloc::AllocError;
 
 /// A row of a customer's history: a recipient that left the queue.
 #[derive(Drop)]
@@ -16,8 +17,8 @@ pub struct End {
 }
 
 impl TryCopy for End {
-    fn copy(&self, alloc: Global) -> Result<End, AllocError> {
-        let ended = self.ended.copy(alloc)?;
+    fn copy<M: Memory>(&self, memory: M) -> Result<End, AllocError> {
+        let ended = self.ended.copy(memory)?;
         Ok(End {
             number: self.number,
             at: self.at,
@@ -39,8 +40,8 @@ pub struct Ends {
 }
 
 impl TryCopy for Ends {
-    fn copy(&self, alloc: Global) -> Result<Ends, AllocError> {
-        let ended = self.ended.copy(alloc)?;
+    fn copy<M: Memory>(&self, memory: M) -> Result<Ends, AllocError> {
+        let ended = self.ended.copy(memory)?;
         Ok(Ends {
             last: self.last,
             at: self.at,

@@ -2,8 +2,9 @@
 
 ghost use Rattle.std.specs.Prelude.{◌≡◌, string_bytes};
 
+use hq_memory::Memory;
 use hq_values::TryCopy;
-use std::alloc::{AllocError, Global};
+use std::alloc::AllocError;
 use std::marker::Model;
 
 /// The key of the null sender.
@@ -40,8 +41,8 @@ impl LookupKey {
 }
 
 impl TryCopy for LookupKey {
-    fn copy(&self, alloc: Global) -> Result<LookupKey, AllocError> {
-        let text = String::from_str(alloc, self.text.as_str())?;
+    fn copy<M: Memory>(&self, memory: M) -> Result<LookupKey, AllocError> {
+        let text = memory.text(self.text.as_str())?;
         Ok(LookupKey { text })
     }
 }

@@ -2,8 +2,9 @@
 
 ghost use Rattle.std.specs.Prelude.{◌≡◌};
 
+use hq_memory::Memory;
 use hq_values::{Label, TryCopy};
-use std::alloc::{AllocError, Global};
+use std::alloc::AllocError;
 
 /// An import that was done: it is done once for its label, and what it answered is kept for good.
 #[derive(Drop)]
@@ -21,8 +22,8 @@ pub struct Mark {
 }
 
 impl TryCopy for Mark {
-    fn copy(&self, alloc: Global) -> Result<Mark, AllocError> {
-        let label = self.label.copy(alloc)?;
+    fn copy<M: Memory>(&self, memory: M) -> Result<Mark, AllocError> {
+        let label = self.label.copy(memory)?;
         Ok(Mark {
             label,
             digest: self.digest,

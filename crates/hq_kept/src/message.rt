@@ -3,8 +3,9 @@
 ghost use Rattle.std.specs.Prelude.{◌≡◌};
 
 use crate::status::Status;
+use hq_memory::Memory;
 use hq_values::{Address, Items, Moment, Sender, Serial, Spool, Text, TryCopy};
-use std::alloc::{AllocError, Global};
+use std::alloc::AllocError;
 
 /// Where a message stands (postsuper(1)).
 #[derive(Clone, Copy, Debug, PartialEq, Eq, Drop)]
@@ -29,13 +30,13 @@ pub struct Pending {
 }
 
 impl TryCopy for Pending {
-    fn copy(&self, alloc: Global) -> Result<Pending, AllocError> {
-        let address = self.address.copy(alloc)?;
+    fn copy<M: Memory>(&self, memory: M) -> Result<Pending, AllocError> {
+        let address = self.address.copy(memory)?;
         let status = match &self.status {
             None => None,
             Some(status) => Some(status.copy()),
         };
-        let text = self.text.copy(alloc)?;
+        let text = self.text.copy(memory)?;
         Ok(Pending {
             address,
             status,
@@ -72,11 +73,11 @@ pub struct Message {
 }
 
 impl TryCopy for Message {
-    fn copy(&self, alloc: Global) -> Result<Message, AllocError> {
-        let sender = self.sender.copy(alloc)?;
-        let spool = self.spool.copy(alloc)?;
-        let reason = self.reason.copy(alloc)?;
-        let pending = self.pending.copy(alloc)?;
+    fn copy<M: Memory>(&self, memory: M) -> Result<Message, AllocError> {
+        let sender = self.sender.copy(memory)?;
+        let spool = self.spool.copy(memory)?;
+        let reason = self.reason.copy(memory)?;
+        let pending = self.pending.copy(memory)?;
         Ok(Message {
             serial: self.serial,
             sender,

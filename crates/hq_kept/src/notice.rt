@@ -1,8 +1,9 @@
 //! What is told to the sender of a message of what became of it.
 
 use crate::kind::Kind;
+use hq_memory::Memory;
 use hq_values::{Address, Moment, Serial, TryCopy, WrittenText};
-use std::alloc::{AllocError, Global};
+use std::alloc::AllocError;
 
 /// A notice to the sender of a message (bounce(5)). The desk keeps it; sending it is the relay's.
 #[derive(Drop)]
@@ -24,10 +25,10 @@ pub struct Notice {
 }
 
 impl TryCopy for Notice {
-    fn copy(&self, alloc: Global) -> Result<Notice, AllocError> {
-        let to = self.to.copy(alloc)?;
-        let human = self.human.copy(alloc)?;
-        let status = self.status.copy(alloc)?;
+    fn copy<M: Memory>(&self, memory: M) -> Result<Notice, AllocError> {
+        let to = self.to.copy(memory)?;
+        let human = self.human.copy(memory)?;
+        let status = self.status.copy(memory)?;
         Ok(Notice {
             number: self.number,
             kind: self.kind,

@@ -1,8 +1,9 @@
 //! What a delivery attempt came to, recipient by recipient, and what is answered to its report.
 
 use crate::status::Status;
+use hq_memory::Memory;
 use hq_values::{Address, Items, Sender, Serial, Text, TryCopy};
-use std::alloc::{AllocError, Global};
+use std::alloc::AllocError;
 
 /// What became of one recipient in an attempt.
 #[derive(Drop)]
@@ -16,20 +17,20 @@ pub enum Delivery {
 }
 
 impl TryCopy for Delivery {
-    fn copy(&self, alloc: Global) -> Result<Delivery, AllocError> {
+    fn copy<M: Memory>(&self, memory: M) -> Result<Delivery, AllocError> {
         match self {
             Delivery::Delivered(status, text) => {
                 let status = match status {
                     None => None,
                     Some(status) => Some(status.copy()),
                 };
-                Ok(Delivery::Delivered(status, text.copy(alloc)?))
+                Ok(Delivery::Delivered(status, text.copy(memory)?))
             }
             Delivery::Deferred(status, text) => {
-                Ok(Delivery::Deferred(status.copy(), text.copy(alloc)?))
+                Ok(Delivery::Deferred(status.copy(), text.copy(memory)?))
             }
             Delivery::Failed(status, text) => {
-                Ok(Delivery::Failed(status.copy(), text.copy(alloc)?))
+                Ok(Delivery::Failed(status.copy(), text.copy(memory)?))
             }
         }
     }
@@ -45,9 +46,9 @@ pub struct Outcome {
 }
 
 impl TryCopy for Outcome {
-    fn copy(&self, alloc: Global) -> Result<Outcome, AllocError> {
-        let address = self.address.copy(alloc)?;
-        let result = self.result.copy(alloc)?;
+    fn copy<M: Memory>(&self, memory: M) -> Result<Outcome, AllocError> {
+        let address = self.address.copy(memory)?;
+        let result = self.result.copy(memory)?;
         Ok(Outcome { address, result })
     }
 }
@@ -64,9 +65,9 @@ pub struct Told {
 }
 
 impl TryCopy for Told {
-    fn copy(&self, alloc: Global) -> Result<Told, AllocError> {
-        let address = self.address.copy(alloc)?;
-        let text = self.text.copy(alloc)?;
+    fn copy<M: Memory>(&self, memory: M) -> Result<Told, AllocError> {
+        let address = self.address.copy(memory)?;
+        let text = self.text.copy(memory)?;
         Ok(Told {
             address,
             status: self.status.copy(),
@@ -106,14 +107,14 @@ pub struct Ended {
 }
 
 impl TryCopy for Ended {
-    fn copy(&self, alloc: Global) -> Result<Ended, AllocError> {
-        let sender = self.sender.copy(alloc)?;
-        let recipient = self.recipient.copy(alloc)?;
+    fn copy<M: Memory>(&self, memory: M) -> Result<Ended, AllocError> {
+        let sender = self.sender.copy(memory)?;
+        let recipient = self.recipient.copy(memory)?;
         let status = match &self.status {
             None => None,
             Some(status) => Some(status.copy()),
         };
-        let text = self.text.copy(alloc)?;
+        let text = self.text.copy(memory)?;
         Ok(Ended {
             serial: self.serial,
             sender,

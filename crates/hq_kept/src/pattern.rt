@@ -1,15 +1,17 @@
 //! Patterns: what a line of an access table is for; and lines.
 
-ghost use Rattle.std.specs.Prelude.{◌≡◌, IfOk, bytes_eq};
+ghost use Rattle.std.specs.Prelude.{◌≡◌, bytes_eq};
 ghost use Rattle.std.specs.List.{list_any};
-ghost use Rattle.hq_values.specs.Readers.{Reads};
+ghost use Rattle.hq_memory.specs.Making.{MadeIn};
+ghost use Rattle.hq_values.specs.Readers.{ReadsIn};
 ghost use Rattle.hq_kept.specs.Patterns.{class_name, is_subdomains, is_user, is_null, is_pattern};
 ghost use Rattle.hq_kept.specs.Patterns.{class_in, pattern_in};
 
 use crate::action::Action;
 use crate::key::{LookupKey, NULL_KEY};
+use hq_memory::Memory;
 use hq_values::{Fail, Refusal, TryCopy, is_address, is_domain, is_local};
-use std::alloc::{AllocError, Global};
+use std::alloc::AllocError;
 use std::marker::Model;
 
 /// The most bytes of a pattern, as of an address.
@@ -111,10 +113,10 @@ impl Model for Pattern {
 
 impl Pattern {
     /// Reads a pattern of a class, and folds it; or refuses it as 24 `BadPattern`.
-    pub fn parse(alloc: Global, class: Class, text: &str) -> Result<Pattern, Fail>
-        ensures { Reads result (pattern_in class text.now) }
+    pub fn parse<M: Memory>(memory: M, class: Class, text: &str) -> Result<Pattern, Fail>
+        ensures { ReadsIn M.refused result (pattern_in class text.now) }
     {
-        let folded = text.to_ascii_lowercase(alloc)?;
+        let folded = memory.lower(text)?;
         if !is_pattern(class, folded.as_str()) {
             return Err(Fail::Refused(Refusal::BadPattern));
         }
@@ -130,10 +132,10 @@ impl Pattern {
     }
 
     /// The key that finds the lines of this pattern, on its own.
-    pub fn key(&self, alloc: Global) -> Result<LookupKey, AllocError>
-        ensures { IfOk result (λ key. key ≡ self.now.1) }
+    pub fn key<M: Memory>(&self, memory: M) -> Result<LookupKey, AllocError>
+        ensures { MadeIn M.refused result (λ key. key ≡ self.now.1) }
     {
-        self.key.copy(alloc)
+        self.key.copy(memory)
     }
 
     /// Whether it is one of these keys, whichever its side. It takes no memory.
@@ -157,8 +159,8 @@ impl Pattern {
 }
 
 impl TryCopy for Pattern {
-    fn copy(&self, alloc: Global) -> Result<Pattern, AllocError> {
-        let key = self.key.copy(alloc)?;
+    fn copy<M: Memory>(&self, memory: M) -> Result<Pattern, AllocError> {
+        let key = self.key.copy(memory)?;
         Ok(Pattern {
             class: self.class,
             key,
@@ -176,9 +178,9 @@ pub struct Line {
 }
 
 impl TryCopy for Line {
-    fn copy(&self, alloc: Global) -> Result<Line, AllocError> {
-        let pattern = self.pattern.copy(alloc)?;
-        let action = self.action.copy(alloc)?;
+    fn copy<M: Memory>(&self, memory: M) -> Result<Line, AllocError> {
+        let pattern = self.pattern.copy(memory)?;
+        let action = self.action.copy(memory)?;
         Ok(Line { pattern, action })
     }
 }

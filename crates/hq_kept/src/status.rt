@@ -1,13 +1,15 @@
 //! Status codes of RFC 3463, as written. Which class an outcome may have is not said here.
 
-ghost use Rattle.std.specs.Prelude.{◌≡◌, ◌≤◌, [], ◌∷◌, IfOk, MatchOption, Ok, string_bytes};
+ghost use Rattle.std.specs.Prelude.{◌≡◌, ◌≤◌, [], ◌∷◌, MatchOption, Ok, string_bytes};
 ghost use Rattle.std.specs.List.{slice_split};
+ghost use Rattle.hq_memory.specs.Making.{MadeIn};
 ghost use Rattle.hq_values.specs.Addresses.{is_dot};
 ghost use Rattle.hq_kept.specs.Statuses.{is_class, is_number, is_status, status_in, first_digit};
 ghost use Rattle.hq_kept.specs.Statuses.{unknown_status, expired_status};
 
+use hq_memory::Memory;
 use hq_values::Refusal;
-use std::alloc::{AllocError, Global};
+use std::alloc::AllocError;
 use std::marker::Model;
 use std::str;
 
@@ -127,10 +129,10 @@ impl Status {
     }
 
     /// The text, on its own. The only error is want of memory.
-    pub fn text(&self, alloc: Global) -> Result<String, AllocError>
-        ensures { IfOk result (λ text. string_bytes text ≡ self.now) }
+    pub fn text<M: Memory>(&self, memory: M) -> Result<String, AllocError>
+        ensures { MadeIn M.refused result (λ text. string_bytes text ≡ self.now) }
     {
-        String::from_str(alloc, self.as_str())
+        memory.text(self.as_str())
     }
 
     /// The class as a number, 0 to 9: 4 is a failure that may pass, 5 one for good (RFC 3463, 3.1).

@@ -5,12 +5,13 @@ ghost use Rattle.std.specs.Prelude.{◌≡◌};
 use crate::rows::{
     EndRow, HeadRow, HoldRow, LineRow, MarkRow, MessageRow, NoticeRow, RecipientRow,
 };
+use hq_memory::Memory;
 use hq_values::TryCopy;
-use std::alloc::{AllocError, Global};
+use std::alloc::AllocError;
 
 impl TryCopy for HeadRow {
-    fn copy(&self, alloc: Global) -> Result<HeadRow, AllocError> {
-        let customer = self.customer.copy(alloc)?;
+    fn copy<M: Memory>(&self, memory: M) -> Result<HeadRow, AllocError> {
+        let customer = self.customer.copy(memory)?;
         Ok(HeadRow {
             customer,
             account: self.account,
@@ -19,10 +20,10 @@ impl TryCopy for HeadRow {
 }
 
 impl TryCopy for MessageRow {
-    fn copy(&self, alloc: Global) -> Result<MessageRow, AllocError> {
-        let customer = self.customer.copy(alloc)?;
-        let sender = self.sender.copy(alloc)?;
-        let spool = self.spool.copy(alloc)?;
+    fn copy<M: Memory>(&self, memory: M) -> Result<MessageRow, AllocError> {
+        let customer = self.customer.copy(memory)?;
+        let sender = self.sender.copy(memory)?;
+        let spool = self.spool.copy(memory)?;
         Ok(MessageRow {
             customer,
             serial: self.serial,
@@ -39,9 +40,9 @@ impl TryCopy for MessageRow {
 }
 
 impl TryCopy for RecipientRow {
-    fn copy(&self, alloc: Global) -> Result<RecipientRow, AllocError> {
-        let customer = self.customer.copy(alloc)?;
-        let pending = self.pending.copy(alloc)?;
+    fn copy<M: Memory>(&self, memory: M) -> Result<RecipientRow, AllocError> {
+        let customer = self.customer.copy(memory)?;
+        let pending = self.pending.copy(memory)?;
         Ok(RecipientRow {
             customer,
             serial: self.serial,
@@ -52,9 +53,9 @@ impl TryCopy for RecipientRow {
 }
 
 impl TryCopy for HoldRow {
-    fn copy(&self, alloc: Global) -> Result<HoldRow, AllocError> {
-        let customer = self.customer.copy(alloc)?;
-        let reason = self.reason.copy(alloc)?;
+    fn copy<M: Memory>(&self, memory: M) -> Result<HoldRow, AllocError> {
+        let customer = self.customer.copy(memory)?;
+        let reason = self.reason.copy(memory)?;
         Ok(HoldRow {
             customer,
             serial: self.serial,
@@ -64,33 +65,33 @@ impl TryCopy for HoldRow {
 }
 
 impl TryCopy for LineRow {
-    fn copy(&self, alloc: Global) -> Result<LineRow, AllocError> {
-        let customer = self.customer.copy(alloc)?;
-        let line = self.line.copy(alloc)?;
+    fn copy<M: Memory>(&self, memory: M) -> Result<LineRow, AllocError> {
+        let customer = self.customer.copy(memory)?;
+        let line = self.line.copy(memory)?;
         Ok(LineRow { customer, line })
     }
 }
 
 impl TryCopy for MarkRow {
-    fn copy(&self, alloc: Global) -> Result<MarkRow, AllocError> {
-        let customer = self.customer.copy(alloc)?;
-        let mark = self.mark.copy(alloc)?;
+    fn copy<M: Memory>(&self, memory: M) -> Result<MarkRow, AllocError> {
+        let customer = self.customer.copy(memory)?;
+        let mark = self.mark.copy(memory)?;
         Ok(MarkRow { customer, mark })
     }
 }
 
 impl TryCopy for NoticeRow {
-    fn copy(&self, alloc: Global) -> Result<NoticeRow, AllocError> {
-        let customer = self.customer.copy(alloc)?;
-        let notice = self.notice.copy(alloc)?;
+    fn copy<M: Memory>(&self, memory: M) -> Result<NoticeRow, AllocError> {
+        let customer = self.customer.copy(memory)?;
+        let notice = self.notice.copy(memory)?;
         Ok(NoticeRow { customer, notice })
     }
 }
 
 impl TryCopy for EndRow {
-    fn copy(&self, alloc: Global) -> Result<EndRow, AllocError> {
-        let customer = self.customer.copy(alloc)?;
-        let end = self.end.copy(alloc)?;
+    fn copy<M: Memory>(&self, memory: M) -> Result<EndRow, AllocError> {
+        let customer = self.customer.copy(memory)?;
+        let end = self.end.copy(memory)?;
         Ok(EndRow { customer, end })
     }
 }

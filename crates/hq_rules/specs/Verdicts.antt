@@ -1,9 +1,9 @@
 -- The verdict on a submission (access(5), ACCEPT ACTIONS, REJECT ACTIONS, OTHER ACTIONS; which of
 -- several actions counts is this product's own).
-use Rattle.std.specs.Prelude.{ℕ, Bool, true, false, not, List, [], ◌∷◌, codes, map, filter}
+use Rattle.std.specs.Prelude.{ℕ, Bool, true, false, not, List, [], ◌∷◌, map, filter}
 use Rattle.std.specs.Prelude.{if◌then◌else◌, Option, Some, None, option_map, is_some}
 use Rattle.std.specs.List.{filter_map, last_or, list_any}
-use Rattle.hq_values.specs.Words.{table_hold, try_later}
+use Rattle.hq_values.specs.Words.{denied, table_hold, try_later}
 use Rattle.hq_values.specs.declared.address.Sender.{Sender}
 use Rattle.hq_values.specs.declared.address.Sender.TheVariants.{From}
 use Rattle.hq_kept.specs.declared.action.Action.{Action}
@@ -17,7 +17,7 @@ use Rattle.hq_rules.specs.declared.verdict.Verdict.TheVariants.{Rejected, Discar
 
 -- the text of a rejection, where its line has none
 abbrev pub or_denied : List ℕ → List ℕ
-or_denied [] = codes "Access denied"
+or_denied [] = denied
 or_denied (b ∷ text) = b ∷ text
 
 -- the text of a deferral, where its line has none

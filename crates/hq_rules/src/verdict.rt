@@ -1,7 +1,8 @@
 //! What becomes of a submission, by the access tables.
 
+use hq_memory::Memory;
 use hq_values::{Address, Items, Sender, Text, TryCopy};
-use std::alloc::{AllocError, Global};
+use std::alloc::AllocError;
 
 /// A sender or a recipient that is refused.
 #[derive(Debug, Drop)]
@@ -15,9 +16,9 @@ pub struct Refused {
 }
 
 impl TryCopy for Refused {
-    fn copy(&self, alloc: Global) -> Result<Refused, AllocError> {
-        let address = self.address.copy(alloc)?;
-        let text = self.text.copy(alloc)?;
+    fn copy<M: Memory>(&self, memory: M) -> Result<Refused, AllocError> {
+        let address = self.address.copy(memory)?;
+        let text = self.text.copy(memory)?;
         Ok(Refused {
             address,
             code: self.code,

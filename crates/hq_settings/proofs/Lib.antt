@@ -1,3 +1,4 @@
+pub mod Failing
 pub mod Places
 pub mod Reading
 pub mod Refused

@@ -1,9 +1,9 @@
 //! The columns of a directory, and the first one of a row that does not read.
 
-ghost use Rattle.std.specs.Prelude.{◌≡◌, IfOk, Result, find, not, option_map};
+ghost use Rattle.std.specs.Prelude.{◌≡◌, ⊤, IfOk, Result, find, not, option_map};
 ghost use Rattle.std.specs.Result.{is_ok};
 ghost use Rattle.csv.specs.Records.{fields_of};
-ghost use Rattle.hq_values.specs.Readers.{Reads};
+ghost use Rattle.hq_values.specs.Readers.{ReadsIn};
 ghost use Rattle.hq_values.specs.declared.failure.Refusal.{Refusal as AnyRefusal};
 ghost use Rattle.hq_rules.specs.Fields.{utf8_in, text_field};
 ghost use Rattle.hq_settings.specs.Columns.{place, is_there, is_in, reads_number, bad_number};
@@ -149,7 +149,7 @@ fn text_field(row: &ByteRecord, place: usize) -> Option<&str>
 
 /// Whether what was read is no refusal; or want of memory.
 fn is_read<T: Drop>(reading: Result<T, Fail>) -> Result<bool, Fault>
-    ensures { (read : Result T AnyRefusal) → Reads reading read
+    ensures { (read : Result T AnyRefusal) → ReadsIn ⊤ reading read
         → IfOk result (λ good. good ≡ is_ok read) }
 {
     match reading {

@@ -3,8 +3,9 @@
 ghost use Rattle.std.specs.Prelude.{◌≡◌};
 
 use hq_kept::{Ends, Head, Line, Mark, Message, Notice, Pattern};
+use hq_memory::Memory;
 use hq_values::{Serial, TryCopy};
-use std::alloc::{AllocError, Global};
+use std::alloc::AllocError;
 
 /// One change of one customer's rows.
 #[derive(Drop)]
@@ -32,17 +33,17 @@ pub enum Change {
 }
 
 impl TryCopy for Change {
-    fn copy(&self, alloc: Global) -> Result<Change, AllocError> {
+    fn copy<M: Memory>(&self, memory: M) -> Result<Change, AllocError> {
         match self {
             Change::PutHead(head) => Ok(Change::PutHead(*head)),
-            Change::PutMessage(message) => Ok(Change::PutMessage(message.copy(alloc)?)),
+            Change::PutMessage(message) => Ok(Change::PutMessage(message.copy(memory)?)),
             Change::DropMessage(serial) => Ok(Change::DropMessage(*serial)),
-            Change::PutLine(line) => Ok(Change::PutLine(line.copy(alloc)?)),
-            Change::DropLine(pattern) => Ok(Change::DropLine(pattern.copy(alloc)?)),
-            Change::PutMark(mark) => Ok(Change::PutMark(mark.copy(alloc)?)),
-            Change::AddNotice(notice) => Ok(Change::AddNotice(notice.copy(alloc)?)),
+            Change::PutLine(line) => Ok(Change::PutLine(line.copy(memory)?)),
+            Change::DropLine(pattern) => Ok(Change::DropLine(pattern.copy(memory)?)),
+            Change::PutMark(mark) => Ok(Change::PutMark(mark.copy(memory)?)),
+            Change::AddNotice(notice) => Ok(Change::AddNotice(notice.copy(memory)?)),
             Change::DropNoticesBelow(number) => Ok(Change::DropNoticesBelow(*number)),
-            Change::PutEnds(ends) => Ok(Change::PutEnds(ends.copy(alloc)?)),
+            Change::PutEnds(ends) => Ok(Change::PutEnds(ends.copy(memory)?)),
             Change::DropEndsTo(number) => Ok(Change::DropEndsTo(*number)),
         }
     }

@@ -36,6 +36,14 @@ abbrev pub seen_by : {X Y E : Type 0} → (X → Y) → Result X E → Result Y 
 seen_by view (Ok x) = Ok (view x)
 seen_by view (Err e) = Err e
 
+-- What a reader answered is what reading gives, or want of memory, and that for this reason alone.
+abbrev pub ReadsIn : {A : Type 0} → Type 0 → Result A Fail → Result A Refusal → Type 0
+ReadsIn refused (Ok value) reading = reading ≡ Ok value
+ReadsIn refused (Err (fail.Refused refusal)) reading = reading ≡ Err refusal
+ReadsIn refused (Err (fail.Fault fault)) reading = (fault ≡ no_memory) × refused
+
+-- ---- of readers that say no reason
+
 -- a failure is the refusal that reading gives, or want of memory
 abbrev pub Fails : {A : Type 0} → Fail → Result A Refusal → Type 0
 Fails (fail.Refused refusal) reading = reading ≡ Err refusal

@@ -77,6 +77,10 @@ table_hold = codes "held by access table"
 abbrev pub earlier_hold : List ℕ
 earlier_hold = codes "held before version 2"
 
+-- what is told to an address that a line without a text rejects
+abbrev pub denied : List ℕ
+denied = codes "Access denied"
+
 -- what is told to an address that a line without a text puts off
 abbrev pub try_later : List ℕ
 try_later = codes "Try again later"

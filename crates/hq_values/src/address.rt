@@ -1,15 +1,17 @@
 //! Mail addresses and senders: RFC 5321, 4.1.2, without quoted local parts and domain literals.
 
-ghost use Rattle.std.specs.Prelude.{◌≡◌, ◌↔◌, IsTrue, IfOk, MatchOption, Some, None, Ok};
+ghost use Rattle.std.specs.Prelude.{◌≡◌, ◌↔◌, IsTrue, MatchOption, Some, None, Ok};
 ghost use Rattle.std.specs.Prelude.{string_bytes};
+ghost use Rattle.hq_memory.specs.Making.{MadeIn};
 ghost use Rattle.hq_values.specs.Addresses.{is_local_byte, is_label_byte, is_local};
 ghost use Rattle.hq_values.specs.Addresses.{is_domain_label, is_domain, is_address, address_in};
 ghost use Rattle.hq_values.specs.Addresses.{parts_of, local_of, domain_of, folded, same_address};
-ghost use Rattle.hq_values.specs.Readers.{Reads};
+ghost use Rattle.hq_values.specs.Readers.{ReadsIn};
 ghost use Rattle.hq_values.specs.Senders.{sender_in, sender_text};
 
 use crate::{Fail, Refusal, TryCopy};
-use std::alloc::{AllocError, Global};
+use hq_memory::Memory;
+use std::alloc::AllocError;
 use std::marker::Model;
 
 /// The most bytes that an address has (RFC 5321, 4.5.3.1.3, without the angle brackets of a path).
@@ -101,13 +103,13 @@ impl Model for Address {
 
 impl Address {
     /// Reads an address, or refuses it as 20 `BadAddress`.
-    pub fn parse(alloc: Global, text: &str) -> Result<Address, Fail>
-        ensures { Reads result (address_in text.now) }
+    pub fn parse<M: Memory>(memory: M, text: &str) -> Result<Address, Fail>
+        ensures { ReadsIn M.refused result (address_in text.now) }
     {
         if !is_address(text) {
             return Err(Fail::Refused(Refusal::BadAddress));
         }
-        let text = String::from_str(alloc, text)?;
+        let text = memory.text(text)?;
         Ok(Address { text })
     }
 
@@ -126,10 +128,10 @@ impl Address {
     }
 
     /// The text, on its own.
-    pub fn text(&self, alloc: Global) -> Result<String, AllocError>
-        ensures { IfOk result (λ text. string_bytes text ≡ self.now) }
+    pub fn text<M: Memory>(&self, memory: M) -> Result<String, AllocError>
+        ensures { MadeIn M.refused result (λ text. string_bytes text ≡ self.now) }
     {
-        String::from_str(alloc, self.text.as_str())
+        memory.text(self.text.as_str())
     }
 
     /// What stands before the last `@`.
@@ -162,8 +164,8 @@ impl Address {
 }
 
 impl TryCopy for Address {
-    fn copy(&self, alloc: Global) -> Result<Address, AllocError> {
-        let text = String::from_str(alloc, self.text.as_str())?;
+    fn copy<M: Memory>(&self, memory: M) -> Result<Address, AllocError> {
+        let text = memory.text(self.text.as_str())?;
         Ok(Address { text })
     }
 }
@@ -179,13 +181,13 @@ pub enum Sender {
 
 impl Sender {
     /// Reads a sender: the empty text is the null sender, any other an address or 20 `BadAddress`.
-    pub fn parse(alloc: Global, text: &str) -> Result<Sender, Fail>
-        ensures { Reads result (sender_in text.now) }
+    pub fn parse<M: Memory>(memory: M, text: &str) -> Result<Sender, Fail>
+        ensures { ReadsIn M.refused result (sender_in text.now) }
     {
         if text.is_empty() {
             return Ok(Sender::Null);
         }
-        Ok(Sender::From(Address::parse(alloc, text)?))
+        Ok(Sender::From(Address::parse(memory, text)?))
     }
 
     /// The text: empty for the null sender.
@@ -209,10 +211,10 @@ impl Sender {
 }
 
 impl TryCopy for Sender {
-    fn copy(&self, alloc: Global) -> Result<Sender, AllocError> {
+    fn copy<M: Memory>(&self, memory: M) -> Result<Sender, AllocError> {
         match self {
             Sender::Null => Ok(Sender::Null),
-            Sender::From(address) => Ok(Sender::From(address.copy(alloc)?)),
+            Sender::From(address) => Ok(Sender::From(address.copy(memory)?)),
         }
     }
 }

@@ -1,25 +1,27 @@
 //! Copies of values that own memory, and lists of values as contracts see them.
 
-ghost use Rattle.std.specs.Prelude.{◌≡◌, ◌==◌, [], IfOk, length};
+ghost use Rattle.std.specs.Prelude.{◌≡◌, ◌==◌, [], length};
+ghost use Rattle.hq_memory.specs.Making.{MadeIn};
 
-use std::alloc::{AllocError, Global};
+use hq_memory::Memory;
+use std::alloc::AllocError;
 use std::marker::Model;
 use std::mem;
 
 /// A value that can be copied where memory allows.
 pub trait TryCopy: Sized + Drop {
     /// An equal value of its own. The only error is want of memory.
-    fn copy(&self, alloc: Global) -> Result<Self, AllocError>
-        ensures { IfOk result (λ copy. copy ≡ self.now) };
+    fn copy<M: Memory>(&self, memory: M) -> Result<Self, AllocError>
+        ensures { MadeIn M.refused result (λ copy. copy ≡ self.now) };
 }
 
 /// Copies of all values, in order.
-pub fn copy_all<T: TryCopy>(alloc: Global, values: &[T]) -> Result<Vec<T>, AllocError>
-    ensures { IfOk result (λ copies. copies.items ≡ values.now) }
+pub fn copy_all<T: TryCopy, M: Memory>(memory: M, values: &[T]) -> Result<Vec<T>, AllocError>
+    ensures { MadeIn M.refused result (λ copies. copies.items ≡ values.now) }
 {
-    let mut copies = Vec::with_capacity(alloc, values.len())?;
+    let mut copies = memory.room(values.len())?;
     for value in values {
-        copies.push(value.copy(alloc)?)?;
+        memory.push(&mut copies, value.copy(memory)?)?;
     }
     Ok(copies)
 }
@@ -88,8 +90,8 @@ impl<T> Items<T> {
 }
 
 impl<T: TryCopy> TryCopy for Items<T> {
-    fn copy(&self, alloc: Global) -> Result<Items<T>, AllocError> {
-        let values = copy_all(alloc, self.values.as_slice())?;
+    fn copy<M: Memory>(&self, memory: M) -> Result<Items<T>, AllocError> {
+        let values = copy_all(memory, self.values.as_slice())?;
         Ok(Items { values })
     }
 }

@@ -1,12 +1,13 @@
 //! The relay's own name.
 
 ghost use Rattle.std.specs.Prelude.{◌≡◌};
-ghost use Rattle.hq_values.specs.Readers.{Reads};
+ghost use Rattle.hq_values.specs.Readers.{ReadsIn};
 ghost use Rattle.hq_values.specs.Words.{is_host, host_in};
 
 use crate::address::is_domain;
 use crate::{Fail, Refusal, TryCopy};
-use std::alloc::{AllocError, Global};
+use hq_memory::Memory;
+use std::alloc::AllocError;
 use std::marker::Model;
 
 /// The most bytes of a host.
@@ -37,13 +38,13 @@ impl Model for Host {
 
 impl Host {
     /// Reads a host, or refuses it as 56 `BadHost`.
-    pub fn parse(alloc: Global, text: &str) -> Result<Host, Fail>
-        ensures { Reads result (host_in text.now) }
+    pub fn parse<M: Memory>(memory: M, text: &str) -> Result<Host, Fail>
+        ensures { ReadsIn M.refused result (host_in text.now) }
     {
         if !is_host(text) {
             return Err(Fail::Refused(Refusal::BadHost));
         }
-        let text = String::from_str(alloc, text)?;
+        let text = memory.text(text)?;
         Ok(Host { text })
     }
 
@@ -56,8 +57,8 @@ impl Host {
 }
 
 impl TryCopy for Host {
-    fn copy(&self, alloc: Global) -> Result<Host, AllocError> {
-        let text = String::from_str(alloc, self.text.as_str())?;
+    fn copy<M: Memory>(&self, memory: M) -> Result<Host, AllocError> {
+        let text = memory.text(self.text.as_str())?;
         Ok(Host { text })
     }
 }

@@ -1,11 +1,12 @@
 //! Keys: the secrets that customers and the relay show.
 
 ghost use Rattle.std.specs.Prelude.{◌≡◌};
-ghost use Rattle.hq_values.specs.Readers.{Reads};
+ghost use Rattle.hq_values.specs.Readers.{ReadsIn};
 ghost use Rattle.hq_values.specs.Words.{is_key_byte, is_key, key_in};
 
 use crate::{Fail, Refusal, TryCopy};
-use std::alloc::{AllocError, Global};
+use hq_memory::Memory;
+use std::alloc::AllocError;
 use std::fmt;
 use std::marker::Model;
 
@@ -49,13 +50,13 @@ impl Model for Key {
 
 impl Key {
     /// Reads a key, or refuses it as 8 `BadField`.
-    pub fn parse(alloc: Global, text: &str) -> Result<Key, Fail>
-        ensures { Reads result (key_in text.now) }
+    pub fn parse<M: Memory>(memory: M, text: &str) -> Result<Key, Fail>
+        ensures { ReadsIn M.refused result (key_in text.now) }
     {
         if !is_key(text.as_bytes()) {
             return Err(Fail::Refused(Refusal::BadField));
         }
-        let text = String::from_str(alloc, text)?;
+        let text = memory.text(text)?;
         Ok(Key { text })
     }
 
@@ -68,8 +69,8 @@ impl Key {
 }
 
 impl TryCopy for Key {
-    fn copy(&self, alloc: Global) -> Result<Key, AllocError> {
-        let text = String::from_str(alloc, self.text.as_str())?;
+    fn copy<M: Memory>(&self, memory: M) -> Result<Key, AllocError> {
+        let text = memory.text(self.text.as_str())?;
         Ok(Key { text })
     }
 }

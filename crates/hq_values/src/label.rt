@@ -1,12 +1,13 @@
 //! Labels: what an import goes by.
 
 ghost use Rattle.std.specs.Prelude.{◌≡◌};
-ghost use Rattle.hq_values.specs.Readers.{Reads};
+ghost use Rattle.hq_values.specs.Readers.{ReadsIn};
 ghost use Rattle.hq_values.specs.Words.{is_spool, label_in};
 
 use crate::spool::is_spool;
 use crate::{Fail, Refusal, TryCopy};
-use std::alloc::{AllocError, Global};
+use hq_memory::Memory;
+use std::alloc::AllocError;
 use std::marker::Model;
 
 /// What an import goes by: 1 to 64 letters, digits, `.`, `-`, `_`, as a spool name.
@@ -28,13 +29,13 @@ impl Model for Label {
 
 impl Label {
     /// Reads a label, or refuses it as 27 `BadLabel`.
-    pub fn parse(alloc: Global, text: &str) -> Result<Label, Fail>
-        ensures { Reads result (label_in text.now) }
+    pub fn parse<M: Memory>(memory: M, text: &str) -> Result<Label, Fail>
+        ensures { ReadsIn M.refused result (label_in text.now) }
     {
         if !is_spool(text.as_bytes()) {
             return Err(Fail::Refused(Refusal::BadLabel));
         }
-        let text = String::from_str(alloc, text)?;
+        let text = memory.text(text)?;
         Ok(Label { text })
     }
 
@@ -47,8 +48,8 @@ impl Label {
 }
 
 impl TryCopy for Label {
-    fn copy(&self, alloc: Global) -> Result<Label, AllocError> {
-        let text = String::from_str(alloc, self.text.as_str())?;
+    fn copy<M: Memory>(&self, memory: M) -> Result<Label, AllocError> {
+        let text = memory.text(self.text.as_str())?;
         Ok(Label { text })
     }
 }

@@ -1,11 +1,12 @@
 //! Customers' names.
 
 ghost use Rattle.std.specs.Prelude.{◌≡◌, ◌≤◌, length};
-ghost use Rattle.hq_values.specs.Readers.{Reads};
+ghost use Rattle.hq_values.specs.Readers.{ReadsIn};
 ghost use Rattle.hq_values.specs.Words.{is_name_byte, is_name, name_in};
 
 use crate::{Fail, Refusal, TryCopy};
-use std::alloc::{AllocError, Global};
+use hq_memory::Memory;
+use std::alloc::AllocError;
 use std::marker::Model;
 
 /// The most bytes of a name.
@@ -43,13 +44,13 @@ impl Model for Name {
 
 impl Name {
     /// Reads a name, or refuses it as 8 `BadField`.
-    pub fn parse(alloc: Global, text: &str) -> Result<Name, Fail>
-        ensures { Reads result (name_in text.now) }
+    pub fn parse<M: Memory>(memory: M, text: &str) -> Result<Name, Fail>
+        ensures { ReadsIn M.refused result (name_in text.now) }
     {
         if !is_name(text.as_bytes()) {
             return Err(Fail::Refused(Refusal::BadField));
         }
-        let text = String::from_str(alloc, text)?;
+        let text = memory.text(text)?;
         Ok(Name { text })
     }
 
@@ -63,8 +64,8 @@ impl Name {
 }
 
 impl TryCopy for Name {
-    fn copy(&self, alloc: Global) -> Result<Name, AllocError> {
-        let text = String::from_str(alloc, self.text.as_str())?;
+    fn copy<M: Memory>(&self, memory: M) -> Result<Name, AllocError> {
+        let text = memory.text(self.text.as_str())?;
         Ok(Name { text })
     }
 }

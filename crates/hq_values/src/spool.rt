@@ -1,11 +1,12 @@
 //! Spool names: the names under which the relay keeps messages.
 
 ghost use Rattle.std.specs.Prelude.{◌≡◌};
-ghost use Rattle.hq_values.specs.Readers.{Reads};
+ghost use Rattle.hq_values.specs.Readers.{ReadsIn};
 ghost use Rattle.hq_values.specs.Words.{is_spool_byte, is_spool, spool_in};
 
 use crate::{Fail, Refusal, TryCopy};
-use std::alloc::{AllocError, Global};
+use hq_memory::Memory;
+use std::alloc::AllocError;
 use std::marker::Model;
 
 /// The most bytes of a spool name or a label.
@@ -43,13 +44,13 @@ impl Model for Spool {
 
 impl Spool {
     /// Reads a spool name, or refuses it as 23 `BadSpool`.
-    pub fn parse(alloc: Global, text: &str) -> Result<Spool, Fail>
-        ensures { Reads result (spool_in text.now) }
+    pub fn parse<M: Memory>(memory: M, text: &str) -> Result<Spool, Fail>
+        ensures { ReadsIn M.refused result (spool_in text.now) }
     {
         if !is_spool(text.as_bytes()) {
             return Err(Fail::Refused(Refusal::BadSpool));
         }
-        let text = String::from_str(alloc, text)?;
+        let text = memory.text(text)?;
         Ok(Spool { text })
     }
 
@@ -62,8 +63,8 @@ impl Spool {
 }
 
 impl TryCopy for Spool {
-    fn copy(&self, alloc: Global) -> Result<Spool, AllocError> {
-        let text = String::from_str(alloc, self.text.as_str())?;
+    fn copy<M: Memory>(&self, memory: M) -> Result<Spool, AllocError> {
+        let text = memory.text(self.text.as_str())?;
         Ok(Spool { text })
     }
 }

@@ -1,12 +1,14 @@
 //! Free texts of one line: what a remote server answered, or what a table line says.
 
-ghost use Rattle.std.specs.Prelude.{◌≡◌, [], IfOk};
-ghost use Rattle.hq_values.specs.Readers.{Reads};
+ghost use Rattle.std.specs.Prelude.{◌≡◌, []};
+ghost use Rattle.hq_memory.specs.Making.{MadeIn};
+ghost use Rattle.hq_values.specs.Readers.{ReadsIn};
 ghost use Rattle.hq_values.specs.Words.{is_text_byte, is_text, text_in};
 ghost use Rattle.hq_values.specs.Words as words;
 
 use crate::{Fail, Refusal, TryCopy};
-use std::alloc::{AllocError, Global};
+use hq_memory::Memory;
+use std::alloc::AllocError;
 use std::marker::Model;
 
 /// The most bytes that a text has.
@@ -20,6 +22,9 @@ const TABLE_HOLD: &str = "held by access table";
 
 /// The reason of a message that was on hold before reasons were kept.
 const EARLIER_HOLD: &str = "held before version 2";
+
+/// What is told to an address that a line without a text rejects.
+const DENIED: &str = "Access denied";
 
 /// What is told to an address that a line without a text puts off.
 const TRY_LATER: &str = "Try again later";
@@ -56,56 +61,64 @@ impl Model for Text {
 
 impl Text {
     /// The empty text, without taking memory.
-    pub fn empty(alloc: Global) -> Text
+    pub fn empty<M: Memory>(memory: M) -> Text
         ensures { result ≡ [] }
     {
         Text {
-            text: String::new(alloc),
+            text: memory.no_text(),
         }
     }
 
     /// Reads a text, or refuses it as 28 `BadText`.
-    pub fn parse(alloc: Global, text: &str) -> Result<Text, Fail>
-        ensures { Reads result (text_in text.now) }
+    pub fn parse<M: Memory>(memory: M, text: &str) -> Result<Text, Fail>
+        ensures { ReadsIn M.refused result (text_in text.now) }
     {
         if !is_text(text.as_bytes()) {
             return Err(Fail::Refused(Refusal::BadText));
         }
-        let text = String::from_str(alloc, text)?;
+        let text = memory.text(text)?;
         Ok(Text { text })
     }
 
     /// The reason of a message that its customer put on hold: `held by customer`.
-    pub fn customer_hold(alloc: Global) -> Result<Text, AllocError>
-        ensures { IfOk result (λ text. text ≡ words.customer_hold) }
+    pub fn customer_hold<M: Memory>(memory: M) -> Result<Text, AllocError>
+        ensures { MadeIn M.refused result (λ text. text ≡ words.customer_hold) }
     {
-        let text = String::from_str(alloc, CUSTOMER_HOLD)?;
+        let text = memory.text(CUSTOMER_HOLD)?;
         Ok(Text { text })
     }
 
     /// The reason of a message that a line of an access table without a text put on hold:
     /// `held by access table`.
-    pub fn table_hold(alloc: Global) -> Result<Text, AllocError>
-        ensures { IfOk result (λ text. text ≡ words.table_hold) }
+    pub fn table_hold<M: Memory>(memory: M) -> Result<Text, AllocError>
+        ensures { MadeIn M.refused result (λ text. text ≡ words.table_hold) }
     {
-        let text = String::from_str(alloc, TABLE_HOLD)?;
+        let text = memory.text(TABLE_HOLD)?;
         Ok(Text { text })
     }
 
     /// The reason of a message that was on hold before reasons were kept:
     /// `held before version 2`.
-    pub fn earlier_hold(alloc: Global) -> Result<Text, AllocError>
-        ensures { IfOk result (λ text. text ≡ words.earlier_hold) }
+    pub fn earlier_hold<M: Memory>(memory: M) -> Result<Text, AllocError>
+        ensures { MadeIn M.refused result (λ text. text ≡ words.earlier_hold) }
     {
-        let text = String::from_str(alloc, EARLIER_HOLD)?;
+        let text = memory.text(EARLIER_HOLD)?;
+        Ok(Text { text })
+    }
+
+    /// What is told to an address that a line without a text rejects: `Access denied`.
+    pub fn denied<M: Memory>(memory: M) -> Result<Text, AllocError>
+        ensures { MadeIn M.refused result (λ text. text ≡ words.denied) }
+    {
+        let text = memory.text(DENIED)?;
         Ok(Text { text })
     }
 
     /// What is told to an address that a line without a text puts off: `Try again later`.
-    pub fn try_later(alloc: Global) -> Result<Text, AllocError>
-        ensures { IfOk result (λ text. text ≡ words.try_later) }
+    pub fn try_later<M: Memory>(memory: M) -> Result<Text, AllocError>
+        ensures { MadeIn M.refused result (λ text. text ≡ words.try_later) }
     {
-        let text = String::from_str(alloc, TRY_LATER)?;
+        let text = memory.text(TRY_LATER)?;
         Ok(Text { text })
     }
 
@@ -125,8 +138,8 @@ impl Text {
 }
 
 impl TryCopy for Text {
-    fn copy(&self, alloc: Global) -> Result<Text, AllocError> {
-        let text = String::from_str(alloc, self.text.as_str())?;
+    fn copy<M: Memory>(&self, memory: M) -> Result<Text, AllocError> {
+        let text = memory.text(self.text.as_str())?;
         Ok(Text { text })
     }
 }

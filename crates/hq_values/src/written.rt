@@ -3,7 +3,8 @@
 ghost use Rattle.std.specs.Prelude.{◌≡◌, string_bytes};
 
 use crate::TryCopy;
-use std::alloc::{AllocError, Global};
+use hq_memory::Memory;
+use std::alloc::AllocError;
 use std::marker::Model;
 
 /// A text as it was written: one of a notice, or the queue report.
@@ -37,8 +38,8 @@ impl WrittenText {
 }
 
 impl TryCopy for WrittenText {
-    fn copy(&self, alloc: Global) -> Result<WrittenText, AllocError> {
-        let text = String::from_str(alloc, self.text.as_str())?;
+    fn copy<M: Memory>(&self, memory: M) -> Result<WrittenText, AllocError> {
+        let text = memory.text(self.text.as_str())?;
         Ok(WrittenText { text })
     }
 }

@@ -3,10 +3,15 @@ use Rattle.hq_values.specs.Readers.{Fails}
 use Rattle.hq_settings.specs.Settings.{relay_in}
 use Rattle.hq_settings.specs.declared.trouble.Trouble.TheVariants.{Desk}
 use Rattle.hq_settings.specs.SettingUp.{key_line}
+use Rattle.hq_settings.proofs.Failing.{failed}
 use Rattle.hq_settings.proofs.relay_words.relay_in_file.Goals as goal
 
 pub returns-in_err-name : goal.returns-in_err-name
-returns-in_err-name c = (Err (Desk c.in_err-name.field-0.0), c.in_err-name.ensures, search rules)
+returns-in_err-name c = (
+  Err (Desk c.in_err-name.field-0.0),
+  failed _ _ _ c.in_err-name.ensures,
+  search rules,
+)
 
 pub returns-in_err-file : goal.returns-in_err-file
 returns-in_err-file c = (

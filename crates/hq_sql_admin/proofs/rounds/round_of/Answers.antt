@@ -1,9 +1,14 @@
 use Rattle.std.proofs.Common.{rules, Ok, Err}
 use Rattle.hq_settings.specs.declared.trouble.Trouble.TheVariants.{Desk}
+use Rattle.hq_settings.proofs.Failing.{failed}
 use Rattle.hq_sql_admin.proofs.rounds.round_of.Goals as goal
 
 pub returns-in_err-host : goal.returns-in_err-host
-returns-in_err-host c = (Err (Desk c.in_err-host.field-0.0), c.in_err-host.ensures, search rules)
+returns-in_err-host c = (
+  Err (Desk c.in_err-host.field-0.0),
+  failed _ _ _ c.in_err-host.ensures,
+  search rules,
+)
 
 pub returns-in_err-customers : goal.returns-in_err-customers
 returns-in_err-customers c = (

@@ -5,7 +5,7 @@ use Rattle.hq_kept.proofs.Folds.{folded_twice}
 use Rattle.hq_kept.proofs.pattern.Pattern.parse.Goals as goal
 
 pub invariant_of-result : goal.invariant_of-result
-invariant_of-result c =
+invariant_of-result g c =
     let is_folded : c.new-key.result ≡ folded c.args.text.now = c.new-key.ensures
     ∙ c.in_ok-folded.ensures.ok in
     let fits = ap (λ t. is_pattern c.args.class t) (c.new-key.ensures ∙ sym c.as_str.ensures.value)
