@@ -85,32 +85,34 @@ module _ {S : Type 0} (gets : Gets S) (class : Class) where
               (λ (t : Class → List ℕ → Option Action). OnOk result
               (lines new ≡ t)) (tells old mid class key None got).1 (further mid goes)
 
-    pub looks_found : (keys : List (List ℕ)) (old : S) (result : Result Found Fault) (new : S) →
-        Looks gets class keys old result new →
+    pub looks_found : {refused : Type 0} (keys : List (List ℕ)) (old : S)
+        (result : Result Found Fault) (new : S) → Looks refused gets class keys old result new →
         IfOk result (λ found. found ≡ first_match (lines old class) keys)
     looks_found keys old result new (inl want) = subst
         (λ r. IfOk r (λ found. found ≡ first_match (lines old class) keys)) (sym want.0) tt
     looks_found keys old result new (inr asked) = asks_found keys old result new asked
 
-    pub looks_keep : (keys : List (List ℕ)) (old : S) (result : Result Found Fault) (new : S) →
-        Looks gets class keys old result new → OnOk result (lines new ≡ lines old)
+    pub looks_keep : {refused : Type 0} (keys : List (List ℕ)) (old : S)
+        (result : Result Found Fault) (new : S) →
+        Looks refused gets class keys old result new → OnOk result (lines new ≡ lines old)
     looks_keep keys old result new (inl want) = subst (λ r. OnOk r (lines new ≡ lines old))
         (sym want.0) tt
     looks_keep keys old result new (inr asked) = asks_keep keys old result new asked
 
   -- a key with a line or a fault, after keys that had none
-  pub looks_until : (keys seen rest : List (List ℕ)) (key : List ℕ)
+  pub looks_until : {refused : Type 0} (keys seen rest : List (List ℕ)) (key : List ℕ)
       (answer : Result (Option Action) Fault) (old mid : S) (result : Result Found Fault) (new : S)
       → seen ++ key ∷ rest ≡ keys → Passes seen old mid → gets mid class key answer new →
       AsksOn (LooksUp gets class rest) key answer new result new
-      → Looks gets class keys old result new
+      → Looks refused gets class keys old result new
   looks_until keys seen rest key answer old mid result new all passed got goes =
       inr (subst (λ (ks : List (List ℕ)). LooksUp gets class ks old result new) all
       (asks_after seen (key ∷ rest) old mid result new passed (answer, new, got, goes)))
 
   -- all keys had none
-  pub looks_through : (keys seen rest : List (List ℕ)) (old new : S) → seen ++ rest ≡ keys →
-      0 ≡ length rest → Passes seen old new → Looks gets class keys old (Ok None) new
+  pub looks_through : {refused : Type 0} (keys seen rest : List (List ℕ)) (old new : S) →
+      seen ++ rest ≡ keys → 0 ≡ length rest → Passes seen old new →
+      Looks refused gets class keys old (Ok None) new
   looks_through keys seen [] old new all none passed =
       inr (subst (λ (ks : List (List ℕ)). LooksUp gets class ks old (Ok None) new) all
       (asks_after seen [] old new (Ok None) new passed (refl, refl)))

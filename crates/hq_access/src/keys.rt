@@ -1,14 +1,16 @@
 //! The keys under which an address is looked up, in order.
 
-ghost use Rattle.std.specs.Prelude.{◌≡◌, ◌++◌, ◌∷◌, [], IfOk, OnOk, option_map, string_bytes};
+ghost use Rattle.std.specs.Prelude.{◌≡◌, ◌++◌, ◌∷◌, [], option_map, string_bytes};
 ghost use Rattle.std.specs.List.{slice_split};
+ghost use Rattle.hq_memory.specs.Making.{MadeIn};
 ghost use Rattle.hq_values.specs.Addresses.{is_dot};
 ghost use Rattle.hq_values.specs.declared.address.Sender.TheVariants.{From};
 ghost use Rattle.hq_kept.specs.Keys as rules;
 
 use hq_kept::{LookupKey, NULL_KEY};
+use hq_memory::Memory;
 use hq_values::{Address, Sender, TryCopy};
-use std::alloc::{AllocError, Global};
+use std::alloc::AllocError;
 
 /// The base of a local part: what stands before its first `+`, where at least one byte does.
 fn base_of(local: &str) -> Option<&str>
@@ -21,42 +23,51 @@ fn base_of(local: &str) -> Option<&str>
 }
 
 /// The key `name@domain`.
-fn at(alloc: Global, domain: &str, name: &str) -> Result<LookupKey, AllocError>
-    ensures { IfOk result (λ key. key ≡ rules.at domain.now name.now) }
+fn at<M: Memory>(memory: M, domain: &str, name: &str) -> Result<LookupKey, AllocError>
+    ensures { MadeIn M.refused result (λ key. key ≡ rules.at domain.now name.now) }
 {
-    let text = format!(in alloc; "{name}@{domain}")?;
+    let text = memory.show(format_args!("{name}@{domain}"))?;
     Ok(LookupKey::new(text))
 }
 
 /// Adds a dot and what follows it, for each dot of a domain.
-fn add_parents(alloc: Global, keys: &mut Vec<LookupKey>, domain: &str) -> Result<(), AllocError>
-    ensures { OnOk result (keys.new.items ≡ keys.old.items
+fn add_parents<M: Memory>(
+    memory: M,
+    keys: &mut Vec<LookupKey>,
+    domain: &str,
+) -> Result<(), AllocError>
+    ensures { MadeIn M.refused result (λ _. keys.new.items ≡ keys.old.items
         ++ rules.parents (slice_split is_dot domain.now)) }
 {
     let mut rest = domain;
     while let Some((_, above)) = rest.split_once('.') {
-        let text = format!(in alloc; ".{above}")?;
-        keys.push(LookupKey::new(text))?;
+        let text = memory.show(format_args!(".{above}"))?;
+        memory.push(keys, LookupKey::new(text))?;
         rest = above;
     }
     Ok(())
 }
 
 /// The keys of an address, whose parts are folded.
-fn address_keys(alloc: Global, local: &str, domain: &str) -> Result<Vec<LookupKey>, AllocError>
-    ensures { IfOk result (λ keys. keys.items ≡ rules.address_keys local.now domain.now) }
+fn address_keys<M: Memory>(
+    memory: M,
+    local: &str,
+    domain: &str,
+) -> Result<Vec<LookupKey>, AllocError>
+    ensures { MadeIn M.refused result (λ keys. keys.items
+        ≡ rules.address_keys local.now domain.now) }
 {
     let base = base_of(local);
-    let mut keys = vec![in alloc; at(alloc, domain, local)?]?;
+    let mut keys = memory.one(at(memory, domain, local)?)?;
     if let Some(base) = base {
-        keys.push(at(alloc, domain, base)?)?;
+        memory.push(&mut keys, at(memory, domain, base)?)?;
     }
-    let whole = String::from_str(alloc, domain)?;
-    keys.push(LookupKey::new(whole))?;
-    add_parents(alloc, &mut keys, domain)?;
-    keys.push(at(alloc, "", local)?)?;
+    let whole = memory.text(domain)?;
+    memory.push(&mut keys, LookupKey::new(whole))?;
+    add_parents(memory, &mut keys, domain)?;
+    memory.push(&mut keys, at(memory, "", local)?)?;
     if let Some(base) = base {
-        keys.push(at(alloc, "", base)?)?;
+        memory.push(&mut keys, at(memory, "", base)?)?;
     }
     Ok(keys)
 }
@@ -64,24 +75,27 @@ fn address_keys(alloc: Global, local: &str, domain: &str) -> Result<Vec<LookupKe
 /// The keys of a recipient, or of a sender that has an address, in the order in which they are
 /// tried: the address, its base at the domain, the domain, `.domain` for each domain above it,
 /// `user@`, and its base with `@`.
-pub fn keys_of_address(alloc: Global, address: &Address) -> Result<Vec<LookupKey>, AllocError>
-    ensures { IfOk result (λ keys. keys.items ≡ rules.keys_of (From address.now)) }
+pub fn keys_of_address<M: Memory>(
+    memory: M,
+    address: &Address,
+) -> Result<Vec<LookupKey>, AllocError>
+    ensures { MadeIn M.refused result (λ keys. keys.items ≡ rules.keys_of (From address.now)) }
 {
-    let local = address.local().to_ascii_lowercase(alloc)?;
-    let domain = address.domain().to_ascii_lowercase(alloc)?;
-    address_keys(alloc, local.as_str(), domain.as_str())
+    let local = memory.lower(address.local())?;
+    let domain = memory.lower(address.domain())?;
+    address_keys(memory, local.as_str(), domain.as_str())
 }
 
 /// The keys of a sender or a recipient: those of its address. The null sender has `<>` alone.
-pub fn keys_of(alloc: Global, who: &Sender) -> Result<Vec<LookupKey>, AllocError>
-    ensures { IfOk result (λ keys. keys.items ≡ rules.keys_of who.now) }
+pub fn keys_of<M: Memory>(memory: M, who: &Sender) -> Result<Vec<LookupKey>, AllocError>
+    ensures { MadeIn M.refused result (λ keys. keys.items ≡ rules.keys_of who.now) }
 {
     match who {
         Sender::Null => {
-            let text = String::from_str(alloc, NULL_KEY)?;
-            let keys = vec![in alloc; LookupKey::new(text)]?;
+            let text = memory.text(NULL_KEY)?;
+            let keys = memory.one(LookupKey::new(text))?;
             Ok(keys)
         }
-        Sender::From(address) => keys_of_address(alloc, address),
+        Sender::From(address) => keys_of_address(memory, address),
     }
 }

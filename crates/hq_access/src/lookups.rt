@@ -9,8 +9,8 @@ ghost use Rattle.hq_rules.specs.Lookups.{first_match, Looks, TellsLines};
 
 use crate::keys::keys_of;
 use hq_kept::{Action, Class, LookupKey};
+use hq_memory::Memory;
 use hq_values::{Fault, Sender};
-use std::alloc::Global;
 
 /// The lines of one access table, wherever they are kept.
 pub trait Lines {
@@ -26,20 +26,21 @@ pub trait Lines {
 /// Looks an address up: the first of its keys that has a line of the class, with the line's action.
 /// No key after it is asked for. It ends in a fault where asking does, or for want of memory
 /// before the first key.
-pub fn lookup<L: Lines>(
-    alloc: Global,
+pub fn lookup<L: Lines, M: Memory>(
+    memory: M,
     lines: &mut L,
     class: Class,
     who: &Sender,
 ) -> Result<Option<(LookupKey, Action)>, Fault>
-    ensures asked { Looks L.gets class (rules.keys_of who.now) lines.old result lines.new }
+    ensures asked { Looks M.refused L.gets class (rules.keys_of who.now) lines.old result
+        lines.new }
     ensures found { (table : L → Class → List ℕ → Option Action) → TellsLines L.gets table
         → IfOk result (λ found. found ≡ first_match (table lines.old class)
         (rules.keys_of who.now)) }
     ensures same { (table : L → Class → List ℕ → Option Action) → TellsLines L.gets table
         → OnOk result (table lines.new ≡ table lines.old) }
 {
-    for key in keys_of(alloc, who)? {
+    for key in keys_of(memory, who)? {
         if let Some(action) = lines.get(class, &key)? {
             return Ok(Some((key, action)));
         }

@@ -1,13 +1,15 @@
 //! The verdict on a submission, by what was found for its sender and its recipients.
 
-ghost use Rattle.std.specs.Prelude.{◌≡◌, IfOk, map, option_map};
+ghost use Rattle.std.specs.Prelude.{◌≡◌, map, option_map};
 ghost use Rattle.std.specs.List.{list_any};
+ghost use Rattle.hq_memory.specs.Making.{MadeIn};
 ghost use Rattle.hq_rules.specs.Verdicts as rules;
 
 use hq_kept::Action;
+use hq_memory::Memory;
 use hq_rules::{Refused, Verdict};
 use hq_values::{Address, Items, Sender, Text, TryCopy};
-use std::alloc::{AllocError, Global};
+use std::alloc::AllocError;
 
 /// The code with which `REJECT` refuses.
 const REJECT_CODE: u16 = 554;
@@ -15,50 +17,47 @@ const REJECT_CODE: u16 = 554;
 /// The code with which `DEFER` refuses.
 const DEFER_CODE: u16 = 450;
 
-/// What a rejection says whose line has no text.
-const DENIED: &str = "Access denied";
-
 /// The text of a rejection, or `Access denied` where its line has none.
-fn or_denied(alloc: Global, text: &Text) -> Result<Text, AllocError>
-    ensures { IfOk result (λ told. told ≡ rules.or_denied text.now) }
+fn or_denied<M: Memory>(memory: M, text: &Text) -> Result<Text, AllocError>
+    ensures { MadeIn M.refused result (λ told. told ≡ rules.or_denied text.now) }
 {
     if text.as_str().is_empty() {
-        // That text is one, so nothing but memory can be wanting.
-        Text::parse(alloc, DENIED).map_err(|_| AllocError)
+        Text::denied(memory)
     } else {
-        text.copy(alloc)
+        text.copy(memory)
     }
 }
 
 /// The text of a deferral, or `Try again later` where its line has none.
-fn or_later(alloc: Global, text: &Text) -> Result<Text, AllocError>
-    ensures { IfOk result (λ told. told ≡ rules.or_later text.now) }
+fn or_later<M: Memory>(memory: M, text: &Text) -> Result<Text, AllocError>
+    ensures { MadeIn M.refused result (λ told. told ≡ rules.or_later text.now) }
 {
     if text.as_str().is_empty() {
-        Text::try_later(alloc)
+        Text::try_later(memory)
     } else {
-        text.copy(alloc)
+        text.copy(memory)
     }
 }
 
 /// The reason of a hold: the text of its line, or `held by access table` where it has none.
-fn or_table(alloc: Global, text: &Text) -> Result<Text, AllocError>
-    ensures { IfOk result (λ reason. reason ≡ rules.or_table text.now) }
+fn or_table<M: Memory>(memory: M, text: &Text) -> Result<Text, AllocError>
+    ensures { MadeIn M.refused result (λ reason. reason ≡ rules.or_table text.now) }
 {
     if text.as_str().is_empty() {
-        Text::table_hold(alloc)
+        Text::table_hold(memory)
     } else {
-        text.copy(alloc)
+        text.copy(memory)
     }
 }
 
 /// The code and the text with which an action refuses.
-fn refusal(alloc: Global, found: Option<&Action>) -> Result<Option<(u16, Text)>, AllocError>
-    ensures { IfOk result (λ why. why ≡ rules.refusal (option_map (λ a. a.now) found.entry)) }
+fn refusal<M: Memory>(memory: M, found: Option<&Action>) -> Result<Option<(u16, Text)>, AllocError>
+    ensures { MadeIn M.refused result (λ why. why
+        ≡ rules.refusal (option_map (λ a. a.now) found.entry)) }
 {
     match found {
-        Some(Action::Reject(text)) => Ok(Some((REJECT_CODE, or_denied(alloc, text)?))),
-        Some(Action::Defer(text)) => Ok(Some((DEFER_CODE, or_later(alloc, text)?))),
+        Some(Action::Reject(text)) => Ok(Some((REJECT_CODE, or_denied(memory, text)?))),
+        Some(Action::Defer(text)) => Ok(Some((DEFER_CODE, or_later(memory, text)?))),
         _ => Ok(None),
     }
 }
@@ -107,15 +106,15 @@ fn refusal_of(who: Sender, why: (u16, Text)) -> Refused
 }
 
 /// The recipient, where it is refused.
-fn refused_one(
-    alloc: Global,
+fn refused_one<M: Memory>(
+    memory: M,
     recipient: &(Address, Option<Action>),
 ) -> Result<Option<Refused>, AllocError>
-    ensures { IfOk result (λ refused. refused ≡ rules.refused_one recipient.now) }
+    ensures { MadeIn M.refused result (λ refused. refused ≡ rules.refused_one recipient.now) }
 {
-    match refusal(alloc, recipient.1.as_ref())? {
+    match refusal(memory, recipient.1.as_ref())? {
         Some(why) => {
-            let address = recipient.0.copy(alloc)?;
+            let address = recipient.0.copy(memory)?;
             Ok(Some(refusal_of(Sender::From(address), why)))
         }
         None => Ok(None),
@@ -123,33 +122,33 @@ fn refused_one(
 }
 
 /// The recipients that are refused, in order.
-fn refused_in(
-    alloc: Global,
+fn refused_in<M: Memory>(
+    memory: M,
     recipients: &[(Address, Option<Action>)],
 ) -> Result<Vec<Refused>, AllocError>
-    ensures { IfOk result (λ refused. refused.items ≡ rules.refused_in recipients.now) }
+    ensures { MadeIn M.refused result (λ refused. refused.items ≡ rules.refused_in recipients.now) }
 {
-    let mut refused = Vec::new(alloc);
+    let mut refused = memory.none();
     for recipient in recipients {
-        if let Some(one) = refused_one(alloc, recipient)? {
-            refused.push(one)?;
+        if let Some(one) = refused_one(memory, recipient)? {
+            memory.push(&mut refused, one)?;
         }
     }
     Ok(refused)
 }
 
 /// The recipients that are not, in order.
-fn not_refused(
-    alloc: Global,
+fn not_refused<M: Memory>(
+    memory: M,
     recipients: &[(Address, Option<Action>)],
 ) -> Result<Vec<Address>, AllocError>
-    ensures { IfOk result (λ kept. kept.items
+    ensures { MadeIn M.refused result (λ kept. kept.items
         ≡ map (λ r. r.0) (rules.not_refused recipients.now)) }
 {
-    let mut kept = Vec::new(alloc);
+    let mut kept = memory.none();
     for recipient in recipients {
         if !refuses(recipient.1.as_ref()) {
-            kept.push(recipient.0.copy(alloc)?)?;
+            memory.push(&mut kept, recipient.0.copy(memory)?)?;
         }
     }
     Ok(kept)
@@ -194,22 +193,22 @@ fn held_by<'a>(
 }
 
 /// A copy of what is there.
-fn copied<T: TryCopy>(alloc: Global, value: Option<&T>) -> Result<Option<T>, AllocError>
-    ensures { IfOk result (λ copy. copy ≡ option_map (λ it. it.now) value.entry) }
+fn copied<T: TryCopy, M: Memory>(memory: M, value: Option<&T>) -> Result<Option<T>, AllocError>
+    ensures { MadeIn M.refused result (λ copy. copy ≡ option_map (λ it. it.now) value.entry) }
 {
     match value {
-        Some(value) => Ok(Some(value.copy(alloc)?)),
+        Some(value) => Ok(Some(value.copy(memory)?)),
         None => Ok(None),
     }
 }
 
 /// The reason of the first hold.
-fn reason_of(alloc: Global, held: Option<&Text>) -> Result<Option<Text>, AllocError>
-    ensures { IfOk result (λ reason. reason
+fn reason_of<M: Memory>(memory: M, held: Option<&Text>) -> Result<Option<Text>, AllocError>
+    ensures { MadeIn M.refused result (λ reason. reason
         ≡ option_map rules.or_table (option_map (λ t. t.now) held.entry)) }
 {
     match held {
-        Some(text) => Ok(Some(or_table(alloc, text)?)),
+        Some(text) => Ok(Some(or_table(memory, text)?)),
         None => Ok(None),
     }
 }
@@ -221,23 +220,23 @@ fn reason_of(alloc: Global, held: Option<&Text>) -> Result<Option<Text>, AllocEr
 /// - Else some `DISCARD` of the sender or of a recipient: discarded.
 /// - Else queued for the recipients that are kept, or for the address of the last `REDIRECT`; on
 ///   hold, where there is a `HOLD`.
-pub fn decide(
-    alloc: Global,
+pub fn decide<M: Memory>(
+    memory: M,
     found: Option<&Action>,
     sender: &Sender,
     recipients: &[(Address, Option<Action>)],
 ) -> Result<Verdict, AllocError>
-    ensures { IfOk result (λ verdict. verdict
+    ensures { MadeIn M.refused result (λ verdict. verdict
         ≡ rules.verdict (option_map (λ a. a.now) found.entry) sender.now recipients.now) }
 {
-    if let Some(why) = refusal(alloc, found)? {
-        let refused = vec![in alloc; refusal_of(sender.copy(alloc)?, why)]?;
+    if let Some(why) = refusal(memory, found)? {
+        let refused = memory.one(refusal_of(sender.copy(memory)?, why))?;
         return Ok(Verdict::Rejected {
             refused: Items::from_vec(refused),
         });
     }
-    let kept = not_refused(alloc, recipients)?;
-    let refused = Items::from_vec(refused_in(alloc, recipients)?);
+    let kept = not_refused(memory, recipients)?;
+    let refused = Items::from_vec(refused_in(memory, recipients)?);
     if kept.is_empty() {
         return Ok(Verdict::Rejected { refused });
     }
@@ -247,7 +246,7 @@ pub fn decide(
     Ok(Verdict::Queue {
         kept: Items::from_vec(kept),
         refused,
-        redirect: copied(alloc, redirect_of(found, recipients))?,
-        held: reason_of(alloc, held_by(found, recipients))?,
+        redirect: copied(memory, redirect_of(found, recipients))?,
+        held: reason_of(memory, held_by(found, recipients))?,
     })
 }

@@ -2,7 +2,7 @@
 use Rattle.std.proofs.Common.{◌≡◌, inl, inr, ⊎_elim, ℕ, Bool, true, false, List, [], ◌∷◌}
 use Rattle.std.proofs.Common.{Option, Some, None}
 use Rattle.std.proofs.Common.{Result, Ok, Err, IfOk, refl, sym, ap, ◌∙◌, subst}
-use Rattle.std.specs.Prelude.{IfErr}
+use Rattle.std.specs.Prelude.{IfErr, ⊤}
 use Rattle.hq_values.specs.Refusals.{no_memory}
 use Rattle.hq_values.specs.declared.failure.Fault.{Fault}
 use Rattle.hq_values.specs.declared.failure.Fault.TheVariants as fault
@@ -222,10 +222,10 @@ module _ {S L : Type 0} (sight : Sight S) (shelf : L → S) (customer : List ℕ
 
   -- a whole lookup keeps and finds
   pub looked : (keys : List (List ℕ)) (old : L) (result : Result Found Fault) (new : L) →
-      Looks gets class keys old result new → IsOf old → sight.is_closed (shelf old) ≡ false →
+      Looks ⊤ gets class keys old result new → IsOf old → sight.is_closed (shelf old) ≡ false →
       Looked keys old result new
   looked keys old result new (inl want) of opened =
-      looked_same keys old result (Err no_memory) old new want.0 want.1 (
+      looked_same keys old result (Err no_memory) old new want.0 want.2 (
         of,
         keeps_want sight (shelf old) opened,
         λ clean ours. tt,

@@ -1,4 +1,5 @@
 -- A whole lookup among one customer's lines on a shelf.
+use Rattle.std.specs.Prelude.{⊤}
 use Rattle.std.proofs.Common.{◌≡◌, ℕ, false, List, Result, refl, ap, ◌∙◌, subst}
 use Rattle.hq_values.specs.declared.failure.Fault.{Fault}
 use Rattle.hq_rules.specs.Lookups.{Found, Looks, first_match}
@@ -11,7 +12,7 @@ use Rattle.hq_reads.proofs.Reading.{looked}
 
 pub shelf_looked : {S : Type 0} (sight : Sight S) (class : Class) (keys : List (List ℕ))
     (old : CustomerLines S) (result : Result Found Fault) (new : CustomerLines S) →
-    Looks (asks_shelf sight) class keys old result new → sight.is_closed old.shelf.now ≡ false
+    Looks ⊤ (asks_shelf sight) class keys old result new → sight.is_closed old.shelf.now ≡ false
     → (new.shelf.ghost_name ≡ old.shelf.ghost_name)
     × Keeps (with_memory sight) old.shelf.now new.shelf.now result
     × Finds sight old.shelf.now new.shelf.now result old.customer.now

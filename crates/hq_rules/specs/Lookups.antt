@@ -42,11 +42,11 @@ LooksUp {S} gets class (key ∷ keys) old result new = (answer : Result (Option 
     × (mid : S) × gets old class key answer mid
     × AsksOn (LooksUp gets class keys) key answer mid result new
 
--- a lookup asks for its keys, or memory ran out before the first
-abbrev pub Looks : {S : Type 0} → Gets S → Class → List (List ℕ) → S → Result Found Fault → S →
-    Type 0
-Looks gets class keys old result new = ((result ≡ Err no_memory) × (new ≡ old))
-    ⊎ LooksUp gets class keys old result new
+-- a lookup asks for its keys, or there was want of memory before the first, for this reason
+abbrev pub Looks : {S : Type 0} → Type 0 → Gets S → Class → List (List ℕ) → S →
+    Result Found Fault → S → Type 0
+Looks refused gets class keys old result new =
+    ((result ≡ Err no_memory) × refused × (new ≡ old)) ⊎ LooksUp gets class keys old result new
 
 -- asking tells what these lines are, and leaves them
 abbrev pub TellsLines : {S : Type 0} → Gets S → (S → Class → List ℕ → Option Action) → Type 0

@@ -7,11 +7,11 @@ use Rattle.hq_access.proofs.keys.add_parents.Given as goal
 
 -- the keys of the dots so far, and then those of the dots that are left
 abbrev pub invariant-loop-above : goal.invariant-loop-above
-invariant-loop-above l = record {
+invariant-loop-above g l = record {
   text : shadow (Utf8 l.rest);
   so_far : l.keys.items
       ++ parents (labels_of l.rest) ≡ l.fn.keys.items ++ parents (labels_of l.domain);
 }
 
 abbrev pub decreases-loop-above : goal.decreases-loop-above
-decreases-loop-above l = length l.rest
+decreases-loop-above g l = length l.rest

@@ -5,7 +5,7 @@ use Rattle.hq_access.proofs.verdicts.refused_in.Goals as goal
 use Rattle.hq_access.proofs.verdicts.refused_in.Goals.{in-Some+in_ok-push, in_default}
 
 pub loop-recipient-preserved : goal.loop-recipient-preserved
-loop-recipient-preserved c =
+loop-recipient-preserved g c =
     let next =
     refused_next c.args.recipients.now c.loop-recipient.recipient-index c.recipient-item.result
     (omega arith) c.recipient-item.is in
