@@ -4,7 +4,7 @@
 //!
 //! ```
 //! // what a worker reports of an attempt; after a refusal the message is as it was
-//! if let Reported::Done { failed, .. } = report(alloc, &mut message, at, attempt, outcomes)? {
+//! if let Reported::Done { failed, .. } = report(memory, &mut message, at, attempt, outcomes)? {
 //!     // a notice is owed to the sender: of those who failed
 //! }
 //! let swept = sweep_one(&mut message, at, delay); // expired, warned or untouched

@@ -3,6 +3,7 @@
 
 ghost use Rattle.std.specs.Prelude.{◌≡◌, IfOk, option_map, not};
 ghost use Rattle.std.specs.List.{find, list_any};
+ghost use Rattle.hq_memory.specs.Making.{MadeIn};
 ghost use Rattle.hq_values.specs.Addresses.{same_address};
 ghost use Rattle.hq_rules.specs.Attempts as rules;
 ghost use Rattle.hq_rules.specs.Attempts.{Reports};
@@ -11,8 +12,9 @@ use crate::backoff::next_try;
 use hq_kept::{
     Attempt, Delivery, Ended, Fate, Message, Outcome, Pending, QueueState, Reported, Told,
 };
+use hq_memory::Memory;
 use hq_values::{Fail, Items, Moment, Refusal, TryCopy};
-use std::alloc::{AllocError, Global};
+use std::alloc::AllocError;
 
 /// The first outcome that names a recipient.
 fn outcome_of<'o>(outcomes: &'o [Outcome], recipient: &Pending) -> Option<&'o Outcome>
@@ -68,21 +70,21 @@ fn is_any_unknown(recipients: &[Pending], outcomes: &[Outcome]) -> bool
 }
 
 /// What a recipient is after the attempt, where it is still pending.
-fn left_one(
-    alloc: Global,
+fn left_one<M: Memory>(
+    memory: M,
     recipient: &Pending,
     outcomes: &[Outcome],
 ) -> Result<Option<Pending>, AllocError>
-    ensures { IfOk result (λ left. left ≡ rules.left_with recipient.now
+    ensures { MadeIn M.refused result (λ left. left ≡ rules.left_with recipient.now
         (rules.outcome_of outcomes.now recipient.now)) }
 {
     let Some(outcome) = outcome_of(outcomes, recipient) else {
-        return Ok(Some(recipient.copy(alloc)?));
+        return Ok(Some(recipient.copy(memory)?));
     };
     match &outcome.result {
         Delivery::Deferred(status, text) => {
-            let address = recipient.address.copy(alloc)?;
-            let text = text.copy(alloc)?;
+            let address = recipient.address.copy(memory)?;
+            let text = text.copy(memory)?;
             Ok(Some(Pending {
                 address,
                 status: Some(status.copy()),
@@ -94,29 +96,30 @@ fn left_one(
 }
 
 /// Who is still pending after the attempt.
-fn left(
-    alloc: Global,
+fn left<M: Memory>(
+    memory: M,
     recipients: &[Pending],
     outcomes: &[Outcome],
 ) -> Result<Vec<Pending>, AllocError>
-    ensures { IfOk result (λ left. left.items ≡ rules.left outcomes.now recipients.now) }
+    ensures { MadeIn M.refused result (λ left. left.items
+        ≡ rules.left outcomes.now recipients.now) }
 {
-    let mut left = Vec::new(alloc);
+    let mut left = memory.none();
     for recipient in recipients {
-        if let Some(pending) = left_one(alloc, recipient, outcomes)? {
-            left.push(pending)?;
+        if let Some(pending) = left_one(memory, recipient, outcomes)? {
+            memory.push(&mut left, pending)?;
         }
     }
     Ok(left)
 }
 
 /// What is told of a recipient, where it failed.
-fn failed_one(
-    alloc: Global,
+fn failed_one<M: Memory>(
+    memory: M,
     recipient: &Pending,
     outcomes: &[Outcome],
 ) -> Result<Option<Told>, AllocError>
-    ensures { IfOk result (λ told. told ≡ rules.told_with recipient.now
+    ensures { MadeIn M.refused result (λ told. told ≡ rules.told_with recipient.now
         (rules.outcome_of outcomes.now recipient.now)) }
 {
     let Some(outcome) = outcome_of(outcomes, recipient) else {
@@ -124,8 +127,8 @@ fn failed_one(
     };
     match &outcome.result {
         Delivery::Failed(status, text) => {
-            let address = recipient.address.copy(alloc)?;
-            let text = text.copy(alloc)?;
+            let address = recipient.address.copy(memory)?;
+            let text = text.copy(memory)?;
             Ok(Some(Told {
                 address,
                 status: status.copy(),
@@ -137,30 +140,31 @@ fn failed_one(
 }
 
 /// Who failed in the attempt.
-fn failed(
-    alloc: Global,
+fn failed<M: Memory>(
+    memory: M,
     recipients: &[Pending],
     outcomes: &[Outcome],
 ) -> Result<Vec<Told>, AllocError>
-    ensures { IfOk result (λ failed. failed.items ≡ rules.failed outcomes.now recipients.now) }
+    ensures { MadeIn M.refused result (λ failed. failed.items
+        ≡ rules.failed outcomes.now recipients.now) }
 {
-    let mut failed = Vec::new(alloc);
+    let mut failed = memory.none();
     for recipient in recipients {
-        if let Some(told) = failed_one(alloc, recipient, outcomes)? {
-            failed.push(told)?;
+        if let Some(told) = failed_one(memory, recipient, outcomes)? {
+            memory.push(&mut failed, told)?;
         }
     }
     Ok(failed)
 }
 
 /// What is kept of a recipient, where it left the queue.
-fn ended_one(
-    alloc: Global,
+fn ended_one<M: Memory>(
+    memory: M,
     message: &Message,
     recipient: &Pending,
     outcomes: &[Outcome],
 ) -> Result<Option<Ended>, AllocError>
-    ensures { IfOk result (λ ended. ended ≡ rules.ended_with message.now recipient.now
+    ensures { MadeIn M.refused result (λ ended. ended ≡ rules.ended_with message.now recipient.now
         (rules.outcome_of outcomes.now recipient.now)) }
 {
     let Some(outcome) = outcome_of(outcomes, recipient) else {
@@ -172,9 +176,9 @@ fn ended_one(
         Delivery::Failed(status, text) => (Fate::Failed, Some(status.copy()), text),
         Delivery::Deferred(_, _) => return Ok(None),
     };
-    let sender = message.sender.copy(alloc)?;
-    let address = recipient.address.copy(alloc)?;
-    let text = text.copy(alloc)?;
+    let sender = message.sender.copy(memory)?;
+    let address = recipient.address.copy(memory)?;
+    let text = text.copy(memory)?;
     Ok(Some(Ended {
         serial: message.serial,
         sender,
@@ -186,14 +190,18 @@ fn ended_one(
 }
 
 /// Who left the queue in the attempt.
-fn ended(alloc: Global, message: &Message, outcomes: &[Outcome]) -> Result<Vec<Ended>, AllocError>
-    ensures { IfOk result (λ ended. ended.items
+fn ended<M: Memory>(
+    memory: M,
+    message: &Message,
+    outcomes: &[Outcome],
+) -> Result<Vec<Ended>, AllocError>
+    ensures { MadeIn M.refused result (λ ended. ended.items
         ≡ rules.ended message.now outcomes.now message.now.pending) }
 {
-    let mut ended = Vec::new(alloc);
+    let mut ended = memory.none();
     for recipient in message.pending.as_slice() {
-        if let Some(one) = ended_one(alloc, message, recipient, outcomes)? {
-            ended.push(one)?;
+        if let Some(one) = ended_one(memory, message, recipient, outcomes)? {
+            memory.push(&mut ended, one)?;
         }
     }
     Ok(ended)
@@ -249,15 +257,15 @@ fn deferred(recipients: &[Pending], outcomes: &[Outcome]) -> u64
 /// more, those that were deferred have their new status and text, an incoming message becomes
 /// deferred, and it has the attempt's number and its next try. After a repeat, a refusal or want of
 /// memory the message is as it was.
-pub fn report(
-    alloc: Global,
+pub fn report<M: Memory>(
+    memory: M,
     message: &mut Message,
     at: Moment,
     attempt: Attempt,
     outcomes: &[Outcome],
 ) -> Result<Reported, Fail>
-    ensures { Reports (rules.reported message.old at attempt outcomes.now) message.old message.new
-        result }
+    ensures { Reports M.refused (rules.reported message.old at attempt outcomes.now) message.old
+        message.new result }
 {
     let number = attempt.get();
     if number <= message.attempts {
@@ -278,9 +286,9 @@ pub fn report(
     }
     let delivered = delivered(message.pending.as_slice(), outcomes);
     let deferred = deferred(message.pending.as_slice(), outcomes);
-    let failed = failed(alloc, message.pending.as_slice(), outcomes)?;
-    let ended = ended(alloc, message, outcomes)?;
-    let left = left(alloc, message.pending.as_slice(), outcomes)?;
+    let failed = failed(memory, message.pending.as_slice(), outcomes)?;
+    let ended = ended(memory, message, outcomes)?;
+    let left = left(memory, message.pending.as_slice(), outcomes)?;
     message.pending = Items::from_vec(left);
     message.attempts = number;
     message.next_try = next_try(message.arrival, at);

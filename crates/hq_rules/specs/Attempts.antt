@@ -147,10 +147,11 @@ reported m at attempt outcomes =
     (if list_any (is_unknown m.pending) outcomes then Err UnknownRecipient else
     Ok (done m outcomes, after_attempt m at attempt outcomes)))))
 
--- What a report does by its rule: its answer and its message; or its refusal, or that memory ran
--- out, and the message is as it was.
-abbrev pub Reports : Result (Reported × Message) Refusal → Message → Message → Result Reported Fail
-    → Type 0
-Reports rule old new (Ok answer) = rule ≡ Ok (answer, new)
-Reports rule old new (Err (fail.Refused refusal)) = (rule ≡ Err refusal) × (new ≡ old)
-Reports rule old new (Err (fail.Fault fault)) = (fault ≡ no_memory) × (new ≡ old)
+-- What a report does by its rule: its answer and its message; or its refusal, or want of memory,
+-- for this reason, and the message is as it was.
+abbrev pub Reports : Type 0 → Result (Reported × Message) Refusal → Message → Message →
+    Result Reported Fail → Type 0
+Reports refused rule old new (Ok answer) = rule ≡ Ok (answer, new)
+Reports refused rule old new (Err (fail.Refused refusal)) = (rule ≡ Err refusal) × (new ≡ old)
+Reports refused rule old new (Err (fail.Fault fault)) =
+    (fault ≡ no_memory) × refused × (new ≡ old)

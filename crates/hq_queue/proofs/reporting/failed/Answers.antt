@@ -4,4 +4,4 @@ use Rattle.std.proofs.lemmas.List.Elements.{filter_map-append}
 use Rattle.hq_queue.proofs.reporting.failed.Goals as goal
 
 pub loop-recipient-preserved : goal.loop-recipient-preserved
-loop-recipient-preserved c = grind (arith, common_steps, filter_map-append)
+loop-recipient-preserved g c = grind (arith, common_steps, filter_map-append)

@@ -3,5 +3,5 @@ use Rattle.hq_rules.specs.Attempts as rules
 use Rattle.hq_queue.proofs.reporting.left.Given as goal
 
 abbrev pub invariant-loop-recipient : goal.invariant-loop-recipient
-invariant-loop-recipient l = l.left.items ≡ rules.left l.outcomes
+invariant-loop-recipient g l = l.left.items ≡ rules.left l.outcomes
     (take l.recipient-index l.recipients)
