@@ -57,7 +57,7 @@ fn add_pages<S: Shelf>(
     let page = shelf.messages(&entry.name, after, PAGE)?;
     let last = last_serial(page.as_slice());
     let selected = select(alloc, which, page)?;
-    report.add_all(selected.as_slice())?;
+    report.add_all(alloc, selected.as_slice())?;
     let Some(last) = last else {
         return Ok(());
     };
@@ -81,6 +81,6 @@ pub(crate) fn decide_report<S: Shelf>(
 {
     let mut report = Report::new(alloc);
     add_pages(shelf, alloc, entry, which, &mut report, None, MORE_PAGES)?;
-    let text = WrittenText::new(report.finish()?);
+    let text = WrittenText::new(report.finish(alloc)?);
     Ok(tell(alloc, Answer::Reported(text)))
 }

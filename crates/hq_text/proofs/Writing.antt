@@ -1,18 +1,26 @@
 -- A report that is written message by message is that of the list.
 use Rattle.std.proofs.Common.{◌≡◌, ℕ, suc, ◌+◌, ◌==◌, false, List, [], ◌∷◌, ◌++◌, length, sym, ap}
-use Rattle.std.proofs.Common.{◌∙◌, append-nil, arith}
+use Rattle.std.proofs.Common.{◌≤◌, Bool, true, Result, Ok, Err, refl, ◌∙◌, append-nil, lit≤, arith}
 use Rattle.std.specs.Prelude.{codes, if◌then◌else◌}
 use Rattle.std.proofs.lemmas.Bool.Decides.{nat_tests}
 use Rattle.std.specs.List.{flat_map}
 use Rattle.std.proofs.lemmas.Grind.{common_steps, flat_map-append}
+use Rattle.hq_memory.specs.Making.{MadeIn}
 use Rattle.hq_kept.specs.declared.message.Message.{Message}
 use Rattle.hq_kept.specs.Messages.{is_on_hold}
 use Rattle.hq_rules.specs.TextLines.{lf, text_of}
 use Rattle.hq_rules.specs.QueueReports.{Written, header, head_lines, message_lines, bytes_of}
-use Rattle.hq_rules.specs.QueueReports.{held_of}
+use Rattle.hq_rules.specs.QueueReports.{held_of, hold_lines, message_line, recipient_lines}
+use Rattle.hq_rules.specs.QueueReports.{top_lines}
 use Rattle.hq_rules.specs.QueueReports.{written, written_with, added_lines, last_lines, summary}
 use Rattle.hq_rules.specs.QueueReports.{report_lines, report_text}
-use Rattle.hq_text.proofs.Joined.{text_of-nil, text_of-append}
+use Rattle.hq_text.proofs.Joined.{text_of-nil, text_of-cons, text_of-append}
+
+-- what was made in this way is so in that one too
+pub made_weaker : {A E : Type 0} (refused : Type 0) (made : Result A E) (P Q : A → Type 0) →
+    ((x : A) → P x → Q x) → MadeIn refused made P → MadeIn refused made Q
+made_weaker refused (Ok x) P Q more is = more x is
+made_weaker refused (Err e) P Q more is = is
 
 length_more : (ms : List Message) (m : Message) → length (ms ++ m ∷ []) ≡ length ms + 1
 length_more ms m = grind (arith, common_steps)
@@ -119,3 +127,31 @@ pub finished_is : (w : Written) (text : List ℕ) → text ≡ w.text
     w ≡ written messages → text ≡ report_text messages
 finished_is w text last messages is = last ∙ ap (λ (v : Written). v.text
     ++ text_of lf (last_lines v.queued v.bytes v.held)) is ∙ finished messages
+
+-- ---- room for the sums
+
+some_bytes : (end line : List ℕ) (heads lines : List (List ℕ)) → 1 ≤ length end →
+    1 ≤ length (text_of end (heads ++ line ∷ lines))
+some_bytes end line heads lines ended =
+    let is = ap length (text_of-append end heads (line ∷ lines)
+    ∙ ap (λ text. text_of end heads ++ text) (text_of-cons end line lines)) in
+    grind (arith, common_steps, is, ended)
+
+lines_of : (m : Message) →
+    message_lines m ≡ message_line m ∷ (hold_lines m ++ flat_map recipient_lines m.pending)
+unfolding message_lines top_lines
+lines_of m = refl
+
+-- a report has as many bytes as messages, or more
+pub as_many_bytes : (old new : List ℕ) (n : ℕ) (m : Message) → n ≤ length old → new ≡ old
+    ++ text_of lf (added_lines n m) → n + 1 ≤ length new
+as_many_bytes old new n m fits is =
+    let more : 1 ≤ length (text_of lf (added_lines n m)) =
+    rw (lines_of m) (some_bytes lf (message_line m) (if n == 0 then header ∷ [] else [])
+    (hold_lines m ++ flat_map recipient_lines m.pending) (lit≤ tt)) in
+    let all = ap length is in
+    grind (arith, common_steps, all, more, fits)
+
+pub one_at_most : (count : ℕ) (b : Bool) → count ≡ (if b then 1 else 0) → count ≤ 1
+one_at_most count true is = omega (arith, is)
+one_at_most count false is = omega (arith, is)

@@ -1,14 +1,16 @@
 //! The date of a moment, as mail has it (RFC 5322, 3.3). The calendar is that of `jiff`.
 
 ghost use Rattle.std.specs.Prelude.{◌≡◌, ◌<◌, ◌≤◌, pos, IfOk, string_bytes};
+ghost use Rattle.hq_memory.specs.Making.{MadeIn};
 ghost use Rattle.jiff.specs.Words.{epoch_day};
 ghost use Rattle.hq_rules.specs.Dates.{two, civil, weekday_name, month_name, day_text, clock_text};
 ghost use Rattle.hq_rules.specs.Dates as dates;
 
+use hq_memory::Memory;
 use hq_values::Moment;
 use jiff::ToSpan;
 use jiff::civil::{Date, date};
-use std::alloc::{AllocError, Global};
+use std::alloc::AllocError;
 
 /// How many seconds a day has. The last moment is on day 47,481 after 1 January 1970.
 const DAY_SECONDS: u64 = 86_400;
@@ -80,44 +82,44 @@ fn month_name(month: u8) -> &'static str
 }
 
 /// A number below 100 in two digits.
-fn two(alloc: Global, number: u32) -> Result<String, AllocError>
-    ensures { IfOk result (λ text. string_bytes text ≡ two number) }
+fn two<M: Memory>(memory: M, number: u32) -> Result<String, AllocError>
+    ensures { MadeIn M.refused result (λ text. string_bytes text ≡ two number) }
 {
-    format!(in alloc; "{}{}", number / 10, number % 10)
+    memory.show(format_args!("{}{}", number / 10, number % 10))
 }
 
 #[tactic(auto, unfolding(hq_rules::specs::Dates::clock_text))]
-fn clock_text(alloc: Global, seconds: u32) -> Result<String, AllocError>
-    ensures { IfOk result (λ text. string_bytes text ≡ clock_text seconds) }
+fn clock_text<M: Memory>(memory: M, seconds: u32) -> Result<String, AllocError>
+    ensures { MadeIn M.refused result (λ text. string_bytes text ≡ clock_text seconds) }
 {
-    let hour = two(alloc, seconds / 3600)?;
-    let minute = two(alloc, seconds / 60 % 60)?;
-    let second = two(alloc, seconds % 60)?;
-    format!(in alloc; "{hour}:{minute}:{second}")
+    let hour = two(memory, seconds / 3600)?;
+    let minute = two(memory, seconds / 60 % 60)?;
+    let second = two(memory, seconds % 60)?;
+    memory.show(format_args!("{hour}:{minute}:{second}"))
 }
 
 #[tactic(auto, unfolding(hq_rules::specs::Dates::day_text))]
-fn day_text(alloc: Global, days: u32) -> Result<String, AllocError>
+fn day_text<M: Memory>(memory: M, days: u32) -> Result<String, AllocError>
     requires { days < 47482 }
-    ensures { IfOk result (λ text. string_bytes text ≡ day_text days) }
+    ensures { MadeIn M.refused result (λ text. string_bytes text ≡ day_text days) }
 {
     let (year, month, day) = parts(days);
     let weekday = weekday_name(days);
     let month = month_name(month);
-    let day = two(alloc, u32::from(day))?;
-    format!(in alloc; "{weekday}, {day} {month} {year}")
+    let day = two(memory, u32::from(day))?;
+    memory.show(format_args!("{weekday}, {day} {month} {year}"))
 }
 
 /// The date of a moment, as in `Thu, 01 Jan 2026 00:00:00 +0000` (RFC 5322, 3.3): in UTC, the day
 /// and the clock in two digits, the year in four. The only error is want of memory.
 #[tactic(auto, unfolding(hq_rules::specs::Dates::date_text))]
-pub fn date_text(alloc: Global, at: Moment) -> Result<String, AllocError>
-    ensures { IfOk result (λ text. string_bytes text ≡ dates.date_text at) }
+pub fn date_text<M: Memory>(memory: M, at: Moment) -> Result<String, AllocError>
+    ensures { MadeIn M.refused result (λ text. string_bytes text ≡ dates.date_text at) }
 {
     let at = at.get();
-    let day = day_text(alloc, (at / DAY_SECONDS) as u32)?;
-    let clock = clock_text(alloc, (at % DAY_SECONDS) as u32)?;
-    let mut text = format!(in alloc; "{day} {clock}")?;
-    text.push_str(" +0000")?;
+    let day = day_text(memory, (at / DAY_SECONDS) as u32)?;
+    let clock = clock_text(memory, (at % DAY_SECONDS) as u32)?;
+    let mut text = memory.show(format_args!("{day} {clock}"))?;
+    memory.append(&mut text, " +0000")?;
     Ok(text)
 }

@@ -3,8 +3,8 @@
 //! no store and no clock.
 //!
 //! ```
-//! let notice = status_text(alloc, &host, &message, Kind::Failure, failed.as_slice())?;
-//! let queue = report_text(alloc, messages.as_slice())?;
+//! let notice = status_text(memory, &host, &message, Kind::Failure, failed.as_slice())?;
+//! let queue = report_text(memory, messages.as_slice())?;
 //! ```
 #![tactic(auto)]
 

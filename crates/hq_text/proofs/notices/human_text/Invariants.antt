@@ -4,5 +4,5 @@ use Rattle.hq_rules.specs.NoticeTexts.{opening_lines, told_line}
 use Rattle.hq_text.proofs.notices.human_text.Given as goal
 
 abbrev pub invariant-loop-one : goal.invariant-loop-one
-invariant-loop-one l = string_bytes l.text ≡ text_of crlf (opening_lines l.host l.message l.fn.kind
-    ++ map told_line (take l.one-index l.told))
+invariant-loop-one g l = string_bytes l.text ≡ text_of crlf
+    (opening_lines l.host l.message l.fn.kind ++ map told_line (take l.one-index l.told))

@@ -6,7 +6,7 @@ use Rattle.hq_text.proofs.notices.put_message.Goals as goal
 
 pub returns : goal.returns
 unfolding message_fields
-returns c =
+returns g c =
     field_then crlf _ _ _ (codes "Reporting-MTA: dns; ") _ _ _ c.in_ok-put_field.ensures
     c.as_str.ensures
     (field_then crlf _ _ _ (codes "Arrival-Date: ") _ _ _ c.in_ok-put_field-2.ensures

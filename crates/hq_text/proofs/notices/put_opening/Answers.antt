@@ -7,7 +7,7 @@ use Rattle.hq_text.proofs.notices.put_opening.Goals as goal
 
 pub returns : goal.returns
 unfolding opening_lines
-returns c =
+returns g c =
     line_then crlf _ _ _ _ _ _ c.in_ok-put_line.ensures
     (ap (λ host. codes "This is the mail relay at " ++ host ++ codes ".") c.as_str.ensures)
     (line_then crlf _ _ _ [] [] _ c.in_ok-put_field.ensures refl

@@ -6,7 +6,7 @@ use Rattle.hq_text.proofs.notices.put_recipient.Goals as goal
 
 pub returns : goal.returns
 unfolding recipient_fields
-returns c =
+returns g c =
     let said = rw c.as_str-3.ensures at c.in_ok-put_diagnostic.ensures in
     field_then crlf _ _ _ [] [] [] _ c.in_ok-put_field.ensures refl
     (field_then crlf _ _ _ (codes "Final-Recipient: rfc822; ") _ _ _ c.in_ok-put_field-2.ensures

@@ -6,10 +6,10 @@ use Rattle.hq_text.proofs.notices.put_retry.Goals as goal
 
 pub returns-in-None : goal.returns-in-None
 unfolding retry_lines
-returns-in-None c = rw c.in-None.is (no_line crlf _)
+returns-in-None g c = rw c.in-None.is (no_line crlf _)
 
 pub returns-in_ok-put_field-in-Some : goal.returns-in_ok-put_field-in-Some
 unfolding retry_lines
-returns-in_ok-put_field-in-Some c = rw c.in-Some.is
+returns-in_ok-put_field-in-Some g c = rw c.in-Some.is
     (field_then crlf _ _ _ (codes "Will-Retry-Until: ") _ _ _ c.in_ok-put_field-in-Some.ensures refl
     (no_line crlf _))

@@ -4,5 +4,5 @@ use Rattle.hq_values.proofs.Ascii.{serial_utf8}
 use Rattle.hq_text.proofs.notices.queue_id.Goals as goal
 
 pub unreachable-requires : goal.unreachable-requires
-unreachable-requires c = c.in-Err.ensures.cases.0
+unreachable-requires g c = c.in-Err.ensures.cases.0
     (subst IsUtf8 (sym c.text-text.ensures) (serial_utf8 c.args.serial))

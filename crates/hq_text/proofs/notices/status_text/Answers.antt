@@ -4,6 +4,6 @@ use Rattle.hq_rules.specs.TextLines.{crlf}
 use Rattle.hq_text.proofs.notices.status_text.Goals as goal
 
 pub loop-one-preserved : goal.loop-one-preserved
-loop-one-preserved c =
+loop-one-preserved g c =
     one_more crlf _ _ _ _ c.args.told.now c.loop-one.one-index c.one-item.result (omega arith)
     c.one-item.is c.loop-one.invariant c.in_ok-put_recipient.ensures

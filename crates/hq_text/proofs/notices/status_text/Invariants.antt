@@ -6,7 +6,7 @@ use Rattle.hq_rules.specs.NoticeTexts.{message_fields, recipient_fields}
 use Rattle.hq_text.proofs.notices.status_text.Given as goal
 
 abbrev pub invariant-loop-one : goal.invariant-loop-one
-invariant-loop-one l =
+invariant-loop-one g l =
     string_bytes l.text ≡ text_of crlf (message_fields l.host l.message
     ++ flat_map (recipient_fields l.kind (option_map (λ date. date.now) l.until))
     (take l.one-index l.told))

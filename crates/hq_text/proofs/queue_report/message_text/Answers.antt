@@ -5,11 +5,11 @@ use Rattle.hq_rules.specs.QueueReports.{top_lines, recipient_lines}
 use Rattle.hq_text.proofs.queue_report.message_text.Goals as goal
 
 pub loop-pending-init : goal.loop-pending-init
-loop-pending-init c = c.in_ok-text.ensures ∙ ap (text_of lf)
+loop-pending-init g c = c.in_ok-text.ensures ∙ ap (text_of lf)
     (sym (append-nil (top_lines c.args.message.now)))
 
 pub loop-pending-preserved : goal.loop-pending-preserved
-loop-pending-preserved c =
+loop-pending-preserved g c =
     let all = c.as_slice-pending-items.ensures in
     let is = rw all at c.pending-item.is in
     one_more lf _ _ (top_lines c.args.message.now) recipient_lines c.args.message.now.pending

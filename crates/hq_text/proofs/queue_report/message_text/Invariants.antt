@@ -5,5 +5,5 @@ use Rattle.hq_rules.specs.QueueReports.{top_lines, recipient_lines}
 use Rattle.hq_text.proofs.queue_report.message_text.Given as goal
 
 abbrev pub invariant-loop-pending : goal.invariant-loop-pending
-invariant-loop-pending l = string_bytes l.text ≡ text_of lf (top_lines l.message
+invariant-loop-pending g l = string_bytes l.text ≡ text_of lf (top_lines l.message
     ++ flat_map recipient_lines (take l.pending-index l.message.pending))

@@ -8,7 +8,7 @@ use Rattle.hq_text.proofs.queue_report.put_hold.Goals as goal
 
 pub returns-in_ok-put_hold_line-in-Hold : goal.returns-in_ok-put_hold_line-in-Hold
 unfolding hold_lines
-returns-in_ok-put_hold_line-in-Hold c = rw c.in-Hold.is (line_then lf _ _ _ _ _ _
+returns-in_ok-put_hold_line-in-Hold g c = rw c.in-Hold.is (line_then lf _ _ _ _ _ _
     c.in_ok-put_hold_line-in-Hold.ensures (ap hold_line c.as_str.ensures) (no_line lf _))
 
 -- a message that is not on hold has no such line
@@ -19,4 +19,4 @@ not_held m old (inl is) = rw is (no_line lf old)
 not_held m old (inr is) = rw is (no_line lf old)
 
 pub returns-in-Incoming : goal.returns-in-Incoming
-returns-in-Incoming c = not_held c.args.message.now _ c.in-Incoming.is
+returns-in-Incoming g c = not_held c.args.message.now _ c.in-Incoming.is

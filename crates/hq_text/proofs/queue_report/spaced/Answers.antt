@@ -2,4 +2,4 @@ use Rattle.std.proofs.Common.{append_assoc}
 use Rattle.hq_text.proofs.queue_report.spaced.Goals as goal
 
 pub returns : goal.returns
-returns c = simp append_assoc c.format.ensures.ok
+returns g c = simp append_assoc c.show.ensures.ok

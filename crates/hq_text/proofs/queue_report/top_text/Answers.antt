@@ -6,5 +6,5 @@ use Rattle.hq_text.proofs.queue_report.top_text.Goals as goal
 
 pub returns : goal.returns
 unfolding top_lines
-returns c = line_then lf [] _ _ _ _ _ c.in_ok-push_str.ensures.bytes c.in_ok-text.ensures
+returns g c = line_then lf [] _ _ _ _ _ c.in_ok-append.ensures.bytes c.in_ok-text.ensures
     c.in_ok-put_hold.ensures

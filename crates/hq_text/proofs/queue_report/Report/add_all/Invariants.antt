@@ -5,5 +5,5 @@ use Rattle.hq_text.proofs.queue_report.Report.add_all.Given as goal
 
 -- those so far stand behind what was written before
 abbrev pub invariant-loop-message : goal.invariant-loop-message
-invariant-loop-message l = (before : List Message) → l.initial.self ≡ written before →
+invariant-loop-message g l = (before : List Message) → l.initial.self ≡ written before →
     l.self ≡ written (before ++ take l.message-index l.messages)

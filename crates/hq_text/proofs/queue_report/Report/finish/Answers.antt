@@ -4,7 +4,7 @@ use Rattle.hq_text.proofs.Writing.{finished_is}
 use Rattle.hq_text.proofs.queue_report.Report.finish.Goals as goal
 
 pub returns : goal.returns
-returns c =
+returns g c =
     let self : Written = record {
       text = string_bytes c.self.inside.text;
       queued = c.self.inside.queued;

@@ -3,4 +3,4 @@ use Rattle.hq_text.proofs.Writing.{begun}
 use Rattle.hq_text.proofs.queue_report.Report.new.Goals as goal
 
 pub returns : goal.returns
-returns c = begun _ c.new.ensures.bytes refl refl refl
+returns g c = begun _ c.no_text.ensures.bytes refl refl refl
