@@ -1,8 +1,11 @@
 -- Whole messages: rows with their recipients, and reads one after another.
-use Rattle.std.proofs.Common.{◌≡◌, ℕ, true, List, [], ◌∷◌, map, filter, take, slice_get, option_map}
-use Rattle.std.proofs.Common.{Option, Some, None, Result, Ok, IfOk, refl, sym, ap, ◌∙◌, subst}
+use Rattle.std.proofs.Common.{◌≡◌, ℕ, ◌-◌, ◌<◌, Bool, true, List, [], ◌∷◌, map, filter, take}
+use Rattle.std.proofs.Common.{length, slice_get, option_map, Option, Some, None, Result, Ok, IfOk}
+use Rattle.std.proofs.Common.{refl, sym, ap, ◌∙◌, subst, arith, nat_cmp, Less}
 use Rattle.std.specs.Ordering.{eq_by_cmp}
-use Rattle.std.specs.FinMap.{entries}
+use Rattle.std.specs.Cmp.{ranked}
+use Rattle.std.specs.Cmp.Lexicographic.{nat_list_cmp_total}
+use Rattle.std.specs.FinMap.{entries, entries_sorted}
 use Rattle.std.specs.Prelude.{nat_lt}
 use Rattle.std.proofs.lemmas.List.{take-map}
 use Rattle.std.proofs.lemmas.Option.{slice_get-map}
@@ -10,14 +13,17 @@ use Rattle.sqlite.specs.declared.error.Error.{Error}
 use Rattle.sqlite.specs.Order as sqlite
 use Rattle.sqlite.specs.State.{State, HasCleanDisk, IsUnchanged}
 use Rattle.sqlite_keyed.proofs.ListLemmas.{map-map, map_same, filter-map, slice_get-filter}
-use Rattle.sqlite_keyed.proofs.ListLemmas.{first_taken}
+use Rattle.sqlite_keyed.proofs.ListLemmas.{first_taken, ascending-map, ascending-filter}
+use Rattle.sqlite_keyed.proofs.ListLemmas.{ascending_weaker}
 use Rattle.hq_keyed.proofs.Left.{clean_before}
 use Rattle.hq_keyed.proofs.Select.{find-map}
 use Rattle.hq_kept.specs.declared.message.Message.{Message}
 use Rattle.hq_owned.specs.Owned.{rows_of}
 use Rattle.hq_owned.proofs.OwnedPages.{owned}
+use Rattle.hq_owned.proofs.Parts.{rows_sorted}
 use Rattle.hq_rows.specs.declared.rows.MessageRow.{MessageRow}
-use Rattle.hq_tables.specs.Tables.{Tables, Row, text_cmp, joined}
+use Rattle.hq_tables.specs.Tables.{Tables, Row, text_cmp, joined, reason_of}
+use Rattle.hq_tables.proofs.Orders.{ascending}
 use Rattle.hq_rows.specs.Listed.{message_key, message_value}
 use Rattle.hq_rows.specs.Lookups.{is_after}
 use Rattle.hq_tables.specs.Readings.{read_tables, page_of, after_serial}
@@ -26,8 +32,10 @@ use Rattle.hq_sql.specs.Rows.{message_shown}
 use Rattle.hq_sql.specs.Tables.{IsDesk, tables_in}
 use Rattle.hq_sql_messages.specs.Messages.{is_on_page, has_spool_name, bare_entry}
 use Rattle.hq_sql_queue.specs.Queued.{whole}
-use Rattle.hq_sql_queue.specs.Giving.{with_parts}
-use Rattle.hq_sql_queue.proofs.OnHolds.{parts_joined}
+use Rattle.hq_sql_queue.specs.Dealt.{serials_of, Rise, Spans}
+use Rattle.hq_sql_queue.specs.Parts.{with_dealt, with_parts}
+use Rattle.hq_sql_queue.proofs.Lists.{ascending_taken}
+use Rattle.hq_sql_queue.proofs.Parts.{serials_long}
 use Rattle.hq_sql_messages.proofs.OnMessages.{pairs}
 
 -- ---- messages of rows
@@ -61,6 +69,12 @@ after_is c t None es = ap (map (whole_own c t)) (sym (all es)) where
   all (e ∷ es) = ap (λ xs. e ∷ xs) (all es)
 after_is c t (Some n) es = filter-map (λ (m : Message). nat_lt n m.serial) (whole_own c t) es
 
+-- what an entry has with both is its message
+parts_joined : (c : List ℕ) (t : Tables) (e : Entry) →
+    with_parts c t (bare_entry e) ≡ whole_entry c t e
+unfolding reason_of
+parts_joined c t e = refl
+
 -- the entries of a page, with their recipients
 pub page_whole : (c : List ℕ) (t : Tables) (after : Option ℕ) (limit : ℕ) →
     map (with_parts c t) (map bare_entry
@@ -77,6 +91,50 @@ page_whole c t after limit =
     ∙ ap (map (whole_own c t)) (owned text_cmp (λ (e : ℕ × Row). is_after after e.0) c
     (entries t.messages))
     ∙ sym (after_is c t after (rows_of text_cmp c (entries t.messages))))
+
+-- serials of a page rise
+pub page_rises : (c : List ℕ) (after : Option ℕ) (limit : ℕ) (t : Tables) →
+    Rise (serials_of (map bare_entry (take limit
+    (filter (is_on_page c after) (entries t.messages)))))
+page_rises c after limit t =
+    let kept = filter (is_on_page c after) (entries t.messages) in
+    let serial : ℕ × Row → ℕ = λ e. e.0 in
+    let mine = rows_of text_cmp c (entries t.messages) in
+    let test : ℕ × Row → Bool = λ e. is_after after e.0 in
+    let R : ℕ × Row → ℕ × Row → Type 0 = λ a b. nat_cmp a.0 b.0 ≡ Less in
+    let S : ℕ × Row → ℕ × Row → Type 0 = λ a b. a.0 < b.0 in
+    let sorted = ascending_weaker R S (λ a b e. ranked a.0 b.0 Less (sym e)) (filter test mine)
+    (ascending-filter R test mine
+    (ascending nat_cmp mine (rows_sorted nat_cmp nat_list_cmp_total c (entries t.messages)
+    (entries_sorted t.messages)))) in
+    let serials : serials_of (map bare_entry (take limit kept)) ≡ take limit
+    (map serial (filter test mine)) =
+    map-map (λ (m : Message). m.serial) bare_entry (take limit kept)
+    ∙ sym (take-map (λ (e : Entry). e.0.1) limit kept)
+    ∙ ap (take limit) (sym (map-map serial own kept)
+    ∙ ap (map serial) (owned text_cmp test c (entries t.messages))) in
+    subst Rise (sym serials) (ascending_taken (λ a b. a < b) limit (map serial (filter test mine))
+    (ascending-map (λ a b. a < b) serial (filter test mine) sorted))
+
+pub none_dealt : (f : Message → Message) (page : List Message) → length page ≡ 0 → page ≡ map f page
+none_dealt f [] h = refl
+none_dealt f (m ∷ page) h = absurd (omega arith)
+
+-- messages with their recipients have the serials that they had, and span the same
+pub dealt_serials : (c : List ℕ) (t : Tables) (page dealt : List Message) →
+    dealt ≡ map (with_dealt c t) page → serials_of dealt ≡ serials_of page
+dealt_serials c t page dealt is =
+    ap serials_of is ∙ map-map (λ (m : Message). m.serial) (with_dealt c t) page
+
+pub spans_kept : (page new : List Message) (low high : ℕ) → serials_of new ≡ serials_of page →
+    Spans page low high → Spans new low high
+spans_kept page new low high same spans =
+    let long : length new ≡ length page = sym (serials_long new) ∙ ap length same
+    ∙ serials_long page in
+    record {
+      first = ap (λ ns. slice_get ns 0) same ∙ spans.first;
+      last = (λ i. slice_get (same i) (long i - 1)) ∙ spans.last;
+    }
 
 -- the first row with a spool name, with its recipients
 pub spool_whole : (c : List ℕ) (t : Tables) (p : List ℕ) (rows : List sqlite.Row) →

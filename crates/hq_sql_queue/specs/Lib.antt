@@ -1,3 +1,3 @@
 pub mod Queued
 pub mod Dealt
-pub mod Giving
+pub mod Parts

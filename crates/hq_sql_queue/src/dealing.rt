@@ -1,33 +1,55 @@
-//! Recipients dealt to the messages of a page: the rows of all are lent one after another, and each
-//! goes to its message as it comes.
+//! Rows dealt to the messages of a page by their serials: the rows of all are lent one after
+//! another, and each goes to its message as it comes.
 
-ghost use Rattle.std.specs.Prelude.{◌≡◌, OnOk, IfSome, None, map, length};
+ghost use Rattle.std.specs.Prelude.{◌≡◌, OnOk, IfOk, IfSome, None, length};
+ghost use Rattle.sqlite.specs.State.{HasCleanDisk};
 ghost use Rattle.sqlite.specs.Held.{state};
-ghost use Rattle.hq_sql.specs.Kept.{Shows, Intact};
-ghost use Rattle.hq_sql_queue.specs.Dealt.{serials_of, Rise, with_dealt, dealt_one, at_place};
-ghost use Rattle.hq_sql_queue.specs.Dealt.{IsPlaceFrom, Deals, Spans};
+ghost use Rattle.hq_sql.specs.Bound.{between_columns};
+ghost use Rattle.hq_sql.specs.Kept.{Intact};
+ghost use Rattle.hq_sql.specs.Lent.{IsQuery};
+ghost use Rattle.hq_sql.specs.Tables.{IsDesk};
+ghost use Rattle.hq_sql_queue.specs.Dealt.{serials_of, dealt_one, at_place, IsPlaceFrom, Deals};
+ghost use Rattle.hq_sql_queue.specs.Dealt.{DealsAll, Spans};
 
-use hq_kept::{Message, Pending};
+use hq_kept::Message;
 use hq_sql::lent::Taker;
 use hq_sql::{bind, lent, read};
-use hq_sql_recipients::places;
-use hq_values::{Items, Name, Serial};
+use hq_values::{Name, Serial};
 use sqlite::{Alter, Connection, Error, Row};
 use std::alloc::Global;
-use std::mem;
+use std::marker::PhantomData;
 
-/// A page of messages in the order of their serials, and the place of the message whose recipients
-/// come.
+/// A part of messages that stands in a table of its own. The second column of its rows is the
+/// serial of their message.
+pub(crate) trait Part {
+    ghost use Rattle.std.specs.Prelude.{◌≡◌, OnOk};
+    ghost use Rattle.sqlite.specs.Order.{Row};
+    ghost use Rattle.hq_kept.specs.declared.message.Message.{Message};
+
+    /// The message with what a row gives.
+    ghost given: { Row → Message → Message };
+
+    /// Gives what a row has to its message.
+    fn give(alloc: Global, row: &Row, message: &mut Message) -> Result<(), Error>
+        ensures { OnOk result (message.new ≡ given row.now message.old) };
+
+    /// A message keeps its serial.
+    ghost keeps: { (r : Row) (m : Message) → (given r m).serial ≡ m.serial };
+}
+
+/// A page of messages in the order of their serials, and the place of the message whose row came
+/// last.
 #[derive(Drop)]
-struct Dealing {
+struct Dealing<P: Part> {
     alloc: Global,
     page: Vec<Message>,
     place: usize,
+    part: PhantomData<P>,
 }
 
 /// The first place from `from` on of a message whose serial is not below this one; the end, where
 /// there is none.
-pub(crate) fn place_from(page: &[Message], from: usize, serial: u64) -> usize
+fn place_from(page: &[Message], from: usize, serial: u64) -> usize
     ensures { IsPlaceFrom (serials_of page.now) from serial result }
 {
     for place in from..page.len() {
@@ -38,50 +60,46 @@ pub(crate) fn place_from(page: &[Message], from: usize, serial: u64) -> usize
     page.len()
 }
 
-/// Gives a recipient to the message, if it has this serial.
-fn deal_one(
+/// Gives what a row has to the message, if it has this serial.
+fn deal_one<P: Part>(
     alloc: Global,
     message: &mut Message,
     serial: u64,
-    recipient: Pending,
+    row: &Row,
 ) -> Result<(), Error>
-    ensures { OnOk result (message.new ≡ dealt_one serial recipient message.old) }
+    ensures { OnOk result (message.new ≡ dealt_one serial (P.given row.now) message.old) }
 {
     if message.serial.get() == serial {
-        let none = Items::from_vec(Vec::new(alloc));
-        let mut pending = mem::replace(&mut message.pending, none).into_vec();
-        pending.push(recipient)?;
-        message.pending = Items::from_vec(pending);
+        P::give(alloc, row, message)?;
     }
     Ok(())
 }
 
-/// Gives a recipient to the message at a place of the page, if it has this serial.
-fn deal_at(
+/// Gives what a row has to the message at a place of the page, if it has this serial.
+fn deal_at<P: Part>(
     alloc: Global,
     page: &mut Vec<Message>,
     place: usize,
     serial: u64,
-    recipient: Pending,
+    row: &Row,
 ) -> Result<(), Error>
     ensures { OnOk result
-        (page.new.items ≡ at_place (dealt_one serial recipient) page.old.items place) }
+        (page.new.items ≡ at_place (dealt_one serial (P.given row.now)) page.old.items place) }
 {
     if place < page.len() {
-        deal_one(alloc, &mut page[place], serial, recipient)?;
+        deal_one::<P>(alloc, &mut page[place], serial, row)?;
     }
     Ok(())
 }
 
-impl Taker for Dealing {
+impl<P: Part> Taker for Dealing<P> {
     ghost takes = { λ before row after.
-        Deals before.page.items before.place row after.page.items after.place };
+        Deals P.given before.page.items before.place row after.page.items after.place };
 
     fn take(&mut self, row: &Row) -> Result<(), Error> {
         let serial = read::number(row, 1)?;
-        let recipient = places::recipient(self.alloc, row)?;
         self.place = place_from(self.page.as_slice(), self.place, serial);
-        deal_at(self.alloc, &mut self.page, self.place, serial, recipient)?;
+        deal_at::<P>(self.alloc, &mut self.page, self.place, serial, row)?;
         Ok(())
     }
 }
@@ -97,33 +115,30 @@ pub(crate) fn ends(page: &[Message]) -> Option<(Serial, Serial)>
     }
 }
 
-/// Deals their recipients to messages of the customer, which stand in the order of their serials,
-/// from `low` to `high`: behind those that they have, in the order of their places.
-pub(crate) fn all<S: Alter>(
+/// Deals the rows of a query on the customer's messages from `low` to `high` to those of a page.
+pub(crate) fn deal<S: Alter, P: Part>(
     alloc: Global,
     conn: &mut Connection<S>,
+    sql: &str,
     customer: &Name,
     low: Serial,
     high: Serial,
     page: Vec<Message>,
 ) -> Result<Vec<Message>, Error>
-    ensures found { Spans page.items low high → Rise (serials_of page.items)
-        → Shows (state S.Store conn.old) (state S.Store conn.new) result
-        (λ dealt. dealt.items) (λ t. map (with_dealt customer.now t) page.items) }
-    ensures kept { Intact (state S.Store conn.old) (state S.Store conn.new) result }
+    ensures found { IsQuery sql.now → HasCleanDisk (state S.Store conn.new)
+        → IsDesk (state S.Store conn.old).now → IfOk result (λ dealt. DealsAll P.given sql.now
+        (between_columns customer.now low high) (state S.Store conn.old) (state S.Store conn.new)
+        page.items dealt.items) }
+    ensures kept { IsQuery sql.now
+        → Intact (state S.Store conn.old) (state S.Store conn.new) result }
 {
     let params = bind::between(customer, low, high);
-    let dealing = Dealing {
+    let dealing = Dealing::<P> {
         alloc,
         page,
         place: 0,
+        part: PhantomData,
     };
-    let dealt = lent::walk(
-        conn,
-        "SELECT customer, serial, place, address, status, reason FROM recipients \
-         WHERE customer = ?1 AND serial >= ?2 AND serial <= ?3 ORDER BY customer, serial, place",
-        &params,
-        dealing,
-    )?;
+    let dealt = lent::walk(conn, sql, &params, dealing)?;
     Ok(dealt.page)
 }

@@ -3,5 +3,5 @@
 #![tactic(auto)]
 
 mod dealing;
-mod giving;
+mod page_parts;
 pub mod queued;

@@ -9,9 +9,9 @@ ghost use Rattle.hq_sql.specs.Rows.{message_shown};
 ghost use Rattle.hq_sql.specs.Kept.{Yields, Shows, Intact};
 ghost use Rattle.hq_sql_queue.specs.Queued.{whole};
 ghost use Rattle.hq_sql_queue.specs.Dealt.{Spans, Rise, serials_of};
-ghost use Rattle.hq_sql_queue.specs.Giving.{with_parts};
+ghost use Rattle.hq_sql_queue.specs.Parts.{with_parts};
 
-use crate::{dealing, giving};
+use crate::{dealing, page_parts};
 use hq_kept::{Message, Pending};
 use hq_sql_messages::{holds, message_rows, messages};
 use hq_sql_recipients::recipients;
@@ -130,8 +130,8 @@ fn filled<S: Alter>(
         (λ filled. filled.items) (λ t. map (with_parts customer.now t) page.items) }
     ensures kept { Intact (state S.Store conn.old) (state S.Store conn.new) result }
 {
-    let dealt = dealing::all(alloc, conn, customer, low, high, page)?;
-    let given = giving::reasons(alloc, conn, customer, low, high, dealt)?;
+    let dealt = page_parts::recipients(alloc, conn, customer, low, high, page)?;
+    let given = page_parts::reasons(alloc, conn, customer, low, high, dealt)?;
     Ok(given)
 }
 

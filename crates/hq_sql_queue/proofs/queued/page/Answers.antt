@@ -3,9 +3,9 @@ use Rattle.sqlite.specs.Held.{state}
 use Rattle.hq_kept.specs.declared.message.Message.{Message}
 use Rattle.hq_sql.specs.Tables.{tables_in}
 use Rattle.hq_sql_queue.specs.Dealt.{Rise, serials_of}
-use Rattle.hq_sql_queue.specs.Giving.{with_parts}
-use Rattle.hq_sql_queue.proofs.Dealt.{none_dealt, page_rises, spans_same}
-use Rattle.hq_sql_queue.proofs.OnQueued.{page_whole, finds_both, first_found}
+use Rattle.hq_sql_queue.specs.Parts.{with_parts}
+use Rattle.hq_sql_queue.proofs.OnQueued.{none_dealt, page_rises, page_whole, finds_both}
+use Rattle.hq_sql_queue.proofs.OnQueued.{first_found, spans_kept}
 use Rattle.hq_sql_queue.proofs.queued.page.Goals as goal
 
 pub returns-in-None-clause-found : goal.returns-in-None-clause-found
@@ -31,6 +31,7 @@ returns-in_ok-filled-in-Some-clause-found g c clean desk =
     ∙ finds_both old between new _ _ first second
     (λ t. map (with_parts c.args.customer.now t) c.in_ok-page.page.items)
     (λ filled. filled.items) (c.in_ok-filled-in-Some.ensures.found
-    (spans_same _ _ _ _ c.as_slice.ensures.value c.in-Some.ensures.some) rise) clean desk
+    (spans_kept _ _ _ _ (sym (ap serials_of c.as_slice.ensures.value)) c.in-Some.ensures.some)
+    rise) clean desk
     ∙ ap (map (with_parts c.args.customer.now t)) bare
     ∙ page_whole c.args.customer.now t c.args.after c.args.limit
