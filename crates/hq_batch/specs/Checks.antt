@@ -8,7 +8,8 @@ use Rattle.hq_values.specs.declared.failure.Refusal.{Refusal}
 use Rattle.hq_values.specs.Words.{host_in}
 use Rattle.hq_import.specs.Directories.{customers_in}
 use Rattle.hq_rules.specs.declared.render.Rendered.{Rendered}
-use Rattle.hq_settings.specs.Settings.{Named, settings_of}
+use Rattle.hq_kept.specs.declared.account.Customer.{Customer}
+use Rattle.hq_settings.specs.Settings.{Named, settings_with}
 use Rattle.hq_words.specs.Given.{CheckGiven, KeyGiven}
 use Rattle.hq_batch.specs.Printing.{IsPrinted}
 use Rattle.hq_settings.specs.declared.trouble.Trouble.{Trouble}
@@ -21,14 +22,16 @@ abbrev pub HasRelay : List ℕ → Option KeyGiven → Result (Option Named) Tro
 HasRelay host (Some key) = Then (NamesRelay host key) (λ relay found. found ≡ Ok (Some relay))
 HasRelay host None = Then (IsRead (host_in host)) (λ name found. found ≡ Ok None)
 
+-- how many of these customers a start would serve: 57 where the relay's key is a customer's
+abbrev pub count_of : Option Named → List Customer → Result ℕ Refusal
+count_of (Some relay) customers = do
+  set ← settings_with relay customers
+  Ok (length set.customers)
+count_of None customers = Ok (length customers)
+
 -- how many customers a start would serve, or the refusal of their directory
 abbrev pub count_in : Option Named → List ℕ → Result ℕ Refusal
-count_in (Some relay) file = do
-  set ← settings_of relay file
-  Ok (length set.customers)
-count_in None file = do
-  customers ← customers_in file
-  Ok (length customers)
+count_in relay file = customers_in file >>= count_of relay
 
 -- that many, on a line
 unfoldable pub count_line : ℕ → List ℕ

@@ -1,17 +1,21 @@
 //! What is read and checked, and what is told of it.
 
-ghost use Rattle.std.specs.Prelude.{◌≡◌, None, option_map};
+ghost use Rattle.std.specs.Prelude.{◌≡◌, ℕ, List, None, IfOk, IsTrue, option_map};
 ghost use Rattle.hq_values.specs.Readers.{Reads, seen_by};
+ghost use Rattle.hq_kept.specs.Customers.{are_customers};
+ghost use Rattle.hq_import.specs.Directories.{directory_in};
+ghost use Rattle.hq_import.specs.Refused.{ReadsDirectory};
 ghost use Rattle.hq_settings.specs.Seen.{relay_seen};
 ghost use Rattle.hq_words.specs.Asked.{check_of};
 ghost use Rattle.hq_batch.specs.Checks.{HasRelay, CheckEnds, Checks, FileEnds, IsCountTold};
-ghost use Rattle.hq_batch.specs.Checks.{count_in};
+ghost use Rattle.hq_batch.specs.Checks.{count_of, count_in};
 
 use crate::print;
-use hq_import::directory_of;
+use hq_import::{DirectoryFail, DirectoryRefusal, read_directory};
+use hq_kept::Customer;
 use hq_rules::Rendered;
-use hq_settings::{Relay, Settings, Trouble, file_of, relay_of, wrong_in};
-use hq_values::{Fail, Fault, Host, Refusal};
+use hq_settings::{Relay, Settings, Trouble, file_of, relay_of};
+use hq_values::{Fail, Fault, Host};
 use hq_words::Check;
 use std::alloc::Global;
 use std::fmt::Write as WriteText;
@@ -36,19 +40,32 @@ fn relay_given(rt: &HostRuntime, given: &Check) -> Result<Option<Relay>, Trouble
     }
 }
 
-/// How many customers a start would serve.
-fn count_in(alloc: Global, relay: Option<Relay>, file: &[u8]) -> Result<usize, Fail>
-    ensures { Reads result (count_in (option_map relay_seen relay) file.now) }
+/// How many of these customers a start would serve.
+fn count_of(alloc: Global, relay: Option<Relay>, customers: Vec<Customer>) -> Result<usize, Fail>
+    requires { IsTrue (are_customers customers.items) }
+    ensures { Reads result (count_of (option_map relay_seen relay) customers.items) }
 {
     match relay {
-        Some(relay) => Ok(
-            Settings::new(alloc, relay, file)?
-                .directory
-                .customers()
-                .len(),
-        ),
-        None => Ok(directory_of(alloc, file)?.len()),
+        Some(relay) => {
+            let settings = Settings::with_customers(alloc, relay, customers)?;
+            Ok(settings.directory.customers().len())
+        }
+        None => Ok(customers.len()),
     }
+}
+
+/// How many customers of a directory a start would serve.
+fn count_in(
+    alloc: Global,
+    relay: Option<Relay>,
+    read: Result<Vec<Customer>, DirectoryFail>,
+) -> Result<usize, Fail>
+    requires { IfOk read (λ customers. IsTrue (are_customers customers.items)) }
+    ensures { (file : List ℕ) → ReadsDirectory (seen_by (λ v. v.items) read) (directory_in file)
+        → Reads result (count_in (option_map relay_seen relay) file) }
+{
+    let customers = read?;
+    count_of(alloc, relay, customers)
 }
 
 /// That many, on a line.
@@ -70,32 +87,25 @@ fn count_told(alloc: Global, count: usize) -> Result<Rendered, Trouble>
     }
 }
 
-/// What is told of a directory.
-fn file_told(alloc: Global, relay: Option<Relay>, file: &[u8]) -> Result<Rendered, Trouble>
-    ensures { FileEnds (option_map relay_seen relay) file.now result }
+/// The line that a check prints of a directory, or its trouble.
+fn told_of(
+    alloc: Global,
+    relay: Option<Relay>,
+    read: Result<Vec<Customer>, DirectoryFail>,
+) -> Result<Rendered, Trouble>
+    requires { IfOk read (λ customers. IsTrue (are_customers customers.items)) }
+    ensures { (file : List ℕ) → ReadsDirectory (seen_by (λ v. v.items) read) (directory_in file)
+        → FileEnds (option_map relay_seen relay) file result }
 {
-    let count = count_in(alloc, relay, file)?;
+    let count = count_in(alloc, relay, read)?;
     count_told(alloc, count)
 }
 
-/// The row of a directory for which it was refused, and the refusal.
-fn row_refused(done: &Result<Rendered, Trouble>) -> Option<(u32, Refusal)> {
-    let Err(Trouble::Desk(Fail::Refused(refusal))) = done else {
-        return None;
-    };
-    match *refusal {
-        Refusal::BadDirectory { row }
-        | Refusal::DoubledName { row }
-        | Refusal::DoubledKey { row } => Some((row, *refusal)),
+/// Where a directory is wrong, and what is wrong there, if it is refused.
+fn refusal_in(read: &Result<Vec<Customer>, DirectoryFail>) -> Option<DirectoryRefusal> {
+    match read {
+        Err(DirectoryFail::Refused(refusal)) => Some(*refusal),
         _ => None,
-    }
-}
-
-/// Tells what is wrong in a row of a directory that was refused. Where that cannot be told, the
-/// refusal was.
-fn tell_wrong<E: Write>(alloc: Global, file: &[u8], row: u32, refusal: Refusal, errors: &mut E) {
-    if let Ok(Some(wrong)) = wrong_in(alloc, file, refusal) {
-        let _told = writeln!(errors, "hq: row {row}{wrong}");
     }
 }
 
@@ -110,11 +120,11 @@ fn print_file<W: Write, E: Write>(
     ensures { Checks (FileEnds (option_map relay_seen relay) file.now) (output.new ≡ output.old)
         (W.contents output.old) (W.contents output.new) result }
 {
-    let done = file_told(alloc, relay, file);
-    let refused = row_refused(&done);
-    let status = print(done, output, errors);
-    if let Some((row, refusal)) = refused {
-        tell_wrong(alloc, file, row, refusal, errors);
+    let read = read_directory(alloc, file);
+    let refusal = refusal_in(&read);
+    let status = print(told_of(alloc, relay, read), output, errors);
+    if let Some(refusal) = refusal {
+        let _told = writeln!(errors, "hq: row {}{}", refusal.row, refusal.wrong);
     }
     status
 }

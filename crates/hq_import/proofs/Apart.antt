@@ -4,19 +4,20 @@ use Rattle.std.proofs.Common.{Err, IfOk, IsTrue, Vec, Global, refl, sym, subst}
 use Rattle.std.specs.List.{list_any}
 use Rattle.std.proofs.lemmas.Bool.{and_parts, or_parts}
 use Rattle.std.proofs.lemmas.List.Recursion.{or_push}
-use Rattle.hq_values.specs.Readers.{◌>>=◌, guard, Reads, seen_by}
-use Rattle.hq_values.specs.declared.failure.Fail.{Fail}
-use Rattle.hq_values.specs.declared.failure.Refusal.{Refusal}
+use Rattle.hq_values.specs.Readers.{◌>>=◌, guard, seen_by}
 use Rattle.hq_kept.specs.declared.account.Customer.{Customer}
 use Rattle.hq_kept.specs.Customers.{is_same_text, names_apart, keys_apart, are_customers}
 use Rattle.hq_import.specs.Directories.{is_name_taken, is_taken, next_customer, customers_under}
+use Rattle.hq_import.specs.Refused.{ReadsDirectory}
+use Rattle.hq_import.specs.declared.refused.DirectoryFail.{DirectoryFail}
+use Rattle.hq_import.specs.declared.refused.DirectoryRefusal.{DirectoryRefusal}
 use Rattle.hq_import.proofs.Seeing.{same_either_way}
 
-pub err_ok : {A : Type 0} (r : Refusal) (a : A) → ◌≡◌ {A = Result A Refusal} (Err r) (Ok a) → ⊥
+pub err_ok : {A E : Type 0} (r : E) (a : A) → ◌≡◌ {A = Result A E} (Err r) (Ok a) → ⊥
 err_ok r a e = cc
 
-pub same_ok : {A : Type 0} (a b : A) → ◌≡◌ {A = Result A Refusal} (Ok a) (Ok b) → a ≡ b
-same_ok a b e = cc
+pub same_ok : {A : Type 0} (E : Type 0) (a b : A) → ◌≡◌ {A = Result A E} (Ok a) (Ok b) → a ≡ b
+same_ok E a b e = cc
 
 pub none : (a : Bool) → not a ≡ true → a ≡ false
 none true h = sym h
@@ -62,15 +63,15 @@ customers_push cs c h named taken =
     ) refl
 
 -- where both tests pass, neither name nor key is doubled
-passed_both : (named taken : Bool) (two three : Refusal) (customer c : Customer) →
+passed_both : (named taken : Bool) (two three : DirectoryRefusal) (customer c : Customer) →
     (guard (not named) two >>= (λ _. guard (not taken) three >>= (λ _. Ok customer))) ≡ Ok c →
     (named ≡ false) × (taken ≡ false) × (customer ≡ c)
 passed_both true taken two three customer c h = absurd (err_ok two c h)
 passed_both false true two three customer c h = absurd (err_ok three c h)
-passed_both false false two three customer c h = (refl, refl, same_ok customer c h)
+passed_both false false two three customer c h = (refl, refl, same_ok DirectoryRefusal customer c h)
 
-accepted : (earlier : List Customer) (few : Bool) (one two three : Refusal)
-    (read : Result Customer Refusal) (c : Customer)
+accepted : (earlier : List Customer) (few : Bool) (one two three : DirectoryRefusal)
+    (read : Result Customer DirectoryRefusal) (c : Customer)
     → (guard few one >>= (λ _. read >>=
     (λ customer. guard (not (is_name_taken earlier customer.entry.name)) two >>=
     (λ _. guard (not (is_taken earlier customer.key)) three >>= (λ _. Ok customer))))) ≡ Ok c
@@ -97,13 +98,13 @@ pub under_apart : (columns : ℕ) (rows : List (List (List ℕ))) (earlier cs : 
     are_customers cs ≡ true
 unfolding customers_under
 under_apart columns [] earlier cs h read =
-    subst (λ xs. are_customers xs ≡ true) (same_ok earlier cs read) h
+    subst (λ xs. are_customers xs ≡ true) (same_ok DirectoryRefusal earlier cs read) h
 under_apart columns (row ∷ rows) earlier cs h read =
     by (λ c. under_apart columns rows (earlier ++ c ∷ []) cs)
     (next_customer columns earlier row) refl read where
       by : ((c : Customer) → are_customers (earlier ++ c ∷ []) ≡ true →
           customers_under columns (earlier ++ c ∷ []) rows ≡ Ok cs → are_customers cs ≡ true)
-          → (o : Result Customer Refusal) → next_customer columns earlier row ≡ o →
+          → (o : Result Customer DirectoryRefusal) → next_customer columns earlier row ≡ o →
           (o >>= (λ customer. customers_under columns (earlier ++ customer ∷ []) rows)) ≡ Ok cs →
           are_customers cs ≡ true
       by further (Err e) f g = absurd (err_ok e cs g)
@@ -112,9 +113,9 @@ under_apart columns (row ∷ rows) earlier cs h read =
           further c (customers_push earlier c h new.0 new.1) g
 
 -- what was read of them
-pub read_apart : (columns : ℕ) (result : Result (Vec Customer Global) Fail)
+pub read_apart : (columns : ℕ) (result : Result (Vec Customer Global) DirectoryFail)
     (rows : List (List (List ℕ))) →
-    Reads (seen_by (λ v. v.items) result) (customers_under columns [] rows) →
+    ReadsDirectory (seen_by (λ v. v.items) result) (customers_under columns [] rows) →
     IfOk result (λ v. IsTrue (are_customers v.items))
 read_apart columns (Ok v) rows read = under_apart columns rows [] v.items refl read
 read_apart columns (Err e) rows read = tt

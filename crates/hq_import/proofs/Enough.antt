@@ -8,10 +8,12 @@ use Rattle.std.proofs.lemmas.List.{length-append}
 use Rattle.std.proofs.lemmas.Bool.Decides.{nat_tests}
 use Rattle.hq_values.specs.Readers.{◌>>=◌, checked, guard}
 use Rattle.hq_values.specs.declared.failure.Refusal.{Refusal}
-use Rattle.hq_values.specs.declared.failure.Refusal.TheVariants.{BadCsv, BadDirectory}
+use Rattle.hq_values.specs.declared.failure.Refusal.TheVariants.{BadCsv}
 use Rattle.hq_kept.specs.declared.account.Customer.{Customer}
-use Rattle.hq_import.specs.Directories.{next_customer, customers_under, customers_in}
+use Rattle.hq_import.specs.Directories.{wrong_at, next_customer, customers_under, directory_in}
 use Rattle.hq_import.specs.Directories.{listed_customers, is_directory_header}
+use Rattle.hq_import.specs.declared.refused.DirectoryRefusal.{DirectoryRefusal}
+use Rattle.hq_import.specs.declared.refused.Wrong.TheVariants.{TooLong, NoRow, Header, TooMany}
 use Rattle.hq_import.specs.First.{first_lines, first_customers}
 use Rattle.hq_rules.specs.Records.{records_in, is_header, under_header}
 use Rattle.hq_rules.specs.TableFiles.{next_line, lines_under, table_lines, table_header}
@@ -20,34 +22,34 @@ abbrev Row : Type 0
 Row = List (List ℕ)
 
 -- values that rows hold, one after another; the first that is refused ends it
-abbrev values_under : {A : Type 0} → (List A → Row → Result A Refusal) → List A → List Row →
-    Result (List A) Refusal
+abbrev values_under : {A E : Type 0} → (List A → Row → Result A E) → List A → List Row →
+    Result (List A) E
 values_under next earlier [] = Ok earlier
 values_under next earlier (row ∷ rows) = next earlier row >>=
     (λ value. values_under next (earlier ++ value ∷ []) rows)
 
 -- behind 1,000 values the next row is refused
-abbrev Stops : {A : Type 0} → (List A → Row → Result A Refusal) → Type 0
-Stops {A} next = (earlier : List A) (row : Row) → 1000 ≤ length earlier → (bad : Refusal)
+abbrev Stops : {A E : Type 0} → (List A → Row → Result A E) → Type 0
+Stops {A} {E} next = (earlier : List A) (row : Row) → 1000 ≤ length earlier → (bad : E)
     × (next earlier row ≡ Err bad)
 
-ok_err : {A : Type 0} (a : A) (r : Refusal) → ◌≡◌ {A = Result A Refusal} (Ok a) (Err r) → ⊥
+ok_err : {A E : Type 0} (a : A) (r : E) → ◌≡◌ {A = Result A E} (Ok a) (Err r) → ⊥
 ok_err a r e = cc
 
-enough : {A : Type 0} (next : List A → Row → Result A Refusal) → Stops next →
+enough : {A E : Type 0} (next : List A → Row → Result A E) → Stops next →
     (rows : List Row) (n : ℕ) (earlier : List A) → length earlier + n ≡ 1001 → length earlier ≤ 1000
     → values_under next earlier (take n rows) ≡ values_under next earlier rows
 enough next stops [] zero earlier all few = refl
 enough next stops [] (suc n) earlier all few = refl
 enough next stops (row ∷ rows) zero earlier all few = absurd (omega arith)
-enough {A} next stops (row ∷ rows) (suc n) earlier all few =
+enough {A} {E} next stops (row ∷ rows) (suc n) earlier all few =
     by (λ value. enough next stops rows n (earlier ++ value ∷ [])) (next earlier row) refl
   where
     by : ((value : A) → length (earlier ++ value ∷ []) + n ≡ 1001 →
         length (earlier ++ value ∷ []) ≤ 1000 →
         values_under next (earlier ++ value ∷ []) (take n rows) ≡ values_under next (earlier
         ++ value ∷ []) rows)
-        → (o : Result A Refusal) → next earlier row ≡ o
+        → (o : Result A E) → next earlier row ≡ o
         → (o >>= (λ value. values_under next (earlier ++ value ∷ []) (take n rows))) ≡
         (o >>= (λ value. values_under next (earlier ++ value ∷ []) rows))
     by further (Err e) f = refl
@@ -57,7 +59,7 @@ enough {A} next stops (row ∷ rows) (suc n) earlier all few =
         let longer = length-append earlier (value ∷ []) in
         further value (omega arith) (omega arith)
 
-refused_first : {A : Type 0} (few : Bool) (bad : Refusal) (rest : ⊤ → Result A Refusal) →
+refused_first : {A E : Type 0} (few : Bool) (bad : E) (rest : ⊤ → Result A E) →
     few ≡ false → (guard few bad >>= rest) ≡ Err bad
 refused_first true bad rest h = absurd (no h) where
   no : true ≡ false → ⊥
@@ -78,8 +80,8 @@ lines_stop earlier row many = (
 customers_stop : (columns : ℕ) → Stops (next_customer columns)
 unfolding next_customer
 customers_stop columns earlier row many = (
-  BadDirectory (length earlier + 1),
-  refused_first (nat_le (length earlier + 1) 1000) (BadDirectory (length earlier + 1)) _
+  wrong_at (length earlier + 1) TooMany,
+  refused_first (nat_le (length earlier + 1) 1000) (wrong_at (length earlier + 1) TooMany) _
       (one_too_many (length earlier) many),
 )
 
@@ -108,39 +110,36 @@ positive : (n : ℕ) → nat_lt 0 (suc n) ≡ true
 positive n = grind (arith, nat_tests)
 
 -- the rows of a directory, of which there is at least one
-abbrev some_under : ℕ → List Row → Result (List Customer) Refusal
-some_under columns rows = guard (nat_lt 0 (length rows)) (BadDirectory 0) >>=
-    (λ some. customers_under columns [] rows)
+abbrev some_under : Bool → ℕ → List Row → Result (List Customer) DirectoryRefusal
+some_under known columns rows = guard (nat_lt 0 (length rows)) (wrong_at 0 NoRow) >>=
+    (λ some. guard known (wrong_at 0 Header) >>= (λ known. customers_under columns [] rows))
 
-some_enough : (columns : ℕ) (rows : List Row) →
-    some_under columns (take 1001 rows) ≡ some_under columns rows
+some_enough : (known : Bool) (columns : ℕ) (rows : List Row) →
+    some_under known columns (take 1001 rows) ≡ some_under known columns rows
 unfolding customers_under
-some_enough columns [] = refl
-some_enough columns (row ∷ rows) =
-    ap (λ b. guard b (BadDirectory 0) >>= (λ some. customers_under columns []
+some_enough known columns [] = refl
+some_enough false columns (row ∷ rows) =
+    ap (λ b. guard b (wrong_at 0 NoRow) >>= (λ some. Err (wrong_at 0 Header)))
+    (positive (length (take 1000 rows)) ∙ sym (positive (length rows)))
+some_enough true columns (row ∷ rows) =
+    ap (λ b. guard b (wrong_at 0 NoRow) >>= (λ some. customers_under columns []
     (take 1001 (row ∷ rows)))) (positive (length (take 1000 rows)))
     ∙ enough (next_customer columns) (customers_stop columns) (row ∷ rows) 1001 [] refl (lit≤ tt)
-    ∙ ap (λ b. guard b (BadDirectory 0) >>= (λ some. customers_under columns [] (row ∷ rows)))
+    ∙ ap (λ b. guard b (wrong_at 0 NoRow) >>= (λ some. customers_under columns [] (row ∷ rows)))
     (sym (positive (length rows)))
 
 records_enough : (records : List Row) →
     listed_customers (take 1002 records) ≡ listed_customers records
 unfolding listed_customers
 records_enough [] = refl
-records_enough (header ∷ rows) = chosen (is_directory_header header)
-  where
-    chosen : (b : Bool) →
-        (guard b (BadDirectory 0) >>= (λ known. some_under (length header) (take 1001 rows))) ≡
-        (guard b (BadDirectory 0) >>= (λ known. some_under (length header) rows))
-    chosen true = some_enough (length header) rows
-    chosen false = refl
+records_enough (header ∷ rows) = some_enough (is_directory_header header) (length header) rows
 
-pub customers_enough : (file : List ℕ) → first_customers file ≡ customers_in file
-unfolding first_customers customers_in
+pub customers_enough : (file : List ℕ) → first_customers file ≡ directory_in file
+unfolding first_customers directory_in
 customers_enough file = fitting (nat_le (length file) 262144)
   where
     fitting : (b : Bool) →
-        (checked (take 1002 (records_in file)) b (BadDirectory 0) >>= listed_customers) ≡
-        (checked (records_in file) b (BadDirectory 0) >>= listed_customers)
+        (checked (take 1002 (records_in file)) b (wrong_at 0 TooLong) >>= listed_customers) ≡
+        (checked (records_in file) b (wrong_at 0 TooLong) >>= listed_customers)
     fitting true = records_enough (records_in file)
     fitting false = refl

@@ -42,7 +42,7 @@ accepted earlier true one two (Ok l) line h = told (is_repeated_line earlier l) 
         ≡ Ok line →
         is_repeated_line earlier line ≡ false
     told true f g = absurd (err_ok two line g)
-    told false f g = subst (λ x. is_repeated_line earlier x ≡ false) (same_ok l line g) f
+    told false f g = subst (λ x. is_repeated_line earlier x ≡ false) (same_ok Refusal l line g) f
 
 new_line : (earlier : List Line) (row : List (List ℕ)) (line : Line) →
     next_line earlier row ≡ Ok line → is_repeated_line earlier line ≡ false
@@ -55,7 +55,7 @@ under_apart : (rows : List (List (List ℕ))) (earlier lines : List Line) →
     patterns_apart lines ≡ true
 unfolding lines_under
 under_apart [] earlier lines h read = subst (λ xs. patterns_apart xs ≡ true)
-    (same_ok earlier lines read) h
+    (same_ok Refusal earlier lines read) h
 under_apart (row ∷ rows) earlier lines h read =
     by (λ line. under_apart rows (earlier ++ line ∷ []) lines) (next_line earlier row) refl read
   where

@@ -1,24 +1,31 @@
 //! The directory as CSV.
 
 ghost use Rattle.std.specs.Prelude.{◌≡◌, ◌<◌, ◌≤◌, [], ◌∷◌, ◌++◌, length, IfOk, IsTrue, OnOk};
-ghost use Rattle.std.specs.Prelude.{map as map_list};
+ghost use Rattle.std.specs.Prelude.{map as map_list, Result, ⊤};
 ghost use Rattle.csv.specs.Records.{fields_of};
-ghost use Rattle.hq_values.specs.Readers.{Reads, seen_by};
-ghost use Rattle.hq_kept.specs.Limits.{is_quota};
+ghost use Rattle.hq_values.specs.Readers.{Reads, ReadsIn, seen_by};
+ghost use Rattle.hq_values.specs.declared.failure.Refusal.{Refusal as AnyRefusal};
 ghost use Rattle.hq_kept.specs.Customers.{are_customers};
+ghost use Rattle.hq_rules.specs.Fields.{refused_as};
 ghost use Rattle.hq_import.specs.First.{first_customers};
 ghost use Rattle.hq_import.specs.Seen.{KnowsNames, KnowsKeys};
-ghost use Rattle.hq_import.specs.Directories.{quota_of, quota_in, limited_entry, customer_in};
+ghost use Rattle.hq_import.specs.Refused.{ReadsDirectory};
+ghost use Rattle.hq_import.specs.Directories.{wrong_at, name_read, key_read, number_read};
+ghost use Rattle.hq_import.specs.Directories.{IsLimited, history_read, quota_read, other_fields};
+ghost use Rattle.hq_import.specs.Directories.{customer_read};
 ghost use Rattle.hq_import.specs.Directories.{next_customer, customers_under, customers_in};
-ghost use Rattle.hq_import.specs.Directories.{listed_customers};
-ghost use Rattle.hq_import.specs.Directories.{history_in, is_directory_header};
+ghost use Rattle.hq_import.specs.Directories.{listed_customers, directory_in};
+ghost use Rattle.hq_import.specs.Directories.{is_directory_header};
+ghost use Rattle.hq_import.specs.declared.columns.Number.TheVariants.{History};
 
-use crate::fields::{number_field, refused_as, text_field};
-use crate::records::{MOST_ROWS, file_records, is_header};
+use crate::columns::{Column, Number};
+use crate::fields::{number_field, text_field};
+use crate::records::{FILE_BYTES, MOST_ROWS, first_records, is_header};
+use crate::refused::{DirectoryFail, DirectoryRefusal, Wrong};
 use crate::seen::Seen;
 use csv::ByteRecord;
 use hq_kept::{Customer, Entry, Quota};
-use hq_values::{Fail, Key, Name, Refusal};
+use hq_values::{Fail, Key, Name};
 use std::alloc::Global;
 
 /// The fields of the header of a directory that keeps no history.
@@ -31,29 +38,81 @@ const HISTORY_HEADER: [&str; 8] = [
     "name", "key", "messages", "bytes", "lines", "notices", "delay", "history",
 ];
 
-/// Whether these numbers are within the limits of a quota.
-fn is_quota(messages: u64, bytes: u64, lines: u64, notices: u64) -> bool
-    ensures { result ≡ is_quota messages bytes lines notices }
+/// What is wrong at a row: at 0 with the header or the whole file.
+fn wrong_at(row: u32, wrong: Wrong) -> DirectoryRefusal
+    ensures { result ≡ wrong_at row wrong }
 {
-    (1..=1000).contains(&messages)
-        && (1..=2_147_483_647_000).contains(&bytes)
-        && (1..=5000).contains(&lines)
-        && (1..=1000).contains(&notices)
+    DirectoryRefusal { row, wrong }
 }
 
-/// The quota of four numbers, where they are within its limits.
-fn quota_of(
-    bad: Refusal,
-    messages: u64,
-    bytes: u64,
-    lines: u64,
-    notices: u64,
-) -> Result<Quota, Refusal>
-    ensures { result ≡ quota_of bad messages bytes lines notices }
+/// A reading of a text, whose refusal is that of its column.
+fn refused_at<T: Drop>(
+    refusal: DirectoryRefusal,
+    reading: Result<T, Fail>,
+) -> Result<T, DirectoryFail>
+    ensures { (read : Result T AnyRefusal) → ReadsIn ⊤ reading read
+        → ReadsDirectory result (refused_as refusal read) }
 {
-    if !is_quota(messages, bytes, lines, notices) {
+    match reading {
+        Ok(value) => Ok(value),
+        Err(Fail::Refused(_)) => Err(DirectoryFail::Refused(refusal)),
+        Err(Fail::Fault(fault)) => Err(DirectoryFail::Fault(fault)),
+    }
+}
+
+/// The name of a row, in its first field.
+#[tactic(auto, unfolding(crate::specs::Directories::name_read))]
+fn name_read(alloc: Global, row: u32, record: &ByteRecord) -> Result<Name, DirectoryFail>
+    ensures { ReadsDirectory result (name_read row (fields_of record.now)) }
+{
+    let bad = wrong_at(row, Wrong::Field(Column::Name));
+    let text = text_field(record, 0).ok_or(bad)?;
+    refused_at(bad, Name::parse(alloc, text))
+}
+
+/// The key of a row, in its second field.
+#[tactic(auto, unfolding(crate::specs::Directories::key_read))]
+fn key_read(alloc: Global, row: u32, record: &ByteRecord) -> Result<Key, DirectoryFail>
+    ensures { ReadsDirectory result (key_read row (fields_of record.now)) }
+{
+    let bad = wrong_at(row, Wrong::Field(Column::Key));
+    let text = text_field(record, 1).ok_or(bad)?;
+    refused_at(bad, Key::parse(alloc, text))
+}
+
+/// The number of a row in a column, within its limits.
+fn number_read(row: u32, record: &ByteRecord, number: Number) -> Result<u64, DirectoryRefusal>
+    ensures { IsLimited number result (number_read row (fields_of record.now) number) }
+{
+    let bad = wrong_at(row, Wrong::Field(Column::Number(number)));
+    let Some(value) = number_field(record, number.place()) else {
+        return Err(bad);
+    };
+    if !number.allows(value) {
         return Err(bad);
     }
+    Ok(value)
+}
+
+/// Of how many recipients a row keeps the history.
+fn history_read(row: u32, record: &ByteRecord) -> Result<u64, DirectoryRefusal>
+    ensures { IsLimited History result (history_read row (fields_of record.now)) }
+{
+    if record.len() == HISTORY_HEADER.len() {
+        number_read(row, record, Number::History)
+    } else {
+        Ok(0)
+    }
+}
+
+/// The quota of a row.
+fn quota_read(row: u32, record: &ByteRecord) -> Result<Quota, DirectoryRefusal>
+    ensures { result ≡ quota_read row (fields_of record.now) }
+{
+    let messages = number_read(row, record, Number::Messages)?;
+    let bytes = number_read(row, record, Number::Bytes)?;
+    let lines = number_read(row, record, Number::Lines)?;
+    let notices = number_read(row, record, Number::Notices)?;
     Ok(Quota {
         messages,
         bytes,
@@ -62,74 +121,40 @@ fn quota_of(
     })
 }
 
-/// The quota of a row.
-#[tactic(auto, unfolding(crate::specs::Directories::quota_in))]
-fn quota_in(bad: Refusal, row: &ByteRecord) -> Result<Quota, Refusal>
-    ensures { result ≡ quota_in bad (fields_of row.now) }
+/// What is told of a row that has not as many fields as its header.
+fn other_fields(columns: usize) -> Wrong
+    ensures { result ≡ other_fields columns }
 {
-    let messages = number_field(row, 2).ok_or(bad)?;
-    let bytes = number_field(row, 3).ok_or(bad)?;
-    let lines = number_field(row, 4).ok_or(bad)?;
-    let notices = number_field(row, 5).ok_or(bad)?;
-    quota_of(bad, messages, bytes, lines, notices)
-}
-
-/// The entry of a customer, where its delay and its history are within the limits.
-fn limited_entry(
-    bad: Refusal,
-    name: Name,
-    quota: Quota,
-    delay: u64,
-    history: u64,
-) -> Result<Entry, Refusal>
-    ensures { result ≡ limited_entry bad name quota delay history }
-{
-    if delay > 431_999 {
-        return Err(bad);
-    }
-    if history > 1_000_000 {
-        return Err(bad);
-    }
-    Ok(Entry {
-        name,
-        quota,
-        delay,
-        history,
-    })
-}
-
-/// Of how many recipients a row keeps the history.
-fn history_in(row: &ByteRecord) -> Option<u64>
-    ensures { result ≡ history_in (fields_of row.now) }
-{
-    if row.len() == HISTORY_HEADER.len() {
-        number_field(row, 7)
+    if columns == HISTORY_HEADER.len() {
+        Wrong::HistoryFields
     } else {
-        Some(0)
+        Wrong::Fields
     }
 }
 
 /// The customer of a row.
-#[tactic(auto, unfolding(crate::specs::Directories::customer_in))]
-fn customer_in(
+fn customer_read(
     alloc: Global,
     columns: usize,
-    bad: Refusal,
-    row: &ByteRecord,
-) -> Result<Customer, Fail>
-    ensures { Reads result (customer_in columns bad (fields_of row.now)) }
+    row: u32,
+    record: &ByteRecord,
+) -> Result<Customer, DirectoryFail>
+    ensures { ReadsDirectory result (customer_read columns row (fields_of record.now)) }
 {
-    if row.len() != columns {
-        return Err(Fail::Refused(bad));
+    if record.len() != columns {
+        return Err(DirectoryFail::Refused(wrong_at(row, other_fields(columns))));
     }
-    let name = text_field(row, 0).ok_or(bad)?;
-    let key = text_field(row, 1).ok_or(bad)?;
-    let name = refused_as(bad, Name::parse(alloc, name))?;
-    let key = refused_as(bad, Key::parse(alloc, key))?;
-    let quota = quota_in(bad, row)?;
-    let delay = number_field(row, 6).ok_or(bad)?;
-    let history = history_in(row).ok_or(bad)?;
-    let entry = limited_entry(bad, name, quota, delay, history)?;
+    let name = name_read(alloc, row, record)?;
+    let key = key_read(alloc, row, record)?;
+    let quota = quota_read(row, record)?;
+    let delay = number_read(row, record, Number::Delay)?;
+    let history = history_read(row, record)?;
+    let entry = Entry {
+        name,
+        quota,
+        delay,
+        history,
+    };
     Ok(Customer { entry, key })
 }
 
@@ -142,31 +167,27 @@ fn next_customer(
     earlier: &[Customer],
     names: &mut Seen,
     keys: &mut Seen,
-    row: &ByteRecord,
-) -> Result<Customer, Fail>
+    record: &ByteRecord,
+) -> Result<Customer, DirectoryFail>
     requires few { length earlier.now ≤ 1000 }
     requires names { KnowsNames names.old earlier.now }
     requires keys { KnowsKeys keys.old earlier.now }
-    ensures customer { Reads result (next_customer columns earlier.now (fields_of row.now)) }
+    ensures customer { ReadsDirectory result
+        (next_customer columns earlier.now (fields_of record.now)) }
     ensures names { IfOk result (λ customer. KnowsNames names.new (earlier.now ++ customer ∷ [])) }
     ensures keys { IfOk result (λ customer. KnowsKeys keys.new (earlier.now ++ customer ∷ [])) }
     ensures few { OnOk result (length earlier.now < 1000) }
 {
-    let row_number = earlier.len() as u32 + 1;
+    let row = earlier.len() as u32 + 1;
     if earlier.len() >= MOST_ROWS {
-        return Err(Fail::Refused(Refusal::BadDirectory { row: row_number }));
+        return Err(DirectoryFail::Refused(wrong_at(row, Wrong::TooMany)));
     }
-    let customer = customer_in(
-        alloc,
-        columns,
-        Refusal::BadDirectory { row: row_number },
-        row,
-    )?;
+    let customer = customer_read(alloc, columns, row, record)?;
     if !names.note(alloc, customer.entry.name.as_str())? {
-        return Err(Fail::Refused(Refusal::DoubledName { row: row_number }));
+        return Err(DirectoryFail::Refused(wrong_at(row, Wrong::DoubledName)));
     }
     if !keys.note(alloc, customer.key.as_str())? {
-        return Err(Fail::Refused(Refusal::DoubledKey { row: row_number }));
+        return Err(DirectoryFail::Refused(wrong_at(row, Wrong::DoubledKey)));
     }
     Ok(customer)
 }
@@ -177,8 +198,8 @@ fn customers_under(
     alloc: Global,
     columns: usize,
     rows: &[ByteRecord],
-) -> Result<Vec<Customer>, Fail>
-    ensures { Reads (seen_by (λ v. v.items) result)
+) -> Result<Vec<Customer>, DirectoryFail>
+    ensures { ReadsDirectory (seen_by (λ v. v.items) result)
         (customers_under columns [] (map_list fields_of rows.now)) }
 {
     let mut names = Seen::new(alloc);
@@ -207,43 +228,58 @@ fn is_directory_header(header: &ByteRecord) -> bool
 
 /// The customers of the rows under a header.
 #[tactic(auto, unfolding(crate::specs::Directories::listed_customers))]
-fn customers_of(alloc: Global, records: &[ByteRecord]) -> Result<Vec<Customer>, Fail>
-    ensures customers { Reads (seen_by (λ v. v.items) result)
+fn customers_of(alloc: Global, records: &[ByteRecord]) -> Result<Vec<Customer>, DirectoryFail>
+    ensures customers { ReadsDirectory (seen_by (λ v. v.items) result)
         (listed_customers (map_list fields_of records.now)) }
     ensures apart { IfOk result (λ v. IsTrue (are_customers v.items)) }
 {
-    let bad = Refusal::BadDirectory { row: 0 };
     let [header, rows @ ..] = records else {
-        return Err(Fail::Refused(bad));
+        return Err(DirectoryFail::Refused(wrong_at(0, Wrong::NoRow)));
     };
-    if !is_directory_header(header) {
-        return Err(Fail::Refused(bad));
-    }
     if rows.is_empty() {
-        return Err(Fail::Refused(bad));
+        return Err(DirectoryFail::Refused(wrong_at(0, Wrong::NoRow)));
+    }
+    if !is_directory_header(header) {
+        return Err(DirectoryFail::Refused(wrong_at(0, Wrong::Header)));
     }
     customers_under(alloc, header.len(), rows)
 }
 
 /// The customers of a directory, from its first records.
 #[tactic(auto, unfolding(crate::specs::First::first_customers))]
-fn first_customers(alloc: Global, file: &[u8]) -> Result<Vec<Customer>, Fail>
-    ensures customers { Reads (seen_by (λ v. v.items) result) (first_customers file.now) }
+fn first_customers(alloc: Global, file: &[u8]) -> Result<Vec<Customer>, DirectoryFail>
+    ensures customers { ReadsDirectory (seen_by (λ v. v.items) result) (first_customers file.now) }
     ensures apart { IfOk result (λ v. IsTrue (are_customers v.items)) }
 {
-    let records = file_records(alloc, Refusal::BadDirectory { row: 0 }, file)?;
+    if file.len() > FILE_BYTES {
+        return Err(DirectoryFail::Refused(wrong_at(0, Wrong::TooLong)));
+    }
+    let records = first_records(alloc, file)?;
     customers_of(alloc, records.as_slice())
 }
 
 /// The customers of a directory, in the order of its rows, under the header
-/// `name,key,messages,bytes,lines,notices,delay`, or that with `history` behind it. Refused at the
-/// first row that is not good: 53 `BadDirectory` (row 0 for the header, the whole file, or a file
-/// without rows); where the row is good, 54 `DoubledName` for a name of an earlier row, or else 55
-/// `DoubledKey` for a key of an earlier row. The only other error is want of memory. No two
-/// customers have the same name or the same key.
+/// `name,key,messages,bytes,lines,notices,delay`, or that with `history` behind it. No two of them
+/// have the same name or the same key.
+///
+/// The first row that is not good refuses the file, and says what is wrong there. In this order: it
+/// stands behind 1,000 rows; it has not as many fields as the header; a field is not as its column
+/// has it, and the first such column is told; its name, or else its key, is that of an earlier row.
+/// Row 0 is the header, the whole file, or a file without rows. The only other error is want of
+/// memory.
+pub fn read_directory(alloc: Global, file: &[u8]) -> Result<Vec<Customer>, DirectoryFail>
+    ensures customers { ReadsDirectory (seen_by (λ v. v.items) result) (directory_in file.now) }
+    ensures apart { IfOk result (λ v. IsTrue (are_customers v.items)) }
+{
+    first_customers(alloc, file)
+}
+
+/// The customers of a directory, as `read_directory` reads them. A refusal is that of the desk: 54
+/// `DoubledName`, 55 `DoubledKey`, or for all else 53 `BadDirectory`, each with its row. The only
+/// other error is want of memory.
 pub fn directory_of(alloc: Global, file: &[u8]) -> Result<Vec<Customer>, Fail>
     ensures customers { Reads (seen_by (λ v. v.items) result) (customers_in file.now) }
     ensures apart { IfOk result (λ v. IsTrue (are_customers v.items)) }
 {
-    first_customers(alloc, file)
+    Ok(read_directory(alloc, file)?)
 }

@@ -2,11 +2,15 @@
 //! whole or refused at its first bad row. What is done with its rows is for the crates above.
 #![tactic(auto)]
 
+mod columns;
 mod directory;
 mod fields;
 mod records;
+mod refused;
 mod seen;
 mod table;
 
-pub use directory::directory_of;
+pub use columns::{Column, Number};
+pub use directory::{directory_of, read_directory};
+pub use refused::{DirectoryFail, DirectoryRefusal, Wrong};
 pub use table::lines_of;

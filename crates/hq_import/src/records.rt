@@ -11,7 +11,7 @@ use hq_values::{Fail, Refusal};
 use std::alloc::{AllocError, Global};
 
 /// The most bytes of a file, a byte order mark among them.
-const FILE_BYTES: usize = 262_144;
+pub(crate) const FILE_BYTES: usize = 262_144;
 
 /// The most rows under the header.
 pub(crate) const MOST_ROWS: usize = 1000;
@@ -20,7 +20,7 @@ pub(crate) const MOST_ROWS: usize = 1000;
 const MOST_RECORDS: usize = MOST_ROWS + 2;
 
 /// The first records of a file.
-fn first_records(alloc: Global, file: &[u8]) -> Result<Vec<ByteRecord>, AllocError>
+pub(crate) fn first_records(alloc: Global, file: &[u8]) -> Result<Vec<ByteRecord>, AllocError>
     ensures { IfOk result (λ records. map_list fields_of records.items
         ≡ take 1002 (records_in file.now)) }
 {

@@ -4,7 +4,6 @@ use Rattle.std.specs.Prelude.{Ok, Err}
 use Rattle.std.specs.Str.{is_utf8}
 use Rattle.csv.specs.Records.{field_at}
 use Rattle.hq_values.specs.Decimals.{number_in}
-use Rattle.hq_values.specs.declared.failure.Refusal.{Refusal}
 use Rattle.hq_rules.specs.Records.{Record}
 
 -- a text is UTF-8
@@ -20,6 +19,6 @@ abbrev pub number_field : ℕ → Record → Option ℕ
 number_field place fields = option_and_then (number_in 13) (field_at fields place)
 
 -- a reading whose refusal is told as that of the row
-abbrev pub refused_as : {A : Type 0} → Refusal → Result A Refusal → Result A Refusal
+abbrev pub refused_as : {A E F : Type 0} → F → Result A E → Result A F
 refused_as bad (Ok value) = Ok value
 refused_as bad (Err refusal) = Err bad

@@ -31,7 +31,7 @@ abbrev pub records_in : List ℕ → List Record
 records_in file = records_from StartRecord [] [] (strip_bom file)
 
 -- the records of a file of at most 262,144 bytes, a byte order mark among them
-abbrev pub file_records : Refusal → List ℕ → Result (List Record) Refusal
+abbrev pub file_records : {E : Type 0} → E → List ℕ → Result (List Record) E
 file_records bad file = checked (records_in file) (nat_le (length file) most_bytes) bad
 
 -- the header has these fields, byte for byte

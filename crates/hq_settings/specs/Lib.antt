@@ -1,6 +1,4 @@
 pub mod Troubles
-pub mod Columns
-pub mod Wrongs
 pub mod Seen
 pub mod Settings
 pub mod SettingUp

@@ -32,10 +32,12 @@ relay_in host_text key_text = do
   key ← relay_key_in key_text
   Ok (record { host = host; key = key })
 
--- a relay with the customers of a directory: the first fault of the file, or else 57 where its key
--- is a customer's
-abbrev pub settings_of : Named → List ℕ → Result Set Refusal
-settings_of relay file = do
-  customers ← customers_in file
+-- a relay with these customers: 57 where its key is a customer's
+abbrev pub settings_with : Named → List Customer → Result Set Refusal
+settings_with relay customers = do
   own ← guard (not (list_any (has_key relay.key) customers)) BadRelayKey
   Ok (record { relay = relay; customers = customers })
+
+-- a relay with the customers of a directory: the first fault of the file, or else 57
+abbrev pub settings_of : Named → List ℕ → Result Set Refusal
+settings_of relay file = customers_in file >>= settings_with relay

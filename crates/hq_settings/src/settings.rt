@@ -2,6 +2,7 @@
 
 use crate::relay::Relay;
 use hq_import::directory_of;
+use hq_kept::Customer;
 use hq_requests::Directory;
 use hq_values::{Fail, Host};
 use std::alloc::Global;
@@ -16,21 +17,38 @@ pub struct Settings {
 }
 
 impl Settings {
+    ghost use Rattle.std.specs.Prelude.{IsTrue};
     ghost use Rattle.hq_values.specs.Readers.{Reads, seen_by};
+    ghost use Rattle.hq_kept.specs.Customers.{are_customers};
     ghost use Rattle.hq_settings.specs.Seen.{relay_seen, settings_seen};
-    ghost use Rattle.hq_settings.specs.Settings.{settings_of};
+    ghost use Rattle.hq_settings.specs.Settings.{settings_with, settings_of};
 
-    /// The relay with the customers of a directory, a CSV file. Refused at the file's first fault,
-    /// as 53 `BadDirectory`, 54 `DoubledName` or 55 `DoubledKey`; where it is good, as 57
+    /// The relay with these customers, whose names and keys are pairwise different. Refused as 57
     /// `BadRelayKey` if the relay's key is a customer's. The only other error is want of memory.
-    pub fn new(alloc: Global, relay: Relay, file: &[u8]) -> Result<Settings, Fail>
-        ensures { Reads (seen_by settings_seen result) (settings_of (relay_seen relay) file.now) }
+    pub fn with_customers(
+        alloc: Global,
+        relay: Relay,
+        customers: Vec<Customer>,
+    ) -> Result<Settings, Fail>
+        requires { IsTrue (are_customers customers.items) }
+        ensures { Reads (seen_by settings_seen result)
+            (settings_with (relay_seen relay) customers.items) }
     {
-        let customers = directory_of(alloc, file)?;
         let directory = Directory::new(alloc, relay.key, customers)?;
         Ok(Settings {
             host: relay.host,
             directory,
         })
+    }
+
+    /// The relay with the customers of a directory, a CSV file. The file's first fault refuses it:
+    /// 53 `BadDirectory`, 54 `DoubledName` or 55 `DoubledKey`. Where the file is good, 57
+    /// `BadRelayKey` does, if the relay's key is a customer's. The only other error is want of
+    /// memory.
+    pub fn new(alloc: Global, relay: Relay, file: &[u8]) -> Result<Settings, Fail>
+        ensures { Reads (seen_by settings_seen result) (settings_of (relay_seen relay) file.now) }
+    {
+        let customers = directory_of(alloc, file)?;
+        Settings::with_customers(alloc, relay, customers)
     }
 }

@@ -1,13 +1,17 @@
 use Rattle.std.proofs.Common.{rules, Ok, Err}
 use Rattle.hq_settings.specs.declared.trouble.Trouble.TheVariants.{Desk}
-use Rattle.hq_batch.proofs.checking.file_told.Goals as goal
+use Rattle.hq_batch.proofs.checking.told_of.Goals as goal
 
 pub returns-in_err-count : goal.returns-in_err-count
-returns-in_err-count c = (
+returns-in_err-count c file read = (
   Err (Desk c.in_err-count.field-0.0),
-  c.in_err-count.ensures,
+  c.in_err-count.ensures file read,
   search rules,
 )
 
 pub returns : goal.returns
-returns c = (Ok c.in_ok-count.count, c.in_ok-count.ensures, c.count_told.ensures)
+returns c file read = (
+  Ok c.in_ok-count.count,
+  c.in_ok-count.ensures file read,
+  c.count_told.ensures,
+)
