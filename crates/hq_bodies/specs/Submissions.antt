@@ -1,6 +1,5 @@
 -- The body of a submission: {"spool", "sender", "recipients", "size"}.
 use Rattle.std.specs.Prelude.{ℕ, List, [], ◌∷◌, IsTrue, Result, Ok, codes, length, map}
-use Rattle.std.specs.Prelude.{string_bytes}
 use Rattle.serde_json.specs.Data.{Data}
 use Rattle.serde_json.specs.Find.{as_object}
 use Rattle.hq_values.specs.Readers.{◌>>=◌, guard, or_refuse, passes}
@@ -95,7 +94,7 @@ read_submission bytes = do
 
 -- the members as the code holds them
 abbrev pub shown_recipients : RecipientTexts → Recipients
-shown_recipients r = record { texts = map string_bytes r.texts.items; number = r.number }
+shown_recipients r = record { texts = map (λ text. text.now) r.texts.items; number = r.number }
 
 abbrev pub shown_size : MessageSize → Size
 shown_size s = record { bytes = s.bytes; limit = s.limit }

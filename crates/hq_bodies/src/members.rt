@@ -1,14 +1,14 @@
 //! The members of a submission as they stand in its body, before their values are read.
 
-ghost use Rattle.std.specs.Prelude.{IsTrue, length, map, string_bytes};
+ghost use Rattle.std.specs.Prelude.{IsTrue, length, map};
 ghost use Rattle.hq_rules.specs.Limits.{is_recipient_count, is_size};
 
-/// The texts of 1 to 100 recipients.
+/// The texts of 1 to 100 recipients, as they stand in the body.
 #[derive(Drop)]
-pub(crate) struct RecipientTexts {
-    pub(crate) texts: Vec<String>,
+pub(crate) struct RecipientTexts<'v> {
+    pub(crate) texts: Vec<&'v str>,
     pub(crate) ghost number: { IsTrue
-        (is_recipient_count (length (map string_bytes texts.items))) },
+        (is_recipient_count (length (map (λ text. text.now) texts.items))) },
 }
 
 /// The size of a message, in bytes.
@@ -23,6 +23,6 @@ pub(crate) struct MessageSize {
 pub(crate) struct SubmissionTexts<'v> {
     pub(crate) spool: &'v str,
     pub(crate) sender: &'v str,
-    pub(crate) recipients: RecipientTexts,
+    pub(crate) recipients: RecipientTexts<'v>,
     pub(crate) size: MessageSize,
 }

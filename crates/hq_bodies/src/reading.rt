@@ -1,7 +1,7 @@
 //! The members of a JSON body.
 
 ghost use Rattle.std.specs.Prelude.{◌≡◌, ◌≤◌, List, ℕ, IfOk, length, bytes_eq, option_map};
-ghost use Rattle.std.specs.Prelude.{option_and_then, map as map_list, string_bytes};
+ghost use Rattle.std.specs.Prelude.{option_and_then, map as map_list};
 ghost use Rattle.std.specs.List.{list_any};
 ghost use Rattle.serde_json.specs.Find.{as_object};
 ghost use Rattle.serde_json.specs.View.{view, members_view, items_view};
@@ -84,8 +84,8 @@ pub(crate) fn has_only_members(value: &Value, names: &[&str]) -> bool
     }
 }
 
-fn texts(alloc: Global, values: &[Value]) -> Result<Vec<String>, Fail>
-    ensures { Reads (seen_by (λ v. map_list string_bytes v.items) result)
+fn texts(alloc: Global, values: &[Value]) -> Result<Vec<&str>, Fail>
+    ensures { Reads (seen_by (λ v. map_list (λ text. text.now) v.items) result)
         (or_refuse BadField (texts_of (items_view values.now))) }
 {
     let mut found = Vec::new(alloc);
@@ -93,14 +93,14 @@ fn texts(alloc: Global, values: &[Value]) -> Result<Vec<String>, Fail>
         let Some(text) = value.as_str() else {
             return Err(Fail::Refused(Refusal::BadField));
         };
-        found.push(String::from_str(alloc, text)?)?;
+        found.push(text)?;
     }
     Ok(found)
 }
 
-/// A member that is a list of texts, or 8 `BadField`.
-pub fn texts_member(alloc: Global, value: &Value, name: &str) -> Result<Vec<String>, Fail>
-    ensures { Reads (seen_by (λ v. map_list string_bytes v.items) result)
+/// A member that is a list of texts, or 8 `BadField`; the texts are lent.
+pub fn texts_member<'v>(alloc: Global, value: &'v Value, name: &str) -> Result<Vec<&'v str>, Fail>
+    ensures { Reads (seen_by (λ v. map_list (λ text. text.now) v.items) result)
         (or_refuse BadField (texts_at name.now (view value.now))) }
 {
     match value.get(name).and_then(Value::as_array) {

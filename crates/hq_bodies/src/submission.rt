@@ -1,6 +1,6 @@
 //! The body of a submission.
 
-ghost use Rattle.std.specs.Prelude.{map as map_list, string_bytes};
+ghost use Rattle.std.specs.Prelude.{map as map_list};
 ghost use Rattle.serde_json.specs.View.{view};
 ghost use Rattle.hq_values.specs.Readers.{Reads, seen_by};
 ghost use Rattle.hq_bodies.specs.Submissions.{recipients_in, size_of, fields_of, addresses_in};
@@ -22,7 +22,7 @@ const MOST_BYTES: u64 = 2_147_483_647;
 
 /// The texts of the recipients, or 8 `BadField`.
 #[tactic(auto, unfolding(crate::specs::Submissions::recipients_in))]
-fn recipients_in(alloc: Global, value: &Value) -> Result<RecipientTexts, Fail>
+fn recipients_in(alloc: Global, value: &Value) -> Result<RecipientTexts<'_>, Fail>
     ensures { Reads (seen_by shown_recipients result) (recipients_in (view value.now)) }
 {
     let texts = texts_member(alloc, value, "recipients")?;
@@ -71,13 +71,13 @@ fn fields_in(alloc: Global, value: &Value) -> Result<SubmissionTexts<'_>, Fail>
 }
 
 /// The addresses of texts, or 20 `BadAddress`.
-fn read_addresses(alloc: Global, texts: &[String]) -> Result<Vec<Address>, Fail>
+fn read_addresses(alloc: Global, texts: &[&str]) -> Result<Vec<Address>, Fail>
     ensures { Reads (seen_by (λ v. v.items) result)
-        (addresses_in (map_list string_bytes texts.now)) }
+        (addresses_in (map_list (λ text. text.now) texts.now)) }
 {
     let mut addresses = Vec::new(alloc);
     for text in texts {
-        addresses.push(Address::parse(alloc, text.as_str())?)?;
+        addresses.push(Address::parse(alloc, text)?)?;
     }
     Ok(addresses)
 }

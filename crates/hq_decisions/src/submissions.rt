@@ -5,7 +5,7 @@ ghost use Rattle.hq_rules.specs.Submissions as rules;
 
 use hq_kept::{Head, Message, Pending, QueueState};
 use hq_rules::decision::{Decision, refuse, tell};
-use hq_rules::{Answer, Refused, Submission, Verdict};
+use hq_rules::{Answer, Origin, Refused, Verdict};
 use hq_tables::Change;
 use hq_values::{Address, Items, Moment, Refusal, Serial, Text, TryCopy};
 use std::alloc::{AllocError, Global};
@@ -75,21 +75,21 @@ fn new_message(
     alloc: Global,
     serial: Serial,
     at: Moment,
-    submission: Submission,
+    origin: Origin,
     receivers: Items<Address>,
     held: Option<Text>,
 ) -> Result<Message, AllocError>
     ensures { IfOk result (λ message. message
-        ≡ rules.new_message serial at submission receivers held) }
+        ≡ rules.new_message serial at origin receivers held) }
 {
     let pending = not_tried(alloc, receivers.into_vec())?;
     let state = first_state(held.as_ref());
     let reason = first_reason(alloc, held);
     Ok(Message {
         serial,
-        sender: submission.sender,
-        spool: submission.spool,
-        size: submission.size,
+        sender: origin.sender,
+        spool: origin.spool,
+        size: origin.size,
         arrival: at,
         state,
         reason,
@@ -126,13 +126,13 @@ fn admit(
     alloc: Global,
     head: Head,
     at: Moment,
-    submission: Submission,
+    origin: Origin,
     serial: Result<Serial, Refusal>,
     intake: Intake,
 ) -> Result<Decision, AllocError>
     requires { IfOk serial (λ serial. serial ≡ head.next_serial) }
     ensures { IfOk result (λ decision. decision
-        ≡ rules.admit head at submission intake.receivers intake.held intake.refused serial) }
+        ≡ rules.admit head at origin intake.receivers intake.held intake.refused serial) }
 {
     match serial {
         Err(refusal) => Ok(refuse(alloc, refusal)),
@@ -142,24 +142,24 @@ fn admit(
                 held,
                 refused,
             } = intake;
-            let message = new_message(alloc, serial, at, submission, receivers, held)?;
+            let message = new_message(alloc, serial, at, origin, receivers, held)?;
             enqueue(alloc, head, message, refused)
         }
     }
 }
 
-/// Does with a submission what its verdict says: it is taken in under its serial, or not at all.
+/// Does with a submission of this origin what its verdict says: it is taken in under its serial, or
+/// not at all.
 pub fn settle(
     alloc: Global,
     head: Head,
     at: Moment,
-    submission: Submission,
+    origin: Origin,
     serial: Result<Serial, Refusal>,
     verdict: Verdict,
 ) -> Result<Decision, AllocError>
     requires { IfOk serial (λ serial. serial ≡ head.next_serial) }
-    ensures { IfOk result (λ decision. decision
-        ≡ rules.settled head at submission serial verdict) }
+    ensures { IfOk result (λ decision. decision ≡ rules.settled head at origin serial verdict) }
 {
     match verdict {
         Verdict::Rejected { refused } => Ok(tell(alloc, Answer::Rejected(refused))),
@@ -175,7 +175,7 @@ pub fn settle(
                 held,
                 refused,
             };
-            admit(alloc, head, at, submission, serial, intake)
+            admit(alloc, head, at, origin, serial, intake)
         }
     }
 }

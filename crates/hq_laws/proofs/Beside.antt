@@ -40,6 +40,7 @@ use Rattle.hq_rules.specs.Submissions as submissions
 use Rattle.hq_rules.specs.declared.answer.Answer.TheVariants as answer
 use Rattle.hq_rules.specs.declared.answer.LinePut.{LinePut}
 use Rattle.hq_rules.specs.declared.answer.LinePut.TheVariants.{Added, Changed, Same}
+use Rattle.hq_rules.specs.declared.call.Origin.{Origin}
 use Rattle.hq_rules.specs.declared.call.Submission.{Submission}
 use Rattle.hq_rules.specs.declared.call.Move.{Move}
 use Rattle.hq_rules.specs.declared.decision.Decision.{Decision}
@@ -105,18 +106,18 @@ pub show_leaves : (s : State) (o : Option Message) → Leaves s (messages.show o
 show_leaves s None = itself s
 show_leaves s (Some m) = itself s
 
-settled_leaves : (s : State) (at : ℕ) (sub : Submission) (serial : Result ℕ Refusal) (v : Verdict) →
-    Leaves s (submissions.settled s.head at sub serial v)
-settled_leaves s at sub serial (verdict.Rejected refused) = itself s
-settled_leaves s at sub serial (verdict.Discarded refused) = itself s
-settled_leaves s at sub (Err refusal) (verdict.Queue kept refused redirect held) = itself s
-settled_leaves s at sub (Ok serial) (verdict.Queue kept refused redirect held) =
+settled_leaves : (s : State) (at : ℕ) (origin : Origin) (serial : Result ℕ Refusal) (v : Verdict) →
+    Leaves s (submissions.settled s.head at origin serial v)
+settled_leaves s at origin serial (verdict.Rejected refused) = itself s
+settled_leaves s at origin serial (verdict.Discarded refused) = itself s
+settled_leaves s at origin (Err refusal) (verdict.Queue kept refused redirect held) = itself s
+settled_leaves s at origin (Ok serial) (verdict.Queue kept refused redirect held) =
     record { ends = refl; gone = refl }
 
 pub submit_leaves : (s : State) (entry : Entry) (at : ℕ) (sub : Submission) (o : Option Message) →
     Leaves s (submissions.submit entry (read_state s) at sub o)
 submit_leaves s entry at sub (Some m) = itself s
-submit_leaves s entry at sub None = settled_leaves s at sub _ _
+submit_leaves s entry at sub None = settled_leaves s at (submissions.origin_of sub) _ _
 
 pub show_notice_leaves : (s : State) (o : Option Notice) → Leaves s (show_notice o)
 show_notice_leaves s None = itself s

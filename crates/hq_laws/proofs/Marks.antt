@@ -49,6 +49,7 @@ use Rattle.hq_rules.specs.Sweeps.{message_met, changed_by, messages_that, swept_
 use Rattle.hq_rules.specs.declared.answer.Answer.TheVariants as answer
 use Rattle.hq_rules.specs.declared.answer.LinePut.TheVariants.{Added, Changed, Same}
 use Rattle.hq_rules.specs.declared.call.AttemptReport.{AttemptReport}
+use Rattle.hq_rules.specs.declared.call.Origin.{Origin}
 use Rattle.hq_rules.specs.declared.call.Submission.{Submission}
 use Rattle.hq_rules.specs.declared.decision.Decision.{Decision}
 use Rattle.hq_rules.specs.declared.plan.Draft.{Draft}
@@ -127,17 +128,17 @@ pub show_leaves : (s : State) (o : Option Message) → Leaves s (messages.show o
 show_leaves s None = refl
 show_leaves s (Some m) = refl
 
-settled_leaves : (s : State) (at : ℕ) (sub : Submission) (serial : Result ℕ Refusal) (v : Verdict) →
-    Leaves s (submissions.settled s.head at sub serial v)
-settled_leaves s at sub serial (verdict.Rejected refused) = refl
-settled_leaves s at sub serial (verdict.Discarded refused) = refl
-settled_leaves s at sub (Err refusal) (verdict.Queue kept refused redirect held) = refl
-settled_leaves s at sub (Ok serial) (verdict.Queue kept refused redirect held) = refl
+settled_leaves : (s : State) (at : ℕ) (origin : Origin) (serial : Result ℕ Refusal) (v : Verdict) →
+    Leaves s (submissions.settled s.head at origin serial v)
+settled_leaves s at origin serial (verdict.Rejected refused) = refl
+settled_leaves s at origin serial (verdict.Discarded refused) = refl
+settled_leaves s at origin (Err refusal) (verdict.Queue kept refused redirect held) = refl
+settled_leaves s at origin (Ok serial) (verdict.Queue kept refused redirect held) = refl
 
 pub submit_leaves : (s : State) (entry : Entry) (at : ℕ) (sub : Submission) (o : Option Message) →
     Leaves s (submissions.submit entry (read_state s) at sub o)
 submit_leaves s entry at sub (Some m) = refl
-submit_leaves s entry at sub None = settled_leaves s at sub _ _
+submit_leaves s entry at sub None = settled_leaves s at (submissions.origin_of sub) _ _
 
 pub put_leaves : (s : State) (quota count : ℕ) (line : Line) (o : Option Action) →
     Leaves s (lines.put_line quota count line o)

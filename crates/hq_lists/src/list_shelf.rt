@@ -6,8 +6,8 @@ ghost use Rattle.hq_lists.specs.Lists.{tables_of};
 
 use crate::list_rows::ListRows;
 use crate::{ends, heads, lines, marks, messages, notices};
-use hq_kept::{Action, Class, Counts, End, Head, Line, LookupKey, Mark, Message, Notice, Pattern};
-use hq_tables::{Change, Shelf};
+use hq_kept::{Action, Class, End, Line, LookupKey, Mark, Message, Notice, Pattern};
+use hq_tables::{Account, Change, Shelf};
 use hq_values::{Fault, Items, Label, Name, Serial, Spool};
 use std::alloc::Global;
 use std::marker::Model;
@@ -72,12 +72,8 @@ impl Shelf for ListShelf {
       leaves_desk = λ _. ⊤;
     } };
 
-    fn head(&mut self, customer: &Name) -> Result<Head, Fault> {
-        Ok(heads::account_in(self.rows.heads.as_slice(), customer).head)
-    }
-
-    fn counts(&mut self, customer: &Name) -> Result<Counts, Fault> {
-        Ok(heads::account_in(self.rows.heads.as_slice(), customer).counts)
+    fn account(&mut self, customer: &Name) -> Result<Account, Fault> {
+        Ok(heads::account_in(self.rows.heads.as_slice(), customer))
     }
 
     fn message(&mut self, customer: &Name, serial: Serial) -> Result<Option<Message>, Fault> {

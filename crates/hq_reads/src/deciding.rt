@@ -44,8 +44,8 @@ fn decide_delete<S: Shelf>(
     let Some(message) = shelf.message(&entry.name, serial)? else {
         return Ok(refuse(alloc, Refusal::NoMessage));
     };
-    let head = shelf.head(&entry.name)?;
-    let decision = delete(alloc, entry, at, head, &message)?;
+    let account = shelf.account(&entry.name)?;
+    let decision = delete(alloc, entry, at, account.head, &message)?;
     Ok(decision)
 }
 
@@ -64,8 +64,8 @@ fn decide_requeue<S: Shelf>(
     let Some(message) = shelf.message(&entry.name, serial)? else {
         return Ok(refuse(alloc, Refusal::NoMessage));
     };
-    let head = shelf.head(&entry.name)?;
-    let decision = requeue_with(alloc, head, at, message)?;
+    let account = shelf.account(&entry.name)?;
+    let decision = requeue_with(alloc, account.head, at, message)?;
     Ok(decision)
 }
 
@@ -112,12 +112,12 @@ fn decide_put_line<S: Shelf>(
         (rows.line line.pattern.0 line.pattern.1)) }
     ensures kept { Keeps (with_memory S.sight) shelf.old shelf.new result }
 {
-    let counts = shelf.counts(&entry.name)?;
+    let account = shelf.account(&entry.name)?;
     let key = line.pattern.key(alloc)?;
     if let Some(known) = shelf.line(&entry.name, line.pattern.class(), &key)? {
         return Ok(put_over(alloc, &known, line)?);
     }
-    Ok(put_new(alloc, entry.quota.lines, counts.lines, line)?)
+    Ok(put_new(alloc, entry.quota.lines, account.counts.lines, line)?)
 }
 
 /// The answer to a drop of a line, and its changes.
@@ -131,7 +131,7 @@ fn decide_drop_line<S: Shelf>(
         (λ rows. lines.drop_line pattern (rows.line pattern.0 pattern.1)) }
     ensures kept { Keeps (with_memory S.sight) shelf.old shelf.new result }
 {
-    if shelf.counts(&entry.name)?.lines == 0 {
+    if shelf.account(&entry.name)?.counts.lines == 0 {
         return Ok(refuse(alloc, Refusal::NoLine));
     }
     let key = pattern.key(alloc)?;
@@ -151,9 +151,9 @@ fn decide_check<S: Shelf>(
         (λ rows. lines.check rows class who.now) }
     ensures kept { Keeps (with_memory S.sight) shelf.old shelf.new result }
 {
-    let counts = shelf.counts(&entry.name)?;
+    let account = shelf.account(&entry.name)?;
     let keys = Items::from_vec(keys_of(alloc, who)?);
-    let found = if counts.lines == 0 {
+    let found = if account.counts.lines == 0 {
         None
     } else {
         look_up(shelf, alloc, &entry.name, class, who)?

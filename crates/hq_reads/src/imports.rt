@@ -68,12 +68,12 @@ fn decide_first<S: Shelf>(
         Err(Fail::Refused(refusal)) => return Ok(refuse(alloc, refusal)),
         Err(Fail::Fault(fault)) => return Err(fault),
     };
-    let counts = shelf.counts(&entry.name)?;
+    let account = shelf.account(&entry.name)?;
     let rows = all_met(shelf, alloc, &entry.name, lines)?;
     let decision = take_rows(
         alloc,
         entry.quota.lines,
-        counts.lines,
+        account.counts.lines,
         label,
         digest(file),
         rows,

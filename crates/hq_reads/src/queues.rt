@@ -50,9 +50,9 @@ pub(crate) fn decide_delete_all<S: Shelf>(
     ensures kept { Keeps (with_memory S.sight) shelf.old shelf.new result }
 {
     let messages = shelf.messages(&entry.name, None, MOST_MESSAGES)?;
-    let head = shelf.head(&entry.name)?;
+    let account = shelf.account(&entry.name)?;
     let selected = select(alloc, which, messages)?;
-    let decision = delete_all(alloc, entry, at, head, selected.as_slice())?;
+    let decision = delete_all(alloc, entry, at, account.head, selected.as_slice())?;
     Ok(decision)
 }
 
@@ -66,9 +66,8 @@ pub(crate) fn decide_usage<S: Shelf>(
         (λ rows. queues.usage rows.head rows.counts rows.messages) }
     ensures kept { Keeps (with_memory S.sight) shelf.old shelf.new result }
 {
-    let head = shelf.head(&entry.name)?;
-    let counts = shelf.counts(&entry.name)?;
-    Ok(usage(alloc, &head, counts))
+    let account = shelf.account(&entry.name)?;
+    Ok(usage(alloc, &account.head, account.counts))
 }
 
 /// The answer to the question how much the customer may keep. The shelf is asked although
@@ -82,6 +81,6 @@ pub(crate) fn decide_limits<S: Shelf>(
         (λ rows. queues.limits entry.now) }
     ensures kept { Keeps (with_memory S.sight) shelf.old shelf.new result }
 {
-    shelf.head(&entry.name)?;
+    shelf.account(&entry.name)?;
     Ok(limits(alloc, entry))
 }

@@ -38,8 +38,8 @@ pub(crate) fn decide_outcome<S: Shelf>(
     let Some(message) = shelf.message(&entry.name, report.serial)? else {
         return Ok(refuse(alloc, Refusal::NoMessage));
     };
-    let head = shelf.head(&entry.name)?;
-    let decision = take_report(alloc, host, entry, at, head, message, report)?;
+    let account = shelf.account(&entry.name)?;
+    let decision = take_report(alloc, host, entry, at, account.head, message, report)?;
     Ok(decision)
 }
 
@@ -72,7 +72,7 @@ pub(crate) fn decide_sweep<S: Shelf>(
     ensures kept { Keeps (with_memory S.sight) shelf.old shelf.new result }
 {
     let messages = shelf.messages(&entry.name, None, MOST_MESSAGES)?;
-    let head = shelf.head(&entry.name)?;
-    let decision = sweep(alloc, host, entry, at, head, messages)?;
+    let account = shelf.account(&entry.name)?;
+    let decision = sweep(alloc, host, entry, at, account.head, messages)?;
     Ok(decision)
 }

@@ -14,9 +14,9 @@ use hq_decisions::submissions::settle;
 use hq_kept::{Action, Class, Entry};
 use hq_queue::admit as admitted;
 use hq_rules::decision::{Decision, tell};
-use hq_rules::{Answer, Submission, Verdict};
+use hq_rules::{Answer, Origin, Submission, Verdict};
 use hq_tables::Shelf;
-use hq_values::{Address, Fault, Moment, Name, Sender, TryCopy};
+use hq_values::{Address, Fault, Moment, Name, Sender};
 use std::alloc::{AllocError, Global};
 
 /// Recipients of a customer that has no line: nothing is found for them.
@@ -77,16 +77,26 @@ fn decide_new<S: Shelf>(
         (λ rows. rules.submit entry.now rows at submission None) }
     ensures kept { Keeps (with_memory S.sight) shelf.old shelf.new result }
 {
-    let head = shelf.head(&entry.name)?;
-    let counts = shelf.counts(&entry.name)?;
-    let recipients = distinct(alloc, submission.recipients.copy(alloc)?.into_vec())?;
-    let verdict = if counts.lines == 0 {
-        judge_without_lines(alloc, &submission.sender, recipients)?
+    let account = shelf.account(&entry.name)?;
+    let Submission {
+        spool,
+        sender,
+        recipients,
+        size,
+    } = submission;
+    let recipients = distinct(alloc, recipients.into_vec())?;
+    let verdict = if account.counts.lines == 0 {
+        judge_without_lines(alloc, &sender, recipients)?
     } else {
-        judge(shelf, alloc, &entry.name, &submission.sender, recipients)?
+        judge(shelf, alloc, &entry.name, &sender, recipients)?
     };
-    let serial = admitted(&head, &entry.quota, &counts, submission.size);
-    let decision = settle(alloc, head, at, submission, serial, verdict)?;
+    let serial = admitted(&account.head, &entry.quota, &account.counts, size);
+    let origin = Origin {
+        spool,
+        sender,
+        size,
+    };
+    let decision = settle(alloc, account.head, at, origin, serial, verdict)?;
     Ok(decision)
 }
 

@@ -41,6 +41,7 @@ use Rattle.hq_rules.specs.Outcomes.{attempted, outcome, outcome_with}
 use Rattle.hq_rules.specs.Queues.{moves_of, move_all, all_deleted, delete_all}
 use Rattle.hq_rules.specs.Selections.{is_selected}
 use Rattle.hq_rules.specs.Submissions.{admit, settled, submit, judged, distinct, receivers}
+use Rattle.hq_rules.specs.Submissions.{origin_of}
 use Rattle.hq_rules.specs.Sweeps.{message_met as met_by, messages_that as made, swept_all}
 use Rattle.hq_rules.specs.Sweeps.{is_none_changed}
 use Rattle.hq_rules.specs.Sweeps.{sweep_with, sweep}
@@ -50,6 +51,7 @@ use Rattle.hq_rules.specs.declared.call.AttemptReport.{AttemptReport}
 use Rattle.hq_rules.specs.declared.call.Call.{Call}
 use Rattle.hq_rules.specs.declared.call.Call.TheVariants as call
 use Rattle.hq_rules.specs.declared.answer.LinePut.TheVariants.{Added, Changed, Same}
+use Rattle.hq_rules.specs.declared.call.Origin.{Origin}
 use Rattle.hq_rules.specs.declared.call.Submission.{Submission}
 use Rattle.hq_rules.specs.declared.decision.Decision.{Decision}
 use Rattle.hq_rules.specs.declared.plan.Plan.{Plan}
@@ -161,24 +163,24 @@ import_honest quota readings label file (Some mark) = λ h. used_label (sha256 f
 
 -- ---- submissions
 
-admit_honest : (head : Head) (at : ℕ) (sub : Submission) (addresses : List (List ℕ))
+admit_honest : (head : Head) (at : ℕ) (origin : Origin) (addresses : List (List ℕ))
     (held : Option (List ℕ)) (refused : List Refused) (serial : Result ℕ Refusal) →
-    Honest (admit head at sub addresses held refused serial)
-admit_honest head at sub addresses held refused (Err refusal) = λ h. refl
-admit_honest head at sub addresses held refused (Ok serial) = told false _ refl
+    Honest (admit head at origin addresses held refused serial)
+admit_honest head at origin addresses held refused (Err refusal) = λ h. refl
+admit_honest head at origin addresses held refused (Ok serial) = told false _ refl
 
-settled_honest : (head : Head) (at : ℕ) (sub : Submission) (serial : Result ℕ Refusal) (v : Verdict)
-    → Honest (settled head at sub serial v)
-settled_honest head at sub serial (verdict.Rejected refused) = λ h. refl
-settled_honest head at sub serial (verdict.Discarded refused) = λ h. refl
-settled_honest head at sub serial (verdict.Queue kept refused redirect held) =
-    admit_honest head at sub (receivers kept redirect) held refused serial
+settled_honest : (head : Head) (at : ℕ) (origin : Origin) (serial : Result ℕ Refusal) (v : Verdict)
+    → Honest (settled head at origin serial v)
+settled_honest head at origin serial (verdict.Rejected refused) = λ h. refl
+settled_honest head at origin serial (verdict.Discarded refused) = λ h. refl
+settled_honest head at origin serial (verdict.Queue kept refused redirect held) =
+    admit_honest head at origin (receivers kept redirect) held refused serial
 
 submit_honest : (entry : Entry) (readings : Readings) (at : ℕ) (sub : Submission)
     (m : Option Message) → Honest (submit entry readings at sub m)
 submit_honest entry readings at sub (Some m) = λ h. refl
 submit_honest entry readings at sub None =
-    settled_honest readings.head at sub
+    settled_honest readings.head at (origin_of sub)
     (admitted readings.head entry.quota readings.counts sub.size)
     (judged readings sub.sender (distinct sub.recipients))
 

@@ -23,6 +23,7 @@ use Rattle.hq_tables.specs.declared.change.Change.TheVariants.{PutHead, PutMessa
 use Rattle.hq_rules.specs.AccessLines.{action_for}
 use Rattle.hq_rules.specs.Answering.{tell, refuse}
 use Rattle.hq_rules.specs.declared.answer.Answer.TheVariants as answer
+use Rattle.hq_rules.specs.declared.call.Origin.{Origin}
 use Rattle.hq_rules.specs.declared.call.Submission.{Submission}
 use Rattle.hq_rules.specs.declared.decision.Decision.{Decision}
 
@@ -62,12 +63,16 @@ first_reason (Some text) = text
 abbrev pub not_tried : List ℕ → Pending
 not_tried address = record { address = address; status = None; text = [] }
 
-abbrev pub new_message : ℕ → ℕ → Submission → List (List ℕ) → Option (List ℕ) → Message
-new_message serial at sub addresses held = record {
+-- what it says beside its recipients
+abbrev pub origin_of : Submission → Origin
+origin_of sub = record { spool = sub.spool; sender = sub.sender; size = sub.size }
+
+abbrev pub new_message : ℕ → ℕ → Origin → List (List ℕ) → Option (List ℕ) → Message
+new_message serial at origin addresses held = record {
   serial = serial;
-  sender = sub.sender;
-  spool = sub.spool;
-  size = sub.size;
+  sender = origin.sender;
+  spool = origin.spool;
+  size = origin.size;
   arrival = at;
   state = first_state held;
   reason = first_reason held;
@@ -92,22 +97,23 @@ enqueued head m refused = record {
 
 -- ---- submit
 
-abbrev pub admit : Head → ℕ → Submission → List (List ℕ) → Option (List ℕ) → List Refused →
+abbrev pub admit : Head → ℕ → Origin → List (List ℕ) → Option (List ℕ) → List Refused →
     Result ℕ Refusal → Decision
-admit head at sub addresses held refused (Err refusal) = refuse refusal
-admit head at sub addresses held refused (Ok serial) =
-    enqueued head (new_message serial at sub addresses held) refused
+admit head at origin addresses held refused (Err refusal) = refuse refusal
+admit head at origin addresses held refused (Ok serial) =
+    enqueued head (new_message serial at origin addresses held) refused
 
 -- a rejected or discarded submission uses no serial
-abbrev pub settled : Head → ℕ → Submission → Result ℕ Refusal → Verdict → Decision
-settled head at sub serial (verdict.Rejected refused) = tell (answer.Rejected refused)
-settled head at sub serial (verdict.Discarded refused) = tell (answer.Discarded refused)
-settled head at sub serial (verdict.Queue kept refused redirect held) =
-    admit head at sub (receivers kept redirect) held refused serial
+abbrev pub settled : Head → ℕ → Origin → Result ℕ Refusal → Verdict → Decision
+settled head at origin serial (verdict.Rejected refused) = tell (answer.Rejected refused)
+settled head at origin serial (verdict.Discarded refused) = tell (answer.Discarded refused)
+settled head at origin serial (verdict.Queue kept refused redirect held) =
+    admit head at origin (receivers kept redirect) held refused serial
 
 -- a spool name that is queued already is a repeat, whatever the access tables say
 abbrev pub submit : Entry → Readings → ℕ → Submission → Option Message → Decision
 submit entry readings at sub (Some m) = tell (answer.Repeated m.serial)
 submit entry readings at sub None =
-    settled readings.head at sub (admitted readings.head entry.quota readings.counts sub.size)
+    settled readings.head at (origin_of sub)
+    (admitted readings.head entry.quota readings.counts sub.size)
     (judged readings sub.sender (distinct sub.recipients))

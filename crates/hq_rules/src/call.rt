@@ -22,6 +22,17 @@ pub struct Submission {
     pub ghost limit: { IsTrue (is_size size) },
 }
 
+/// What a submission says beside its recipients.
+#[derive(Drop)]
+pub struct Origin {
+    /// The name under which the relay keeps it.
+    pub spool: Spool,
+    /// Who is told of failures.
+    pub sender: Sender,
+    /// Its size in bytes.
+    pub size: u32,
+}
+
 /// What a relay worker reports of one attempt to deliver a message.
 #[derive(Drop)]
 pub struct AttemptReport {

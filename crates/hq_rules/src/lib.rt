@@ -18,7 +18,7 @@ mod verdict;
 
 pub use acts::Acts;
 pub use answer::{Allowance, Answer, AttemptCounts, ImportCounts, LinePut, SweepCounts, Usage};
-pub use call::{AttemptReport, Call, Move, Submission};
+pub use call::{AttemptReport, Call, Move, Origin, Submission};
 pub use decision::Decision;
 pub use each::EachCall;
 pub use plan::{Draft, Plan};

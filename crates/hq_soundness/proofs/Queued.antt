@@ -41,6 +41,7 @@ use Rattle.hq_owned.proofs.Totals.{total-insert}
 use Rattle.hq_owned.specs.Owned.{given}
 use Rattle.hq_rules.specs.AccessLines.{action_for}
 use Rattle.hq_rules.specs.Submissions as rules
+use Rattle.hq_rules.specs.declared.call.Origin.{Origin}
 use Rattle.hq_rules.specs.declared.call.Submission.{Submission}
 use Rattle.hq_soundness.proofs.Kept.{Keeps, saturated_is, quota_of, below_quota}
 
@@ -239,7 +240,7 @@ first_right None text = refl
 first_right (Some reason) text = text
 
 -- a new message keeps the state sound
-queue_kept : (s : State) (at : ℕ) (sub : Submission) (addresses : List (List ℕ))
+queue_kept : (s : State) (at : ℕ) (sub : Origin) (addresses : List (List ℕ))
     (held : Option (List ℕ)) (refused : List Refused) → SoundState s → MayReceive addresses →
     IfSome held HasText → ((k : ℕ) (m : Message) → get s.messages k ≡ Some m → m.spool ≡ sub.spool →
     ⊥) → len s.messages < 1000 → s.head.next_serial < 2 ^ 40
@@ -291,7 +292,7 @@ queue_kept s at sub addresses held refused h may text spool room serials =
     }
 
 -- room and a serial are left where a submission is admitted
-admit_kept : (s : State) (entry : Entry) (at : ℕ) (sub : Submission) (addresses : List (List ℕ))
+admit_kept : (s : State) (entry : Entry) (at : ℕ) (sub : Origin) (addresses : List (List ℕ))
     (held : Option (List ℕ)) (refused : List Refused) → SoundState s → MayReceive addresses →
     IfSome held HasText → ((k : ℕ) (m : Message) → get s.messages k ≡ Some m → m.spool ≡ sub.spool →
     ⊥)
@@ -311,7 +312,7 @@ admit_kept s entry at sub addresses held refused h may text spool false false fa
     queue_kept s at sub addresses held refused h may text spool (omega arith) (omega arith)
 
 -- whatever the verdict, if whom it keeps may receive
-settled_kept : (s : State) (at : ℕ) (sub : Submission) (serial : Result ℕ Refusal) (v : Verdict) →
+settled_kept : (s : State) (at : ℕ) (sub : Origin) (serial : Result ℕ Refusal) (v : Verdict) →
     SoundState s → KeepsReceivers v → ((addresses : List (List ℕ)) (held : Option (List ℕ))
     (refused : List Refused) → MayReceive addresses → IfSome held HasText →
     Keeps s (rules.admit s.head at sub addresses held refused serial))
@@ -346,9 +347,10 @@ submit_kept s entry at sub h = cases (with_spool sub.spool (values s.messages)) 
   cases (Some m) e = h
   cases None e =
       let counts = (read_state s).counts in
-      settled_kept s at sub (admitted s.head entry.quota counts sub.size)
+      settled_kept s at (rules.origin_of sub) (admitted s.head entry.quota counts sub.size)
       (rules.judged (read_state s) sub.sender (rules.distinct sub.recipients)) h keeps
-      (λ addresses held refused may text. admit_kept s entry at sub addresses held refused h may
+      (λ addresses held refused may text. admit_kept s entry at (rules.origin_of sub) addresses
+      held refused h may
       text (new_spool s sub.spool e)
       (nat_le entry.quota.messages counts.messages)
       (nat_lt entry.quota.bytes (counts.bytes + sub.size)) (nat_eq s.head.next_serial (2 ^ 40))

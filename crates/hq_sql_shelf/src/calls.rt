@@ -2,11 +2,11 @@
 
 use crate::accounts;
 use crate::shelf::SqlShelf;
-use hq_kept::{Action, Class, Counts, End, Head, Line, LookupKey, Mark, Message, Notice, Pattern};
+use hq_kept::{Action, Class, End, Line, LookupKey, Mark, Message, Notice, Pattern};
 use hq_sql_lines::{line_pages, lines, marks};
 use hq_sql_notices::{end_pages, notice_pages, notices};
 use hq_sql_queue::queued;
-use hq_tables::{Change, Shelf};
+use hq_tables::{Account, Change, Shelf};
 use hq_values::{Fault, Items, Label, Name, Serial, Spool};
 use sqlite::Alter;
 
@@ -16,18 +16,10 @@ impl<S: Alter> Shelf for SqlShelf<S> {
 
     ghost sight = { sight_over (state S.Store) };
 
-    fn head(&mut self, customer: &Name) -> Result<Head, Fault> {
+    fn account(&mut self, customer: &Name) -> Result<Account, Fault> {
         self.ready()?;
         match accounts::account(&mut self.conn, customer) {
-            Ok(account) => Ok(account.head),
-            Err(error) => Err(self.give_up(error)),
-        }
-    }
-
-    fn counts(&mut self, customer: &Name) -> Result<Counts, Fault> {
-        self.ready()?;
-        match accounts::account(&mut self.conn, customer) {
-            Ok(account) => Ok(account.counts),
+            Ok(account) => Ok(account),
             Err(error) => Err(self.give_up(error)),
         }
     }

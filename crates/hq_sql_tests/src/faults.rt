@@ -58,7 +58,7 @@ fn told_of(alloc: Global, shelf: &mut SqlShelf<MemStore>, name: &str) -> Result<
     let customer = Name::parse(alloc, name)?;
     let label = Label::parse(alloc, "l")?;
     Ok([
-        told(shelf.head(&customer)),
+        told(shelf.account(&customer)),
         told(shelf.messages(&customer, None, 9)),
         told(shelf.lines(&customer, None, 9)),
         told(shelf.mark(&customer, &label)),
@@ -109,6 +109,6 @@ fn a_shelf_in_memory_is_never_closed(rt: HostRuntime) -> Result<(), Fail> {
     let (faults, wants) = ask_too_much(&mut shelf, &acme)?;
     assert_eq!(rt; faults.saturating_add(wants), TIMES);
     assert_eq!(rt; shelf.faults(), faults);
-    assert!(rt; told(shelf.head(&acme)) <= 90);
+    assert!(rt; told(shelf.account(&acme)) <= 90);
     Ok(())
 }

@@ -80,7 +80,7 @@ fn messages_of_birch(rt: HostRuntime) -> Result<(), Fail> {
     }
     let mut shelf = adopted(rt.alloc(), conn)?;
     let birch = Name::parse(rt.alloc(), "birch")?;
-    assert_eq!(rt; shelf.head(&birch)?.next_serial, 3);
+    assert_eq!(rt; shelf.account(&birch)?.head.next_serial, 3);
     for (serial, text) in REASONS {
         assert_eq!(rt; reason(rt.alloc(), &mut shelf, serial)?.as_str(), text);
     }

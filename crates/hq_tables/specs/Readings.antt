@@ -4,6 +4,7 @@ use Rattle.std.specs.Prelude.{None, Some, option_map}
 use Rattle.std.specs.List.{find, sum_by}
 use Rattle.std.specs.Ordering.{eq_by_cmp, is_lt}
 use Rattle.std.specs.FinMap.{get, entries, values}
+use Rattle.hq_tables.specs.declared.account.Account.{Account}
 use Rattle.hq_kept.specs.declared.account.Counts.{Counts}
 use Rattle.hq_kept.specs.declared.account.Head.{Head}
 use Rattle.hq_kept.specs.declared.message.Message.{Message}
@@ -30,6 +31,10 @@ pub record Readings : Type 0 where
   pub notice : ℕ → Option Notice  -- of a number
   pub notices : List Notice  -- in order of number
   pub ends : List End  -- the newest first
+
+-- the head, and how much the customer keeps
+abbrev pub account_read : Readings → Account
+account_read rows = record { head = rows.head; counts = rows.counts }
 
 -- a sum that stays at the greatest number of 64 bits
 abbrev pub saturated : ℕ → ℕ

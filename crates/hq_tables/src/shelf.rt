@@ -2,12 +2,14 @@
 
 ghost use Rattle.std.specs.Prelude.{◌≡◌, OnOk, take, option_map};
 ghost use Rattle.hq_tables.specs.Tables.{write_all};
-ghost use Rattle.hq_tables.specs.Readings.{page_of, after_pattern, after_number, before_end};
+ghost use Rattle.hq_tables.specs.Readings.{account_read, page_of, after_pattern, after_number};
+ghost use Rattle.hq_tables.specs.Readings.{before_end};
 ghost use Rattle.hq_tables.specs.Shelves.{Sight, OnClean, Finds, Keeps, KeepsOnErr};
 ghost use Rattle.hq_tables.specs.Shelves.{StopLeavesWhole};
 
+use crate::account::Account;
 use crate::change::Change;
-use hq_kept::{Action, Class, Counts, End, Head, Line, LookupKey, Mark, Message, Notice, Pattern};
+use hq_kept::{Action, Class, End, Line, LookupKey, Mark, Message, Notice, Pattern};
 use hq_values::{Fault, Items, Label, Name, Serial, Spool};
 
 /// The tables of all customers. Each call reads or changes the rows of the customer that it names.
@@ -26,15 +28,11 @@ pub trait Shelf {
     /// What is seen of it.
     ghost sight: { Sight Self };
 
-    /// The customer's head; where none was put, that of a customer of whom nothing is kept.
-    fn head(&mut self, customer: &Name) -> Result<Head, Fault>
-        ensures found { Finds sight self.old self.new result customer.now (λ rows. rows.head) }
-        ensures kept { Keeps sight self.old self.new result };
-
-    /// How much the customer keeps: how many messages, their bytes together, which stay at the
-    /// greatest `u64`, and how many lines. It reads the counts in the head row, and counts no rows.
-    fn counts(&mut self, customer: &Name) -> Result<Counts, Fault>
-        ensures found { Finds sight self.old self.new result customer.now (λ rows. rows.counts) }
+    /// The customer's head; where none was put, that of a customer of whom nothing is kept. And how
+    /// much the customer keeps: messages, their bytes together, and lines. The bytes stay at the
+    /// greatest `u64`. It reads one row, and counts none.
+    fn account(&mut self, customer: &Name) -> Result<Account, Fault>
+        ensures found { Finds sight self.old self.new result customer.now account_read }
         ensures kept { Keeps sight self.old self.new result };
 
     /// The customer's message of this serial.

@@ -5,8 +5,8 @@ ghost use Rattle.hq_trial.specs.Trials.{uncalled};
 ghost use Rattle.hq_trial.specs.Shelves.{inner_of, trial_of, greatest_limit_of};
 
 use crate::failure::{Failure, Trial};
-use hq_kept::{Action, Class, Counts, End, Head, Line, LookupKey, Mark, Message, Notice, Pattern};
-use hq_tables::{Change, Shelf};
+use hq_kept::{Action, Class, End, Line, LookupKey, Mark, Message, Notice, Pattern};
+use hq_tables::{Account, Change, Shelf};
 use hq_values::{Fault, Items, Label, Name, Serial, Spool};
 
 /// A shelf before another: it hands each call on, or fails it as told without handing it on.
@@ -66,18 +66,10 @@ impl<S: Shelf> Shelf for FailingShelf<S> {
       leaves_desk = λ s. S.sight.leaves_desk s.inner;
     } };
 
-    fn head(&mut self, customer: &Name) -> Result<Head, Fault> {
+    fn account(&mut self, customer: &Name) -> Result<Account, Fault> {
         let answer = match self.trial.count() {
             Some(fault) => Err(fault),
-            None => self.inner.head(customer),
-        };
-        self.trial.answer(answer)
-    }
-
-    fn counts(&mut self, customer: &Name) -> Result<Counts, Fault> {
-        let answer = match self.trial.count() {
-            Some(fault) => Err(fault),
-            None => self.inner.counts(customer),
+            None => self.inner.account(customer),
         };
         self.trial.answer(answer)
     }

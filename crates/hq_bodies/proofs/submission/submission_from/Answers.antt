@@ -1,4 +1,4 @@
-use Rattle.std.proofs.Common.{◌≡◌, Ok, List, ℕ, IsTrue, length, map, string_bytes, sym, ap, subst}
+use Rattle.std.proofs.Common.{◌≡◌, Ok, List, ℕ, IsTrue, length, map, sym, ap, subst}
 use Rattle.std.proofs.Common.{◌∙◌}
 use Rattle.hq_rules.specs.Limits.{is_recipient_count}
 use Rattle.hq_bodies.specs.Submissions.{addresses_in, texts_shown}
@@ -9,7 +9,7 @@ pub invariant_of-result : goal.invariant_of-result
 invariant_of-result c =
     let fields = texts_shown c.args.fields.now in
     let read : addresses_in fields.recipients.texts ≡ Ok c.in_ok-recipients.recipients.items =
-    ap (λ texts. addresses_in (map (λ text. string_bytes text) texts))
+    ap (λ texts. addresses_in (map (λ text. text.now) texts))
     (sym c.as_slice.ensures.value) ∙ c.in_ok-recipients.ensures in
     record {
       number = subst (λ (xs : List (List ℕ)). IsTrue (is_recipient_count (length xs)))
@@ -23,7 +23,7 @@ pub returns : goal.returns
 returns c =
     let fields = texts_shown c.args.fields.now in
     let read : addresses_in fields.recipients.texts ≡ Ok c.in_ok-recipients.recipients.items =
-    ap (λ texts. addresses_in (map (λ text. string_bytes text) texts))
+    ap (λ texts. addresses_in (map (λ text. text.now) texts))
     (sym c.as_slice.ensures.value) ∙ c.in_ok-recipients.ensures in
     submission_taken fields _ _ _ _ _ _ c.in_ok-spool.ensures c.in_ok-sender.ensures read
     c.from_vec.ensures

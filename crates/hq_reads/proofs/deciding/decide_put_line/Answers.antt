@@ -8,7 +8,7 @@ pub returns-in-Some-clause-found : goal.returns-in-Some-clause-found
 returns-in-Some-clause-found g c = λ clean ours.
     let name = c.args.entry.now.name in
     let rows = read_tables name (g.S.Shelf.sight.tables c.args.shelf.now) in
-    let first = c.in_ok-counts.ensures in
+    let first = c.in_ok-account.ensures in
     let then = c.in_ok-known.ensures in
     let known = finds_on g.S.Shelf.sight _ _ _ _ _ name
     (λ rows. rows.line c.class.result c.in_ok-key.key) first.kept then.kept then.found clean

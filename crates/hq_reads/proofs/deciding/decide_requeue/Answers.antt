@@ -1,6 +1,7 @@
 use Rattle.std.proofs.Common.{◌≡◌, ◌<◌, ◌≤◌, ◌^◌, Some, sym, ap, subst, ◌∙◌}
 use Rattle.hq_kept.specs.declared.account.Head.{Head}
-use Rattle.hq_tables.specs.Readings.{read_tables}
+use Rattle.hq_tables.specs.Readings.{account_read, read_tables}
+use Rattle.hq_tables.specs.declared.account.Account.{Account}
 use Rattle.hq_reads.proofs.Then.{finds_on}
 use Rattle.hq_rules.specs.Messages as rules
 use Rattle.hq_reads.proofs.deciding.decide_requeue.Goals as goal
@@ -11,9 +12,9 @@ returns-clause-found g c = λ clean ours sound.
     let sight = g.S.Shelf.sight in
     let rows = read_tables name (sight.tables c.args.shelf.now) in
     let first = c.in_ok-message.ensures in
-    let then = c.in_ok-head.ensures in
-    let head : c.in_ok-head.head ≡ rows.head = finds_on sight _ _ _ _ _ name (λ rows. rows.head)
-    first.kept then.kept then.found clean ours in
+    let then = c.in_ok-account.ensures in
+    let head : c.in_ok-account.account.head ≡ rows.head = ap (λ (a : Account). a.head)
+    (finds_on sight _ _ _ _ _ name account_read first.kept then.kept then.found clean ours) in
     let found : rows.message c.args.serial ≡ Some c.in-Some.message =
     sym (first.found (then.kept.quiet clean) ours) ∙ c.in-Some.is in
     let next = (sound.states name).shaped.next_serial in

@@ -1,6 +1,7 @@
 use Rattle.std.proofs.Common.{◌≡◌, map, sym, ap, ◌∙◌}
 use Rattle.sha2.specs.Sha256.{sha256}
 use Rattle.hq_tables.specs.Readings.{read_tables}
+use Rattle.hq_tables.specs.declared.account.Account.{Account}
 use Rattle.hq_reads.proofs.Then.{finds_on}
 use Rattle.hq_reads.specs.Memory.{with_memory}
 use Rattle.hq_rules.specs.Imports.{line_met, taken, first_import}
@@ -13,10 +14,11 @@ returns-clause-found g c = λ opened clean ours.
     let quota = c.args.entry.now.quota.lines in
     let sight = g.S.Shelf.sight in
     let now = read_tables name (sight.tables c.args.shelf.now) in
-    let first = c.in_ok-counts.ensures in
+    let first = c.in_ok-account.ensures in
     let kept = c.in_ok-rows.ensures.kept first.kept.tally.1 in
     let looked = c.in_ok-rows.ensures.found first.kept.tally.1 in
-    let counts : c.in_ok-counts.counts ≡ now.counts = first.found (kept.quiet clean) ours in
+    let counts : c.in_ok-account.account.counts ≡ now.counts = ap (λ (a : Account). a.counts)
+    (first.found (kept.quiet clean) ours) in
     let rows : c.in_ok-rows.rows ≡ map (line_met now) c.in-Ok.lines.items =
     finds_on (with_memory sight) _ _ _ _ _ name (λ rows. map (line_met rows) c.in-Ok.lines.items)
     (keeps_more sight _ _ _ first.kept) kept looked clean ours in

@@ -1,6 +1,7 @@
 use Rattle.std.proofs.Common.{◌≡◌, None, ap, ◌∙◌, filter, option_map}
 use Rattle.hq_rules.specs.Selections.{is_selected}
-use Rattle.hq_tables.specs.Readings.{read_tables}
+use Rattle.hq_tables.specs.Readings.{account_read, read_tables}
+use Rattle.hq_tables.specs.declared.account.Account.{Account}
 use Rattle.hq_reads.proofs.Then.{finds_on}
 use Rattle.hq_rules.specs.Queues.{delete_all}
 use Rattle.hq_reads.proofs.Whole.{whole}
@@ -12,9 +13,9 @@ returns-clause-found g c = λ clean ours sound.
     let sight = g.S.Shelf.sight in
     let rows = read_tables name (sight.tables c.args.shelf.now) in
     let first = c.in_ok-messages.ensures in
-    let then = c.in_ok-head.ensures in
-    let head : c.in_ok-head.head ≡ rows.head = finds_on sight _ _ _ _ _ name (λ rows. rows.head)
-    first.kept then.kept then.found clean ours in
+    let then = c.in_ok-account.ensures in
+    let head : c.in_ok-account.account.head ≡ rows.head = ap (λ (a : Account). a.head)
+    (finds_on sight _ _ _ _ _ name account_read first.kept then.kept then.found clean ours) in
     let messages : c.in_ok-messages.messages ≡ rows.messages =
     first.found (then.kept.quiet clean) ours ∙ whole name (sight.tables c.args.shelf.now) None
     sound in

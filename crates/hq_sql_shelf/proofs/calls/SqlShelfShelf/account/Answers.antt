@@ -1,5 +1,5 @@
 use Rattle.hq_sql_shelf.proofs.Reading.{answered, gave_up}
-use Rattle.hq_sql_shelf.proofs.calls.SqlShelfShelf.head.Goals as goal
+use Rattle.hq_sql_shelf.proofs.calls.SqlShelfShelf.account.Goals as goal
 
 pub returns-in-Ok-clause-kept : goal.returns-in-Ok-clause-kept
 returns-in-Ok-clause-kept g c =
