@@ -1,5 +1,4 @@
 -- What is read back from the text of an answer.
--- Inner: it serves proofs alone, and no promise rests on it.
 use Rattle.std.specs.Prelude.{ℕ, ⊤, ◌≡◌, List, Some, IsUtf8}
 use Rattle.serde_json.specs.Read.{read}
 use Rattle.hq_rules.specs.declared.answer.Answer.{Answer}

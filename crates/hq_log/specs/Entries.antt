@@ -1,5 +1,4 @@
 -- What is told of an exchange that was replied to.
--- Inner: it serves proofs alone, and no promise rests on it.
 use Rattle.std.specs.Prelude.{ℕ, Bool, true, List, Option, Some, None, option_map, string_bytes}
 use Rattle.std.specs.Io.KnownBytes.{Appends}
 use Rattle.hq_requests.specs.declared.exchanges.Exchange.{Exchange}

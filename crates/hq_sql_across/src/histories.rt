@@ -1,11 +1,12 @@
 //! Sessions of a desk over one store, one after another, with a stop behind each.
 
 ghost use Rattle.std.specs.Prelude.{◌≡◌, ◌++◌, false, List, map, IfOk};
+ghost use Rattle.std.specs.List.{AllZip};
 ghost use Rattle.sqlite.specs.Held.{state};
 ghost use Rattle.sqlite.specs.State.{HasCleanDisk};
 ghost use Rattle.hq_requests.specs.declared.reply.Reply.{Reply};
 ghost use Rattle.hq_sql_across.specs.Stopped.{PassesSessions, PassesHistory};
-ghost use Rattle.hq_sql_across.specs.Visits.{visit_of, replies_in};
+ghost use Rattle.hq_sql_across.specs.Visits.{visit_of, replies_in, CarryCustomers};
 
 use crate::sessions::session;
 use hq_values::{Fault, Host, TryCopy};
@@ -49,6 +50,9 @@ fn serve_all<'v, S: Alter + Reopen + Drop>(
         × (map replies_in told.new.items ≡ map replies_in told.old.items ++ replies)
         × PassesSessions host.now (map visit_of visits.now) replies
         (state S.Store conn).may_leave (state S.Store end.1).may_leave) }
+    ensures customers { IfOk result (λ _. (replies : List (List Reply))
+        × (map replies_in told.new.items ≡ map replies_in told.old.items ++ replies)
+        × AllZip CarryCustomers (map visit_of visits.now) replies) }
     ensures quiet { IfOk result (λ end. HasCleanDisk (state S.Store end.1) → end.0 ≡ false
         → HasCleanDisk (state S.Store conn)) }
 {
@@ -76,7 +80,7 @@ fn serve_all<'v, S: Alter + Reopen + Drop>(
 /// session, whatever the other customers do and wherever the stops come: what it heard over all
 /// sessions is what that machine answers, and what the next opening finds of it is what that
 /// machine keeps. Of each stop at most one call is under way, done or not, the same for all
-/// customers.
+/// customers. Each reply carries the customer of its exchange.
 ///
 /// It asks for a store of a desk whose tables are sound, or in which nothing was made yet; and that
 /// the store returned what was written, and kept what was synced. 90 tells that memory was wanted
@@ -90,6 +94,8 @@ pub fn history<'v, S: Alter + Reopen + Drop>(
     ensures across { IfOk result (λ h. HasCleanDisk (state S.Store h.conn) → h.in_doubt ≡ false
         → PassesHistory host.now (map visit_of visits.now) (map replies_in h.replies.items)
         (state S.Store conn).may_leave (state S.Store h.conn).may_leave) }
+    ensures customers { IfOk result (λ h. AllZip CarryCustomers (map visit_of visits.now)
+        (map replies_in h.replies.items)) }
 {
     let mut replies = Vec::with_capacity(alloc, visits.len())?;
     let (in_doubt, conn) = serve_all(alloc, conn, host, visits, &mut replies)?;

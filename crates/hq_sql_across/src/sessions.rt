@@ -5,6 +5,7 @@ ghost use Rattle.sqlite.specs.Held.{state};
 ghost use Rattle.sqlite.specs.State.{HasCleanDisk};
 ghost use Rattle.hq_keyed.specs.Left.{IsQuiet};
 ghost use Rattle.hq_sql_across.specs.Stopped.{Reopens, PassesSession};
+ghost use Rattle.hq_sql_across.specs.Visits.{CarryCustomers};
 
 use hq_desk::Desk;
 use hq_sql_shelf::SqlShelf;
@@ -59,6 +60,8 @@ pub fn session<'d, S: Alter + Reopen + Drop>(
     ensures passed { IfOk result (λ s. HasCleanDisk (state S.Store s.conn) → s.in_doubt ≡ false
         → PassesSession host directory.now exchanges.now s.replies.items
         (state S.Store conn).may_leave (state S.Store s.conn).may_leave) }
+    ensures customers { IfOk result (λ s. CarryCustomers
+        (record { directory = directory.now; exchanges = exchanges.now }) s.replies.items) }
     ensures quiet { IfOk result (λ s. HasCleanDisk (state S.Store s.conn) → s.in_doubt ≡ false
         → HasCleanDisk (state S.Store conn)) }
 {

@@ -1,6 +1,7 @@
 //! Many exchanges of many customers, and what each customer sees of them.
 
 ghost use Rattle.std.specs.Prelude.{◌≡◌, IfOk, OnErr, map};
+ghost use Rattle.hq_requests.specs.Named.{customer_of_exchange, customer_told};
 ghost use Rattle.hq_wire.specs.Exchanges.{ask_of};
 ghost use Rattle.hq_wire.specs.Runs.{RunsSo};
 
@@ -14,6 +15,7 @@ use std::alloc::{AllocError, Allocator, Global};
 /// To every customer the replies to the calls made by or for it, and what is kept of it afterwards,
 /// are those of the machine of one customer, started from its own state and given its share of the
 /// calls alone, whatever other calls come between. A call that is answered 503 does not count.
+/// Each reply carries the customer of its exchange.
 ///
 /// Room for all replies is taken first from `room`; where it is refused, nothing was done.
 pub fn run<'d, D: Acts, A: Allocator>(
@@ -25,6 +27,8 @@ pub fn run<'d, D: Acts, A: Allocator>(
 ) -> Result<Vec<Reply<'d>, A>, AllocError>
     ensures served { IfOk result (λ replies. RunsSo D.sight directory.now desk.old
         (map (ask_of directory.now) exchanges.now) replies.items desk.new) }
+    ensures customers { IfOk result (λ replies. map customer_told replies.items
+        ≡ map (customer_of_exchange directory.now) exchanges.now) }
     ensures none { OnErr result (desk.new ≡ desk.old) }
 {
     let mut replies = Vec::with_capacity(room, exchanges.len())?;

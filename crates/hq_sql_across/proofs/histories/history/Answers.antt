@@ -1,8 +1,9 @@
 use Rattle.std.proofs.Common.{◌≡◌, ◌++◌, List, Vec, Global, map, sym, ap, ◌∙◌, subst}
+use Rattle.std.specs.List.{AllZip}
 use Rattle.sqlite.specs.Held.{state}
 use Rattle.hq_requests.specs.declared.reply.Reply.{Reply}
 use Rattle.hq_sql_across.specs.Stopped.{PassesSessions}
-use Rattle.hq_sql_across.specs.Visits.{visit_of, replies_in}
+use Rattle.hq_sql_across.specs.Visits.{visit_of, replies_in, CarryCustomers}
 use Rattle.hq_sql_across.proofs.Passing.{alone_in_history}
 use Rattle.hq_sql_across.proofs.histories.history.Goals as goal
 
@@ -20,4 +21,11 @@ returns g c = record {
       alone_in_history host visits (map replies_in c.serve_all.new.told.items) before after
       (subst (λ (rs : List (List Reply)). PassesSessions host visits rs before after) (sym told)
       all.2);
+  customers =
+      let all = c.in_ok-in_doubt.ensures.customers in
+      let told : map replies_in c.serve_all.new.told.items ≡ all.0 = all.1
+      ∙ ap (λ (xs : List (Vec Reply Global)). map replies_in xs ++ all.0)
+      c.in_ok-replies.ensures.items in
+      subst (λ (rs : List (List Reply)). AllZip CarryCustomers (map visit_of c.args.visits.now) rs)
+      (sym told) all.2;
 }

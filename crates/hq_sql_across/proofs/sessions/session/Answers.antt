@@ -1,4 +1,4 @@
-use Rattle.std.proofs.Common.{◌≡◌, ℕ, false, List, map, sym, ap, ◌∙◌, subst}
+use Rattle.std.proofs.Common.{◌≡◌, ℕ, false, List, map, sym, ap, ◌∙◌, subst, inl, inr}
 use Rattle.sqlite.specs.Held.{Held, state}
 use Rattle.sqlite.specs.State.{HasCleanDisk}
 use Rattle.hq_keyed.proofs.Left.{clean_before}
@@ -6,6 +6,7 @@ use Rattle.hq_tables.specs.Tables.{Tables}
 use Rattle.hq_desk.specs.Desks.{host_of, on, shelf_of}
 use Rattle.hq_wire.specs.Exchanges.{ask_of}
 use Rattle.hq_wire.specs.Runs.{RunsSo}
+use Rattle.hq_requests.specs.Named.{customer_told}
 use Rattle.hq_requests.specs.declared.reply.Reply.{Reply}
 use Rattle.hq_across.specs.Histories.{Passed, Session}
 use Rattle.hq_sql_shelf.specs.declared.shelf.SqlShelf.{SqlShelf}
@@ -35,6 +36,16 @@ returns-in-Err-clause-passed g c clean sure =
     (not_taken old conn left it
     (λ trees may. g.met.S.Store.settled c.in_ok-conn.conn.store trees it.opens.is_open may)
     (c.in-Err.ensures.leaves (settled conn it.opens) clean)) c.new.ensures.items
+
+pub returns-in-Err-clause-customers : goal.returns-in-Err-clause-customers
+returns-in-Err-clause-customers g c = inl c.new.ensures.items
+
+pub returns-clause-customers : goal.returns-clause-customers
+returns-clause-customers g c = elim c.match-run.branch [
+  | in-Ok-run w ↦ inr (ap (λ v. map customer_told v.items) w.replies-is
+      ∙ w.in-Ok-run.ensures.customers)
+  | in-Err-run w ↦ inl (ap (λ v. v.items) w.replies-is ∙ w.new-replies.ensures.items)
+]
 
 pub returns-clause-passed : goal.returns-clause-passed
 returns-clause-passed g c clean sure keeps =

@@ -4,6 +4,7 @@ use Rattle.std.proofs.lemmas.List.{take_all, take_more, map-append}
 use Rattle.std.proofs.lemmas.Slice.Zip.{all_zipped_more}
 use Rattle.hq_values.specs.Turns.{InTurn}
 use Rattle.hq_values.proofs.Turns.{turns_on, one_turn}
+use Rattle.hq_requests.specs.Named.{customer_of_exchange, customer_told}
 use Rattle.hq_wire.specs.Exchanges.{Exchanged, ask_of}
 use Rattle.hq_wire.specs.Replies.{IsSent}
 use Rattle.hq_wire.proofs.Serving.{served}
@@ -12,6 +13,7 @@ use Rattle.hq_wire.proofs.headline.run.Goals as goal
 pub loop-item-init : goal.loop-item-init
 loop-item-init g c = record {
   each = ([], subst (λ rs. AllZip IsSent rs []) (sym c.in_ok-replies.ensures.items) tt, refl);
+  customers = ap (map customer_told) c.in_ok-replies.ensures.items;
   count = c.in_ok-replies.ensures.len;
   room = c.in_ok-replies.ensures.capacity;
 }
@@ -23,12 +25,17 @@ loop-item-preserved g c =
     let xs = c.args.exchanges.now in
     let step = Exchanged g.D.Acts.sight d in
     let item = c.item-item.result in
+    let reply = c.exchange-reply.result in
     let so = c.exchange-reply.ensures.done in
+    let pushed = c.push_reserved.ensures in
+    let whose = customer_of_exchange d in
     let was = c.loop-item.invariant.each in
     let told = was.0 ++ so.told ∷ [] in
+    let whole : take (i + 1) xs ≡ take i xs ++ item ∷ [] =
+    take_more xs i item c.loop-item-test.true
+    ∙ ap (λ x. take i xs ++ x ∷ []) (sym c.item-item.is) in
     let asked : map (ask_of d) (take (i + 1) xs) ≡ map (ask_of d) (take i xs) ++ ask_of d item
-    ∷ [] = ap (map (ask_of d)) (take_more xs i item c.loop-item-test.true
-    ∙ ap (λ x. take i xs ++ x ∷ []) (sym c.item-item.is))
+    ∷ [] = ap (map (ask_of d)) whole
     ∙ map-append (ask_of d) (take i xs) (item ∷ []) in
     let more : InTurn step c.args.desk.now (map (ask_of d) (take i xs) ++ ask_of d item ∷ []) told
     c.exchange-reply.new.desk = turns_on step _ _ _ _ _ _ _ was.2
@@ -36,15 +43,29 @@ loop-item-preserved g c =
     record {
       each = (
         told,
-        subst (λ rs. AllZip IsSent rs told) (sym c.push_reserved.ensures.items)
-            (all_zipped_more IsSent c.loop-item.replies.items was.0 c.exchange-reply.result so.told
+        subst (λ rs. AllZip IsSent rs told) (sym pushed.items)
+            (all_zipped_more IsSent c.loop-item.replies.items was.0 reply so.told
             was.1 so.sent),
         subst (λ asks. InTurn step c.args.desk.now asks told c.exchange-reply.new.desk) (sym asked)
             more,
       );
-      count = omega (arith, c.push_reserved.ensures.len);
-      room = omega (arith, c.push_reserved.ensures.capacity);
+      customers = ap (map customer_told) pushed.items
+          ∙ map-append customer_told c.loop-item.replies.items (reply ∷ [])
+          ∙ ap (λ ys. ys ++ customer_told reply ∷ [])
+          c.loop-item.invariant.customers
+          ∙ ap (λ y. map whose (take i xs) ++ y ∷ [])
+          c.exchange-reply.ensures.customer
+          ∙ sym (ap (map whose) whole
+          ∙ map-append whose (take i xs) (item ∷ []));
+      count = omega (arith, pushed.len);
+      room = omega (arith, pushed.capacity);
     }
+
+pub returns-clause-customers : goal.returns-clause-customers
+returns-clause-customers g c =
+    c.loop-item.invariant.customers
+    ∙ ap (map (customer_of_exchange c.args.directory.now))
+    (take_all c.loop-item.item-index c.args.exchanges.now (omega arith))
 
 pub returns-clause-served : goal.returns-clause-served
 returns-clause-served g c =
