@@ -14,7 +14,7 @@ use Rattle.hq_wire.specs.Replies.{IsSent, SeenReply}
 use Rattle.hq_serve.specs.Connections.{AnsweredAs}
 use Rattle.hq_serve.specs.Logged.{IsLogged, connection_entry}
 use Rattle.hq_serve.specs.Steps.{AreSent, HoldsRequest, IsToLog}
-use Rattle.hq_serve.specs.declared.serving.Replied.{Replied}
+use Rattle.hq_serve.specs.declared.serving.RequestReplied.{RequestReplied}
 
 module _ (d : Directory) (at : ℕ) (r : SeenReply) (milliseconds : Option ℕ) where
   -- what is told of an exchange that was read, or of what could not be read as one
@@ -39,11 +39,12 @@ module _ (d : Directory) (at : ℕ) (r : SeenReply) (milliseconds : Option ℕ) 
 -- what the log was told of, once it was begun, is what was read and what was replied
 module _ {D : Type 0} (sight : DeskSight D) (d : Directory) (at : ℕ) (a b : Option (List ℕ))
     (old new : D) (lost : Bool) (log_old log_new : Option (List ℕ)) where
-  abbrev pub IsLoggedAs : Replied → Type 0
+  abbrev pub IsLoggedAs : RequestReplied → Type 0
   IsLoggedAs replied = (r : SeenReply) × IsSent replied.reply r
       × IsLogged sight d at a b old new lost log_old log_new r
 
-  pub logged_as : (asked : Wanted) (replied : Replied) (told : Answered) (r : Option SeenReply)
+  pub logged_as : (asked : Wanted) (replied : RequestReplied) (told : Answered)
+      (r : Option SeenReply)
       (begun_lost : Bool) (begun : Option (List ℕ)) → AreSent (Some replied.reply) r →
       AnsweredAs sight d at a b old asked r new → HoldsRequest at asked replied.asked →
       customer_told replied.reply ≡ customer_asked d replied.asked → IsToLog told at replied →

@@ -11,7 +11,7 @@ use Rattle.hq_requests.specs.declared.exchanges.Exchange.{Exchange}
 use Rattle.hq_requests.specs.declared.directory.Directory.{Directory}
 use Rattle.hq_requests.specs.declared.reply.Reply.{Reply}
 use Rattle.hq_serve.specs.Connections.{AnsweredAs}
-use Rattle.hq_serve.specs.declared.serving.Replied.{Replied}
+use Rattle.hq_serve.specs.declared.serving.RequestReplied.{RequestReplied}
 
 -- the exchange that a request asks for at a moment
 abbrev pub IsOfRequest : Exchange → ℕ → requests.Request → Type 0
@@ -33,18 +33,18 @@ HoldsRequest at _ (Some x) = ⊥
 HoldsRequest at _ None = ⊤
 
 -- where there is a reply, its exchange is the one that is asked for
-abbrev pub HoldsAsked : ℕ → Wanted → Option Replied → Type 0
+abbrev pub HoldsAsked : ℕ → Wanted → Option RequestReplied → Type 0
 HoldsAsked at asked None = ⊤
 HoldsAsked at asked (Some replied) = HoldsRequest at asked replied.asked
 
 -- a reply that is there is of the customer of its exchange
-abbrev pub IsOfCustomer : Directory → Option Replied → Type 0
+abbrev pub IsOfCustomer : Directory → Option RequestReplied → Type 0
 IsOfCustomer d None = ⊤
 IsOfCustomer d (Some replied) = customer_told replied.reply ≡ customer_asked d replied.asked
 
 -- what was read is answered, as it is sent, and its exchange is at hand
 pub record Sends {D : Type 0} (sight : DeskSight D) (d : Directory) (at : ℕ)
-    (read_old read_new : Option (List ℕ)) (old : D) (replied : Option Replied) (new : D)
+    (read_old read_new : Option (List ℕ)) (old : D) (replied : Option RequestReplied) (new : D)
     : Type 0 where
   pub asked : Wanted
   pub reply : Option SeenReply
@@ -53,6 +53,6 @@ pub record Sends {D : Type 0} (sight : DeskSight D) (d : Directory) (at : ℕ)
   pub holds : HoldsAsked at asked replied
   pub customer : IsOfCustomer d replied
 
-abbrev pub IsToLog : ToLog → ℕ → Replied → Type 0
+abbrev pub IsToLog : ToLog → ℕ → RequestReplied → Type 0
 IsToLog told at replied = (told.at ≡ Some at) × (option_map (λ x. x.now) told.asked ≡ replied.asked)
     × (told.reply.now ≡ replied.reply)

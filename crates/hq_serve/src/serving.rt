@@ -39,12 +39,12 @@ fn exchange_of(request: Request, at: Moment) -> Exchange
 
 /// What is replied, and the exchange where there is one.
 #[derive(Drop)]
-struct Replied<'d> {
+struct RequestReplied<'d> {
     asked: Option<Exchange>,
     reply: Reply<'d>,
 }
 
-impl Replied<'_> {
+impl RequestReplied<'_> {
     /// What the log is told of, at the moment of the connection.
     fn answered(&self, at: Moment) -> Answered<'_>
         ensures { IsToLog result at self.now }
@@ -64,24 +64,24 @@ fn reply_to<'d, D: Acts>(
     directory: &'d Directory,
     at: Moment,
     input: Input,
-) -> Option<Replied<'d>>
+) -> Option<RequestReplied<'d>>
     ensures { (read_old read_new : Option (List ℕ)) → InputIs read_old read_new input
         → Sends D.sight directory.now at read_old read_new desk.old result desk.new }
 {
     match input {
         Input::Nothing => None,
-        Input::Refused(refusal) => Some(Replied {
+        Input::Refused(refusal) => Some(RequestReplied {
             asked: None,
             reply: refusal_reply(alloc, None, refusal),
         }),
-        Input::NoRoom => Some(Replied {
+        Input::NoRoom => Some(RequestReplied {
             asked: None,
             reply: fault_reply(None, Fault::WantOfMemory),
         }),
         Input::Request(request) => {
             let asked = exchange_of(request, at);
             let reply = exchange(alloc, desk, directory, &asked);
-            Some(Replied {
+            Some(RequestReplied {
                 asked: Some(asked),
                 reply,
             })

@@ -46,15 +46,11 @@ abbrev pub ServedEnds : Type 0 → Type 0 → Type 0 → Result ⊤ Trouble → 
 ServedEnds served unwritten told result =
     IsUnheard unwritten result ⊎ (told × IsEnd result × served)
 
-abbrev pub ShelfEnds : {S : Type 0} → Sight S → Settings → ℕ → S → Type 0 → Type 0 →
-    Result ⊤ Trouble → Type 0
-ShelfEnds sight settings count shelf = ServedEnds (ServesConnections sight settings count shelf)
-
 -- over a desk as it was opened: over this shelf, or there is none
 abbrev pub OpenedServerEnds : {S : Type 0} → Sight S → Settings → ℕ → Result S Fault → Type 0 →
     Type 0 → Result ⊤ Trouble → Type 0
 OpenedServerEnds sight settings count opened unwritten told result = OverOpened
-    (λ shelf. ShelfEnds sight settings count shelf unwritten told result)
+    (λ shelf. ServedEnds (ServesConnections sight settings count shelf) unwritten told result)
     (λ fault. IsUnopened unwritten fault result) opened
 
 -- ---- in memory

@@ -1,10 +1,8 @@
 //! The connections of a server, over a store as it was opened.
 
 ghost use Rattle.std.specs.Prelude.{◌≡◌, option_map};
-ghost use Rattle.sqlite.specs.Held.{state};
-ghost use Rattle.hq_sql_shelf.specs.Shelf.{sight_over};
 ghost use Rattle.hq_sql_server.specs.Listening.{HasTold};
-ghost use Rattle.hq_sql_server.specs.Runs.{IsEnd, ShelfEnds, OpenedServerEnds, MemoryServerEnds};
+ghost use Rattle.hq_sql_server.specs.Runs.{IsEnd, OpenedServerEnds, MemoryServerEnds};
 ghost use Rattle.hq_sql_server.specs.Runs.{StoreServerEnds, ServeEnds};
 
 use crate::listening::{limits, listen};
@@ -16,10 +14,9 @@ use hq_sql_shelf::{FileShelf, SqlShelf, open_file};
 use hq_tables::Shelf;
 use hq_values::Fault;
 use hq_words::Serve;
-use sqlite::Alter;
 use std::io::Write;
 
-/// Why no more connections are served, as the program tells it.
+/// Why a server ends, as the program tells it.
 fn ended(end: ServiceEnd) -> Result<(), Trouble>
     ensures { IsEnd result }
 {
@@ -30,18 +27,20 @@ fn ended(end: ServiceEnd) -> Result<(), Trouble>
     }
 }
 
-/// Serves the connections of an address over a shelf.
+/// Serves the connections of an address over a shelf as it was opened; where it could not be, tells
+/// why, and listens on nothing.
 fn serve_over<S: Shelf + Drop, W: Write, E: Write>(
     rt: &HostRuntime,
-    shelf: S,
+    opened: Result<S, Fault>,
     settings: Settings,
     given: &Serve,
     output: &mut W,
     errors: &mut E,
 ) -> Result<(), Trouble>
-    ensures { ShelfEnds S.sight settings given.now.count shelf (output.new ≡ output.old)
+    ensures { OpenedServerEnds S.sight settings given.now.count opened (output.new ≡ output.old)
         (HasTold given.now.listen.now (W.contents output.old) (W.contents output.new)) result }
 {
+    let shelf = opened?;
     let listener = listen(rt, given.listen, output)?;
     let Settings { host, directory } = settings;
     let mut desk = Desk::new(shelf, host);
@@ -58,23 +57,6 @@ fn serve_over<S: Shelf + Drop, W: Write, E: Write>(
     ))
 }
 
-/// Serves the connections of an address over a store as it was opened; or tells why it could not be
-/// opened, and then nothing is listened on.
-fn serve_opened<S: Alter + Drop, W: Write, E: Write>(
-    rt: &HostRuntime,
-    opened: Result<SqlShelf<S>, Fault>,
-    settings: Settings,
-    given: &Serve,
-    output: &mut W,
-    errors: &mut E,
-) -> Result<(), Trouble>
-    ensures { OpenedServerEnds (sight_over (state S.Store)) settings given.now.count opened
-        (output.new ≡ output.old)
-        (HasTold given.now.listen.now (W.contents output.old) (W.contents output.new)) result }
-{
-    serve_over(rt, opened?, settings, given, output, errors)
-}
-
 /// Serves the connections of an address from an empty desk, whose store stands in memory.
 fn serve_memory<W: Write, E: Write>(
     rt: &HostRuntime,
@@ -87,11 +69,11 @@ fn serve_memory<W: Write, E: Write>(
         (HasTold given.now.listen.now (W.contents output.old) (W.contents output.new)) result }
 {
     let opened = SqlShelf::open_memory(rt.alloc());
-    serve_opened(rt, opened, settings, given, output, errors)
+    serve_over(rt, opened, settings, given, output, errors)
 }
 
-/// Serves connections over the store of the path that is given, which is made where it is missing,
-/// or without one over an empty one in memory.
+/// Serves connections over the store of a path, which is made where it is missing. Without a path
+/// the store is empty, and in memory.
 fn serve_stored<W: Write, E: Write>(
     rt: &HostRuntime,
     settings: Settings,
@@ -106,10 +88,7 @@ fn serve_stored<W: Write, E: Write>(
 {
     match given.store {
         None => serve_memory(rt, settings, given, output, errors),
-        Some(path) => {
-            let opened = open_file(rt, path);
-            serve_opened(rt, opened, settings, given, output, errors)
-        }
+        Some(path) => serve_over(rt, open_file(rt, path), settings, given, output, errors),
     }
 }
 

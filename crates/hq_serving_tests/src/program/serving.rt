@@ -38,7 +38,7 @@ impl Write for Flushed {
 
 /// How a batch ended, and what it wrote.
 #[derive(Drop)]
-struct Ended {
+struct Run {
     end: Result<(), Trouble>,
     output: Vec<u8>,
 }
@@ -58,13 +58,13 @@ fn end_of<R: Read, W: Write>(alloc: Global, input: &mut R, output: &mut W) -> Re
 }
 
 /// A batch over this input.
-fn run_over<R: Read>(alloc: Global, input: &mut R) -> Ended {
+fn run_over<R: Read>(alloc: Global, input: &mut R) -> Run {
     let mut output = Vec::new(alloc);
     let end = end_of(alloc, input, &mut output);
-    Ended { end, output }
+    Run { end, output }
 }
 
-fn expect_ended(rt: &impl Abort, ended: &Ended, end: Result<(), Trouble>, output: &str) {
+fn expect_ended(rt: &impl Abort, ended: &Run, end: Result<(), Trouble>, output: &str) {
     assert_eq!(rt;
         (ended.end, ended.output.as_slice()),
         (end, output.as_bytes())

@@ -11,38 +11,38 @@ use std::test::Fail;
 
 /// A status, and what was written of it.
 #[derive(Debug, PartialEq, Eq, Drop)]
-struct Told {
+struct Printed {
     status: u8,
     errors: Vec<u8>,
 }
 
-fn expect_told(rt: &impl Abort, told: &Told, status: u8, line: &str) {
+fn expect_told(rt: &impl Abort, told: &Printed, status: u8, line: &str) {
     assert_eq!(rt; told.status, status);
     assert_eq!(rt; told.errors.as_slice(), line.as_bytes());
 }
 
-fn before_the_first_line(alloc: Global, kind: ErrorKind) -> Told {
+fn before_the_first_line(alloc: Global, kind: ErrorKind) -> Printed {
     let mut errors = Vec::new(alloc);
     let status = not_begun(&io::Error::from(kind), &mut errors);
-    Told { status, errors }
+    Printed { status, errors }
 }
 
-fn of_an_end(alloc: Global, end: Result<(), Trouble>) -> Told {
+fn of_an_end(alloc: Global, end: Result<(), Trouble>) -> Printed {
     let mut errors = Vec::new(alloc);
     let status = tell(end, &mut errors);
-    Told { status, errors }
+    Printed { status, errors }
 }
 
-fn of_words(alloc: Global, text: &str) -> Told {
+fn of_words(alloc: Global, text: &str) -> Printed {
     let mut errors = Vec::new(alloc);
     let status = refuse(text, &mut errors);
-    Told { status, errors }
+    Printed { status, errors }
 }
 
-fn of_a_text<W: Write>(alloc: Global, text: &str, output: &mut W) -> Told {
+fn of_a_text<W: Write>(alloc: Global, text: &str, output: &mut W) -> Printed {
     let mut errors = Vec::new(alloc);
     let status = show(text, output, &mut errors);
-    Told { status, errors }
+    Printed { status, errors }
 }
 
 #[test]

@@ -7,7 +7,7 @@ use Rattle.hq_sql_server.proofs.serving.serve_over.Goals as goal
 pub returns : goal.returns
 returns g c =
     let directory = c.args.settings.directory in
-    inr (
+    rw c.in_ok-shelf.was (inr (
       c.in_ok-listener.ensures,
       c.ended.ensures,
       record {
@@ -21,4 +21,4 @@ returns g c =
             (connections_left c.serve_on.new.connections) c.serve_on.result c.new-desk.result
             c.serve_on.new.desk c.serve_on.ensures);
       },
-    )
+    ))
