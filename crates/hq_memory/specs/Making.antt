@@ -2,7 +2,7 @@
 -- Inner: it serves proofs alone, and no promise rests on it.
 use Rattle.std.specs.Prelude.{Result, Ok, Err}
 
--- What was made is so; or nothing was made, and then for this reason.
+-- a call made a value that is so; or it made none, for this reason
 abbrev pub MadeIn : {A E : Type 0} → Type 0 → Result A E → (A → Type 0) → Type 0
 MadeIn refused (Ok x) P = P x
 MadeIn refused (Err e) P = refused

@@ -1,5 +1,5 @@
-//! Memory that may refuse: where the desk asks for room, and that a call ends in want of it only
-//! where it was refused.
+//! Memory that may refuse. The desk asks it for room, so that a call ends in want of memory only
+//! where it refused.
 #![tactic(auto)]
 
 mod memory;

@@ -11,8 +11,8 @@ use std::fmt::Display;
 /// Memory that may refuse. Code that takes any of it knows of a refusal only what these calls say,
 /// so its own want of memory has that cause.
 ///
-/// That a call of the library gives up for want of memory alone is trusted. `show` and `write`
-/// also need that the `fmt` of what they show fails only where a write does.
+/// The calls of the library are trusted to give up for want of memory alone. `show` and `write`
+/// also ask for a value whose `fmt` fails only where a write does, as those of texts and numbers.
 pub trait Memory: Copy + Drop {
     /// It refused a request.
     ghost refused: { Type 0 };

@@ -1,5 +1,5 @@
-//! Rows dealt to the messages of a page by their serials: the rows of all are lent one after
-//! another, and each goes to its message as it comes.
+//! Rows dealt to the messages of a page. They are lent one after another, in the order of their
+//! serials, and each goes to its message as it comes.
 
 ghost use Rattle.std.specs.Prelude.{◌≡◌, OnOk, IfOk, IfSome, None, length};
 ghost use Rattle.sqlite.specs.State.{HasCleanDisk};
