@@ -32,11 +32,11 @@ const CLOSED_AT_BIRCH: &str = "200 {\"done\":[\
     \"expired\":0,\"failed\":0,\"lines\":0,\"messages\":1,\"pending\":1}],\
     \"stopped\":{\"customer\":\"birch\",\"error\":93,\"name\":\"Closed\"}}";
 
-/// Each customer's usage makes three calls of the shelf: each of the six fails once.
+/// Each customer's usage makes two calls of the shelf: each of the four fails once.
 #[test]
 fn a_fault_stops_it(rt: HostRuntime) -> Result<(), Fail> {
-    for (first, told) in [(1, STOPPED_AT_ACME), (4, STOPPED_AT_BIRCH)] {
-        for at in first..first + 3 {
+    for (first, told) in [(1, STOPPED_AT_ACME), (3, STOPPED_AT_BIRCH)] {
+        for at in first..first + 2 {
             expect_stop(&rt, Plan::DiskOnce { at }, USAGE, told, ALL_COUNTED)?;
         }
     }
@@ -47,7 +47,7 @@ fn a_fault_stops_it(rt: HostRuntime) -> Result<(), Fail> {
 fn a_closed_store_stops_it(rt: HostRuntime) -> Result<(), Fail> {
     let closed = "200 {\"done\":[],\"stopped\":\
         {\"customer\":\"acme\",\"error\":93,\"name\":\"Closed\"}}";
-    for at in 4..7 {
+    for at in 3..5 {
         expect_stop(&rt, Plan::ClosedFrom { at }, USAGE, CLOSED_AT_BIRCH, closed)?;
     }
     Ok(())
