@@ -1,3 +1,3 @@
-pub mod NoFloats
+pub mod Escapes
 pub mod OneLine
 pub mod ReadBack

@@ -7,3 +7,4 @@ pub mod QueueReplies
 pub mod ReadBack
 pub mod TableReplies
 pub mod Replies
+pub mod Writing

@@ -1,75 +1,122 @@
-//! What is told to the relay's workers, as JSON values.
+//! What is told to the relay's workers.
 
-ghost use Rattle.std.specs.Prelude.{◌≡◌, IfOk, map as map_list};
-ghost use Rattle.serde_json.specs.Data.{array};
-ghost use Rattle.serde_json.specs.View.{view, items_of};
+ghost use Rattle.std.specs.Prelude.{◌≡◌, OnErr};
 ghost use Rattle.hq_json.specs.AttemptReplies as replies;
+ghost use Rattle.hq_json.specs.Writing.{after};
 
-use crate::objects::{address_list, id_value};
+use crate::parts::{Form, put_object};
+use crate::values::{Part, Plain};
 use hq_kept::Message;
+use hq_memory::Memory;
 use hq_rules::{AttemptCounts, SweepCounts};
-use serde_json::{Value, json};
-use std::alloc::{AllocError, Global};
+use std::alloc::AllocError;
 
 /// What became of the recipients in an attempt.
-pub(crate) fn attempted_value(alloc: Global, counts: AttemptCounts) -> Result<Value, AllocError>
-    ensures { IfOk result (λ v. view v ≡ replies.attempt_json counts) }
+pub(crate) fn put_attempted<M: Memory>(
+    memory: M,
+    body: &mut Vec<u8>,
+    counts: AttemptCounts,
+) -> Result<(), AllocError>
+    ensures bytes { body.new.items ≡ after result body.old.items body.new.items
+        (replies.attempt_json counts) }
+    ensures cause { OnErr result M.refused }
 {
-    json!(in alloc; {
-        "deferred": counts.deferred, "delivered": counts.delivered, "failed": counts.failed,
-        "left": counts.left, "result": "done"
-    })
+    put_object(
+        memory,
+        body,
+        &[
+            ("deferred", Plain::Count(counts.deferred)),
+            ("delivered", Plain::Count(counts.delivered)),
+            ("failed", Plain::Count(counts.failed)),
+            ("left", Plain::Count(counts.left)),
+            ("result", Plain::Text("done")),
+        ],
+    )
 }
 
 /// That an attempt was reported before, and how many were.
-pub(crate) fn repeated_attempt_value(alloc: Global, attempts: u32) -> Result<Value, AllocError>
-    ensures { IfOk result (λ v. view v ≡ replies.attempt_repeated attempts) }
+pub(crate) fn put_repeated_attempt<M: Memory>(
+    memory: M,
+    body: &mut Vec<u8>,
+    attempts: u32,
+) -> Result<(), AllocError>
+    ensures bytes { body.new.items ≡ after result body.old.items body.new.items
+        (replies.attempt_repeated attempts) }
+    ensures cause { OnErr result M.refused }
 {
-    json!(in alloc; {"attempts": attempts, "result": "repeat"})
+    put_object(
+        memory,
+        body,
+        &[
+            ("attempts", Plain::Count(u64::from(attempts))),
+            ("result", Plain::Text("repeat")),
+        ],
+    )
 }
 
-#[tactic(auto, unfolding(crate::specs::AttemptReplies::due_entry))]
-fn due_entry(alloc: Global, message: &Message) -> Result<Value, AllocError>
-    ensures { IfOk result (λ v. view v ≡ replies.due_entry message.now) }
-{
-    let attempt = u64::from(message.attempts) + 1;
-    let id = id_value(alloc, message.serial)?;
-    let recipients = address_list(alloc, message.pending.as_slice())?;
-    json!(in alloc; {
-        "attempt": attempt, "id": id, "recipients": recipients,
-        "sender": message.sender.as_str(), "spool": message.spool.as_str()
-    })
-}
+/// A message with the number of its next attempt.
+pub(crate) struct Due;
 
-fn due_list(alloc: Global, messages: &[Message]) -> Result<Value, AllocError>
-    ensures { IfOk result
-        (λ v. view v ≡ array (items_of (map_list replies.due_entry messages.now))) }
-{
-    let mut values = Vec::new(alloc);
-    for message in messages {
-        values.push(due_entry(alloc, message)?)?;
+impl Form<Message> for Due {
+    ghost use Rattle.hq_json.specs.AttemptReplies.{due_entry};
+
+    ghost told = { due_entry };
+
+    fn put<M: Memory>(memory: M, body: &mut Vec<u8>, one: &Message) -> Result<(), AllocError> {
+        let attempt = u64::from(one.attempts) + 1;
+        put_object(
+            memory,
+            body,
+            &[
+                ("attempt", Plain::Count(attempt)),
+                ("id", Plain::Id(one.serial)),
+                ("recipients", Plain::Addresses(one.pending.as_slice())),
+                ("sender", Plain::Text(one.sender.as_str())),
+                ("spool", Plain::Text(one.spool.as_str())),
+            ],
+        )
     }
-    Ok(Value::Array(values))
 }
 
 /// A page of messages that may be tried.
 #[tactic(auto, unfolding(crate::specs::AttemptReplies::due_listed))]
-pub(crate) fn due_value(
-    alloc: Global,
+pub(crate) fn put_due<M: Memory>(
+    memory: M,
+    body: &mut Vec<u8>,
     messages: &[Message],
     more: bool,
-) -> Result<Value, AllocError>
-    ensures { IfOk result (λ v. view v ≡ replies.due_listed messages.now more) }
+) -> Result<(), AllocError>
+    ensures bytes { body.new.items ≡ after result body.old.items body.new.items
+        (replies.due_listed messages.now more) }
+    ensures cause { OnErr result M.refused }
 {
-    let due = due_list(alloc, messages)?;
-    json!(in alloc; {"due": due, "more": more})
+    put_object(
+        memory,
+        body,
+        &[
+            ("due", Part::Due(messages)),
+            ("more", Part::One(Plain::Flag(more))),
+        ],
+    )
 }
 
 /// What a sweep did.
-pub(crate) fn swept_value(alloc: Global, counts: SweepCounts) -> Result<Value, AllocError>
-    ensures { IfOk result (λ v. view v ≡ replies.sweep_json counts) }
+pub(crate) fn put_swept<M: Memory>(
+    memory: M,
+    body: &mut Vec<u8>,
+    counts: SweepCounts,
+) -> Result<(), AllocError>
+    ensures bytes { body.new.items ≡ after result body.old.items body.new.items
+        (replies.sweep_json counts) }
+    ensures cause { OnErr result M.refused }
 {
-    json!(in alloc; {
-        "expired": counts.expired, "notices": counts.notices, "warned": counts.warned
-    })
+    put_object(
+        memory,
+        body,
+        &[
+            ("expired", Plain::Count(counts.expired)),
+            ("notices", Plain::Count(counts.notices)),
+            ("warned", Plain::Count(counts.warned)),
+        ],
+    )
 }

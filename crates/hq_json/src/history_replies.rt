@@ -1,14 +1,14 @@
-//! Replies to calls on histories, as JSON values.
+//! Replies to calls on histories.
 
-ghost use Rattle.std.specs.Prelude.{◌≡◌, IfOk, map as map_list, unwrap_or, []};
-ghost use Rattle.serde_json.specs.Data.{array};
-ghost use Rattle.serde_json.specs.View.{view, items_of};
+ghost use Rattle.std.specs.Prelude.{◌≡◌, unwrap_or, [], OnErr};
 ghost use Rattle.hq_json.specs.HistoryReplies as replies;
+ghost use Rattle.hq_json.specs.Writing.{after, plain_data};
 
-use crate::objects::id_value;
+use crate::parts::{AsEntry, Form, put_object};
+use crate::values::{Part, Plain};
 use hq_kept::{End, Fate, Status};
-use serde_json::{Value, json};
-use std::alloc::{AllocError, Global};
+use hq_memory::Memory;
+use std::alloc::AllocError;
 
 fn fate_name(fate: Fate) -> &'static str
     ensures { result.now ≡ replies.fate_name fate }
@@ -31,51 +31,78 @@ fn status_str(status: &Option<Status>) -> &str
     }
 }
 
-#[tactic(auto, unfolding(crate::specs::HistoryReplies::end_entry))]
-fn end_entry(alloc: Global, end: &End) -> Result<Value, AllocError>
-    ensures { IfOk result (λ v. view v ≡ replies.end_entry end.now) }
-{
-    let id = id_value(alloc, end.ended.serial)?;
-    json!(in alloc; {
-        "at": end.at.get(), "id": id, "number": end.number,
-        "recipient": end.ended.recipient.as_str(), "result": fate_name(end.ended.fate),
-        "sender": end.ended.sender.as_str(), "status": status_str(&end.ended.status),
-        "text": end.ended.text.as_str()
-    })
-}
+impl Form<End> for AsEntry {
+    ghost use Rattle.hq_json.specs.HistoryReplies.{end_entry};
 
-fn end_list(alloc: Global, ends: &[End]) -> Result<Value, AllocError>
-    ensures { IfOk result
-        (λ v. view v ≡ array (items_of (map_list replies.end_entry ends.now))) }
-{
-    let mut values = Vec::new(alloc);
-    for end in ends {
-        values.push(end_entry(alloc, end)?)?;
+    ghost told = { end_entry };
+
+    fn put<M: Memory>(memory: M, body: &mut Vec<u8>, one: &End) -> Result<(), AllocError> {
+        put_object(
+            memory,
+            body,
+            &[
+                ("at", Plain::Count(one.at.get())),
+                ("id", Plain::Id(one.ended.serial)),
+                ("number", Plain::Count(one.number)),
+                ("recipient", Plain::Text(one.ended.recipient.as_str())),
+                ("result", Plain::Text(fate_name(one.ended.fate))),
+                ("sender", Plain::Text(one.ended.sender.as_str())),
+                ("status", Plain::Text(status_str(&one.ended.status))),
+                ("text", Plain::Text(one.ended.text.as_str())),
+            ],
+        )
     }
-    Ok(Value::Array(values))
 }
 
 /// A page of a history.
 #[tactic(auto, unfolding(crate::specs::HistoryReplies::history_listed))]
-pub(crate) fn history_value(alloc: Global, ends: &[End], more: bool) -> Result<Value, AllocError>
-    ensures { IfOk result (λ v. view v ≡ replies.history_listed ends.now more) }
+pub(crate) fn put_history<M: Memory>(
+    memory: M,
+    body: &mut Vec<u8>,
+    ends: &[End],
+    more: bool,
+) -> Result<(), AllocError>
+    ensures bytes { body.new.items ≡ after result body.old.items body.new.items
+        (replies.history_listed ends.now more) }
+    ensures cause { OnErr result M.refused }
 {
-    let history = end_list(alloc, ends)?;
-    json!(in alloc; {"history": history, "more": more})
+    put_object(
+        memory,
+        body,
+        &[
+            ("history", Part::Ends(ends)),
+            ("more", Part::One(Plain::Flag(more))),
+        ],
+    )
+}
+
+/// The number before which a search goes on.
+fn next_value(next: Option<u64>) -> Plain<'static>
+    ensures { plain_data result ≡ replies.next_told next }
+{
+    match next {
+        None => Plain::Null,
+        Some(number) => Plain::Count(number),
+    }
 }
 
 /// What a search found, and the number before which it goes on.
-#[tactic(auto, unfolding(crate::specs::HistoryReplies::history_found))]
-pub(crate) fn found_value(
-    alloc: Global,
+pub(crate) fn put_found<M: Memory>(
+    memory: M,
+    body: &mut Vec<u8>,
     ends: &[End],
     next: Option<u64>,
-) -> Result<Value, AllocError>
-    ensures { IfOk result (λ v. view v ≡ replies.history_found ends.now next) }
+) -> Result<(), AllocError>
+    ensures bytes { body.new.items ≡ after result body.old.items body.new.items
+        (replies.history_found ends.now next) }
+    ensures cause { OnErr result M.refused }
 {
-    let history = end_list(alloc, ends)?;
-    match next {
-        None => json!(in alloc; {"history": history, "next": null}),
-        Some(number) => json!(in alloc; {"history": history, "next": number}),
-    }
+    put_object(
+        memory,
+        body,
+        &[
+            ("history", Part::Ends(ends)),
+            ("next", Part::One(next_value(next))),
+        ],
+    )
 }

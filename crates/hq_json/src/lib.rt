@@ -4,10 +4,14 @@
 mod attempt_replies;
 mod history_replies;
 pub mod laws;
+mod message_replies;
 mod notice_replies;
-mod objects;
+mod parts;
 mod queue_replies;
+mod refusals;
 mod replies;
 mod table_replies;
+mod values;
+mod writing;
 
-pub use replies::{Json, refusal_text};
+pub use replies::{Json, answer_bytes, refusal_text};

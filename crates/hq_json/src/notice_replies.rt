@@ -1,14 +1,14 @@
-//! What is told of notices, as JSON values.
+//! What is told of notices.
 
-ghost use Rattle.std.specs.Prelude.{◌≡◌, IfOk, map as map_list};
-ghost use Rattle.serde_json.specs.Data.{array};
-ghost use Rattle.serde_json.specs.View.{view, items_of};
+ghost use Rattle.std.specs.Prelude.{◌≡◌, OnErr};
 ghost use Rattle.hq_json.specs.NoticeReplies as replies;
+ghost use Rattle.hq_json.specs.Writing.{after};
 
-use crate::objects::id_value;
+use crate::parts::{AsEntry, Form, put_object};
+use crate::values::{Part, Plain};
 use hq_kept::{Kind, Notice};
-use serde_json::{Value, json};
-use std::alloc::{AllocError, Global};
+use hq_memory::Memory;
+use std::alloc::AllocError;
 
 fn kind_name(kind: Kind) -> &'static str
     ensures { result.now ≡ replies.kind_name kind }
@@ -29,51 +29,71 @@ fn subject(kind: Kind) -> &'static str
     }
 }
 
-#[tactic(auto, unfolding(crate::specs::NoticeReplies::notice_entry))]
-fn notice_entry(alloc: Global, notice: &Notice) -> Result<Value, AllocError>
-    ensures { IfOk result (λ v. view v ≡ replies.notice_entry notice.now) }
-{
-    let id = id_value(alloc, notice.serial)?;
-    json!(in alloc; {
-        "at": notice.at.get(), "id": id, "kind": kind_name(notice.kind),
-        "number": notice.number, "to": notice.to.as_str()
-    })
-}
+impl Form<Notice> for AsEntry {
+    ghost use Rattle.hq_json.specs.NoticeReplies.{notice_entry};
 
-fn notice_list(alloc: Global, notices: &[Notice]) -> Result<Value, AllocError>
-    ensures { IfOk result
-        (λ v. view v ≡ array (items_of (map_list replies.notice_entry notices.now))) }
-{
-    let mut values = Vec::new(alloc);
-    for notice in notices {
-        values.push(notice_entry(alloc, notice)?)?;
+    ghost told = { notice_entry };
+
+    fn put<M: Memory>(memory: M, body: &mut Vec<u8>, one: &Notice) -> Result<(), AllocError> {
+        let number = one.number;
+        put_object(
+            memory,
+            body,
+            &[
+                ("at", Plain::Count(one.at.get())),
+                ("id", Plain::Id(one.serial)),
+                ("kind", Plain::Text(kind_name(one.kind))),
+                ("number", Plain::Count(number)),
+                ("to", Plain::Text(one.to.as_str())),
+            ],
+        )
     }
-    Ok(Value::Array(values))
 }
 
 /// A page of notices.
 #[tactic(auto, unfolding(crate::specs::NoticeReplies::notices_listed))]
-pub(crate) fn notices_value(
-    alloc: Global,
+pub(crate) fn put_notices<M: Memory>(
+    memory: M,
+    body: &mut Vec<u8>,
     notices: &[Notice],
     more: bool,
-) -> Result<Value, AllocError>
-    ensures { IfOk result (λ v. view v ≡ replies.notices_listed notices.now more) }
+) -> Result<(), AllocError>
+    ensures bytes { body.new.items ≡ after result body.old.items body.new.items
+        (replies.notices_listed notices.now more) }
+    ensures cause { OnErr result M.refused }
 {
-    let notices = notice_list(alloc, notices)?;
-    json!(in alloc; {"more": more, "notices": notices})
+    put_object(
+        memory,
+        body,
+        &[
+            ("more", Part::One(Plain::Flag(more))),
+            ("notices", Part::Notices(notices)),
+        ],
+    )
 }
 
 /// A notice whole.
-#[tactic(auto, unfolding(crate::specs::NoticeReplies::notice_json))]
-pub(crate) fn notice_value(alloc: Global, notice: &Notice) -> Result<Value, AllocError>
-    ensures { IfOk result (λ v. view v ≡ replies.notice_json notice.now) }
+pub(crate) fn put_notice<M: Memory>(
+    memory: M,
+    body: &mut Vec<u8>,
+    notice: &Notice,
+) -> Result<(), AllocError>
+    ensures bytes { body.new.items ≡ after result body.old.items body.new.items
+        (replies.notice_json notice.now) }
+    ensures cause { OnErr result M.refused }
 {
-    let id = id_value(alloc, notice.serial)?;
-    json!(in alloc; {
-        "at": notice.at.get(), "human": notice.human.as_str(), "id": id,
-        "kind": kind_name(notice.kind), "number": notice.number,
-        "status": notice.status.as_str(), "subject": subject(notice.kind),
-        "to": notice.to.as_str()
-    })
+    put_object(
+        memory,
+        body,
+        &[
+            ("at", Plain::Count(notice.at.get())),
+            ("human", Plain::Text(notice.human.as_str())),
+            ("id", Plain::Id(notice.serial)),
+            ("kind", Plain::Text(kind_name(notice.kind))),
+            ("number", Plain::Count(notice.number)),
+            ("status", Plain::Text(notice.status.as_str())),
+            ("subject", Plain::Text(subject(notice.kind))),
+            ("to", Plain::Text(notice.to.as_str())),
+        ],
+    )
 }

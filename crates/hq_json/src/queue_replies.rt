@@ -1,39 +1,77 @@
-//! What a customer is told of its use of the desk and of its queue, as JSON values.
+//! What a customer is told of its use of the desk and of its queue.
 
-ghost use Rattle.std.specs.Prelude.{◌≡◌, IfOk};
-ghost use Rattle.serde_json.specs.View.{view};
+ghost use Rattle.std.specs.Prelude.{◌≡◌, OnErr};
 ghost use Rattle.hq_json.specs.QueueReplies as replies;
+ghost use Rattle.hq_json.specs.Writing.{after};
 
+use crate::parts::put_object;
+use crate::values::Plain;
+use hq_memory::Memory;
 use hq_rules::{Allowance, Usage};
-use serde_json::{Value, json};
-use std::alloc::{AllocError, Global};
+use std::alloc::AllocError;
 
 /// What a customer has on the desk, and what became of its recipients.
-pub(crate) fn used_value(alloc: Global, usage: Usage) -> Result<Value, AllocError>
-    ensures { IfOk result (λ v. view v ≡ replies.used usage) }
+pub(crate) fn put_used<M: Memory>(
+    memory: M,
+    body: &mut Vec<u8>,
+    usage: Usage,
+) -> Result<(), AllocError>
+    ensures bytes { body.new.items ≡ after result body.old.items body.new.items
+        (replies.used usage) }
+    ensures cause { OnErr result M.refused }
 {
     let counts = usage.counts;
     let tally = usage.tally;
-    json!(in alloc; {
-        "accepted": tally.accepted, "bytes": counts.bytes, "deleted": tally.deleted,
-        "delivered": tally.delivered, "expired": tally.expired, "failed": tally.failed,
-        "lines": counts.lines, "messages": counts.messages, "pending": usage.pending
-    })
+    put_object(
+        memory,
+        body,
+        &[
+            ("accepted", Plain::Count(tally.accepted)),
+            ("bytes", Plain::Count(counts.bytes)),
+            ("deleted", Plain::Count(tally.deleted)),
+            ("delivered", Plain::Count(tally.delivered)),
+            ("expired", Plain::Count(tally.expired)),
+            ("failed", Plain::Count(tally.failed)),
+            ("lines", Plain::Count(counts.lines)),
+            ("messages", Plain::Count(counts.messages)),
+            ("pending", Plain::Count(usage.pending)),
+        ],
+    )
 }
 
 /// How much a customer may keep.
-pub(crate) fn allowed_value(alloc: Global, most: Allowance) -> Result<Value, AllocError>
-    ensures { IfOk result (λ v. view v ≡ replies.allowed most) }
+pub(crate) fn put_allowed<M: Memory>(
+    memory: M,
+    body: &mut Vec<u8>,
+    most: Allowance,
+) -> Result<(), AllocError>
+    ensures bytes { body.new.items ≡ after result body.old.items body.new.items
+        (replies.allowed most) }
+    ensures cause { OnErr result M.refused }
 {
-    json!(in alloc; {
-        "bytes": most.bytes, "delay": most.delay, "history": most.history, "lines": most.lines,
-        "messages": most.messages, "notices": most.notices
-    })
+    put_object(
+        memory,
+        body,
+        &[
+            ("bytes", Plain::Count(most.bytes)),
+            ("delay", Plain::Count(most.delay)),
+            ("history", Plain::Count(most.history)),
+            ("lines", Plain::Count(most.lines)),
+            ("messages", Plain::Count(most.messages)),
+            ("notices", Plain::Count(most.notices)),
+        ],
+    )
 }
 
 /// The queue report.
-pub(crate) fn reported_value(alloc: Global, report: &str) -> Result<Value, AllocError>
-    ensures { IfOk result (λ v. view v ≡ replies.report_json report.now) }
+pub(crate) fn put_report<M: Memory>(
+    memory: M,
+    body: &mut Vec<u8>,
+    report: &str,
+) -> Result<(), AllocError>
+    ensures bytes { body.new.items ≡ after result body.old.items body.new.items
+        (replies.report_json report.now) }
+    ensures cause { OnErr result M.refused }
 {
-    json!(in alloc; {"report": report})
+    put_object(memory, body, &[("report", Plain::Text(report))])
 }

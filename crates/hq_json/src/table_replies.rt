@@ -1,72 +1,94 @@
-//! What is told of access tables, as JSON values.
+//! What is told of access tables.
 
-ghost use Rattle.std.specs.Prelude.{◌≡◌, IfOk, map as map_list};
-ghost use Rattle.serde_json.specs.Data.{array, string};
-ghost use Rattle.serde_json.specs.View.{view, items_of};
-ghost use Rattle.hq_kept.specs.Actions.{action_text};
-ghost use Rattle.hq_json.specs.Objects as objects;
+ghost use Rattle.std.specs.Prelude.{◌≡◌, ◌∷◌, [], codes, OnErr};
+ghost use Rattle.serde_json.specs.Data.{string};
+ghost use Rattle.hq_kept.specs.Patterns.{class_name};
+ghost use Rattle.hq_json.specs.Objects.{having, texts};
 ghost use Rattle.hq_json.specs.TableReplies as replies;
+ghost use Rattle.hq_json.specs.Writing.{after};
 
-use hq_kept::{Action, Line, LookupKey};
+use crate::parts::{AsEntry, Form, put_object};
+use crate::values::{Part, Plain};
+use hq_kept::{Action, Line, LookupKey, Pattern};
+use hq_memory::Memory;
 use hq_rules::{ImportCounts, LinePut, Refused};
-use serde_json::{Value, json};
-use std::alloc::{AllocError, Global};
-
-fn refused_value(alloc: Global, refused: &Refused) -> Result<Value, AllocError>
-    ensures { IfOk result (λ v. view v ≡ replies.refused_entry refused.now) }
-{
-    json!(in alloc; {
-        "address": refused.address.as_str(), "code": refused.code,
-        "text": refused.text.as_str()
-    })
-}
+use std::alloc::AllocError;
 
 /// Who is refused, with code and text.
-pub(crate) fn refused_list(alloc: Global, list: &[Refused]) -> Result<Value, AllocError>
-    ensures { IfOk result (λ v. view v ≡ replies.refused_list list.now) }
-{
-    let mut values = Vec::new(alloc);
-    for refused in list {
-        values.push(refused_value(alloc, refused)?)?;
+impl Form<Refused> for AsEntry {
+    ghost use Rattle.hq_json.specs.TableReplies.{refused_entry};
+
+    ghost told = { refused_entry };
+
+    fn put<M: Memory>(memory: M, body: &mut Vec<u8>, one: &Refused) -> Result<(), AllocError> {
+        put_object(
+            memory,
+            body,
+            &[
+                ("address", Plain::Text(one.address.as_str())),
+                ("code", Plain::Count(u64::from(one.code))),
+                ("text", Plain::Text(one.text.as_str())),
+            ],
+        )
     }
-    Ok(Value::Array(values))
 }
 
-/// An action, as it is written.
-fn action_value(alloc: Global, action: &Action) -> Result<Value, AllocError>
-    ensures { IfOk result (λ v. view v ≡ string (action_text action.now)) }
+fn put_line<'a, M: Memory>(
+    memory: M,
+    body: &mut Vec<u8>,
+    action: &'a str,
+    pattern: &'a Pattern,
+) -> Result<(), AllocError>
+    ensures bytes { body.new.items ≡ after result body.old.items body.new.items
+        (having ((codes "action", string action.now)
+        ∷ (codes "class", string (class_name pattern.now.0))
+        ∷ (codes "pattern", string pattern.now.1) ∷ [])) }
+    ensures cause { OnErr result M.refused }
 {
-    let text = action.text(alloc)?;
-    Ok(Value::String(text))
+    put_object(
+        memory,
+        body,
+        &[
+            ("action", Plain::Text(action)),
+            ("class", Plain::Text(pattern.class().name())),
+            ("pattern", Plain::Text(pattern.as_str())),
+        ],
+    )
 }
 
-fn line_value(alloc: Global, line: &Line) -> Result<Value, AllocError>
-    ensures { IfOk result (λ v. view v ≡ replies.line_entry line.now) }
-{
-    let action = action_value(alloc, &line.action)?;
-    json!(in alloc; {
-        "action": action, "class": line.pattern.class().name(),
-        "pattern": line.pattern.as_str()
-    })
-}
+/// A line, with its action as it is written.
+impl Form<Line> for AsEntry {
+    ghost use Rattle.hq_json.specs.TableReplies.{line_entry};
 
-fn line_list(alloc: Global, lines: &[Line]) -> Result<Value, AllocError>
-    ensures { IfOk result (λ v. view v ≡ array (items_of (map_list replies.line_entry lines.now))) }
-{
-    let mut values = Vec::new(alloc);
-    for line in lines {
-        values.push(line_value(alloc, line)?)?;
+    ghost told = { line_entry };
+
+    #[tactic(auto, unfolding(crate::specs::Writing::after))]
+    fn put<M: Memory>(memory: M, body: &mut Vec<u8>, one: &Line) -> Result<(), AllocError> {
+        let action = one.action.text(memory)?;
+        put_line(memory, body, action.as_str(), &one.pattern)
     }
-    Ok(Value::Array(values))
 }
 
 /// A page of lines.
 #[tactic(auto, unfolding(crate::specs::TableReplies::lines_listed))]
-pub(crate) fn lines_value(alloc: Global, lines: &[Line], more: bool) -> Result<Value, AllocError>
-    ensures { IfOk result (λ v. view v ≡ replies.lines_listed lines.now more) }
+pub(crate) fn put_lines<M: Memory>(
+    memory: M,
+    body: &mut Vec<u8>,
+    lines: &[Line],
+    more: bool,
+) -> Result<(), AllocError>
+    ensures bytes { body.new.items ≡ after result body.old.items body.new.items
+        (replies.lines_listed lines.now more) }
+    ensures cause { OnErr result M.refused }
 {
-    let lines = line_list(alloc, lines)?;
-    json!(in alloc; {"lines": lines, "more": more})
+    put_object(
+        memory,
+        body,
+        &[
+            ("lines", Part::Lines(lines)),
+            ("more", Part::One(Plain::Flag(more))),
+        ],
+    )
 }
 
 fn put_name(done: LinePut) -> &'static str
@@ -80,67 +102,97 @@ fn put_name(done: LinePut) -> &'static str
 }
 
 /// What putting a line did.
-pub(crate) fn line_put_value(alloc: Global, done: LinePut) -> Result<Value, AllocError>
-    ensures { IfOk result (λ v. view v ≡ replies.line_put done) }
+pub(crate) fn put_line_put<M: Memory>(
+    memory: M,
+    body: &mut Vec<u8>,
+    done: LinePut,
+) -> Result<(), AllocError>
+    ensures bytes { body.new.items ≡ after result body.old.items body.new.items
+        (replies.line_put done) }
+    ensures cause { OnErr result M.refused }
 {
-    json!(in alloc; {"put": put_name(done)})
+    put_object(memory, body, &[("put", Plain::Text(put_name(done)))])
 }
 
 /// That a line is dropped.
-pub(crate) fn line_dropped_value(alloc: Global) -> Result<Value, AllocError>
-    ensures { IfOk result (λ v. view v ≡ replies.line_dropped) }
+pub(crate) fn put_line_dropped<M: Memory>(memory: M, body: &mut Vec<u8>) -> Result<(), AllocError>
+    ensures bytes { body.new.items ≡ after result body.old.items body.new.items
+        replies.line_dropped }
+    ensures cause { OnErr result M.refused }
 {
-    json!(in alloc; {"dropped": 1})
+    put_object(memory, body, &[("dropped", Plain::Count(1))])
 }
 
-fn key_list(alloc: Global, keys: &[LookupKey]) -> Result<Value, AllocError>
-    ensures { IfOk result (λ v. view v ≡ objects.texts keys.now) }
+/// The keys of an address, with the action and the pattern of the line that was found.
+fn put_match<'a, M: Memory>(
+    memory: M,
+    body: &mut Vec<u8>,
+    action: &'a str,
+    keys: &'a [LookupKey],
+    pattern: &'a str,
+) -> Result<(), AllocError>
+    ensures bytes { body.new.items ≡ after result body.old.items body.new.items
+        (having ((codes "action", string action.now) ∷ (codes "keys", texts keys.now)
+        ∷ (codes "pattern", string pattern.now) ∷ [])) }
+    ensures cause { OnErr result M.refused }
 {
-    let mut values = Vec::new(alloc);
-    for key in keys {
-        values.push(Value::try_from_str(alloc, key.as_str())?)?;
-    }
-    Ok(Value::Array(values))
-}
-
-fn action_found(alloc: Global, found: &Option<(LookupKey, Action)>) -> Result<Value, AllocError>
-    ensures { IfOk result (λ v. view v ≡ replies.action_found found.now) }
-{
-    match found {
-        None => Ok(Value::Null),
-        Some((_, action)) => action_value(alloc, action),
-    }
-}
-
-fn pattern_found(alloc: Global, found: &Option<(LookupKey, Action)>) -> Result<Value, AllocError>
-    ensures { IfOk result (λ v. view v ≡ replies.pattern_found found.now) }
-{
-    match found {
-        None => Ok(Value::Null),
-        Some((key, _)) => Value::try_from_str(alloc, key.as_str()),
-    }
+    put_object(
+        memory,
+        body,
+        &[
+            ("action", Plain::Text(action)),
+            ("keys", Plain::Keys(keys)),
+            ("pattern", Plain::Text(pattern)),
+        ],
+    )
 }
 
 /// The keys of an address, and what was found at the first that has a line.
-#[tactic(auto, unfolding(crate::specs::TableReplies::check_json))]
-pub(crate) fn checked_value(
-    alloc: Global,
+#[tactic(auto, unfolding(crate::specs::TableReplies::check_json, crate::specs::Writing::after))]
+pub(crate) fn put_checked<M: Memory>(
+    memory: M,
+    body: &mut Vec<u8>,
     keys: &[LookupKey],
     found: &Option<(LookupKey, Action)>,
-) -> Result<Value, AllocError>
-    ensures { IfOk result (λ v. view v ≡ replies.check_json keys.now found.now) }
+) -> Result<(), AllocError>
+    ensures bytes { body.new.items ≡ after result body.old.items body.new.items
+        (replies.check_json keys.now found.now) }
+    ensures cause { OnErr result M.refused }
 {
-    let action = action_found(alloc, found)?;
-    let keys = key_list(alloc, keys)?;
-    let pattern = pattern_found(alloc, found)?;
-    json!(in alloc; {"action": action, "keys": keys, "pattern": pattern})
+    match found {
+        None => put_object(
+            memory,
+            body,
+            &[
+                ("action", Plain::Null),
+                ("keys", Plain::Keys(keys)),
+                ("pattern", Plain::Null),
+            ],
+        ),
+        Some((key, action)) => {
+            let action = action.text(memory)?;
+            put_match(memory, body, action.as_str(), keys, key.as_str())
+        }
+    }
 }
 
 /// What the rows of an import did.
-pub(crate) fn imported_value(alloc: Global, counts: ImportCounts) -> Result<Value, AllocError>
-    ensures { IfOk result (λ v. view v ≡ replies.import_json counts) }
+pub(crate) fn put_imported<M: Memory>(
+    memory: M,
+    body: &mut Vec<u8>,
+    counts: ImportCounts,
+) -> Result<(), AllocError>
+    ensures bytes { body.new.items ≡ after result body.old.items body.new.items
+        (replies.import_json counts) }
+    ensures cause { OnErr result M.refused }
 {
-    json!(in alloc; {
-        "added": counts.added, "changed": counts.changed, "same": counts.same
-    })
+    put_object(
+        memory,
+        body,
+        &[
+            ("added", Plain::Count(counts.added)),
+            ("changed", Plain::Count(counts.changed)),
+            ("same", Plain::Count(counts.same)),
+        ],
+    )
 }

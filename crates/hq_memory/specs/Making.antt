@@ -1,5 +1,4 @@
 -- What a call made, or why it made nothing.
--- Inner: it serves proofs alone, and no promise rests on it.
 use Rattle.std.specs.Prelude.{Result, Ok, Err}
 
 -- a call made a value that is so; or it made none, for this reason

@@ -1,11 +1,14 @@
 //! The calls that may end in want of memory, each as the library has it.
 
-ghost use Rattle.std.specs.Prelude.{◌≡◌, ◌++◌, ⊤, [], ◌∷◌, if◌then◌else◌, is_ok, map, IfSome};
-ghost use Rattle.std.specs.Prelude.{OnErr, string_bytes};
+ghost use Rattle.std.specs.Prelude.{◌≡◌, ◌≤◌, ◌++◌, ⊤, [], ◌∷◌, if◌then◌else◌, is_ok, map, not};
+ghost use Rattle.std.specs.Prelude.{true};
+ghost use Rattle.std.specs.Prelude.{IfOk, IfSome, OnErr, OnOk, string_bytes, vec_len, vec_capacity};
+ghost use Rattle.std.specs.BTreeSet.{IsEmpty, contains, Updates};
 ghost use Rattle.std.specs.Char.{to_ascii_lowercase};
 ghost use Rattle.hq_memory.specs.Making.{MadeIn};
 
 use std::alloc::{AllocError, Global};
+use std::collections::BTreeSet;
 use std::fmt::Display;
 
 /// Memory that may refuse. Code that takes any of it knows of a refusal only what these calls say,
@@ -56,13 +59,31 @@ pub trait Memory: Copy + Drop {
 
     /// An empty list with room for so many values.
     fn room<T>(self, most: usize) -> Result<Vec<T>, AllocError>
-        ensures items { MadeIn refused result (λ values. values.items ≡ []) };
+        ensures items { MadeIn refused result (λ values. values.items ≡ []) }
+        ensures room { IfOk result (λ values. (vec_len values ≡ 0)
+            × (most ≤ vec_capacity values)) };
 
     /// One value more at the end of a list, which stays where room was refused.
     fn push<T: Drop>(self, to: &mut Vec<T>, value: T) -> Result<(), AllocError>
         ensures items { to.new.items
             ≡ (if is_ok result then to.old.items ++ value ∷ [] else to.old.items) }
         ensures cause { OnErr result refused };
+
+    /// Copies of bytes at the end of a list, which stays where room was refused.
+    fn extend(self, to: &mut Vec<u8>, more: &[u8]) -> Result<(), AllocError>
+        ensures items { to.new.items
+            ≡ (if is_ok result then to.old.items ++ more.now else to.old.items) }
+        ensures cause { OnErr result refused };
+
+    /// A set with nothing in it, without taking memory.
+    fn no_values<T: Ord>(self) -> BTreeSet<T>
+        ensures empty { IsEmpty result };
+
+    /// A set with one value more, and whether it is new.
+    fn insert<T: Ord + Drop>(self, to: &mut BTreeSet<T>, value: T) -> Result<bool, AllocError>
+        ensures is_new { MadeIn refused result (λ is_new. is_new ≡ not (contains T.cmp to.old
+            value)) }
+        ensures values { OnOk result (Updates T.cmp to.old to.new value true) };
 }
 
 /// The memory of the machine, of which nothing is said.
@@ -110,5 +131,17 @@ impl Memory for Global {
     fn push<T: Drop>(self, to: &mut Vec<T>, value: T) -> Result<(), AllocError> {
         to.push(value)?;
         Ok(())
+    }
+
+    fn extend(self, to: &mut Vec<u8>, more: &[u8]) -> Result<(), AllocError> {
+        to.extend_from_slice(more)
+    }
+
+    fn no_values<T: Ord>(self) -> BTreeSet<T> {
+        BTreeSet::new(self)
+    }
+
+    fn insert<T: Ord + Drop>(self, to: &mut BTreeSet<T>, value: T) -> Result<bool, AllocError> {
+        Ok(to.insert(value)?)
     }
 }

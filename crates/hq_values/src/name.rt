@@ -1,6 +1,6 @@
 //! Customers' names.
 
-ghost use Rattle.std.specs.Prelude.{◌≡◌, ◌≤◌, length};
+ghost use Rattle.std.specs.Prelude.{◌≡◌, ◌≤◌, length, true};
 ghost use Rattle.hq_values.specs.Readers.{ReadsIn};
 ghost use Rattle.hq_values.specs.Words.{is_name_byte, is_name, name_in};
 
@@ -60,6 +60,15 @@ impl Name {
         ensures short { length result.now ≤ 32 }
     {
         self.text.as_str()
+    }
+
+    /// The bytes of the text, without taking memory.
+    pub fn as_bytes(&self) -> &[u8]
+        ensures text { result.now ≡ self.now }
+        ensures known { is_name result.now ≡ true }
+        ensures short { length result.now ≤ 32 }
+    {
+        self.text.as_bytes()
     }
 }
 

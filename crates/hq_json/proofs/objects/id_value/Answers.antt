@@ -1,8 +1,0 @@
-use Rattle.std.proofs.Common.{sym, subst}
-use Rattle.std.specs.Str.{IsUtf8}
-use Rattle.hq_values.proofs.Ascii.{serial_utf8}
-use Rattle.hq_json.proofs.objects.id_value.Goals as goal
-
-pub unreachable-requires : goal.unreachable-requires
-unreachable-requires c = c.in-Err.ensures.cases.0
-    (subst IsUtf8 (sym c.text-text.ensures) (serial_utf8 c.args.serial))
