@@ -1,156 +1,135 @@
-//! The rows of heads: look-up and put, and the counts that they keep.
+//! The list of heads: look-up and put. None of them has counts: what a customer keeps is counted by
+//! a walk over its rows.
 
-ghost use Rattle.std.specs.Prelude.{◌≡◌, not, OnOk, filter, option_map};
+ghost use Rattle.std.specs.Prelude.{◌≡◌, not, filter, option_map};
 ghost use Rattle.std.specs.List as list;
-ghost use Rattle.std.specs.FinMap as map;
-ghost use Rattle.hq_owned.specs.Owned.{given};
-ghost use Rattle.hq_tables.specs.Tables.{Row, account, headed, counted, with_message};
-ghost use Rattle.hq_tables.specs.Tables.{without_message, with_line, without_line};
-ghost use Rattle.hq_rows.specs.Listed.{heads_of, messages_of, lines_of};
-ghost use Rattle.hq_rows.specs.Lookups.{is_head};
+ghost use Rattle.std.specs.FinMap as maps;
+ghost use Rattle.hq_memory.specs.Making.{MadeIn};
+ghost use Rattle.hq_tables.specs.Readings.{counts_told};
+ghost use Rattle.hq_rows.specs.Lookups.{AreUnique, AreUniqueLines};
+ghost use Rattle.hq_lists.specs.Heads.{is_head, heads_listed, head_of, with_some_head};
+ghost use Rattle.hq_lists.specs.Lists.{counts_in};
 
-use crate::lines::has_line;
-use crate::messages::size_in;
-use hq_kept::{Head, Pattern};
-use hq_rows::{HeadRow, LineRow, MessageRow};
+use crate::{lines, messages};
+use hq_kept::{Counts, Head};
+use hq_memory::Memory;
+use hq_rows::{LineRow, MessageRow};
 use hq_tables::Account;
-use hq_values::{Name, Serial, TryCopy};
-use std::alloc::{AllocError, Global};
+use hq_values::{Name, TryCopy};
+use std::alloc::AllocError;
 
-fn find_head<'a>(rows: &'a [HeadRow], customer: &Name) -> Option<&'a HeadRow>
+/// A customer's head.
+#[derive(Drop)]
+pub struct ListedHead {
+    /// Whose it is.
+    pub customer: Name,
+    /// The head.
+    pub head: Head,
+}
+
+impl TryCopy for ListedHead {
+    fn copy<M: Memory>(&self, memory: M) -> Result<ListedHead, AllocError> {
+        let customer = self.customer.copy(memory)?;
+        Ok(ListedHead {
+            customer,
+            head: self.head,
+        })
+    }
+}
+
+impl ListedHead {
+    /// Whether it is the customer's.
+    #[tactic(auto, unfolding(crate::specs::Heads::is_head))]
+    fn is_of(&self, customer: &Name) -> bool
+        ensures { result ≡ is_head customer.now self.now }
+    {
+        customer.as_str().cmp(self.customer.as_str()).is_eq()
+    }
+
+    /// Whether it is another customer's.
+    fn is_other(&self, customer: &Name) -> bool
+        ensures { result ≡ not (is_head customer.now self.now) }
+    {
+        !self.is_of(customer)
+    }
+}
+
+fn find_head<'a>(rows: &'a [ListedHead], customer: &Name) -> Option<&'a ListedHead>
     ensures { option_map (λ row. row.now) result ≡ list.find (is_head customer.now) rows.now }
 {
     rows.iter().find(|row| row.is_of(customer))
 }
 
-/// The customer's head and counts, or those of a customer of whom nothing is kept.
-pub fn account_in(rows: &[HeadRow], customer: &Name) -> Account
-    ensures { result ≡ account (heads_of rows.now) customer.now }
+/// The customer's head, or that of a customer of whom nothing is kept.
+fn head_in(rows: &[ListedHead], customer: &Name) -> Head
+    ensures { result ≡ head_of (heads_listed rows.now) customer.now }
 {
     match find_head(rows, customer) {
-        Some(row) => row.account,
-        None => Account::opening(),
+        Some(row) => row.head,
+        None => Account::opening().head,
     }
 }
 
-fn drop_head(rows: &mut Vec<HeadRow>, customer: &Name)
+/// The customer's head, and how much it keeps: counted row by row.
+pub fn account_in(
+    heads: &[ListedHead],
+    messages: &[MessageRow],
+    lines: &[LineRow],
+    customer: &Name,
+) -> Account
+    ensures { AreUnique messages.now → AreUniqueLines lines.now → result ≡ record {
+      head = head_of (heads_listed heads.now) customer.now;
+      counts = counts_told (counts_in messages.now lines.now customer.now);
+    } }
+{
+    let counts = Counts {
+        messages: messages::count_in(messages, customer),
+        bytes: messages::bytes_in(messages, customer),
+        lines: lines::count_in(lines, customer),
+    };
+    Account {
+        head: head_in(heads, customer),
+        counts,
+    }
+}
+
+fn drop_head(rows: &mut Vec<ListedHead>, customer: &Name)
     ensures { rows.new.items ≡ filter (λ row. not (is_head customer.now row)) rows.old.items }
 {
     rows.retain(|row| row.is_other(customer));
 }
 
-/// Sets the customer's row.
-fn put_account(
-    alloc: Global,
-    rows: &mut Vec<HeadRow>,
-    customer: &Name,
-    account: Account,
-) -> Result<(), AllocError>
-    ensures { OnOk result
-        (heads_of rows.new.items ≡ map.insert (heads_of rows.old.items) customer.now account) }
-{
-    let row = HeadRow {
-        customer: customer.copy(alloc)?,
-        account,
-    };
-    drop_head(rows, customer);
-    rows.push(row)?;
-    Ok(())
-}
-
 /// Sets the customer's head.
-pub fn put_head(
-    alloc: Global,
-    rows: &mut Vec<HeadRow>,
+pub fn put_head<M: Memory>(
+    memory: M,
+    rows: &mut Vec<ListedHead>,
     customer: &Name,
     head: Head,
 ) -> Result<(), AllocError>
-    ensures { OnOk result
-        (heads_of rows.new.items ≡ headed customer.now head (heads_of rows.old.items)) }
+    ensures { MadeIn M.refused result (λ _. heads_listed rows.new.items
+        ≡ maps.insert (heads_listed rows.old.items) customer.now head) }
 {
-    let kept = account_in(rows.as_slice(), customer);
-    put_account(alloc, rows, customer, Account { head, ..kept })?;
-    Ok(())
-}
-
-/// Counts one message more; or answers want of memory for a count above 64 bits, which no sound
-/// table has.
-pub fn count_message(
-    alloc: Global,
-    rows: &mut Vec<HeadRow>,
-    customer: &Name,
-    size: u32,
-) -> Result<(), AllocError>
-    ensures { OnOk result (heads_of rows.new.items
-        ≡ counted (with_message size) customer.now (heads_of rows.old.items)) }
-{
-    let Some(more) = account_in(rows.as_slice(), customer).with_message(size) else {
-        return Err(AllocError);
+    let row = ListedHead {
+        customer: customer.copy(memory)?,
+        head,
     };
-    put_account(alloc, rows, customer, more)?;
+    drop_head(rows, customer);
+    memory.push(rows, row)?;
     Ok(())
 }
 
-/// Counts the message of this serial no more.
-pub fn uncount_message(
-    alloc: Global,
-    rows: &mut Vec<HeadRow>,
-    messages: &[MessageRow],
+/// Gives the customer the head of a customer of whom nothing is kept, where it has none.
+pub fn keep_head<M: Memory>(
+    memory: M,
+    rows: &mut Vec<ListedHead>,
     customer: &Name,
-    serial: Serial,
 ) -> Result<(), AllocError>
-    ensures { OnOk result (heads_of rows.new.items ≡ given (heads_of rows.old.items)
-        (λ (r : Row). counted (without_message r.size) customer.now (heads_of rows.old.items))
-        (map.get (messages_of messages.now) (customer.now, serial))) }
+    ensures { MadeIn M.refused result (λ _. heads_listed rows.new.items
+        ≡ with_some_head customer.now (heads_listed rows.old.items)) }
 {
-    let Some(size) = size_in(messages, customer, serial) else {
-        return Ok(());
-    };
-    let fewer = account_in(rows.as_slice(), customer).without_message(size);
-    put_account(alloc, rows, customer, fewer)?;
-    Ok(())
-}
-
-/// Counts one line more, where its pattern is new.
-pub fn count_line(
-    alloc: Global,
-    rows: &mut Vec<HeadRow>,
-    lines: &[LineRow],
-    customer: &Name,
-    pattern: &Pattern,
-) -> Result<(), AllocError>
-    ensures { OnOk result (heads_of rows.new.items ≡ given
-        (counted with_line customer.now (heads_of rows.old.items))
-        (λ _. heads_of rows.old.items)
-        (map.get (lines_of lines.now) (customer.now, pattern.now))) }
-{
-    if has_line(lines, customer, pattern) {
+    if find_head(rows.as_slice(), customer).is_some() {
         return Ok(());
     }
-    let Some(more) = account_in(rows.as_slice(), customer).with_line() else {
-        return Err(AllocError);
-    };
-    put_account(alloc, rows, customer, more)?;
-    Ok(())
-}
-
-/// Counts one line fewer, where there is one of this pattern.
-pub fn uncount_line(
-    alloc: Global,
-    rows: &mut Vec<HeadRow>,
-    lines: &[LineRow],
-    customer: &Name,
-    pattern: &Pattern,
-) -> Result<(), AllocError>
-    ensures { OnOk result (heads_of rows.new.items ≡ given
-        (heads_of rows.old.items)
-        (λ _. counted without_line customer.now (heads_of rows.old.items))
-        (map.get (lines_of lines.now) (customer.now, pattern.now))) }
-{
-    if !has_line(lines, customer, pattern) {
-        return Ok(());
-    }
-    let fewer = account_in(rows.as_slice(), customer).without_line();
-    put_account(alloc, rows, customer, fewer)?;
+    put_head(memory, rows, customer, Account::opening().head)?;
     Ok(())
 }

@@ -7,22 +7,22 @@ ghost use Rattle.hq_lists.specs.Lists.{tables_of};
 use crate::list_rows::ListRows;
 use crate::{ends, heads, lines, marks, messages, notices};
 use hq_kept::{Action, Class, End, Line, LookupKey, Mark, Message, Notice, Pattern};
+use hq_memory::Memory;
 use hq_tables::{Account, Change, Shelf};
 use hq_values::{Fault, Items, Label, Name, Serial, Spool};
-use std::alloc::Global;
 use std::marker::Model;
 
-/// The tables in plain lists in memory: slow, and simple to look through. Its only fault is 90, and
-/// it never closes.
+/// The tables in plain lists in memory: slow, and simple to look through. Its only fault is 90,
+/// where its memory refused a request, and it never closes.
 #[derive(Drop)]
-pub struct ListShelf {
-    alloc: Global,
+pub struct ListShelf<M: Memory> {
+    memory: M,
     rows: ListRows,
 }
 
 /// Seen as its rows. They lie so that no message and no line stands twice, and recipients in the
-/// order of their places; the counts in the rows of heads are those of the rows.
-impl Model for ListShelf {
+/// order of their places; and each customer of whom there is a message or a line has a head.
+impl<M: Memory> Model for ListShelf<M> {
     ghost use Rattle.hq_lists.specs.declared.list_rows.ListRows.{ListRows};
     ghost use Rattle.hq_lists.specs.Lists.{tables_of};
     ghost use Rattle.hq_lists.specs.Lists.{AreInOrder};
@@ -35,26 +35,26 @@ impl Model for ListShelf {
     ghost invariant = { λ s. AreInOrder s.rows × AreCounted (tables_of s.rows) };
 }
 
-impl ListShelf {
-    /// A shelf of which nobody has anything yet. It keeps the allocator; this call takes no memory.
-    pub fn new(alloc: Global) -> ListShelf
+impl<M: Memory> ListShelf<M> {
+    /// A shelf of which nobody has anything yet. It keeps the memory; this call takes none.
+    pub fn new(memory: M) -> ListShelf<M>
         ensures { tables_of result ≡ no_tables }
     {
         let rows = ListRows {
-            heads: Vec::new(alloc),
-            messages: Vec::new(alloc),
-            recipients: Vec::new(alloc),
-            holds: Vec::new(alloc),
-            lines: Vec::new(alloc),
-            marks: Vec::new(alloc),
-            notices: Vec::new(alloc),
-            ends: Vec::new(alloc),
+            heads: memory.none(),
+            messages: memory.none(),
+            recipients: memory.none(),
+            holds: memory.none(),
+            lines: memory.none(),
+            marks: memory.none(),
+            notices: memory.none(),
+            ends: memory.none(),
         };
-        ListShelf { alloc, rows }
+        ListShelf { memory, rows }
     }
 }
 
-impl Shelf for ListShelf {
+impl<M: Memory> Shelf for ListShelf<M> {
     ghost use Rattle.std.specs.Prelude.{◌≡◌, ⊤, false};
     ghost use Rattle.hq_values.specs.declared.failure.Fault.TheVariants.{WantOfMemory};
     ghost use Rattle.hq_lists.specs.Lists.{tables_of};
@@ -67,18 +67,23 @@ impl Shelf for ListShelf {
       fault_count = λ _. 0;
       is_clean = λ _. ⊤;
       is_ours = λ _. ⊤;
-      may_answer = λ fault. fault ≡ WantOfMemory;
+      may_answer = λ fault. (fault ≡ WantOfMemory) × M.refused;
       may_leave = λ _ _. ⊥;
       leaves_desk = λ _. ⊤;
     } };
 
     fn account(&mut self, customer: &Name) -> Result<Account, Fault> {
-        Ok(heads::account_in(self.rows.heads.as_slice(), customer))
+        Ok(heads::account_in(
+            self.rows.heads.as_slice(),
+            self.rows.messages.as_slice(),
+            self.rows.lines.as_slice(),
+            customer,
+        ))
     }
 
     fn message(&mut self, customer: &Name, serial: Serial) -> Result<Option<Message>, Fault> {
         Ok(messages::message_in(
-            self.alloc,
+            self.memory,
             self.rows.messages.as_slice(),
             self.rows.recipients.as_slice(),
             self.rows.holds.as_slice(),
@@ -89,7 +94,7 @@ impl Shelf for ListShelf {
 
     fn by_spool(&mut self, customer: &Name, spool: &Spool) -> Result<Option<Message>, Fault> {
         Ok(messages::by_spool_in(
-            self.alloc,
+            self.memory,
             self.rows.messages.as_slice(),
             self.rows.recipients.as_slice(),
             self.rows.holds.as_slice(),
@@ -105,7 +110,7 @@ impl Shelf for ListShelf {
         limit: usize,
     ) -> Result<Items<Message>, Fault> {
         Ok(messages::page_in(
-            self.alloc,
+            self.memory,
             self.rows.messages.as_slice(),
             self.rows.recipients.as_slice(),
             self.rows.holds.as_slice(),
@@ -121,7 +126,13 @@ impl Shelf for ListShelf {
         class: Class,
         key: &LookupKey,
     ) -> Result<Option<Action>, Fault> {
-        Ok(lines::line_in(self.alloc, self.rows.lines.as_slice(), customer, class, key)?)
+        Ok(lines::line_in(
+            self.memory,
+            self.rows.lines.as_slice(),
+            customer,
+            class,
+            key,
+        )?)
     }
 
     fn lines(
@@ -131,7 +142,7 @@ impl Shelf for ListShelf {
         limit: usize,
     ) -> Result<Items<Line>, Fault> {
         Ok(lines::page_in(
-            self.alloc,
+            self.memory,
             self.rows.lines.as_slice(),
             customer,
             after,
@@ -140,11 +151,11 @@ impl Shelf for ListShelf {
     }
 
     fn mark(&mut self, customer: &Name, label: &Label) -> Result<Option<Mark>, Fault> {
-        Ok(marks::mark_in(self.alloc, self.rows.marks.as_slice(), customer, label)?)
+        Ok(marks::mark_in(self.memory, self.rows.marks.as_slice(), customer, label)?)
     }
 
     fn notice(&mut self, customer: &Name, number: u64) -> Result<Option<Notice>, Fault> {
-        Ok(notices::notice_in(self.alloc, self.rows.notices.as_slice(), customer, number)?)
+        Ok(notices::notice_in(self.memory, self.rows.notices.as_slice(), customer, number)?)
     }
 
     fn notices(
@@ -154,7 +165,7 @@ impl Shelf for ListShelf {
         limit: usize,
     ) -> Result<Items<Notice>, Fault> {
         Ok(notices::page_in(
-            self.alloc,
+            self.memory,
             self.rows.notices.as_slice(),
             customer,
             after,
@@ -169,7 +180,7 @@ impl Shelf for ListShelf {
         limit: usize,
     ) -> Result<Items<End>, Fault> {
         Ok(ends::page_in(
-            self.alloc,
+            self.memory,
             self.rows.ends.as_slice(),
             customer,
             before,
@@ -178,8 +189,8 @@ impl Shelf for ListShelf {
     }
 
     fn apply(&mut self, customer: &Name, changes: &[Change]) -> Result<(), Fault> {
-        let mut next = self.rows.copy(self.alloc)?;
-        next.change_all(self.alloc, customer, changes)?;
+        let mut next = self.rows.copy(self.memory)?;
+        next.change_all(self.memory, customer, changes)?;
         self.rows = next;
         Ok(())
     }

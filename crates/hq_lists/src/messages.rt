@@ -1,14 +1,15 @@
 //! The rows of messages: look-up, put, drop, counts and pages, and messages joined with their
 //! recipients.
 
-ghost use Rattle.std.specs.Prelude.{◌≡◌, ℕ, not, IfOk, OnOk, [], ◌++◌, filter, map, option_map};
-ghost use Rattle.std.specs.Prelude.{slice_get};
+ghost use Rattle.std.specs.Prelude.{◌≡◌, ℕ, not, OnOk, [], ◌++◌, filter, map, option_map};
+ghost use Rattle.std.specs.Prelude.{slice_get, None, count_by};
 ghost use Rattle.std.specs.List as list;
-ghost use Rattle.std.specs.List.{filter_map, cons_option};
+ghost use Rattle.std.specs.List.{filter_map, cons_option, sum_by};
 ghost use Rattle.std.specs.FinMap as maps;
+ghost use Rattle.hq_memory.specs.Making.{MadeIn};
 ghost use Rattle.hq_kept.specs.declared.message.Message.{Message};
-ghost use Rattle.hq_tables.specs.Tables.{Row, row_of, message_of, reason_of, joined};
-ghost use Rattle.hq_tables.specs.Readings.{page_of, with_spool};
+ghost use Rattle.hq_tables.specs.Tables.{row_of, message_of, reason_of, joined};
+ghost use Rattle.hq_tables.specs.Readings.{page_of, with_spool, saturated};
 ghost use Rattle.hq_rows.specs.Listed.{messages_of, recipients_of, holds_of, message_value};
 ghost use Rattle.hq_rows.specs.Lookups.{is_message, is_past, message_row, pending_in};
 ghost use Rattle.hq_rows.specs.Lookups.{serials_where, serials_after, serials_with_spool};
@@ -16,9 +17,10 @@ ghost use Rattle.hq_rows.specs.Lookups.{rows_with, has_spool, message_at, AreUni
 
 use crate::{holds, recipients};
 use hq_kept::Message;
+use hq_memory::Memory;
 use hq_rows::{HoldRow, MessageRow, RecipientRow};
 use hq_values::{Items, Name, Serial, Spool, TryCopy};
-use std::alloc::{AllocError, Global};
+use std::alloc::AllocError;
 
 fn find_message<'a>(
     rows: &'a [MessageRow],
@@ -47,12 +49,16 @@ pub fn drop_message(rows: &mut Vec<MessageRow>, customer: &Name, serial: Serial)
     drop_row(rows, customer, serial);
 }
 
-fn message_row(alloc: Global, customer: &Name, message: &Message) -> Result<MessageRow, AllocError>
-    ensures { IfOk result (λ row. row ≡ message_row customer.now message.now) }
+fn message_row<M: Memory>(
+    memory: M,
+    customer: &Name,
+    message: &Message,
+) -> Result<MessageRow, AllocError>
+    ensures { MadeIn M.refused result (λ row. row ≡ message_row customer.now message.now) }
 {
-    let customer = customer.copy(alloc)?;
-    let sender = message.sender.copy(alloc)?;
-    let spool = message.spool.copy(alloc)?;
+    let customer = customer.copy(memory)?;
+    let sender = message.sender.copy(memory)?;
+    let spool = message.spool.copy(memory)?;
     Ok(MessageRow {
         customer,
         serial: message.serial,
@@ -68,40 +74,41 @@ fn message_row(alloc: Global, customer: &Name, message: &Message) -> Result<Mess
 }
 
 /// Sets the message, without its recipients.
-pub fn put_message(
-    alloc: Global,
+pub fn put_message<M: Memory>(
+    memory: M,
     rows: &mut Vec<MessageRow>,
     customer: &Name,
     message: &Message,
 ) -> Result<(), AllocError>
-    ensures table { OnOk result
-        (messages_of rows.new.items ≡ maps.insert (messages_of rows.old.items)
-        (customer.now, message.now.serial) (row_of message.now)) }
+    ensures table { MadeIn M.refused result (λ _. messages_of rows.new.items
+        ≡ maps.insert (messages_of rows.old.items) (customer.now, message.now.serial)
+        (row_of message.now)) }
     ensures unique { AreUnique rows.old.items → OnOk result (AreUnique rows.new.items) }
 {
-    let row = message_row(alloc, customer, message)?;
+    let row = message_row(memory, customer, message)?;
     drop_row(rows, customer, message.serial);
-    rows.push(row)?;
+    memory.push(rows, row)?;
     Ok(())
 }
 
 /// The message of a row, with its reason and its recipients.
-fn joined(
-    alloc: Global,
+fn joined<M: Memory>(
+    memory: M,
     row: &MessageRow,
     recipients: &[RecipientRow],
     holds: &[HoldRow],
     customer: &Name,
     serial: Serial,
 ) -> Result<Message, AllocError>
-    ensures { IfOk result (λ message. message ≡ message_of serial (message_value row.now)
+    ensures { MadeIn M.refused result (λ message. message
+        ≡ message_of serial (message_value row.now)
         (reason_of customer.now serial (holds_of holds.now))
         (pending_in customer.now serial recipients.now)) }
 {
-    let sender = row.sender.copy(alloc)?;
-    let spool = row.spool.copy(alloc)?;
-    let reason = holds::reason_in(alloc, holds, customer, serial)?;
-    let pending = recipients::pending_in(alloc, recipients, customer, serial)?;
+    let sender = row.sender.copy(memory)?;
+    let spool = row.spool.copy(memory)?;
+    let reason = holds::reason_in(memory, holds, customer, serial)?;
+    let pending = recipients::pending_in(memory, recipients, customer, serial)?;
     Ok(Message {
         serial,
         sender,
@@ -118,32 +125,44 @@ fn joined(
 }
 
 /// The customer's message of this serial, with its recipients.
-pub fn message_in(
-    alloc: Global,
+pub fn message_in<M: Memory>(
+    memory: M,
     messages: &[MessageRow],
     recipients: &[RecipientRow],
     holds: &[HoldRow],
     customer: &Name,
     serial: Serial,
 ) -> Result<Option<Message>, AllocError>
-    ensures { AreDealt recipients.now → IfOk result
+    ensures { AreDealt recipients.now → MadeIn M.refused result
         (λ found. found ≡ message_at customer.now messages.now recipients.now holds.now serial) }
 {
     match find_message(messages, customer, serial) {
-        Some(row) => Ok(Some(joined(alloc, row, recipients, holds, customer, serial)?)),
+        Some(row) => Ok(Some(joined(memory, row, recipients, holds, customer, serial)?)),
         None => Ok(None),
     }
 }
 
-/// The size of the customer's message of this serial.
-pub fn size_in(rows: &[MessageRow], customer: &Name, serial: Serial) -> Option<u32>
-    ensures { result ≡ option_map (λ (r : Row). r.size)
-        (maps.get (messages_of rows.now) (customer.now, serial)) }
+/// How many messages the customer has.
+pub fn count_in(rows: &[MessageRow], customer: &Name) -> u64
+    ensures { result ≡ count_by (is_past customer.now None) rows.now }
 {
-    match find_message(rows, customer, serial) {
-        Some(row) => Some(row.size),
-        None => None,
+    rows.iter()
+        .filter(|row| row.is_past(customer, None))
+        .count() as u64
+}
+
+/// The bytes of the customer's messages together; they stay at the greatest `u64`.
+pub fn bytes_in(rows: &[MessageRow], customer: &Name) -> u64
+    ensures { result ≡ saturated (sum_by (λ row. row.size)
+        (filter (is_past customer.now None) rows.now)) }
+{
+    let mut bytes: u64 = 0;
+    for row in rows {
+        if row.is_past(customer, None) {
+            bytes = bytes.saturating_add(u64::from(row.size));
+        }
     }
+    bytes
 }
 
 /// The number of a serial, where there is one.
@@ -156,71 +175,76 @@ fn number_of(serial: Option<Serial>) -> Option<u64>
     }
 }
 
-fn serials_past(
-    alloc: Global,
+fn serials_past<M: Memory>(
+    memory: M,
     rows: &[MessageRow],
     customer: &Name,
     after: Option<u64>,
 ) -> Result<Vec<Serial>, AllocError>
-    ensures { IfOk result (λ serials. serials.items ≡ serials_where
+    ensures { MadeIn M.refused result (λ serials. serials.items ≡ serials_where
         (is_past customer.now after) rows.now) }
 {
-    let mut serials = Vec::new(alloc);
+    let mut serials = memory.none();
     for row in rows {
         if row.is_past(customer, after) {
-            serials.push(row.serial)?;
+            memory.push(&mut serials, row.serial)?;
         }
     }
     Ok(serials)
 }
 
 /// The serials of the customer's messages after a serial, in order.
-fn sorted_serials(
-    alloc: Global,
+fn sorted_serials<M: Memory>(
+    memory: M,
     rows: &[MessageRow],
     customer: &Name,
     after: Option<u64>,
 ) -> Result<Vec<Serial>, AllocError>
-    ensures { AreUnique rows.now → IfOk result
+    ensures { AreUnique rows.now → MadeIn M.refused result
         (λ serials. serials.items ≡ serials_after after (rows_with customer.now rows.now)) }
 {
-    let mut serials = serials_past(alloc, rows, customer, after)?;
+    let mut serials = serials_past(memory, rows, customer, after)?;
     serials.sort_unstable();
     Ok(serials)
 }
 
-fn push_found(page: &mut Vec<Message>, found: Option<Message>) -> Result<(), AllocError>
-    ensures { OnOk result (page.new.items ≡ page.old.items ++ cons_option found []) }
+fn push_found<M: Memory>(
+    memory: M,
+    page: &mut Vec<Message>,
+    found: Option<Message>,
+) -> Result<(), AllocError>
+    ensures { MadeIn M.refused result
+        (λ _. page.new.items ≡ page.old.items ++ cons_option found []) }
 {
     if let Some(message) = found {
-        page.push(message)?;
+        memory.push(page, message)?;
     }
     Ok(())
 }
 
-fn messages_at(
-    alloc: Global,
+fn messages_at<M: Memory>(
+    memory: M,
     messages: &[MessageRow],
     recipients: &[RecipientRow],
     holds: &[HoldRow],
     customer: &Name,
     serials: &[Serial],
 ) -> Result<Vec<Message>, AllocError>
-    ensures { AreDealt recipients.now → IfOk result
+    ensures { AreDealt recipients.now → MadeIn M.refused result
         (λ page. page.items ≡ filter_map
         (message_at customer.now messages.now recipients.now holds.now) serials.now) }
 {
-    let mut page = Vec::new(alloc);
+    let mut page = memory.none();
     for serial in serials {
-        let found = message_in(alloc, messages, recipients, holds, customer, *serial)?;
-        push_found(&mut page, found)?;
+        let found = message_in(memory, messages, recipients, holds, customer, *serial)?;
+        push_found(memory, &mut page, found)?;
     }
     Ok(page)
 }
 
 /// The customer's messages in order of serial: the first `limit` after the serial, or of all.
-pub fn page_in(
-    alloc: Global,
+pub fn page_in<M: Memory>(
+    memory: M,
     messages: &[MessageRow],
     recipients: &[RecipientRow],
     holds: &[HoldRow],
@@ -228,15 +252,15 @@ pub fn page_in(
     after: Option<Serial>,
     limit: usize,
 ) -> Result<Items<Message>, AllocError>
-    ensures { AreUnique messages.now → AreDealt recipients.now → IfOk result
+    ensures { AreUnique messages.now → AreDealt recipients.now → MadeIn M.refused result
         (λ page. page ≡ page_of after limit
         (map (λ e. joined customer.now (recipients_of recipients.now) (holds_of holds.now) e.0 e.1)
         (rows_with customer.now messages.now))) }
 {
-    let mut serials = sorted_serials(alloc, messages, customer, number_of(after))?;
+    let mut serials = sorted_serials(memory, messages, customer, number_of(after))?;
     serials.truncate(limit);
     let page = messages_at(
-        alloc,
+        memory,
         messages,
         recipients,
         holds,
@@ -246,36 +270,36 @@ pub fn page_in(
     Ok(Items::from_vec(page))
 }
 
-fn serials_having(
-    alloc: Global,
+fn serials_having<M: Memory>(
+    memory: M,
     rows: &[MessageRow],
     customer: &Name,
     spool: &Spool,
 ) -> Result<Vec<Serial>, AllocError>
-    ensures { IfOk result (λ serials. serials.items ≡ serials_where
+    ensures { MadeIn M.refused result (λ serials. serials.items ≡ serials_where
         (has_spool customer.now spool.now) rows.now) }
 {
-    let mut serials = Vec::new(alloc);
+    let mut serials = memory.none();
     for row in rows {
         if row.has_spool(customer, spool) {
-            serials.push(row.serial)?;
+            memory.push(&mut serials, row.serial)?;
         }
     }
     Ok(serials)
 }
 
 /// The serials of the customer's messages with this spool name, in order.
-fn sorted_having(
-    alloc: Global,
+fn sorted_having<M: Memory>(
+    memory: M,
     rows: &[MessageRow],
     customer: &Name,
     spool: &Spool,
 ) -> Result<Vec<Serial>, AllocError>
-    ensures { AreUnique rows.now → IfOk result
+    ensures { AreUnique rows.now → MadeIn M.refused result
         (λ serials. serials.items
         ≡ serials_with_spool spool.now (rows_with customer.now rows.now)) }
 {
-    let mut serials = serials_having(alloc, rows, customer, spool)?;
+    let mut serials = serials_having(memory, rows, customer, spool)?;
     serials.sort_unstable();
     Ok(serials)
 }
@@ -288,24 +312,24 @@ fn first_of(serials: &[Serial]) -> Option<Serial>
 
 /// The customer's message with this spool name, the one of the smallest serial where several have
 /// it.
-pub fn by_spool_in(
-    alloc: Global,
+pub fn by_spool_in<M: Memory>(
+    memory: M,
     messages: &[MessageRow],
     recipients: &[RecipientRow],
     holds: &[HoldRow],
     customer: &Name,
     spool: &Spool,
 ) -> Result<Option<Message>, AllocError>
-    ensures { AreUnique messages.now → AreDealt recipients.now → IfOk result
+    ensures { AreUnique messages.now → AreDealt recipients.now → MadeIn M.refused result
         (λ found. found ≡ with_spool spool.now
         (map (λ e. joined customer.now (recipients_of recipients.now) (holds_of holds.now) e.0 e.1)
         (rows_with customer.now messages.now))) }
 {
-    let serials = sorted_having(alloc, messages, customer, spool)?;
+    let serials = sorted_having(memory, messages, customer, spool)?;
     match first_of(serials.as_slice()) {
         None => Ok(None),
         Some(serial) => {
-            let found = message_in(alloc, messages, recipients, holds, customer, serial)?;
+            let found = message_in(memory, messages, recipients, holds, customer, serial)?;
             Ok(found)
         }
     }

@@ -1,45 +1,31 @@
--- Heads and messages in rows: the general lemmas at their keys.
+-- Rows of each table: the general lemmas at their keys.
 use Rattle.std.proofs.Common.{◌≡◌, ℕ, Bool, true, false, not, cond, List, [], ◌∷◌, ◌++◌, filter}
 use Rattle.std.proofs.Common.{refl, sym, ap, ◌∙◌, Some, None, Option}
-use Rattle.std.specs.Prelude.{option_map, is_some, nat_le, nat_lt}
+use Rattle.std.specs.Prelude.{option_map, nat_le, nat_lt}
 use Rattle.std.specs.List as list
-use Rattle.std.specs.Cmp.Lexicographic.{nat_list_cmp_total}
 use Rattle.std.proofs.lemmas.Map.Views.{tells_apart}
 use Rattle.std.specs.Ordering.{eq_by_cmp}
-use Rattle.std.proofs.lemmas.Map.Lookups.{exact_bytes}
 use Rattle.std.specs.FinMap.{get, insert, remove, retain_keys}
 use Rattle.hq_tables.specs.Tables.{message_cmp, lines_cmp, notice_cmp, Noted, left_of, noted_of}
 use Rattle.hq_tables.specs.Tables.{notice_of, end_cmp, past_of}
-use Rattle.hq_owned.proofs.Lists.{get_table, table_drop, table_keep, table_push, table_put}
-use Rattle.hq_owned.proofs.Unique.{is_some-table, unique_filter, unique_push, unique_put}
+use Rattle.hq_owned.proofs.Lists.{get_table, table_drop, table_keep, table_put}
+use Rattle.hq_owned.proofs.Unique.{unique_filter, unique_put}
 use Rattle.hq_kept.specs.declared.pattern.Class.{Class}
 use Rattle.hq_rows.specs.declared.rows.EndRow.{EndRow}
-use Rattle.hq_rows.specs.declared.rows.HeadRow.{HeadRow}
 use Rattle.hq_rows.specs.declared.rows.HoldRow.{HoldRow}
 use Rattle.hq_rows.specs.declared.rows.LineRow.{LineRow}
 use Rattle.hq_rows.specs.declared.rows.MarkRow.{MarkRow}
 use Rattle.hq_rows.specs.declared.rows.MessageRow.{MessageRow}
 use Rattle.hq_rows.specs.declared.rows.NoticeRow.{NoticeRow}
-use Rattle.hq_rows.specs.Listed.{head_key, head_value, message_key, message_value, heads_of}
-use Rattle.hq_rows.specs.Listed.{messages_of, hold_key, hold_value, holds_of, line_row_key}
-use Rattle.hq_rows.specs.Listed.{line_row_value, lines_of, mark_key, mark_value, marks_of}
-use Rattle.hq_rows.specs.Listed.{notice_key, notice_value, notices_of, end_key, end_value, ends_of}
-use Rattle.hq_rows.specs.Lookups.{is_head, is_message, is_hold, AreUnique, is_line, AreUniqueLines}
+use Rattle.hq_rows.specs.Listed.{message_key, message_value, messages_of, hold_key, hold_value}
+use Rattle.hq_rows.specs.Listed.{holds_of, line_row_key, line_row_value, lines_of, mark_key}
+use Rattle.hq_rows.specs.Listed.{mark_value, marks_of, notice_key, notice_value, notices_of}
+use Rattle.hq_rows.specs.Listed.{end_key, end_value, ends_of}
+use Rattle.hq_rows.specs.Lookups.{is_message, is_hold, AreUnique, is_line, AreUniqueLines}
 use Rattle.hq_rows.specs.Lookups.{is_mark, is_notice, is_kept_notice, AreUniqueNotices}
-use Rattle.hq_rows.specs.Lookups.{is_kept_end, is_earlier_end, AreUniqueEnds}
+use Rattle.hq_rows.specs.Lookups.{is_end, is_kept_end, is_earlier_end, AreUniqueEnds}
 use Rattle.hq_tables.proofs.Orders.{message_total, lines_total, mark_total, message_exact}
 use Rattle.hq_tables.proofs.Orders.{lines_exact, mark_exact, end_total, end_exact}
-
-pub head_found : (rows : List HeadRow) (c : List ℕ) →
-    option_map head_value (list.find (is_head c) rows) ≡ get (heads_of rows) c
-unfolding is_head
-head_found rows c = sym (get_table nat_list_cmp_total exact_bytes head_key head_value rows c)
-
-pub head_put : (rows : List HeadRow) (r : HeadRow) →
-    heads_of (filter (λ x. not (is_head r.customer x)) rows ++ r ∷ []) ≡ insert (heads_of rows)
-    r.customer (head_value r)
-unfolding is_head
-head_put rows r = table_put nat_list_cmp_total exact_bytes head_key head_value rows r
 
 pub message_found : (rows : List MessageRow) (c : List ℕ) (serial : ℕ) →
     option_map message_value (list.find (is_message c serial) rows) ≡ get (messages_of rows) (
@@ -163,10 +149,11 @@ pub unique_notices_kept : (rows : List NoticeRow) (c : List ℕ) (number : ℕ) 
 unfolding AreUniqueNotices
 unique_notices_kept rows c number u = unique_filter message_cmp notice_key _ rows u
 
-pub end_pushed : (rows : List EndRow) (r : EndRow) →
-    get (ends_of rows) (r.customer, r.end.number) ≡ None → ends_of (rows ++ r ∷ []) ≡ insert
+pub end_put : (rows : List EndRow) (r : EndRow) →
+    ends_of (filter (λ x. not (is_end r.customer r.end.number x)) rows ++ r ∷ []) ≡ insert
     (ends_of rows) (r.customer, r.end.number) (past_of r.end)
-end_pushed rows r none = table_push end_total end_exact end_key end_value rows r none
+unfolding is_end
+end_put rows r = table_put end_total end_exact end_key end_value rows r
 
 pub ends_kept : (rows : List EndRow) (c : List ℕ) (number : ℕ) →
     ends_of (filter (is_kept_end c number) rows) ≡ retain_keys (ends_of rows)
@@ -182,11 +169,10 @@ unfolding is_earlier_end
 ends_earlier rows c number =
     table_keep end_total end_exact end_key end_value (left_of c (λ n. nat_le n number)) rows
 
-pub unique_end_pushed : (rows : List EndRow) (r : EndRow) → AreUniqueEnds rows →
-    get (ends_of rows) (r.customer, r.end.number) ≡ None → AreUniqueEnds (rows ++ r ∷ [])
-unfolding AreUniqueEnds
-unique_end_pushed rows r u none = unique_push end_total end_key rows r u
-    (sym (is_some-table end_total end_exact end_key end_value rows (end_key r)) ∙ ap is_some none)
+pub unique_end_put : (rows : List EndRow) (r : EndRow) → AreUniqueEnds rows →
+    AreUniqueEnds (filter (λ x. not (is_end r.customer r.end.number x)) rows ++ r ∷ [])
+unfolding AreUniqueEnds is_end
+unique_end_put rows r u = unique_put end_total end_key rows r u
 
 pub unique_ends_earlier : (rows : List EndRow) (c : List ℕ) (number : ℕ) → AreUniqueEnds rows
     → AreUniqueEnds (filter (is_earlier_end c number) rows)

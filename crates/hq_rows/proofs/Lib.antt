@@ -1,3 +1,4 @@
+pub mod Counts
 pub mod EndPages
 pub mod Keys
 pub mod LinePages

@@ -10,7 +10,6 @@ use Rattle.hq_kept.specs.declared.message.Pending.{Pending}
 use Rattle.hq_kept.specs.declared.action.Action.{Action}
 use Rattle.hq_kept.specs.declared.pattern.Class.{Class}
 use Rattle.hq_rows.specs.declared.rows.EndRow.{EndRow}
-use Rattle.hq_rows.specs.declared.rows.HeadRow.{HeadRow}
 use Rattle.hq_rows.specs.declared.rows.HoldRow.{HoldRow}
 use Rattle.hq_rows.specs.declared.rows.LineRow.{LineRow}
 use Rattle.hq_rows.specs.declared.rows.MarkRow.{MarkRow}
@@ -26,9 +25,6 @@ use Rattle.hq_rows.specs.Listed.{messages_of, recipients_of, holds_of, lines_of,
 use Rattle.hq_rows.specs.Listed.{ends_of}
 
 -- ---- tests of rows
-
-unfoldable pub is_head : List ℕ → HeadRow → Bool
-is_head customer r = eq_by_cmp text_cmp customer r.customer
 
 unfoldable pub is_message : List ℕ → ℕ → MessageRow → Bool
 is_message customer serial r = eq_by_cmp message_cmp (customer, serial) (r.customer, r.serial)
@@ -83,6 +79,10 @@ is_notice_past customer after r = eq_by_cmp text_cmp customer r.customer
 -- another customer's notice, or one of a number that is not below this one
 unfoldable pub is_kept_notice : List ℕ → ℕ → NoticeRow → Bool
 is_kept_notice customer number r = left_of customer (nat_le number) (r.customer, r.notice.number)
+
+-- the end of a number
+unfoldable pub is_end : List ℕ → ℕ → EndRow → Bool
+is_end customer number r = eq_by_cmp end_cmp (customer, number) (r.customer, r.end.number)
 
 abbrev pub is_before : Option ℕ → ℕ → Bool
 is_before None number = true

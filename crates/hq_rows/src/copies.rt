@@ -2,22 +2,10 @@
 
 ghost use Rattle.std.specs.Prelude.{◌≡◌};
 
-use crate::rows::{
-    EndRow, HeadRow, HoldRow, LineRow, MarkRow, MessageRow, NoticeRow, RecipientRow,
-};
+use crate::rows::{EndRow, HoldRow, LineRow, MarkRow, MessageRow, NoticeRow, RecipientRow};
 use hq_memory::Memory;
 use hq_values::TryCopy;
 use std::alloc::AllocError;
-
-impl TryCopy for HeadRow {
-    fn copy<M: Memory>(&self, memory: M) -> Result<HeadRow, AllocError> {
-        let customer = self.customer.copy(memory)?;
-        Ok(HeadRow {
-            customer,
-            account: self.account,
-        })
-    }
-}
 
 impl TryCopy for MessageRow {
     fn copy<M: Memory>(&self, memory: M) -> Result<MessageRow, AllocError> {

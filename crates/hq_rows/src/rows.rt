@@ -3,9 +3,9 @@
 ghost use Rattle.std.specs.Prelude.{◌≡◌, not, option_map};
 ghost use Rattle.std.specs.Ordering.{nat_cmp, eq_by_cmp};
 ghost use Rattle.hq_tables.specs.Tables.{text_cmp, line_cmp};
-ghost use Rattle.hq_rows.specs.Lookups.{is_head, is_message, is_recipient, is_hold, is_past};
+ghost use Rattle.hq_rows.specs.Lookups.{is_message, is_recipient, is_hold, is_past};
 ghost use Rattle.hq_rows.specs.Lookups.{has_spool, is_line, is_line_past, is_mark, is_notice};
-ghost use Rattle.hq_rows.specs.Lookups.{is_notice_past, is_kept_notice, is_end_before};
+ghost use Rattle.hq_rows.specs.Lookups.{is_notice_past, is_kept_notice, is_end, is_end_before};
 ghost use Rattle.hq_rows.specs.Lookups.{is_kept_end, is_earlier_end};
 
 use hq_kept::{Class, End, Line, Mark, Notice, Pattern, Pending, QueueState};
@@ -119,23 +119,6 @@ fn is_serial(a: Serial, b: Serial) -> bool
     ensures { result ≡ eq_by_cmp nat_cmp a b }
 {
     a.get().cmp(&b.get()).is_eq()
-}
-
-impl HeadRow {
-    /// Whether it is the customer's.
-    #[tactic(auto, unfolding(crate::specs::Lookups::is_head))]
-    pub fn is_of(&self, customer: &Name) -> bool
-        ensures { result ≡ is_head customer.now self.now }
-    {
-        is_name(customer, &self.customer)
-    }
-
-    /// Whether it is another customer's.
-    pub fn is_other(&self, customer: &Name) -> bool
-        ensures { result ≡ not (is_head customer.now self.now) }
-    {
-        !self.is_of(customer)
-    }
 }
 
 impl MessageRow {
@@ -329,6 +312,25 @@ impl NoticeRow {
 }
 
 impl EndRow {
+    /// Whether it is the customer's end of this number.
+    #[tactic(auto, unfolding(crate::specs::Lookups::is_end))]
+    pub fn is_at(&self, customer: &Name, number: u64) -> bool
+        ensures { result ≡ is_end customer.now number self.now }
+    {
+        customer
+            .as_str()
+            .cmp(self.customer.as_str())
+            .then(self.end.number.cmp(&number))
+            .is_eq()
+    }
+
+    /// Whether it is another end.
+    pub fn is_other(&self, customer: &Name, number: u64) -> bool
+        ensures { result ≡ not (is_end customer.now number self.now) }
+    {
+        !self.is_at(customer, number)
+    }
+
     /// Whether it is an end of the customer before a number, or any of its ends where there is
     /// none.
     #[tactic(auto, unfolding(crate::specs::Lookups::is_end_before))]

@@ -30,7 +30,7 @@ pub trait Shelf {
 
     /// The customer's head; where none was put, that of a customer of whom nothing is kept. And how
     /// much the customer keeps: messages, their bytes together, and lines. The bytes stay at the
-    /// greatest `u64`. It reads one row, and counts none.
+    /// greatest `u64`.
     fn account(&mut self, customer: &Name) -> Result<Account, Fault>
         ensures found { Finds sight self.old self.new result customer.now account_read }
         ensures kept { Keeps sight self.old self.new result };

@@ -8,7 +8,7 @@ use Rattle.hq_rows.proofs.EndPages.{ends_are, by_newest}
 use Rattle.hq_lists.proofs.ends.page_in.Goals as goal
 
 pub returns : goal.returns
-returns c u =
+returns g c u =
     c.from_vec.ensures ∙ c.truncate.ensures.items
     ∙ ap (take c.args.limit)
     (ends_are c.args.customer.now c.args.before c.args.rows.now

@@ -1,6 +1,6 @@
 use Rattle.std.proofs.Common.{not, rules}
 use Rattle.std.proofs.lemmas.Fn.{filter_same}
-use Rattle.hq_rows.specs.Lookups.{is_head}
+use Rattle.hq_lists.specs.Heads.{is_head}
 use Rattle.hq_lists.proofs.heads.drop_head.Goals as goal
 
 pub returns : goal.returns

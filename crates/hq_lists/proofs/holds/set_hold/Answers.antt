@@ -5,7 +5,7 @@ use Rattle.hq_rows.proofs.Keys.{hold_put}
 use Rattle.hq_lists.proofs.holds.set_hold.Goals as goal
 
 pub returns : goal.returns
-returns c =
+returns g c =
     let row : List ℕ → List ℕ → HoldRow =
     λ customer reason. record { customer = customer; serial = c.args.serial; reason = reason }
     in

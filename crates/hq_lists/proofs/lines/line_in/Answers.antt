@@ -6,7 +6,7 @@ use Rattle.hq_rows.proofs.Keys.{line_found}
 use Rattle.hq_lists.proofs.lines.line_in.Goals as goal
 
 pub returns-in_ok-copy-in-Some : goal.returns-in_ok-copy-in-Some
-returns-in_ok-copy-in-Some c =
+returns-in_ok-copy-in-Some g c =
     ap Some c.in_ok-copy-in-Some.ensures ∙ ap (option_map line_row_value) (c.in-Some.ensures
     ∙ ap (λ key. list.find (is_line c.args.customer.now (c.args.class, key)) c.args.rows.now)
     c.as_str.ensures) ∙ line_found c.args.rows.now c.args.customer.now (
@@ -15,7 +15,7 @@ returns-in_ok-copy-in-Some c =
     )
 
 pub returns-in-None : goal.returns-in-None
-returns-in-None c = ap (option_map line_row_value) (c.in-None.ensures
+returns-in-None g c = ap (option_map line_row_value) (c.in-None.ensures
     ∙ ap (λ key. list.find (is_line c.args.customer.now (c.args.class, key)) c.args.rows.now)
     c.as_str.ensures) ∙ line_found c.args.rows.now c.args.customer.now (
       c.args.class,

@@ -8,7 +8,7 @@ use Rattle.hq_rows.proofs.LinePages.{lines_are, by_pattern}
 use Rattle.hq_lists.proofs.lines.page_in.Goals as goal
 
 pub returns : goal.returns
-returns c u =
+returns g c u =
     c.from_vec.ensures ∙ c.truncate.ensures.items
     ∙ ap (take c.args.limit) (lines_are c.args.customer.now (option_map (λ p. p.now) c.args.after)
     c.args.rows.now c.sort_unstable_by.new.self.items u

@@ -6,7 +6,7 @@ use Rattle.hq_rows.proofs.Keys.{mark_put}
 use Rattle.hq_lists.proofs.marks.put_mark.Goals as goal
 
 pub returns : goal.returns
-returns c =
+returns g c =
     let row : List ℕ → Mark → MarkRow = λ customer mark. record { customer = customer; mark = mark }
     in
     ap marks_of (c.in_ok-push.ensures.items ∙ (λ i. c.drop_row.ensures i

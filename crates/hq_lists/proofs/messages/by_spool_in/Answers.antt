@@ -6,7 +6,7 @@ use Rattle.hq_rows.proofs.Serials.{spool_is}
 use Rattle.hq_lists.proofs.messages.by_spool_in.Goals as goal
 
 pub returns-in-None : goal.returns-in-None
-returns-in-None c u all =
+returns-in-None g c u all =
     let at =
     message_at c.args.customer.now c.args.messages.now c.args.recipients.now c.args.holds.now in
     ap (given None at) (sym c.in-None.is ∙ c.first_of.ensures
@@ -16,7 +16,7 @@ returns-in-None c u all =
     c.args.holds.now
 
 pub returns : goal.returns
-returns c u all =
+returns g c u all =
     let at =
     message_at c.args.customer.now c.args.messages.now c.args.recipients.now c.args.holds.now in
     c.in_ok-found-in-Some.ensures all ∙ ap (given None at) (sym c.in-Some.is ∙ c.first_of.ensures

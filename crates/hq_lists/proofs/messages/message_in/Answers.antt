@@ -7,7 +7,7 @@ use Rattle.hq_lists.proofs.DealtRows.{dealt_is}
 use Rattle.hq_lists.proofs.messages.message_in.Goals as goal
 
 pub returns-in_ok-joined-in-Some : goal.returns-in_ok-joined-in-Some
-returns-in_ok-joined-in-Some c all =
+returns-in_ok-joined-in-Some g c all =
     let whole : Row → Message =
     λ r. message_of c.args.serial r
     (reason_of c.args.customer.now c.args.serial (holds_of c.args.holds.now))
@@ -21,7 +21,7 @@ returns-in_ok-joined-in-Some c all =
     (message_found c.args.messages.now c.args.customer.now c.args.serial)
 
 pub returns-in-None : goal.returns-in-None
-returns-in-None c all =
+returns-in-None g c all =
     let whole : Row → Message =
     λ r. message_of c.args.serial r
     (reason_of c.args.customer.now c.args.serial (holds_of c.args.holds.now))

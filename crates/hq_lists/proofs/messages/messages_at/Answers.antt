@@ -6,7 +6,7 @@ use Rattle.hq_rows.specs.Lookups.{message_at}
 use Rattle.hq_lists.proofs.messages.messages_at.Goals as goal
 
 pub loop-serial-preserved : goal.loop-serial-preserved
-loop-serial-preserved c all =
+loop-serial-preserved g c all =
     let at =
     message_at c.args.customer.now c.args.messages.now c.args.recipients.now c.args.holds.now in
     let xs = c.args.serials.now in

@@ -4,6 +4,6 @@ use Rattle.hq_rows.specs.Lookups.{AreDealt, message_at}
 use Rattle.hq_lists.proofs.messages.messages_at.Given as goal
 
 abbrev pub invariant-loop-serial : goal.invariant-loop-serial
-invariant-loop-serial l = AreDealt l.recipients →
+invariant-loop-serial g l = AreDealt l.recipients →
     l.page.items ≡ filter_map (message_at l.customer l.messages l.recipients l.holds)
     (take l.serial-index l.serials)

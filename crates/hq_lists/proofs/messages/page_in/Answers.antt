@@ -5,7 +5,7 @@ use Rattle.hq_rows.proofs.Serials.{page_is}
 use Rattle.hq_lists.proofs.messages.page_in.Goals as goal
 
 pub returns : goal.returns
-returns c u all =
+returns g c u all =
     let at =
     message_at c.args.customer.now c.args.messages.now c.args.recipients.now c.args.holds.now in
     c.from_vec.ensures ∙ c.in_ok-page.ensures all ∙ ap (filter_map at) (c.as_slice.ensures.value

@@ -5,13 +5,13 @@ use Rattle.hq_rows.proofs.Keys.{message_put, unique_message}
 use Rattle.hq_lists.proofs.messages.put_message.Goals as goal
 
 pub returns-clause-table : goal.returns-clause-table
-returns-clause-table c =
+returns-clause-table g c =
     ap messages_of (c.in_ok-push.ensures.items ∙ (λ i. c.drop_row.ensures i ++ c.in_ok-row.ensures i
     ∷ [])) ∙ message_put c.args.rows.now.items
     (message_row c.args.customer.now c.args.message.now)
 
 pub returns-clause-unique : goal.returns-clause-unique
-returns-clause-unique c u =
+returns-clause-unique g c u =
     subst AreUnique (sym (c.in_ok-push.ensures.items ∙ (λ i. c.drop_row.ensures i
     ++ c.in_ok-row.ensures i ∷ [])))
     (unique_message c.args.rows.now.items (message_row c.args.customer.now c.args.message.now)

@@ -3,5 +3,5 @@ use Rattle.hq_rows.specs.Lookups.{is_notice_past}
 use Rattle.hq_lists.proofs.notices.notices_past.Given as goal
 
 abbrev pub invariant-loop-row : goal.invariant-loop-row
-invariant-loop-row l = l.notices.items ≡ map (λ row. row.notice)
+invariant-loop-row g l = l.notices.items ≡ map (λ row. row.notice)
     (filter (is_notice_past l.customer l.after) (take l.row-index l.rows))

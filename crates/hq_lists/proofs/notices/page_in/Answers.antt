@@ -8,7 +8,7 @@ use Rattle.hq_rows.proofs.NoticePages.{notices_are, by_number}
 use Rattle.hq_lists.proofs.notices.page_in.Goals as goal
 
 pub returns : goal.returns
-returns c u =
+returns g c u =
     c.from_vec.ensures ∙ c.truncate.ensures.items
     ∙ ap (take c.args.limit)
     (notices_are c.args.customer.now c.args.after c.args.rows.now
