@@ -3,6 +3,7 @@
 //! belongs to is not said here.
 #![tactic(auto)]
 
+mod json_memory;
 mod members;
 mod outcomes;
 mod queries;
@@ -10,6 +11,7 @@ mod reading;
 mod submission;
 mod tables;
 
+pub use json_memory::JsonMemory;
 pub use outcomes::read_report;
 pub use queries::{
     read_history_before, read_message_after, read_message_id, read_notice_after, read_notice_number,

@@ -2,17 +2,18 @@
 
 ghost use Rattle.std.specs.Prelude.{◌≡◌, Ok};
 ghost use Rattle.serde_json.specs.View.{view, items_view};
-ghost use Rattle.hq_values.specs.Readers.{Reads, seen_by, or_refuse};
+ghost use Rattle.hq_values.specs.Readers.{ReadsIn, seen_by, or_refuse};
 ghost use Rattle.hq_values.specs.declared.failure.Refusal.TheVariants.{BadField};
 ghost use Rattle.hq_bodies.specs.Reading.{within, text_at};
 ghost use Rattle.hq_bodies.specs.Outcomes as bodies;
 
+use crate::json_memory::JsonMemory;
 use crate::reading::{has_only_members, json_value, text_member};
 use hq_kept::{Attempt, Delivery, Outcome, Status};
+use hq_memory::Memory;
 use hq_rules::AttemptReport;
 use hq_values::{Address, Fail, Items, Refusal, Serial, Text};
 use serde_json::Value;
-use std::alloc::Global;
 use std::marker::Model;
 
 /// The most outcomes of a report.
@@ -148,27 +149,28 @@ fn outcome_texts(value: &Value) -> Result<OutcomeTexts<'_>, Refusal>
 
 /// The members of each outcome.
 #[tactic(auto, unfolding(crate::specs::Outcomes::entries_of))]
-fn entries_of(alloc: Global, values: &[Value]) -> Result<Vec<OutcomeTexts<'_>>, Fail>
-    ensures { Reads (seen_by (λ v. v.items) result) (bodies.entries_of (items_view values.now)) }
+fn entries_of<M: Memory>(memory: M, values: &[Value]) -> Result<Vec<OutcomeTexts<'_>>, Fail>
+    ensures { ReadsIn M.refused (seen_by
+        (λ v. v.items) result) (bodies.entries_of (items_view values.now)) }
 {
-    let mut entries = Vec::new(alloc);
+    let mut entries = memory.none();
     for value in values {
         let entry = outcome_texts(value)?;
-        entries.push(entry)?;
+        memory.push(&mut entries, entry)?;
     }
     Ok(entries)
 }
 
 /// The member `outcomes`: at most 100.
 #[tactic(auto, unfolding(crate::specs::Outcomes::entries_at))]
-fn entries_member(alloc: Global, value: &Value) -> Result<Items<OutcomeTexts<'_>>, Fail>
-    ensures { Reads result (bodies.entries_at (view value.now)) }
+fn entries_member<M: Memory>(memory: M, value: &Value) -> Result<Items<OutcomeTexts<'_>>, Fail>
+    ensures { ReadsIn M.refused result (bodies.entries_at (view value.now)) }
 {
     let values = value
         .get("outcomes")
         .and_then(Value::as_array)
         .ok_or(Refusal::BadField)?;
-    let entries = entries_of(alloc, values)?;
+    let entries = entries_of(memory, values)?;
     if entries.len() > MOST_OUTCOMES {
         return Err(Fail::Refused(Refusal::BadField));
     }
@@ -177,15 +179,15 @@ fn entries_member(alloc: Global, value: &Value) -> Result<Items<OutcomeTexts<'_>
 
 /// The members of a report.
 #[tactic(auto, unfolding(crate::specs::Outcomes::report_of))]
-fn report_of(alloc: Global, value: &Value) -> Result<AttemptTexts<'_>, Fail>
-    ensures { Reads result (bodies.report_of (view value.now)) }
+fn report_of<M: Memory>(memory: M, value: &Value) -> Result<AttemptTexts<'_>, Fail>
+    ensures { ReadsIn M.refused result (bodies.report_of (view value.now)) }
 {
     if !has_only_members(value, &["id", "attempt", "outcomes"]) {
         return Err(Fail::Refused(Refusal::BadField));
     }
     let serial = serial_member(value).ok_or(Refusal::BadField)?;
     let attempt = attempt_member(value).ok_or(Refusal::BadField)?;
-    let outcomes = entries_member(alloc, value)?;
+    let outcomes = entries_member(memory, value)?;
     Ok(AttemptTexts {
         serial,
         attempt,
@@ -209,43 +211,43 @@ fn status_of_class(class: u8, text: &str) -> Result<Status, Refusal>
 
 /// A success, with its status and its text; or 26 for the status, then 28 for the text.
 #[tactic(auto, unfolding(crate::specs::Outcomes::success_in))]
-fn read_success(alloc: Global, reason: &ReasonTexts<'_>) -> Result<Delivery, Fail>
-    ensures { Reads result (bodies.success_in reason.now) }
+fn read_success<M: Memory>(memory: M, reason: &ReasonTexts<'_>) -> Result<Delivery, Fail>
+    ensures { ReadsIn M.refused result (bodies.success_in reason.now) }
 {
     let status = status_of_class(DONE, reason.status.text)?;
-    let text = Text::parse(alloc, reason.text.text)?;
+    let text = Text::parse(memory, reason.text.text)?;
     Ok(Delivery::Delivered(Some(status), text))
 }
 
 /// The delivery of a recipient: without status and text, where one of these is not of its form.
-fn read_delivered(alloc: Global, told: &Option<ReasonTexts<'_>>) -> Result<Delivery, Fail>
-    ensures { Reads result (Ok (bodies.delivered_in told.now)) }
+fn read_delivered<M: Memory>(memory: M, told: &Option<ReasonTexts<'_>>) -> Result<Delivery, Fail>
+    ensures { ReadsIn M.refused result (Ok (bodies.delivered_in told.now)) }
 {
     let Some(reason) = told else {
-        return Ok(Delivery::Delivered(None, Text::empty(alloc)));
+        return Ok(Delivery::Delivered(None, Text::empty(memory)));
     };
-    match read_success(alloc, reason) {
+    match read_success(memory, reason) {
         Ok(delivery) => Ok(delivery),
-        Err(Fail::Refused(_)) => Ok(Delivery::Delivered(None, Text::empty(alloc))),
+        Err(Fail::Refused(_)) => Ok(Delivery::Delivered(None, Text::empty(memory))),
         Err(Fail::Fault(fault)) => Err(Fail::Fault(fault)),
     }
 }
 
 /// What became of a recipient; or 26 for the status, then 28 for the text.
 #[tactic(auto, unfolding(crate::specs::Outcomes::delivery_in))]
-fn read_delivery(alloc: Global, texts: &DeliveryTexts<'_>) -> Result<Delivery, Fail>
-    ensures { Reads result (bodies.delivery_in texts.now) }
+fn read_delivery<M: Memory>(memory: M, texts: &DeliveryTexts<'_>) -> Result<Delivery, Fail>
+    ensures { ReadsIn M.refused result (bodies.delivery_in texts.now) }
 {
     match texts {
-        DeliveryTexts::Delivered(told) => read_delivered(alloc, told),
+        DeliveryTexts::Delivered(told) => read_delivered(memory, told),
         DeliveryTexts::Deferred(reason) => {
             let status = status_of_class(MAY_PASS, reason.status.text)?;
-            let text = Text::parse(alloc, reason.text.text)?;
+            let text = Text::parse(memory, reason.text.text)?;
             Ok(Delivery::Deferred(status, text))
         }
         DeliveryTexts::Failed(reason) => {
             let status = status_of_class(FOR_GOOD, reason.status.text)?;
-            let text = Text::parse(alloc, reason.text.text)?;
+            let text = Text::parse(memory, reason.text.text)?;
             Ok(Delivery::Failed(status, text))
         }
     }
@@ -253,23 +255,23 @@ fn read_delivery(alloc: Global, texts: &DeliveryTexts<'_>) -> Result<Delivery, F
 
 /// The values of an outcome; 20 for the address comes first.
 #[tactic(auto, unfolding(crate::specs::Outcomes::outcome_in))]
-fn outcome_from(alloc: Global, texts: &OutcomeTexts<'_>) -> Result<Outcome, Fail>
-    ensures { Reads result (bodies.outcome_in texts.now) }
+fn outcome_from<M: Memory>(memory: M, texts: &OutcomeTexts<'_>) -> Result<Outcome, Fail>
+    ensures { ReadsIn M.refused result (bodies.outcome_in texts.now) }
 {
-    let address = Address::parse(alloc, texts.recipient.text)?;
-    let result = read_delivery(alloc, &texts.result)?;
+    let address = Address::parse(memory, texts.recipient.text)?;
+    let result = read_delivery(memory, &texts.result)?;
     Ok(Outcome { address, result })
 }
 
 /// The values of each outcome.
 #[tactic(auto, unfolding(crate::specs::Outcomes::outcomes_in))]
-fn outcomes_from(alloc: Global, entries: &[OutcomeTexts<'_>]) -> Result<Vec<Outcome>, Fail>
-    ensures { Reads (seen_by (λ v. v.items) result) (bodies.outcomes_in entries.now) }
+fn outcomes_from<M: Memory>(memory: M, entries: &[OutcomeTexts<'_>]) -> Result<Vec<Outcome>, Fail>
+    ensures { ReadsIn M.refused (seen_by (λ v. v.items) result) (bodies.outcomes_in entries.now) }
 {
-    let mut outcomes = Vec::new(alloc);
+    let mut outcomes = memory.none();
     for entry in entries {
-        let outcome = outcome_from(alloc, entry)?;
-        outcomes.push(outcome)?;
+        let outcome = outcome_from(memory, entry)?;
+        memory.push(&mut outcomes, outcome)?;
     }
     Ok(outcomes)
 }
@@ -283,12 +285,12 @@ fn outcomes_from(alloc: Global, entries: &[OutcomeTexts<'_>]) -> Result<Vec<Outc
 /// and 28 for the text. A delivered recipient needs neither: the report keeps both where they
 /// are of their form and the status is of the class 2, and else none.
 #[tactic(auto, unfolding(crate::specs::Outcomes::read_report))]
-pub fn read_report(alloc: Global, body: &[u8]) -> Result<AttemptReport, Fail>
-    ensures { Reads result (bodies.read_report body.now) }
+pub fn read_report<M: JsonMemory>(memory: M, body: &[u8]) -> Result<AttemptReport, Fail>
+    ensures { ReadsIn M.refused result (bodies.read_report body.now) }
 {
-    let value = json_value(alloc, body)?;
-    let report = report_of(alloc, &value)?;
-    let outcomes = outcomes_from(alloc, report.outcomes.as_slice())?;
+    let value = json_value(memory, body)?;
+    let report = report_of(memory, &value)?;
+    let outcomes = outcomes_from(memory, report.outcomes.as_slice())?;
     Ok(AttemptReport {
         serial: report.serial,
         attempt: report.attempt,

@@ -1,25 +1,25 @@
 //! The bodies of the relay's calls that read: from where on a list goes, or what is shown.
 
-ghost use Rattle.std.specs.Prelude.{◌≡◌, option_map};
+ghost use Rattle.std.specs.Prelude.{◌≡◌};
 ghost use Rattle.serde_json.specs.View.{view};
-ghost use Rattle.hq_values.specs.Readers.{Reads, seen_by, or_refuse};
+ghost use Rattle.hq_values.specs.Readers.{ReadsIn, seen_by};
 ghost use Rattle.hq_values.specs.declared.failure.Refusal.TheVariants.{BadField};
 ghost use Rattle.hq_bodies.specs.Queries as queries;
 
+use crate::json_memory::JsonMemory;
 use crate::reading::{has_only_members, json_value, number_member, text_member};
 use hq_values::{Fail, Refusal, Serial};
 use serde_json::Value;
-use std::alloc::Global;
 
 /// The greatest number of a notice that a call names: 13 digits.
 const LAST_NOTICE: u64 = 9_999_999_999_999;
 
 /// The value of a body that has this member and no other: else 7 `BadJson` or 8 `BadField`.
 #[tactic(auto, unfolding(crate::specs::Queries::value_with))]
-fn value_with(alloc: Global, name: &str, body: &[u8]) -> Result<Value, Fail>
-    ensures { Reads (seen_by view result) (queries.value_with name.now body.now) }
+fn value_with<M: JsonMemory>(memory: M, name: &str, body: &[u8]) -> Result<Value, Fail>
+    ensures { ReadsIn M.refused (seen_by view result) (queries.value_with name.now body.now) }
 {
-    let value = json_value(alloc, body)?;
+    let value = json_value(memory, body)?;
     if !has_only_members(&value, &[name]) {
         return Err(Fail::Refused(Refusal::BadField));
     }
@@ -73,20 +73,20 @@ pub(crate) fn before_member(value: &Value) -> Result<Option<u64>, Refusal>
 /// not JSON, 8 `BadField` where it is not an object of the member `after` alone, or that is neither
 /// a queue ID nor null.
 #[tactic(auto, unfolding(crate::specs::Queries::read_message_after))]
-pub fn read_message_after(alloc: Global, body: &[u8]) -> Result<Option<Serial>, Fail>
-    ensures { Reads result (queries.read_message_after body.now) }
+pub fn read_message_after<M: JsonMemory>(memory: M, body: &[u8]) -> Result<Option<Serial>, Fail>
+    ensures { ReadsIn M.refused result (queries.read_message_after body.now) }
 {
-    let value = value_with(alloc, "after", body)?;
+    let value = value_with(memory, "after", body)?;
     Ok(message_after(&value)?)
 }
 
 /// Reads a body that names a message: 7 `BadJson` where it is not JSON, 8 `BadField` where it is
 /// not an object of the member `id` alone, or that is no queue ID.
 #[tactic(auto, unfolding(crate::specs::Queries::read_message_id))]
-pub fn read_message_id(alloc: Global, body: &[u8]) -> Result<Serial, Fail>
-    ensures { Reads result (queries.read_message_id body.now) }
+pub fn read_message_id<M: JsonMemory>(memory: M, body: &[u8]) -> Result<Serial, Fail>
+    ensures { ReadsIn M.refused result (queries.read_message_id body.now) }
 {
-    let value = value_with(alloc, "id", body)?;
+    let value = value_with(memory, "id", body)?;
     Ok(id_member(&value, "id")?)
 }
 
@@ -94,10 +94,10 @@ pub fn read_message_id(alloc: Global, body: &[u8]) -> Result<Serial, Fail>
 /// is not JSON, 8 `BadField` where it is not an object of the member `after` alone, or that is
 /// neither a number of 1 to 9,999,999,999,999 nor null.
 #[tactic(auto, unfolding(crate::specs::Queries::read_notice_after))]
-pub fn read_notice_after(alloc: Global, body: &[u8]) -> Result<Option<u64>, Fail>
-    ensures { Reads result (queries.read_notice_after body.now) }
+pub fn read_notice_after<M: JsonMemory>(memory: M, body: &[u8]) -> Result<Option<u64>, Fail>
+    ensures { ReadsIn M.refused result (queries.read_notice_after body.now) }
 {
-    let value = value_with(alloc, "after", body)?;
+    let value = value_with(memory, "after", body)?;
     if is_null_member(&value, "after") {
         return Ok(None);
     }
@@ -108,19 +108,19 @@ pub fn read_notice_after(alloc: Global, body: &[u8]) -> Result<Option<u64>, Fail
 /// where it is not JSON, 8 `BadField` where it is not an object of the member `before` alone, or
 /// that is neither a number of 1 to 9,999,999,999,999 nor null.
 #[tactic(auto, unfolding(crate::specs::Queries::read_history_before))]
-pub fn read_history_before(alloc: Global, body: &[u8]) -> Result<Option<u64>, Fail>
-    ensures { Reads result (queries.read_history_before body.now) }
+pub fn read_history_before<M: JsonMemory>(memory: M, body: &[u8]) -> Result<Option<u64>, Fail>
+    ensures { ReadsIn M.refused result (queries.read_history_before body.now) }
 {
-    let value = value_with(alloc, "before", body)?;
+    let value = value_with(memory, "before", body)?;
     Ok(before_member(&value)?)
 }
 
 /// Reads a body that names a notice: 7 `BadJson` where it is not JSON, 8 `BadField` where it is not
 /// an object of the member `number` alone, or that is not one of 1 to 9,999,999,999,999.
 #[tactic(auto, unfolding(crate::specs::Queries::read_notice_number))]
-pub fn read_notice_number(alloc: Global, body: &[u8]) -> Result<u64, Fail>
-    ensures { Reads result (queries.read_notice_number body.now) }
+pub fn read_notice_number<M: JsonMemory>(memory: M, body: &[u8]) -> Result<u64, Fail>
+    ensures { ReadsIn M.refused result (queries.read_notice_number body.now) }
 {
-    let value = value_with(alloc, "number", body)?;
+    let value = value_with(memory, "number", body)?;
     Ok(notice_member(&value, "number")?)
 }

@@ -1,33 +1,26 @@
 //! The members of a JSON body.
 
-ghost use Rattle.std.specs.Prelude.{◌≡◌, ◌≤◌, List, ℕ, IfOk, length, bytes_eq, option_map};
-ghost use Rattle.std.specs.Prelude.{option_and_then, map as map_list};
+ghost use Rattle.std.specs.Prelude.{◌≡◌, bytes_eq, option_map};
+ghost use Rattle.std.specs.Prelude.{map as map_list};
 ghost use Rattle.std.specs.List.{list_any};
 ghost use Rattle.serde_json.specs.Find.{as_object};
 ghost use Rattle.serde_json.specs.View.{view, members_view, items_view};
 ghost use Rattle.hq_values.specs.declared.failure.Refusal.TheVariants.{BadJson, BadField};
-ghost use Rattle.hq_values.specs.Readers.{Reads, seen_by, or_refuse};
+ghost use Rattle.hq_values.specs.Readers.{ReadsIn, seen_by, or_refuse};
 ghost use Rattle.hq_bodies.specs.Reading.{json_of, has_only, has_only_members, text_at, number_at};
 ghost use Rattle.hq_bodies.specs.Reading.{texts_of, texts_at};
 
-use hq_values::{Fail, Fault, Refusal};
+use crate::json_memory::JsonMemory;
+use hq_memory::Memory;
+use hq_values::{Fail, Refusal};
 use serde_json::{Map, Value};
-use std::alloc::Global;
 
 /// The JSON value of a body, or 7 `BadJson`.
-pub fn json_value(alloc: Global, bytes: &[u8]) -> Result<Value, Fail>
-    ensures { Reads (seen_by view result) (or_refuse BadJson (json_of bytes.now)) }
+pub fn json_value<M: JsonMemory>(memory: M, bytes: &[u8]) -> Result<Value, Fail>
+    ensures { ReadsIn M.refused (seen_by view result) (or_refuse BadJson (json_of bytes.now)) }
 {
-    match Value::from_slice(alloc, bytes) {
-        Ok(value) => Ok(value),
-        Err(error) => {
-            if error.is_memory() {
-                Err(Fail::Fault(Fault::WantOfMemory))
-            } else {
-                Err(Fail::Refused(Refusal::BadJson))
-            }
-        }
-    }
+    let value = memory.json(bytes)?.ok_or(Refusal::BadJson)?;
+    Ok(value)
 }
 
 /// A member that is a text.
@@ -84,27 +77,31 @@ pub(crate) fn has_only_members(value: &Value, names: &[&str]) -> bool
     }
 }
 
-fn texts(alloc: Global, values: &[Value]) -> Result<Vec<&str>, Fail>
-    ensures { Reads (seen_by (λ v. map_list (λ text. text.now) v.items) result)
+fn texts<M: Memory>(memory: M, values: &[Value]) -> Result<Vec<&str>, Fail>
+    ensures { ReadsIn M.refused (seen_by (λ v. map_list (λ text. text.now) v.items) result)
         (or_refuse BadField (texts_of (items_view values.now))) }
 {
-    let mut found = Vec::new(alloc);
+    let mut found = memory.none();
     for value in values {
         let Some(text) = value.as_str() else {
             return Err(Fail::Refused(Refusal::BadField));
         };
-        found.push(text)?;
+        memory.push(&mut found, text)?;
     }
     Ok(found)
 }
 
 /// A member that is a list of texts, or 8 `BadField`; the texts are lent.
-pub fn texts_member<'v>(alloc: Global, value: &'v Value, name: &str) -> Result<Vec<&'v str>, Fail>
-    ensures { Reads (seen_by (λ v. map_list (λ text. text.now) v.items) result)
+pub fn texts_member<'v, M: Memory>(
+    memory: M,
+    value: &'v Value,
+    name: &str,
+) -> Result<Vec<&'v str>, Fail>
+    ensures { ReadsIn M.refused (seen_by (λ v. map_list (λ text. text.now) v.items) result)
         (or_refuse BadField (texts_at name.now (view value.now))) }
 {
     match value.get(name).and_then(Value::as_array) {
-        Some(list) => texts(alloc, list),
+        Some(list) => texts(memory, list),
         None => Err(Fail::Refused(Refusal::BadField)),
     }
 }

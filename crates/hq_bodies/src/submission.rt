@@ -1,18 +1,19 @@
 //! The body of a submission.
 
-ghost use Rattle.std.specs.Prelude.{map as map_list};
+ghost use Rattle.std.specs.Prelude.{◌≡◌, map as map_list};
 ghost use Rattle.serde_json.specs.View.{view};
-ghost use Rattle.hq_values.specs.Readers.{Reads, seen_by};
+ghost use Rattle.hq_values.specs.Readers.{ReadsIn, seen_by};
 ghost use Rattle.hq_bodies.specs.Submissions.{recipients_in, size_of, fields_of, addresses_in};
 ghost use Rattle.hq_bodies.specs.Submissions.{submission_of, read_submission, shown_recipients};
 ghost use Rattle.hq_bodies.specs.Submissions.{shown_size, texts_shown};
 
+use crate::json_memory::JsonMemory;
 use crate::members::{MessageSize, RecipientTexts, SubmissionTexts};
 use crate::reading::{has_only, json_value, number_member, text_member, texts_member};
+use hq_memory::Memory;
 use hq_rules::Submission;
 use hq_values::{Address, Fail, Items, Refusal, Sender, Spool};
 use serde_json::Value;
-use std::alloc::Global;
 
 /// The most recipients of a submission.
 const MOST_RECIPIENTS: usize = 100;
@@ -22,10 +23,10 @@ const MOST_BYTES: u64 = 2_147_483_647;
 
 /// The texts of the recipients, or 8 `BadField`.
 #[tactic(auto, unfolding(crate::specs::Submissions::recipients_in))]
-fn recipients_in(alloc: Global, value: &Value) -> Result<RecipientTexts<'_>, Fail>
-    ensures { Reads (seen_by shown_recipients result) (recipients_in (view value.now)) }
+fn recipients_in<M: Memory>(memory: M, value: &Value) -> Result<RecipientTexts<'_>, Fail>
+    ensures { ReadsIn M.refused (seen_by shown_recipients result) (recipients_in (view value.now)) }
 {
-    let texts = texts_member(alloc, value, "recipients")?;
+    let texts = texts_member(memory, value, "recipients")?;
     if !(1..=MOST_RECIPIENTS).contains(&texts.len()) {
         return Err(Fail::Refused(Refusal::BadField));
     }
@@ -34,12 +35,12 @@ fn recipients_in(alloc: Global, value: &Value) -> Result<RecipientTexts<'_>, Fai
 
 /// The size of the message, or 8 `BadField`.
 #[tactic(auto, unfolding(crate::specs::Submissions::size_of))]
-fn size_in(value: &Value) -> Result<MessageSize, Fail>
-    ensures { Reads (seen_by shown_size result) (size_of (view value.now)) }
+fn size_in(value: &Value) -> Result<MessageSize, Refusal>
+    ensures { seen_by shown_size result ≡ size_of (view value.now) }
 {
     let bytes = number_member(value, "size", 0, u64::MAX).ok_or(Refusal::BadField)?;
     if bytes > MOST_BYTES {
-        return Err(Fail::Refused(Refusal::BadField));
+        return Err(Refusal::BadField);
     }
     Ok(MessageSize {
         bytes: bytes as u32,
@@ -48,8 +49,8 @@ fn size_in(value: &Value) -> Result<MessageSize, Fail>
 
 /// The members of a submission, or 8 `BadField`.
 #[tactic(auto, unfolding(crate::specs::Submissions::fields_of))]
-fn fields_in(alloc: Global, value: &Value) -> Result<SubmissionTexts<'_>, Fail>
-    ensures { Reads (seen_by texts_shown result) (fields_of (view value.now)) }
+fn fields_in<M: Memory>(memory: M, value: &Value) -> Result<SubmissionTexts<'_>, Fail>
+    ensures { ReadsIn M.refused (seen_by texts_shown result) (fields_of (view value.now)) }
 {
     let known = match value.as_object() {
         Some(map) => has_only(map, &["spool", "sender", "recipients", "size"]),
@@ -60,7 +61,7 @@ fn fields_in(alloc: Global, value: &Value) -> Result<SubmissionTexts<'_>, Fail>
     }
     let spool = text_member(value, "spool").ok_or(Refusal::BadField)?;
     let sender = text_member(value, "sender").ok_or(Refusal::BadField)?;
-    let recipients = recipients_in(alloc, value)?;
+    let recipients = recipients_in(memory, value)?;
     let size = size_in(value)?;
     Ok(SubmissionTexts {
         spool,
@@ -71,25 +72,25 @@ fn fields_in(alloc: Global, value: &Value) -> Result<SubmissionTexts<'_>, Fail>
 }
 
 /// The addresses of texts, or 20 `BadAddress`.
-fn read_addresses(alloc: Global, texts: &[&str]) -> Result<Vec<Address>, Fail>
-    ensures { Reads (seen_by (λ v. v.items) result)
+fn read_addresses<M: Memory>(memory: M, texts: &[&str]) -> Result<Vec<Address>, Fail>
+    ensures { ReadsIn M.refused (seen_by (λ v. v.items) result)
         (addresses_in (map_list (λ text. text.now) texts.now)) }
 {
-    let mut addresses = Vec::new(alloc);
+    let mut addresses = memory.none();
     for text in texts {
-        addresses.push(Address::parse(alloc, text)?)?;
+        memory.push(&mut addresses, Address::parse(memory, text)?)?;
     }
     Ok(addresses)
 }
 
 /// The values of a submission's members.
 #[tactic(auto, unfolding(crate::specs::Submissions::submission_of))]
-fn submission_from(alloc: Global, fields: &SubmissionTexts<'_>) -> Result<Submission, Fail>
-    ensures { Reads result (submission_of (texts_shown fields.now)) }
+fn submission_from<M: Memory>(memory: M, fields: &SubmissionTexts<'_>) -> Result<Submission, Fail>
+    ensures { ReadsIn M.refused result (submission_of (texts_shown fields.now)) }
 {
-    let spool = Spool::parse(alloc, fields.spool)?;
-    let sender = Sender::parse(alloc, fields.sender)?;
-    let recipients = read_addresses(alloc, fields.recipients.texts.as_slice())?;
+    let spool = Spool::parse(memory, fields.spool)?;
+    let sender = Sender::parse(memory, fields.sender)?;
+    let recipients = read_addresses(memory, fields.recipients.texts.as_slice())?;
     Ok(Submission {
         spool,
         sender,
@@ -102,10 +103,10 @@ fn submission_from(alloc: Global, fields: &SubmissionTexts<'_>) -> Result<Submis
 /// missing, unknown, of the wrong kind or out of range, then 23 and 20 for the values in the order
 /// spool, sender, recipients.
 #[tactic(auto, unfolding(crate::specs::Submissions::read_submission))]
-pub fn read_submission(alloc: Global, body: &[u8]) -> Result<Submission, Fail>
-    ensures { Reads result (read_submission body.now) }
+pub fn read_submission<M: JsonMemory>(memory: M, body: &[u8]) -> Result<Submission, Fail>
+    ensures { ReadsIn M.refused result (read_submission body.now) }
 {
-    let value = json_value(alloc, body)?;
-    let fields = fields_in(alloc, &value)?;
-    submission_from(alloc, &fields)
+    let value = json_value(memory, body)?;
+    let fields = fields_in(memory, &value)?;
+    submission_from(memory, &fields)
 }

@@ -1,45 +1,47 @@
 //! Histories told: a page, and what is found in one. Nothing is read or written here.
 
-ghost use Rattle.std.specs.Prelude.{◌≡◌, IfOk, filter};
+ghost use Rattle.std.specs.Prelude.{◌≡◌, filter};
+ghost use Rattle.hq_memory.specs.Making.{MadeIn};
 ghost use Rattle.hq_rules.specs.Histories as rules;
 
 use hq_access::{keys_of, keys_of_address};
 use hq_kept::{Class, End, Pattern};
+use hq_memory::Memory;
 use hq_rules::Answer;
 use hq_rules::decision::{Decision, PAGE, SEARCH, tell};
 use hq_values::Items;
-use std::alloc::{AllocError, Global};
+use std::alloc::AllocError;
 
 /// The first hundred of the ends, of which one more than that was asked for.
-pub fn history_page(alloc: Global, ends: Items<End>) -> Decision
+pub fn history_page<M: Memory>(memory: M, ends: Items<End>) -> Decision
     ensures { result ≡ rules.history_page ends }
 {
     let mut ends = ends.into_vec();
     let more = ends.len() > PAGE;
     ends.truncate(PAGE);
-    tell(alloc, Answer::HistoryListed(Items::from_vec(ends), more))
+    tell(memory, Answer::HistoryListed(Items::from_vec(ends), more))
 }
 
 /// Whether a line of this pattern could be found for the address of an end.
-fn is_meant(alloc: Global, pattern: &Pattern, end: &End) -> Result<bool, AllocError>
-    ensures { IfOk result (λ meant. meant ≡ rules.is_meant pattern.now end.now) }
+fn is_meant<M: Memory>(memory: M, pattern: &Pattern, end: &End) -> Result<bool, AllocError>
+    ensures { MadeIn M.refused result (λ meant. meant ≡ rules.is_meant pattern.now end.now) }
 {
     let keys = match pattern.class() {
-        Class::SenderSide => keys_of(alloc, &end.ended.sender)?,
-        Class::RecipientSide => keys_of_address(alloc, &end.ended.recipient)?,
+        Class::SenderSide => keys_of(memory, &end.ended.sender)?,
+        Class::RecipientSide => keys_of_address(memory, &end.ended.recipient)?,
     };
     Ok(pattern.is_among(keys.as_slice()))
 }
 
 /// Those of the ends that are meant.
-fn meant(alloc: Global, pattern: &Pattern, ends: Vec<End>) -> Result<Vec<End>, AllocError>
-    ensures { IfOk result (λ found. found.items
+fn meant<M: Memory>(memory: M, pattern: &Pattern, ends: Vec<End>) -> Result<Vec<End>, AllocError>
+    ensures { MadeIn M.refused result (λ found. found.items
         ≡ filter (rules.is_meant pattern.now) ends.items) }
 {
-    let mut found = Vec::new(alloc);
+    let mut found = memory.none();
     for end in ends {
-        if is_meant(alloc, pattern, &end)? {
-            found.push(end)?;
+        if is_meant(memory, pattern, &end)? {
+            memory.push(&mut found, end)?;
         }
     }
     Ok(found)
@@ -57,12 +59,12 @@ pub fn last_number(ends: &[End]) -> Option<u64>
 
 /// Of the first thousand of the ends those that are meant, the first hundred of them, and where the
 /// search goes on; one more than a thousand was asked for.
-pub fn find_history(
-    alloc: Global,
+pub fn find_history<M: Memory>(
+    memory: M,
     pattern: &Pattern,
     ends: Items<End>,
 ) -> Result<Decision, AllocError>
-    ensures { IfOk result (λ decision. decision ≡ rules.find_history pattern.now ends) }
+    ensures { MadeIn M.refused result (λ decision. decision ≡ rules.find_history pattern.now ends) }
 {
     let mut ends = ends.into_vec();
     let more = ends.len() > SEARCH;
@@ -72,7 +74,7 @@ pub fn find_history(
     } else {
         None
     };
-    let mut found = meant(alloc, pattern, ends)?;
+    let mut found = meant(memory, pattern, ends)?;
     let many = found.len() > PAGE;
     found.truncate(PAGE);
     let next = if many {
@@ -80,5 +82,5 @@ pub fn find_history(
     } else {
         behind
     };
-    Ok(tell(alloc, Answer::HistoryFound(Items::from_vec(found), next)))
+    Ok(tell(memory, Answer::HistoryFound(Items::from_vec(found), next)))
 }

@@ -2,7 +2,6 @@
 //! of the customer. Nothing is read or written here.
 #![tactic(auto)]
 
-pub mod distinct;
 pub mod histories;
 pub mod imports;
 pub mod lines;

@@ -1,34 +1,36 @@
 //! Notices that calls make: who gets one, under which number, and which of all are kept; and
 //! notices told. Nothing is read or written here.
 
-ghost use Rattle.std.specs.Prelude.{◌≡◌, ◌∷◌, ◌++◌, ◌+◌, ◌≤◌, ◌^◌, IfOk, OnErr, OnOk, length};
+ghost use Rattle.std.specs.Prelude.{◌≡◌, ◌∷◌, ◌++◌, ◌+◌, ◌≤◌, ◌^◌, OnErr, length};
 ghost use Rattle.std.specs.Prelude.{nat_lt};
+ghost use Rattle.hq_memory.specs.Making.{MadeIn};
 ghost use Rattle.hq_rules.specs.Admission.{spent};
 ghost use Rattle.hq_rules.specs.Notices as rules;
 ghost use Rattle.hq_tables.specs.declared.change.Change.TheVariants.{PutHead};
 
 use hq_kept::{Entry, Head, Kind, Message, Notice, Told};
+use hq_memory::Memory;
 use hq_rules::decision::{Decision, PAGE, refuse, tell};
 use hq_rules::histories::keep_history;
 use hq_rules::{Answer, Draft, Plan};
 use hq_tables::Change;
 use hq_text::{human_text, status_text};
 use hq_values::{Address, Host, Items, Moment, Refusal, Sender, TryCopy, WrittenText};
-use std::alloc::{AllocError, Global};
+use std::alloc::AllocError;
 
 /// The number that no notice has: it says that all numbers are spent.
 const SPENT: u64 = 1 << 40;
 
 /// Drafts a notice to the sender of a message that tells of these recipients: none to the null
 /// sender, and none of nobody. The only error is want of memory, and then nothing is drafted.
-pub fn draft_notice(
-    alloc: Global,
+pub fn draft_notice<M: Memory>(
+    memory: M,
     drafts: &mut Vec<Draft>,
     message: &Message,
     kind: Kind,
     told: Items<Told>,
 ) -> Result<(), AllocError>
-    ensures drafted { OnOk result (drafts.new.items
+    ensures drafted { MadeIn M.refused result (λ _. drafts.new.items
         ≡ drafts.old.items ++ rules.drafted message.now kind told) }
     ensures kept { OnErr result (drafts.new.items ≡ drafts.old.items) }
 {
@@ -36,25 +38,28 @@ pub fn draft_notice(
         return Ok(());
     }
     if let Sender::From(to) = &message.sender {
-        drafts.push(Draft {
-            message: message.copy(alloc)?,
-            to: to.copy(alloc)?,
-            kind,
-            told,
-        })?;
+        memory.push(
+            drafts,
+            Draft {
+                message: message.copy(memory)?,
+                to: to.copy(memory)?,
+                kind,
+                told,
+            },
+        )?;
     }
     Ok(())
 }
 
 /// Writes a notice under a number.
-fn notice(
-    alloc: Global,
+fn notice<M: Memory>(
+    memory: M,
     host: &Host,
     at: Moment,
     number: u64,
     draft: Draft,
 ) -> Result<Notice, AllocError>
-    ensures { IfOk result (λ notice. notice ≡ rules.noticed host.now at number draft) }
+    ensures { MadeIn M.refused result (λ notice. notice ≡ rules.noticed host.now at number draft) }
 {
     let Draft {
         message,
@@ -62,8 +67,8 @@ fn notice(
         kind,
         told,
     } = draft;
-    let human = human_text(alloc, host, &message, kind, told.as_slice())?;
-    let status = status_text(alloc, host, &message, kind, told.as_slice())?;
+    let human = human_text(memory, host, &message, kind, told.as_slice())?;
+    let status = status_text(memory, host, &message, kind, told.as_slice())?;
     Ok(Notice {
         number,
         kind,
@@ -76,8 +81,8 @@ fn notice(
 }
 
 /// Adds notices, under the numbers from `first` on.
-fn add_from(
-    alloc: Global,
+fn add_from<M: Memory>(
+    memory: M,
     changes: &mut Vec<Change>,
     host: &Host,
     at: Moment,
@@ -85,21 +90,21 @@ fn add_from(
     drafts: Vec<Draft>,
 ) -> Result<(), AllocError>
     requires { first + length drafts.items ≤ 2 ^ 40 }
-    ensures { OnOk result (changes.new.items
+    ensures { MadeIn M.refused result (λ _. changes.new.items
         ≡ changes.old.items ++ rules.added_from host.now at first drafts.items) }
 {
     let mut number = first;
     for draft in drafts {
-        let notice = notice(alloc, host, at, number, draft)?;
-        changes.push(Change::AddNotice(notice))?;
+        let notice = notice(memory, host, at, number, draft)?;
+        memory.push(changes, Change::AddNotice(notice))?;
         number += 1;
     }
     Ok(())
 }
 
 /// The changes of a plan with those that number and keep its notices.
-fn with_numbers(
-    alloc: Global,
+fn with_numbers<M: Memory>(
+    memory: M,
     host: &Host,
     quota: u64,
     at: Moment,
@@ -108,7 +113,7 @@ fn with_numbers(
     drafts: Items<Draft>,
 ) -> Result<Vec<Change>, AllocError>
     requires { head.next_notice + length drafts ≤ 2 ^ 40 }
-    ensures { IfOk result (λ all. all.items ≡ changes
+    ensures { MadeIn M.refused result (λ all. all.items ≡ changes
         ++ PutHead (rules.with_notices (length drafts) head)
         ∷ (rules.added_from host.now at head.next_notice drafts
         ++ rules.kept_below quota (head.next_notice + length drafts) drafts)) }
@@ -119,10 +124,10 @@ fn with_numbers(
     head.next_notice = first + count;
     let oldest = head.next_notice.saturating_sub(quota);
     let mut changes = changes.into_vec();
-    changes.push(Change::PutHead(head))?;
-    add_from(alloc, &mut changes, host, at, first, drafts.into_vec())?;
+    memory.push(&mut changes, Change::PutHead(head))?;
+    add_from(memory, &mut changes, host, at, first, drafts.into_vec())?;
     if count > 0 {
-        changes.push(Change::DropNoticesBelow(oldest))?;
+        memory.push(&mut changes, Change::DropNoticesBelow(oldest))?;
     }
     Ok(changes)
 }
@@ -137,18 +142,18 @@ fn is_spent(first: u64, count: u64) -> bool
 /// Carries a plan out: its notices get the next numbers, and where there are any, the newest are
 /// kept, as many as the customer's quota says. The recipients that left the queue go into its
 /// history. Where too few numbers are left it is 44 `NoticesSpent`, and nothing is changed.
-pub fn carry_out(
-    alloc: Global,
+pub fn carry_out<M: Memory>(
+    memory: M,
     host: &Host,
     entry: &Entry,
     at: Moment,
     plan: Plan,
 ) -> Result<Decision, AllocError>
-    ensures { IfOk result (λ decision. decision
+    ensures { MadeIn M.refused result (λ decision. decision
         ≡ rules.carried_out host.now entry.now at plan) }
 {
     if is_spent(plan.head.next_notice, plan.drafts.len() as u64) {
-        return Ok(refuse(alloc, Refusal::NoticesSpent));
+        return Ok(refuse(memory, Refusal::NoticesSpent));
     }
     let Plan {
         answer,
@@ -157,8 +162,8 @@ pub fn carry_out(
         drafts,
         ended,
     } = plan;
-    let mut changes = with_numbers(alloc, host, entry.quota.notices, at, changes, head, drafts)?;
-    keep_history(alloc, &mut changes, entry, at, &head, ended.as_slice())?;
+    let mut changes = with_numbers(memory, host, entry.quota.notices, at, changes, head, drafts)?;
+    keep_history(memory, &mut changes, entry, at, &head, ended.as_slice())?;
     Ok(Decision {
         answer,
         changes: Items::from_vec(changes),
@@ -166,21 +171,24 @@ pub fn carry_out(
 }
 
 /// Shows the notice that was found.
-pub fn show_notice(alloc: Global, found: Option<Notice>) -> Decision
+pub fn show_notice<M: Memory>(memory: M, found: Option<Notice>) -> Decision
     ensures { result ≡ rules.show_notice found }
 {
     match found {
-        None => refuse(alloc, Refusal::NoNotice),
-        Some(notice) => tell(alloc, Answer::NoticeShown(notice)),
+        None => refuse(memory, Refusal::NoNotice),
+        Some(notice) => tell(memory, Answer::NoticeShown(notice)),
     }
 }
 
 /// The first hundred of the notices, of which one more than that was asked for.
-pub fn notice_page(alloc: Global, notices: Items<Notice>) -> Decision
+pub fn notice_page<M: Memory>(memory: M, notices: Items<Notice>) -> Decision
     ensures { result ≡ rules.notice_page notices }
 {
     let mut notices = notices.into_vec();
     let more = notices.len() > PAGE;
     notices.truncate(PAGE);
-    tell(alloc, Answer::NoticesListed(Items::from_vec(notices), more))
+    tell(
+        memory,
+        Answer::NoticesListed(Items::from_vec(notices), more),
+    )
 }

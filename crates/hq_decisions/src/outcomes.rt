@@ -1,18 +1,20 @@
 //! What is answered and changed on the report of a delivery attempt, and which messages may be
 //! tried. Nothing is read or written here.
 
-ghost use Rattle.std.specs.Prelude.{◌≡◌, IfOk, Some, filter};
+ghost use Rattle.std.specs.Prelude.{◌≡◌, Some, filter};
+ghost use Rattle.hq_memory.specs.Making.{MadeIn};
 ghost use Rattle.hq_rules.specs.Moves.{is_due};
 ghost use Rattle.hq_rules.specs.Outcomes as rules;
 
 use crate::notices::{carry_out, draft_notice};
 use hq_kept::{Ended, Entry, Head, Kind, Message, Reported, Told};
+use hq_memory::Memory;
 use hq_queue::{due, report};
 use hq_rules::decision::{Decision, PAGE, refuse, tell};
 use hq_rules::{Answer, AttemptCounts, AttemptReport, Plan};
 use hq_tables::Change;
 use hq_values::{Fail, Host, Items, Moment};
-use std::alloc::{AllocError, Global};
+use std::alloc::AllocError;
 
 /// A message stays in the queue as long as somebody is left of it.
 fn put_or_drop(message: Message) -> Change
@@ -26,8 +28,8 @@ fn put_or_drop(message: Message) -> Change
 }
 
 /// What an attempt does where the message is this after it.
-fn attempted(
-    alloc: Global,
+fn attempted<M: Memory>(
+    memory: M,
     mut head: Head,
     message: Message,
     delivered: u64,
@@ -35,7 +37,7 @@ fn attempted(
     failed: Items<Told>,
     ended: Items<Ended>,
 ) -> Result<Plan, AllocError>
-    ensures { IfOk result (λ plan. plan
+    ensures { MadeIn M.refused result (λ plan. plan
         ≡ rules.attempted head message delivered deferred failed ended) }
 {
     let counts = AttemptCounts {
@@ -46,9 +48,9 @@ fn attempted(
     };
     head.tally.delivered = head.tally.delivered.saturating_add(counts.delivered);
     head.tally.failed = head.tally.failed.saturating_add(counts.failed);
-    let mut drafts = Vec::new(alloc);
-    draft_notice(alloc, &mut drafts, &message, Kind::Failure, failed)?;
-    let changes = vec![in alloc; put_or_drop(message)]?;
+    let mut drafts = memory.none();
+    draft_notice(memory, &mut drafts, &message, Kind::Failure, failed)?;
+    let changes = memory.one(put_or_drop(message))?;
     Ok(Plan {
         answer: Answer::Attempted(counts),
         changes: Items::from_vec(changes),
@@ -60,8 +62,8 @@ fn attempted(
 
 /// Takes the report of an attempt to deliver a message: the first refusal of `report`, then 44
 /// `NoticesSpent`; and a repeat changes nothing.
-pub fn take_report(
-    alloc: Global,
+pub fn take_report<M: Memory>(
+    memory: M,
     host: &Host,
     entry: &Entry,
     at: Moment,
@@ -69,14 +71,14 @@ pub fn take_report(
     mut message: Message,
     asked: &AttemptReport,
 ) -> Result<Decision, AllocError>
-    ensures { IfOk result (λ decision. decision
+    ensures { MadeIn M.refused result (λ decision. decision
         ≡ rules.outcome host.now entry.now at head asked.now (Some message)) }
 {
     let outcomes = asked.outcomes.as_slice();
-    match report(alloc, &mut message, at, asked.attempt, outcomes) {
-        Err(Fail::Refused(refusal)) => Ok(refuse(alloc, refusal)),
+    match report(memory, &mut message, at, asked.attempt, outcomes) {
+        Err(Fail::Refused(refusal)) => Ok(refuse(memory, refusal)),
         Err(Fail::Fault(_)) => Err(AllocError),
-        Ok(Reported::Repeat) => Ok(tell(alloc, Answer::AttemptRepeated(message.attempts))),
+        Ok(Reported::Repeat) => Ok(tell(memory, Answer::AttemptRepeated(message.attempts))),
         Ok(
             Reported::Done {
                 delivered,
@@ -85,8 +87,8 @@ pub fn take_report(
                 ended,
             },
         ) => {
-            let plan = attempted(alloc, head, message, delivered, deferred, failed, ended)?;
-            carry_out(alloc, host, entry, at, plan)
+            let plan = attempted(memory, head, message, delivered, deferred, failed, ended)?;
+            carry_out(memory, host, entry, at, plan)
         }
     }
 }
@@ -99,12 +101,12 @@ fn keep_due(messages: &mut Vec<Message>, at: Moment)
 }
 
 /// The first hundred of the messages that may be tried, of all these.
-pub fn due_page(alloc: Global, at: Moment, messages: Items<Message>) -> Decision
+pub fn due_page<M: Memory>(memory: M, at: Moment, messages: Items<Message>) -> Decision
     ensures { result ≡ rules.due_page (filter (is_due at) messages) }
 {
     let mut messages = messages.into_vec();
     keep_due(&mut messages, at);
     let more = messages.len() > PAGE;
     messages.truncate(PAGE);
-    tell(alloc, Answer::DueListed(Items::from_vec(messages), more))
+    tell(memory, Answer::DueListed(Items::from_vec(messages), more))
 }

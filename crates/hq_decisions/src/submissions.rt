@@ -1,14 +1,16 @@
 //! What is answered and changed by a submission, by what was read. Nothing is read or written here.
 
 ghost use Rattle.std.specs.Prelude.{◌≡◌, IfOk, None, map, option_map};
+ghost use Rattle.hq_memory.specs.Making.{MadeIn};
 ghost use Rattle.hq_rules.specs.Submissions as rules;
 
 use hq_kept::{Head, Message, Pending, QueueState};
+use hq_memory::Memory;
 use hq_rules::decision::{Decision, refuse, tell};
 use hq_rules::{Answer, Origin, Refused, Verdict};
 use hq_tables::Change;
 use hq_values::{Address, Items, Moment, Refusal, Serial, Text, TryCopy};
-use std::alloc::{AllocError, Global};
+use std::alloc::AllocError;
 
 /// What the verdict makes of a submission that it queues.
 #[derive(Drop)]
@@ -22,15 +24,15 @@ struct Intake {
 }
 
 /// Who gets it: the address of a redirect alone, or else all that are kept.
-fn receivers(
-    alloc: Global,
+fn receivers<M: Memory>(
+    memory: M,
     kept: Items<Address>,
     redirect: Option<Address>,
 ) -> Result<Items<Address>, AllocError>
-    ensures { IfOk result (λ receivers. receivers ≡ rules.receivers kept redirect) }
+    ensures { MadeIn M.refused result (λ receivers. receivers ≡ rules.receivers kept redirect) }
 {
     match redirect {
-        Some(address) => Ok(Items::from_vec(vec![in alloc; address]?)),
+        Some(address) => Ok(Items::from_vec(memory.one(address)?)),
         None => Ok(kept),
     }
 }
@@ -46,45 +48,49 @@ fn first_state(held: Option<&Text>) -> QueueState
 }
 
 /// For the reason of that action.
-fn first_reason(alloc: Global, held: Option<Text>) -> Text
+fn first_reason<M: Memory>(memory: M, held: Option<Text>) -> Text
     ensures { result ≡ rules.first_reason held }
 {
     match held {
         Some(reason) => reason,
-        None => Text::empty(alloc),
+        None => Text::empty(memory),
     }
 }
 
 /// The recipients of a new message.
-fn not_tried(alloc: Global, addresses: Vec<Address>) -> Result<Vec<Pending>, AllocError>
-    ensures { IfOk result (λ pending. pending.items ≡ map rules.not_tried addresses.items) }
+fn not_tried<M: Memory>(memory: M, addresses: Vec<Address>) -> Result<Vec<Pending>, AllocError>
+    ensures { MadeIn M.refused result (λ pending. pending.items
+        ≡ map rules.not_tried addresses.items) }
 {
-    let mut pending = Vec::with_capacity(alloc, addresses.len())?;
+    let mut pending = memory.room(addresses.len())?;
     for address in addresses {
-        pending.push(Pending {
-            address,
-            status: None,
-            text: Text::empty(alloc),
-        })?;
+        memory.push(
+            &mut pending,
+            Pending {
+                address,
+                status: None,
+                text: Text::empty(memory),
+            },
+        )?;
     }
     Ok(pending)
 }
 
 /// The message that a submission becomes.
-fn new_message(
-    alloc: Global,
+fn new_message<M: Memory>(
+    memory: M,
     serial: Serial,
     at: Moment,
     origin: Origin,
     receivers: Items<Address>,
     held: Option<Text>,
 ) -> Result<Message, AllocError>
-    ensures { IfOk result (λ message. message
+    ensures { MadeIn M.refused result (λ message. message
         ≡ rules.new_message serial at origin receivers held) }
 {
-    let pending = not_tried(alloc, receivers.into_vec())?;
+    let pending = not_tried(memory, receivers.into_vec())?;
     let state = first_state(held.as_ref());
-    let reason = first_reason(alloc, held);
+    let reason = first_reason(memory, held);
     Ok(Message {
         serial,
         sender: origin.sender,
@@ -101,20 +107,21 @@ fn new_message(
 }
 
 /// Takes a message into the queue.
-fn enqueue(
-    alloc: Global,
+fn enqueue<M: Memory>(
+    memory: M,
     mut head: Head,
     message: Message,
     refused: Items<Refused>,
 ) -> Result<Decision, AllocError>
     requires { message.serial ≡ head.next_serial }
-    ensures { IfOk result (λ decision. decision ≡ rules.enqueued head message refused) }
+    ensures { MadeIn M.refused result (λ decision. decision ≡ rules.enqueued head message refused) }
 {
     let recipients = message.pending.len() as u64;
     head.next_serial = message.serial.get() + 1;
     head.tally.accepted = head.tally.accepted.saturating_add(recipients);
-    let answer = Answer::Queued(message.copy(alloc)?, refused);
-    let changes = vec![in alloc; Change::PutHead(head), Change::PutMessage(message)]?;
+    let answer = Answer::Queued(message.copy(memory)?, refused);
+    let mut changes = memory.one(Change::PutHead(head))?;
+    memory.push(&mut changes, Change::PutMessage(message))?;
     Ok(Decision {
         answer,
         changes: Items::from_vec(changes),
@@ -122,8 +129,8 @@ fn enqueue(
 }
 
 /// Takes a submission in under its serial, or refuses it.
-fn admit(
-    alloc: Global,
+fn admit<M: Memory>(
+    memory: M,
     head: Head,
     at: Moment,
     origin: Origin,
@@ -131,27 +138,27 @@ fn admit(
     intake: Intake,
 ) -> Result<Decision, AllocError>
     requires { IfOk serial (λ serial. serial ≡ head.next_serial) }
-    ensures { IfOk result (λ decision. decision
+    ensures { MadeIn M.refused result (λ decision. decision
         ≡ rules.admit head at origin intake.receivers intake.held intake.refused serial) }
 {
     match serial {
-        Err(refusal) => Ok(refuse(alloc, refusal)),
+        Err(refusal) => Ok(refuse(memory, refusal)),
         Ok(serial) => {
             let Intake {
                 receivers,
                 held,
                 refused,
             } = intake;
-            let message = new_message(alloc, serial, at, origin, receivers, held)?;
-            enqueue(alloc, head, message, refused)
+            let message = new_message(memory, serial, at, origin, receivers, held)?;
+            enqueue(memory, head, message, refused)
         }
     }
 }
 
 /// Does with a submission of this origin what its verdict says: it is taken in under its serial, or
 /// not at all.
-pub fn settle(
-    alloc: Global,
+pub fn settle<M: Memory>(
+    memory: M,
     head: Head,
     at: Moment,
     origin: Origin,
@@ -159,11 +166,12 @@ pub fn settle(
     verdict: Verdict,
 ) -> Result<Decision, AllocError>
     requires { IfOk serial (λ serial. serial ≡ head.next_serial) }
-    ensures { IfOk result (λ decision. decision ≡ rules.settled head at origin serial verdict) }
+    ensures { MadeIn M.refused result
+        (λ decision. decision ≡ rules.settled head at origin serial verdict) }
 {
     match verdict {
-        Verdict::Rejected { refused } => Ok(tell(alloc, Answer::Rejected(refused))),
-        Verdict::Discarded { refused } => Ok(tell(alloc, Answer::Discarded(refused))),
+        Verdict::Rejected { refused } => Ok(tell(memory, Answer::Rejected(refused))),
+        Verdict::Discarded { refused } => Ok(tell(memory, Answer::Discarded(refused))),
         Verdict::Queue {
             kept,
             refused,
@@ -171,11 +179,11 @@ pub fn settle(
             held,
         } => {
             let intake = Intake {
-                receivers: receivers(alloc, kept, redirect)?,
+                receivers: receivers(memory, kept, redirect)?,
                 held,
                 refused,
             };
-            admit(alloc, head, at, origin, serial, intake)
+            admit(memory, head, at, origin, serial, intake)
         }
     }
 }

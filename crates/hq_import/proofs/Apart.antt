@@ -113,9 +113,9 @@ under_apart columns (row ∷ rows) earlier cs h read =
           further c (customers_push earlier c h new.0 new.1) g
 
 -- what was read of them
-pub read_apart : (columns : ℕ) (result : Result (Vec Customer Global) DirectoryFail)
-    (rows : List (List (List ℕ))) →
-    ReadsDirectory (seen_by (λ v. v.items) result) (customers_under columns [] rows) →
+pub read_apart : (refused : Type 0) (columns : ℕ)
+    (result : Result (Vec Customer Global) DirectoryFail) (rows : List (List (List ℕ))) →
+    ReadsDirectory refused (seen_by (λ v. v.items) result) (customers_under columns [] rows) →
     IfOk result (λ v. IsTrue (are_customers v.items))
-read_apart columns (Ok v) rows read = under_apart columns rows [] v.items refl read
-read_apart columns (Err e) rows read = tt
+read_apart refused columns (Ok v) rows read = under_apart columns rows [] v.items refl read
+read_apart refused columns (Err e) rows read = tt

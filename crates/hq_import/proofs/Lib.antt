@@ -3,7 +3,6 @@ pub mod Enough
 pub mod Headers
 pub mod Limits
 pub mod Patterns
-pub mod Reading
 pub mod Rows
 pub mod Seeing
 pub mod Texts

@@ -1,7 +1,7 @@
 -- The lines of an access table have patterns of their own.
 use Rattle.std.proofs.Common.{◌≡◌, ℕ, Bool, true, false, not, List, [], ◌∷◌, ◌++◌, Result, Ok, Err}
 use Rattle.std.proofs.Common.{IfOk, IsTrue, Vec, Global, refl, subst}
-use Rattle.hq_values.specs.Readers.{◌>>=◌, guard, Reads, seen_by}
+use Rattle.hq_values.specs.Readers.{◌>>=◌, guard, ReadsIn, seen_by}
 use Rattle.hq_values.specs.declared.failure.Fail.{Fail}
 use Rattle.hq_values.specs.declared.failure.Refusal.{Refusal}
 use Rattle.hq_kept.specs.declared.pattern.Class.{Class}
@@ -70,8 +70,9 @@ under_apart (row ∷ rows) earlier lines h read =
         (new_line earlier row line f)) g
 
 -- what was read of them
-pub read_apart : (result : Result (Vec Line Global) Fail) (rows : List (List (List ℕ))) →
-    Reads (seen_by (λ v. v.items) result) (lines_under [] rows) →
+pub read_apart : (refused : Type 0) (result : Result (Vec Line Global) Fail)
+    (rows : List (List (List ℕ))) → ReadsIn refused (seen_by (λ v. v.items) result) (lines_under []
+    rows) →
     IfOk result (λ v. IsTrue (patterns_apart v.items))
-read_apart (Ok v) rows read = under_apart rows [] v.items refl read
-read_apart (Err e) rows read = tt
+read_apart refused (Ok v) rows read = under_apart rows [] v.items refl read
+read_apart refused (Err e) rows read = tt

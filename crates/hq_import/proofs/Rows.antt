@@ -16,12 +16,13 @@ use Rattle.hq_import.specs.declared.refused.DirectoryFail.TheVariants.{Refused, 
 use Rattle.hq_import.specs.declared.refused.DirectoryRefusal.{DirectoryRefusal}
 
 -- where a part is refused, the whole is: for want of memory, or for the same
-pub fails_as : {A B : Type 0} (fail : DirectoryFail) (part : Result A DirectoryRefusal)
-    (whole : Result B DirectoryRefusal) → ReadsDirectory {A = A} (Err fail) part →
+pub fails_as : {A B : Type 0} (refused : Type 0) (fail : DirectoryFail) (part : Result A
+    DirectoryRefusal)
+    (whole : Result B DirectoryRefusal) → ReadsDirectory {A = A} refused (Err fail) part →
     ((refusal : DirectoryRefusal) → part ≡ Err refusal → whole ≡ Err refusal) →
-    ReadsDirectory {A = B} (Err fail) whole
-fails_as (Refused refusal) part whole fails then = then refusal fails
-fails_as (Fault fault) part whole fails then = fails
+    ReadsDirectory {A = B} refused (Err fail) whole
+fails_as refused (Refused refusal) part whole fails then = then refusal fails
+fails_as refused (Fault fault) part whole fails then = fails
 
 module _ (columns row : ℕ) (fields : Record) where
   pub other_count : (length fields == columns) ≡ false →

@@ -36,12 +36,12 @@ abbrev pub at_desk : {A : Type 0} → Result A DirectoryRefusal → Result A Ref
 at_desk (Ok value) = Ok value
 at_desk (Err refusal) = Err (desk_refusal refusal)
 
--- what was answered is what reading gives, unless memory ran out
-abbrev pub ReadsDirectory : {A : Type 0} → Result A DirectoryFail → Result A DirectoryRefusal →
-    Type 0
-ReadsDirectory (Ok value) reading = reading ≡ Ok value
-ReadsDirectory (Err (Refused refusal)) reading = reading ≡ Err refusal
-ReadsDirectory (Err (Fault fault)) reading = fault ≡ no_memory
+-- what was answered is what reading gives; or want of memory, for this reason alone
+abbrev pub ReadsDirectory : {A : Type 0} → Type 0 → Result A DirectoryFail →
+    Result A DirectoryRefusal → Type 0
+ReadsDirectory refused (Ok value) reading = reading ≡ Ok value
+ReadsDirectory refused (Err (Refused refusal)) reading = reading ≡ Err refusal
+ReadsDirectory refused (Err (Fault fault)) reading = (fault ≡ no_memory) × refused
 
 -- what is wrong, as it is told behind the row: the column, its limits, and no field
 abbrev pub wrong_shown : Wrong → List ℕ

@@ -1,9 +1,9 @@
 //! The directory as CSV.
 
 ghost use Rattle.std.specs.Prelude.{◌≡◌, ◌<◌, ◌≤◌, [], ◌∷◌, ◌++◌, length, IfOk, IsTrue, OnOk};
-ghost use Rattle.std.specs.Prelude.{map as map_list, Result, ⊤};
+ghost use Rattle.std.specs.Prelude.{map as map_list, Result};
 ghost use Rattle.csv.specs.Records.{fields_of};
-ghost use Rattle.hq_values.specs.Readers.{Reads, ReadsIn, seen_by};
+ghost use Rattle.hq_values.specs.Readers.{ReadsIn, seen_by};
 ghost use Rattle.hq_values.specs.declared.failure.Refusal.{Refusal as AnyRefusal};
 ghost use Rattle.hq_kept.specs.Customers.{are_customers};
 ghost use Rattle.hq_rules.specs.Fields.{refused_as};
@@ -20,13 +20,14 @@ ghost use Rattle.hq_import.specs.declared.columns.Number.TheVariants.{History};
 
 use crate::columns::{Column, Number};
 use crate::fields::{number_field, text_field};
-use crate::records::{FILE_BYTES, MOST_ROWS, first_records, is_header};
+use crate::records::{FILE_BYTES, is_header};
 use crate::refused::{DirectoryFail, DirectoryRefusal, Wrong};
 use crate::seen::Seen;
 use csv::ByteRecord;
 use hq_kept::{Customer, Entry, Quota};
+use hq_memory::Memory;
+use hq_rules::{CsvMemory, MOST_ROWS};
 use hq_values::{Fail, Key, Name};
-use std::alloc::Global;
 
 /// The fields of the header of a directory that keeps no history.
 const HEADER: [&str; 7] = [
@@ -46,12 +47,12 @@ fn wrong_at(row: u32, wrong: Wrong) -> DirectoryRefusal
 }
 
 /// A reading of a text, whose refusal is that of its column.
-fn refused_at<T: Drop>(
+fn refused_at<M: Memory, T: Drop>(
     refusal: DirectoryRefusal,
     reading: Result<T, Fail>,
 ) -> Result<T, DirectoryFail>
-    ensures { (read : Result T AnyRefusal) → ReadsIn ⊤ reading read
-        → ReadsDirectory result (refused_as refusal read) }
+    ensures { (read : Result T AnyRefusal) → ReadsIn M.refused reading read
+        → ReadsDirectory M.refused result (refused_as refusal read) }
 {
     match reading {
         Ok(value) => Ok(value),
@@ -62,22 +63,22 @@ fn refused_at<T: Drop>(
 
 /// The name of a row, in its first field.
 #[tactic(auto, unfolding(crate::specs::Directories::name_read))]
-fn name_read(alloc: Global, row: u32, record: &ByteRecord) -> Result<Name, DirectoryFail>
-    ensures { ReadsDirectory result (name_read row (fields_of record.now)) }
+fn name_read<M: Memory>(memory: M, row: u32, record: &ByteRecord) -> Result<Name, DirectoryFail>
+    ensures { ReadsDirectory M.refused result (name_read row (fields_of record.now)) }
 {
     let bad = wrong_at(row, Wrong::Field(Column::Name));
     let text = text_field(record, 0).ok_or(bad)?;
-    refused_at(bad, Name::parse(alloc, text))
+    refused_at::<M, _>(bad, Name::parse(memory, text))
 }
 
 /// The key of a row, in its second field.
 #[tactic(auto, unfolding(crate::specs::Directories::key_read))]
-fn key_read(alloc: Global, row: u32, record: &ByteRecord) -> Result<Key, DirectoryFail>
-    ensures { ReadsDirectory result (key_read row (fields_of record.now)) }
+fn key_read<M: Memory>(memory: M, row: u32, record: &ByteRecord) -> Result<Key, DirectoryFail>
+    ensures { ReadsDirectory M.refused result (key_read row (fields_of record.now)) }
 {
     let bad = wrong_at(row, Wrong::Field(Column::Key));
     let text = text_field(record, 1).ok_or(bad)?;
-    refused_at(bad, Key::parse(alloc, text))
+    refused_at::<M, _>(bad, Key::parse(memory, text))
 }
 
 /// The number of a row in a column, within its limits.
@@ -133,19 +134,19 @@ fn other_fields(columns: usize) -> Wrong
 }
 
 /// The customer of a row.
-fn customer_read(
-    alloc: Global,
+fn customer_read<M: Memory>(
+    memory: M,
     columns: usize,
     row: u32,
     record: &ByteRecord,
 ) -> Result<Customer, DirectoryFail>
-    ensures { ReadsDirectory result (customer_read columns row (fields_of record.now)) }
+    ensures { ReadsDirectory M.refused result (customer_read columns row (fields_of record.now)) }
 {
     if record.len() != columns {
         return Err(DirectoryFail::Refused(wrong_at(row, other_fields(columns))));
     }
-    let name = name_read(alloc, row, record)?;
-    let key = key_read(alloc, row, record)?;
+    let name = name_read(memory, row, record)?;
+    let key = key_read(memory, row, record)?;
     let quota = quota_read(row, record)?;
     let delay = number_read(row, record, Number::Delay)?;
     let history = history_read(row, record)?;
@@ -161,8 +162,8 @@ fn customer_read(
 /// The customer of the row under these customers, whose names and keys are noted; and notes its
 /// own.
 #[tactic(auto, unfolding(crate::specs::Directories::next_customer))]
-fn next_customer(
-    alloc: Global,
+fn next_customer<M: Memory>(
+    memory: M,
     columns: usize,
     earlier: &[Customer],
     names: &mut Seen,
@@ -172,7 +173,7 @@ fn next_customer(
     requires few { length earlier.now ≤ 1000 }
     requires names { KnowsNames names.old earlier.now }
     requires keys { KnowsKeys keys.old earlier.now }
-    ensures customer { ReadsDirectory result
+    ensures customer { ReadsDirectory M.refused result
         (next_customer columns earlier.now (fields_of record.now)) }
     ensures names { IfOk result (λ customer. KnowsNames names.new (earlier.now ++ customer ∷ [])) }
     ensures keys { IfOk result (λ customer. KnowsKeys keys.new (earlier.now ++ customer ∷ [])) }
@@ -182,11 +183,11 @@ fn next_customer(
     if earlier.len() >= MOST_ROWS {
         return Err(DirectoryFail::Refused(wrong_at(row, Wrong::TooMany)));
     }
-    let customer = customer_read(alloc, columns, row, record)?;
-    if !names.note(alloc, customer.entry.name.as_str())? {
+    let customer = customer_read(memory, columns, row, record)?;
+    if !names.note(memory, customer.entry.name.as_str())? {
         return Err(DirectoryFail::Refused(wrong_at(row, Wrong::DoubledName)));
     }
-    if !keys.note(alloc, customer.key.as_str())? {
+    if !keys.note(memory, customer.key.as_str())? {
         return Err(DirectoryFail::Refused(wrong_at(row, Wrong::DoubledKey)));
     }
     Ok(customer)
@@ -194,27 +195,27 @@ fn next_customer(
 
 /// The customers of the rows.
 #[tactic(auto, unfolding(crate::specs::Directories::customers_under))]
-fn customers_under(
-    alloc: Global,
+fn customers_under<M: Memory>(
+    memory: M,
     columns: usize,
     rows: &[ByteRecord],
 ) -> Result<Vec<Customer>, DirectoryFail>
-    ensures { ReadsDirectory (seen_by (λ v. v.items) result)
+    ensures { ReadsDirectory M.refused (seen_by (λ v. v.items) result)
         (customers_under columns [] (map_list fields_of rows.now)) }
 {
-    let mut names = Seen::new(alloc);
-    let mut keys = Seen::new(alloc);
-    let mut customers = Vec::new(alloc);
+    let mut names = Seen::new(memory);
+    let mut keys = Seen::new(memory);
+    let mut customers = memory.none();
     for row in rows {
         let customer = next_customer(
-            alloc,
+            memory,
             columns,
             customers.as_slice(),
             &mut names,
             &mut keys,
             row,
         )?;
-        customers.push(customer)?;
+        memory.push(&mut customers, customer)?;
     }
     Ok(customers)
 }
@@ -228,8 +229,11 @@ fn is_directory_header(header: &ByteRecord) -> bool
 
 /// The customers of the rows under a header.
 #[tactic(auto, unfolding(crate::specs::Directories::listed_customers))]
-fn customers_of(alloc: Global, records: &[ByteRecord]) -> Result<Vec<Customer>, DirectoryFail>
-    ensures customers { ReadsDirectory (seen_by (λ v. v.items) result)
+fn customers_of<M: Memory>(
+    memory: M,
+    records: &[ByteRecord],
+) -> Result<Vec<Customer>, DirectoryFail>
+    ensures customers { ReadsDirectory M.refused (seen_by (λ v. v.items) result)
         (listed_customers (map_list fields_of records.now)) }
     ensures apart { IfOk result (λ v. IsTrue (are_customers v.items)) }
 {
@@ -242,20 +246,21 @@ fn customers_of(alloc: Global, records: &[ByteRecord]) -> Result<Vec<Customer>, 
     if !is_directory_header(header) {
         return Err(DirectoryFail::Refused(wrong_at(0, Wrong::Header)));
     }
-    customers_under(alloc, header.len(), rows)
+    customers_under(memory, header.len(), rows)
 }
 
 /// The customers of a directory, from its first records.
 #[tactic(auto, unfolding(crate::specs::First::first_customers))]
-fn first_customers(alloc: Global, file: &[u8]) -> Result<Vec<Customer>, DirectoryFail>
-    ensures customers { ReadsDirectory (seen_by (λ v. v.items) result) (first_customers file.now) }
+fn first_customers<M: CsvMemory>(memory: M, file: &[u8]) -> Result<Vec<Customer>, DirectoryFail>
+    ensures customers { ReadsDirectory M.refused (seen_by
+        (λ v. v.items) result) (first_customers file.now) }
     ensures apart { IfOk result (λ v. IsTrue (are_customers v.items)) }
 {
     if file.len() > FILE_BYTES {
         return Err(DirectoryFail::Refused(wrong_at(0, Wrong::TooLong)));
     }
-    let records = first_records(alloc, file)?;
-    customers_of(alloc, records.as_slice())
+    let records = memory.first_records(file)?;
+    customers_of(memory, records.as_slice())
 }
 
 /// The customers of a directory, in the order of its rows, under the header
@@ -267,19 +272,20 @@ fn first_customers(alloc: Global, file: &[u8]) -> Result<Vec<Customer>, Director
 /// has it, and the first such column is told; its name, or else its key, is that of an earlier row.
 /// Row 0 is the header, the whole file, or a file without rows. The only other error is want of
 /// memory.
-pub fn read_directory(alloc: Global, file: &[u8]) -> Result<Vec<Customer>, DirectoryFail>
-    ensures customers { ReadsDirectory (seen_by (λ v. v.items) result) (directory_in file.now) }
+pub fn read_directory<M: CsvMemory>(memory: M, file: &[u8]) -> Result<Vec<Customer>, DirectoryFail>
+    ensures customers { ReadsDirectory M.refused (seen_by
+        (λ v. v.items) result) (directory_in file.now) }
     ensures apart { IfOk result (λ v. IsTrue (are_customers v.items)) }
 {
-    first_customers(alloc, file)
+    first_customers(memory, file)
 }
 
 /// The customers of a directory, as `read_directory` reads them. A refusal is that of the desk: 54
 /// `DoubledName`, 55 `DoubledKey`, or for all else 53 `BadDirectory`, each with its row. The only
 /// other error is want of memory.
-pub fn directory_of(alloc: Global, file: &[u8]) -> Result<Vec<Customer>, Fail>
-    ensures customers { Reads (seen_by (λ v. v.items) result) (customers_in file.now) }
+pub fn directory_of<M: CsvMemory>(memory: M, file: &[u8]) -> Result<Vec<Customer>, Fail>
+    ensures customers { ReadsIn M.refused (seen_by (λ v. v.items) result) (customers_in file.now) }
     ensures apart { IfOk result (λ v. IsTrue (are_customers v.items)) }
 {
-    Ok(read_directory(alloc, file)?)
+    Ok(read_directory(memory, file)?)
 }

@@ -1,12 +1,13 @@
 //! The fields of a row.
 
-ghost use Rattle.std.specs.Prelude.{◌≡◌, ⊤, ℕ, option_map, Result};
+ghost use Rattle.std.specs.Prelude.{◌≡◌, option_map, Result};
 ghost use Rattle.csv.specs.Records.{fields_of};
-ghost use Rattle.hq_values.specs.Readers.{Reads, ReadsIn};
+ghost use Rattle.hq_values.specs.Readers.{ReadsIn};
 ghost use Rattle.hq_values.specs.declared.failure.Refusal.{Refusal as AnyRefusal};
 ghost use Rattle.hq_rules.specs.Fields.{utf8_in, text_field, number_field, refused_as};
 
 use csv::ByteRecord;
+use hq_memory::Memory;
 use hq_values::{Fail, Refusal, read_number};
 
 /// The most digits of a number.
@@ -44,9 +45,12 @@ pub(crate) fn number_field(row: &ByteRecord, place: usize) -> Option<u64>
 }
 
 /// A reading, whose refusal is told as that of the row.
-pub(crate) fn refused_as<T: Drop>(bad: Refusal, reading: Result<T, Fail>) -> Result<T, Fail>
-    ensures { (read : Result T AnyRefusal) → ReadsIn ⊤ reading read
-        → Reads result (refused_as bad read) }
+pub(crate) fn refused_as<M: Memory, T: Drop>(
+    bad: Refusal,
+    reading: Result<T, Fail>,
+) -> Result<T, Fail>
+    ensures { (read : Result T AnyRefusal) → ReadsIn M.refused reading read
+        → ReadsIn M.refused result (refused_as bad read) }
 {
     match reading {
         Ok(value) => Ok(value),

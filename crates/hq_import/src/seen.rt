@@ -1,12 +1,14 @@
 //! Texts of the rows before, in an order that finds one of a thousand in ten steps.
 
-ghost use Rattle.std.specs.Prelude.{◌≡◌, ◌||◌, List, ℕ, IfOk, OnOk, not, false};
+ghost use Rattle.std.specs.Prelude.{◌≡◌, ◌||◌, List, ℕ, not, false};
+ghost use Rattle.hq_memory.specs.Making.{MadeIn};
 ghost use Rattle.hq_kept.specs.declared.pattern.Class.{Class as AnyClass};
 ghost use Rattle.hq_kept.specs.Customers.{is_same_text};
 ghost use Rattle.hq_import.specs.Seen.{has, has_pattern, is_same};
 
 use hq_kept::{Class, Pattern};
-use std::alloc::{AllocError, Global};
+use hq_memory::Memory;
+use std::alloc::AllocError;
 use std::collections::BTreeSet;
 
 /// Texts that were noted.
@@ -17,22 +19,23 @@ pub(crate) struct Seen {
 
 impl Seen {
     /// None yet.
-    pub(crate) fn new(alloc: Global) -> Seen
+    pub(crate) fn new<M: Memory>(memory: M) -> Seen
         ensures { (text : List ℕ) → has text result ≡ false }
     {
         Seen {
-            texts: BTreeSet::new(alloc),
+            texts: memory.no_values(),
         }
     }
 
     /// Notes a text, and tells whether it is new.
-    pub(crate) fn note(&mut self, alloc: Global, text: &str) -> Result<bool, AllocError>
-        ensures new { IfOk result (λ new. new ≡ not (has text.now self.old)) }
-        ensures noted { OnOk result ((other : List ℕ)
+    pub(crate) fn note<M: Memory>(&mut self, memory: M, text: &str) -> Result<bool, AllocError>
+        ensures new { MadeIn M.refused result (λ new. new ≡ not (has text.now self.old)) }
+        ensures noted { MadeIn M.refused result (λ _. (other : List ℕ)
             → has other self.new ≡ (has other self.old || is_same_text other text.now)) }
     {
-        let text = String::from_str(alloc, text)?;
-        Ok(self.texts.insert(text)?)
+        let text = memory.text(text)?;
+        let is_new = memory.insert(&mut self.texts, text)?;
+        Ok(is_new)
     }
 }
 
@@ -45,24 +48,30 @@ pub(crate) struct SeenPatterns {
 
 impl SeenPatterns {
     /// None yet.
-    pub(crate) fn new(alloc: Global) -> SeenPatterns
+    pub(crate) fn new<M: Memory>(memory: M) -> SeenPatterns
         ensures { (pattern : AnyClass × List ℕ) → has_pattern pattern result ≡ false }
     {
         SeenPatterns {
-            senders: Seen::new(alloc),
-            recipients: Seen::new(alloc),
+            senders: Seen::new(memory),
+            recipients: Seen::new(memory),
         }
     }
 
     /// Notes a pattern, and tells whether it is new.
-    pub(crate) fn note(&mut self, alloc: Global, pattern: &Pattern) -> Result<bool, AllocError>
-        ensures new { IfOk result (λ new. new ≡ not (has_pattern pattern.now self.old)) }
-        ensures noted { OnOk result ((other : AnyClass × List ℕ) → has_pattern other self.new
+    pub(crate) fn note<M: Memory>(
+        &mut self,
+        memory: M,
+        pattern: &Pattern,
+    ) -> Result<bool, AllocError>
+        ensures new { MadeIn M.refused result
+            (λ new. new ≡ not (has_pattern pattern.now self.old)) }
+        ensures noted { MadeIn M.refused result
+            (λ _. (other : AnyClass × List ℕ) → has_pattern other self.new
             ≡ (has_pattern other self.old || is_same other pattern.now)) }
     {
         match pattern.class() {
-            Class::SenderSide => self.senders.note(alloc, pattern.as_str()),
-            Class::RecipientSide => self.recipients.note(alloc, pattern.as_str()),
+            Class::SenderSide => self.senders.note(memory, pattern.as_str()),
+            Class::RecipientSide => self.recipients.note(memory, pattern.as_str()),
         }
     }
 }

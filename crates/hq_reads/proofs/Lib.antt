@@ -3,6 +3,8 @@ pub mod NoLines
 pub mod Paged
 pub mod Pages
 pub mod Reading
+pub mod SameAddresses
 pub mod ShelfLines
+pub mod SweepAnswers
 pub mod Then
 pub mod Whole

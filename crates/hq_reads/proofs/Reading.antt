@@ -76,9 +76,10 @@ keeps_on sight old mid new x result first next = record {
 }
 
 -- a call keeps no less where memory may be wanted too
-pub keeps_more : {S X : Type 0} (sight : Sight S) (old new : S) (result : Result X Fault) →
-    Keeps sight old new result → Keeps (with_memory sight) old new result
-keeps_more sight old new result kept = record {
+pub keeps_more : {S X : Type 0} (refused : Type 0) (sight : Sight S) (old new : S)
+    (result : Result X Fault) →
+    Keeps sight old new result → Keeps (with_memory refused sight) old new result
+keeps_more refused sight old new result kept = record {
   same = kept.same;
   ours = kept.ours;
   quiet = kept.quiet;
@@ -87,7 +88,7 @@ keeps_more sight old new result kept = record {
   stops = kept.stops;
 } where
   cause : {X : Type 0} (result : Result X Fault) → IfErr result sight.may_answer →
-      IfErr result (with_memory sight).may_answer
+      IfErr result (with_memory refused sight).may_answer
   cause (Ok x) may = tt
   cause (Err fault) may = inr may
 
@@ -103,15 +104,16 @@ keeps_all sight old x opened = record {
   stops = λ clean either. no_more sight old;
 }
 
--- where memory was wanted before anything was asked
-pub keeps_want : {S X : Type 0} (sight : Sight S) (old : S) → sight.is_closed old ≡ false →
-    Keeps {X = X} (with_memory sight) old old (Err no_memory)
-keeps_want sight old opened = record {
+-- where memory was refused before anything was asked
+pub keeps_want : {S X : Type 0} (refused : Type 0) (sight : Sight S) (old : S) → refused →
+    sight.is_closed old ≡ false →
+    Keeps {X = X} (with_memory refused sight) old old (Err no_memory)
+keeps_want refused sight old why opened = record {
   same = λ clean ours opened. refl;
   ours = λ clean ours opened. ours;
   quiet = λ clean. clean;
   tally = (opened, opened, refl);
-  cause = inl refl;
+  cause = inl (refl, why);
   stops = λ clean either. no_more sight old;
 }
 
@@ -152,15 +154,17 @@ keeps_ok sight old new x y kept = record {
 
 -- Lines `L` stand over a shelf, `IsOf` says whose they are, and asking for a key says what that
 -- reading call of the shelf says.
-module _ {S L : Type 0} (sight : Sight S) (shelf : L → S) (customer : List ℕ) (class : Class)
+module _ {S L : Type 0} (refused : Type 0) (sight : Sight S) (shelf : L → S) (customer : List ℕ)
+    (class : Class)
     (IsOf : L → Type 0) (gets : Gets L)
     (tells : (old new : L) (key : List ℕ) (answer : Result (Option Action) Fault) → IsOf old →
     gets old class key answer new
     → IsOf new × Keeps sight (shelf old) (shelf new) answer
     × Finds sight (shelf old) (shelf new) answer customer (λ rows. rows.line class key)) where
   abbrev pub Looked : List (List ℕ) → L → Result Found Fault → L → Type 0
-  Looked keys old result new = IsOf new × Keeps (with_memory sight) (shelf old) (shelf new) result
-      × Finds (with_memory sight) (shelf old) (shelf new) result customer
+  Looked keys old result new = IsOf new × Keeps (with_memory refused sight) (shelf old) (shelf new)
+      result
+      × Finds (with_memory refused sight) (shelf old) (shelf new) result customer
       (λ rows. first_match (rows.line class) keys)
 
   looked_same : (keys : List (List ℕ)) (old : L) (result told : Result Found Fault) (mid new : L) →
@@ -175,7 +179,7 @@ module _ {S L : Type 0} (sight : Sight S) (shelf : L → S) (customer : List ℕ
   asked [] old result new asks of opened =
       looked_same [] old result (Ok None) old new asks.0 asks.1 (
         of,
-        keeps_all (with_memory sight) (shelf old) None opened,
+        keeps_all (with_memory refused sight) (shelf old) None opened,
         λ clean ours. refl,
       )
   asked (key ∷ keys) old result new asks of opened =
@@ -190,8 +194,8 @@ module _ {S L : Type 0} (sight : Sight S) (shelf : L → S) (customer : List ℕ
             let told = tells old mid key (Err f) of got in
             looked_same (key ∷ keys) old result (Err f) mid new goes.0 goes.1 (
               told.0,
-              keeps_err (with_memory sight) (shelf old) (shelf mid) f
-                  (keeps_more sight (shelf old) (shelf mid) (Err f) told.1),
+              keeps_err (with_memory refused sight) (shelf old) (shelf mid) f
+                  (keeps_more refused sight (shelf old) (shelf mid) (Err f) told.1),
               λ clean ours. tt,
             )
         by (Ok (Some action)) mid got goes further =
@@ -199,21 +203,23 @@ module _ {S L : Type 0} (sight : Sight S) (shelf : L → S) (customer : List ℕ
             let line = λ (t : S). (read_tables customer (sight.tables t)).line class in
             looked_same (key ∷ keys) old result (Ok (Some (key, action))) mid new goes.0 goes.1 (
               told.0,
-              keeps_ok (with_memory sight) (shelf old) (shelf mid) (Some action)
-                  (Some (key, action)) (keeps_more sight (shelf old) (shelf mid) (Ok (Some action))
+              keeps_ok (with_memory refused sight) (shelf old) (shelf mid) (Some action)
+                  (Some (key, action)) (keeps_more refused sight (shelf old) (shelf mid) (Ok (Some
+                  action))
                   told.1),
               λ clean ours. ap (λ found. or_next key found
                   (first_match (line (shelf old)) keys)) (told.2 clean ours),
             )
         by (Ok None) mid got goes further =
             let told = tells old mid key (Ok None) of got in
-            let kept = keeps_more sight (shelf old) (shelf mid) (Ok None) told.1 in
+            let kept = keeps_more refused sight (shelf old) (shelf mid) (Ok None) told.1 in
             let rest = further mid goes told.0 kept.tally.1 in
             let line = λ (t : S). (read_tables customer (sight.tables t)).line class in
-            let next = finds_on (with_memory sight) (shelf old) (shelf mid) (shelf new) None result
+            let next = finds_on (with_memory refused sight) (shelf old) (shelf mid) (shelf new)
+            None result
             customer (λ rows. first_match (rows.line class) keys) kept rest.1 rest.2 in (
               rest.0,
-              keeps_on (with_memory sight) (shelf old) (shelf mid) (shelf new) None result
+              keeps_on (with_memory refused sight) (shelf old) (shelf mid) (shelf new) None result
                   kept rest.1,
               λ clean ours. subst (λ (f : Found). IfOk result (λ found. found ≡ f))
                   (ap (λ found. or_next key found (first_match (line (shelf old)) keys))
@@ -222,24 +228,27 @@ module _ {S L : Type 0} (sight : Sight S) (shelf : L → S) (customer : List ℕ
 
   -- a whole lookup keeps and finds
   pub looked : (keys : List (List ℕ)) (old : L) (result : Result Found Fault) (new : L) →
-      Looks ⊤ gets class keys old result new → IsOf old → sight.is_closed (shelf old) ≡ false →
+      Looks refused gets class keys old result new → IsOf old → sight.is_closed (shelf old) ≡ false
+      →
       Looked keys old result new
   looked keys old result new (inl want) of opened =
       looked_same keys old result (Err no_memory) old new want.0 want.2 (
         of,
-        keeps_want sight (shelf old) opened,
+        keeps_want refused sight (shelf old) want.1 opened,
         λ clean ours. tt,
       )
   looked keys old result new (inr asks) of opened = asked keys old result new asks of opened
 
 -- ---- then a change
 
--- what reading calls and a change that ended in a fault keep together
-pub changes_on : {S X Y Z : Type 0} (sight : Sight S) (old mid new : S) (x : X) (f : Fault)
-    (result : Result Z Fault) → result ≡ Err f → Keeps (with_memory sight) old mid (Ok x) →
-    KeepsOnErr {X = Y} sight mid new (Err f) → KeepsOnErr (with_memory sight) old new result
-changes_on {S} {X} {Y} {Z} sight old mid new x f result is first next =
-    subst (λ (r : Result Z Fault). KeepsOnErr (with_memory sight) old new r) (sym is) (record {
+-- what reading calls and a change that ended in a fault keep together; want of memory may have a
+-- wider reason then
+pub changes_on : {S X Y Z : Type 0} (refused wide : Type 0) (sight : Sight S) (old mid new : S)
+    (x : X) (f : Fault) (result : Result Z Fault) → result ≡ Err f →
+    Keeps (with_memory refused sight) old mid (Ok x) → KeepsOnErr {X = Y} sight mid new (Err f) →
+    KeepsOnErr (with_memory wide sight) old new result
+changes_on {S} {X} {Y} {Z} refused wide sight old mid new x f result is first next =
+    subst (λ (r : Result Z Fault). KeepsOnErr (with_memory wide sight) old new r) (sym is) (record {
       none = λ clean ours opened. let before = next.quiet clean in
           next.none clean (first.ours before ours first.tally.1) opened
           ∙ first.same before ours first.tally.1;
@@ -259,19 +268,20 @@ changes_on {S} {X} {Y} {Z} sight old mid new x f result is first next =
       shut = λ clean closed. apart (sight.is_closed old) first.tally.0 closed;
     })
 
--- ---- then want of memory
+-- ---- then a refusal of memory
 
--- what reading calls keep before memory runs out
-pub no_memory_on : {S X Z : Type 0} (sight : Sight S) (old new : S) (x : X)
-    (result : Result Z Fault) → result ≡ Err no_memory → Keeps (with_memory sight) old new (Ok x) →
-    KeepsOnErr (with_memory sight) old new result
-no_memory_on {S} {X} {Z} sight old new x result is first =
-    subst (λ (r : Result Z Fault). KeepsOnErr (with_memory sight) old new r) (sym is) (record {
+-- what reading calls keep before memory is refused
+pub no_memory_on : {S X Z : Type 0} (refused wide : Type 0) (sight : Sight S) (old new : S) (x : X)
+    (result : Result Z Fault) → wide → result ≡ Err no_memory →
+    Keeps (with_memory refused sight) old new (Ok x) →
+    KeepsOnErr (with_memory wide sight) old new result
+no_memory_on {S} {X} {Z} refused wide sight old new x result why is first =
+    subst (λ (r : Result Z Fault). KeepsOnErr (with_memory wide sight) old new r) (sym is) (record {
       none = first.same;
       ours = first.ours;
       quiet = first.quiet;
       tally = first.tally;
-      cause = inl refl;
+      cause = inl (refl, why);
       rests = λ clean ours opened. rests_on sight old new (first.stops clean (inl ours))
           (first.same clean ours opened);
       shut = λ clean closed. first.stops clean (inr closed);

@@ -1,5 +1,4 @@
 -- A whole lookup among one customer's lines on a shelf.
-use Rattle.std.specs.Prelude.{⊤}
 use Rattle.std.proofs.Common.{◌≡◌, ℕ, false, List, Result, refl, ap, ◌∙◌, subst}
 use Rattle.hq_values.specs.declared.failure.Fault.{Fault}
 use Rattle.hq_rules.specs.Lookups.{Found, Looks, first_match}
@@ -10,16 +9,18 @@ use Rattle.hq_reads.specs.ShelfLines.{asks_shelf}
 use Rattle.hq_reads.specs.declared.customer_lines.CustomerLines.{CustomerLines}
 use Rattle.hq_reads.proofs.Reading.{looked}
 
-pub shelf_looked : {S : Type 0} (sight : Sight S) (class : Class) (keys : List (List ℕ))
+pub shelf_looked : {S : Type 0} (refused : Type 0) (sight : Sight S) (class : Class) (keys : List
+    (List ℕ))
     (old : CustomerLines S) (result : Result Found Fault) (new : CustomerLines S) →
-    Looks ⊤ (asks_shelf sight) class keys old result new → sight.is_closed old.shelf.now ≡ false
+    Looks refused (asks_shelf sight) class keys old result new → sight.is_closed old.shelf.now ≡
+    false
     → (new.shelf.ghost_name ≡ old.shelf.ghost_name)
-    × Keeps (with_memory sight) old.shelf.now new.shelf.now result
+    × Keeps (with_memory refused sight) old.shelf.now new.shelf.now result
     × Finds sight old.shelf.now new.shelf.now result old.customer.now
     (λ rows. first_match (rows.line class) keys)
-shelf_looked sight class keys old result new looks opened =
+shelf_looked refused sight class keys old result new looks opened =
     let name = old.customer.now in
-    let this = looked sight (λ lines. lines.shelf.now) name class
+    let this = looked refused sight (λ lines. lines.shelf.now) name class
     (λ lines. (lines.shelf.ghost_name ≡ old.shelf.ghost_name) × (lines.customer.now ≡ name))
     (asks_shelf sight)
     (λ from to key answer of got. (

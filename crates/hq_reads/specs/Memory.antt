@@ -4,9 +4,8 @@ use Rattle.std.specs.Prelude.{◌≡◌, ◌⊎◌}
 use Rattle.hq_values.specs.Refusals.{no_memory}
 use Rattle.hq_tables.specs.Shelves.{Sight}
 
--- what is seen of a shelf, by a call that may want memory whichever the shelf
-abbrev pub with_memory : {S : Type 0} → Sight S → Sight S
-with_memory sight = record sight {
-  may_answer = λ fault. (fault ≡ no_memory)
-      ⊎ sight.may_answer fault;
+-- what is seen of a shelf, by a call whose memory may refuse, whichever the shelf
+abbrev pub with_memory : {S : Type 0} → Type 0 → Sight S → Sight S
+with_memory refused sight = record sight {
+  may_answer = λ fault. ((fault ≡ no_memory) × refused) ⊎ sight.may_answer fault;
 }

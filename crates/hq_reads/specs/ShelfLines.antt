@@ -25,6 +25,6 @@ abbrev pub FindsOpen : {S X : Type 0} → Sight S → S → S → Result X Fault
 FindsOpen sight old new result customer wanted = sight.is_closed old ≡ false →
     Finds sight old new result customer wanted
 
-abbrev pub KeepsOpen : {S X : Type 0} → Sight S → S → S → Result X Fault → Type 0
-KeepsOpen sight old new result = sight.is_closed old ≡ false →
-    Keeps (with_memory sight) old new result
+abbrev pub KeepsOpen : {S X : Type 0} → Type 0 → Sight S → S → S → Result X Fault → Type 0
+KeepsOpen refused sight old new result = sight.is_closed old ≡ false →
+    Keeps (with_memory refused sight) old new result

@@ -1,16 +1,16 @@
 //! One customer's lines on a shelf, as lookups ask for them; and what is found for addresses. The
 //! shelf is open before each of these calls, since memory may be wanted before it is asked.
 
-ghost use Rattle.std.specs.Prelude.{◌≡◌, map};
+ghost use Rattle.std.specs.Prelude.{map};
 ghost use Rattle.hq_rules.specs.AccessLines as rules;
 ghost use Rattle.hq_reads.specs.ShelfLines.{FindsOpen, KeepsOpen, asks_shelf};
 ghost use Rattle.hq_rules.specs.Submissions.{with_action};
 
 use hq_access::{Lines, lookup};
 use hq_kept::{Action, Class, LookupKey};
+use hq_memory::Memory;
 use hq_tables::Shelf;
 use hq_values::{Address, Fault, Items, Name, Sender, TryCopy};
-use std::alloc::Global;
 
 /// The lines of one customer.
 #[derive(Drop)]
@@ -29,19 +29,19 @@ impl<S: Shelf> Lines for CustomerLines<'_, S> {
 
 /// What is found for a sender or a recipient. Its keys are looked up one at a time, and none after
 /// the first that has a line.
-pub(crate) fn look_up<S: Shelf>(
+pub(crate) fn look_up<S: Shelf, M: Memory>(
     shelf: &mut S,
-    alloc: Global,
+    memory: M,
     customer: &Name,
     class: Class,
     who: &Sender,
 ) -> Result<Option<(LookupKey, Action)>, Fault>
     ensures found { FindsOpen S.sight shelf.old shelf.new result customer.now
         (λ rows. rules.found_for rows class who.now) }
-    ensures kept { KeepsOpen S.sight shelf.old shelf.new result }
+    ensures kept { KeepsOpen M.refused S.sight shelf.old shelf.new result }
 {
     let mut lines = CustomerLines { shelf, customer };
-    let found = lookup(alloc, &mut lines, class, who);
+    let found = lookup(memory, &mut lines, class, who);
     let CustomerLines { shelf, .. } = lines;
     // No effect at run time. The proof reads what the shelf became from this use of it.
     let _ = &*shelf;
@@ -49,51 +49,51 @@ pub(crate) fn look_up<S: Shelf>(
 }
 
 /// The action that is found for a sender or a recipient.
-pub(crate) fn action_for<S: Shelf>(
+pub(crate) fn action_for<S: Shelf, M: Memory>(
     shelf: &mut S,
-    alloc: Global,
+    memory: M,
     customer: &Name,
     class: Class,
     who: &Sender,
 ) -> Result<Option<Action>, Fault>
     ensures found { FindsOpen S.sight shelf.old shelf.new result customer.now
         (λ rows. rules.action_for rows class who.now) }
-    ensures kept { KeepsOpen S.sight shelf.old shelf.new result }
+    ensures kept { KeepsOpen M.refused S.sight shelf.old shelf.new result }
 {
-    let found = look_up(shelf, alloc, customer, class, who)?;
+    let found = look_up(shelf, memory, customer, class, who)?;
     Ok(found.map(|(_, action)| action))
 }
 
 /// A recipient with the action that is found for it.
-fn with_action<S: Shelf>(
+fn with_action<S: Shelf, M: Memory>(
     shelf: &mut S,
-    alloc: Global,
+    memory: M,
     customer: &Name,
     recipient: Address,
 ) -> Result<(Address, Option<Action>), Fault>
     ensures found { FindsOpen S.sight shelf.old shelf.new result customer.now
         (λ rows. with_action rows recipient) }
-    ensures kept { KeepsOpen S.sight shelf.old shelf.new result }
+    ensures kept { KeepsOpen M.refused S.sight shelf.old shelf.new result }
 {
-    let who = Sender::From(recipient.copy(alloc)?);
-    let action = action_for(shelf, alloc, customer, Class::RecipientSide, &who)?;
+    let who = Sender::From(recipient.copy(memory)?);
+    let action = action_for(shelf, memory, customer, Class::RecipientSide, &who)?;
     Ok((recipient, action))
 }
 
 /// The recipients, each with the action that is found for it.
-pub(crate) fn with_actions<S: Shelf>(
+pub(crate) fn with_actions<S: Shelf, M: Memory>(
     shelf: &mut S,
-    alloc: Global,
+    memory: M,
     customer: &Name,
     recipients: Vec<Address>,
 ) -> Result<Items<(Address, Option<Action>)>, Fault>
     ensures found { FindsOpen S.sight shelf.old shelf.new result customer.now
         (λ rows. map (with_action rows) recipients.items) }
-    ensures kept { KeepsOpen S.sight shelf.old shelf.new result }
+    ensures kept { KeepsOpen M.refused S.sight shelf.old shelf.new result }
 {
-    let mut found = Vec::with_capacity(alloc, recipients.len())?;
+    let mut found = memory.room(recipients.len())?;
     for recipient in recipients {
-        found.push(with_action(shelf, alloc, customer, recipient)?)?;
+        memory.push(&mut found, with_action(shelf, memory, customer, recipient)?)?;
     }
     Ok(Items::from_vec(found))
 }

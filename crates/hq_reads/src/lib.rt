@@ -4,6 +4,7 @@
 
 mod customer_lines;
 mod deciding;
+mod distinct;
 mod histories;
 mod imports;
 mod lists;

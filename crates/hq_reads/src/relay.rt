@@ -1,7 +1,9 @@
 //! What the calls of relay workers on a customer's queue read through a shelf: the report of an
 //! attempt, what may be tried, and a sweep.
 
-ghost use Rattle.std.specs.Prelude.{◌≡◌, filter};
+ghost use Rattle.std.specs.Prelude.{IfOk, filter};
+ghost use Rattle.hq_rules.specs.Desks.{IsAnswerTo};
+ghost use Rattle.hq_rules.specs.declared.call.Call.TheVariants.{Sweep as SweepCall};
 ghost use Rattle.hq_rules.specs.Moves.{is_due};
 ghost use Rattle.hq_tables.specs.Readings.{after_serial};
 ghost use Rattle.hq_tables.specs.Shelves.{Finds, FindsSound, Keeps};
@@ -12,20 +14,20 @@ ghost use Rattle.hq_reads.specs.Memory.{with_memory};
 use hq_decisions::outcomes::{due_page, take_report};
 use hq_decisions::sweeps::sweep;
 use hq_kept::Entry;
+use hq_memory::Memory;
 use hq_rules::AttemptReport;
 use hq_rules::decision::{Decision, refuse};
 use hq_tables::Shelf;
 use hq_values::{Fault, Host, Moment, Refusal, Serial};
-use std::alloc::Global;
 
 /// The most messages that a customer can have.
 pub(crate) const MOST_MESSAGES: usize = 1000;
 
 /// The answer to the report of an attempt, and its changes.
-pub(crate) fn decide_outcome<S: Shelf>(
+pub(crate) fn decide_outcome<S: Shelf, M: Memory>(
     shelf: &mut S,
     host: &Host,
-    alloc: Global,
+    memory: M,
     at: Moment,
     entry: &Entry,
     report: &AttemptReport,
@@ -33,46 +35,47 @@ pub(crate) fn decide_outcome<S: Shelf>(
     ensures found { Finds S.sight shelf.old shelf.new result entry.now.name
         (λ rows. outcomes.outcome host.now entry.now at rows.head report.now
         (rows.message report.now.serial)) }
-    ensures kept { Keeps (with_memory S.sight) shelf.old shelf.new result }
+    ensures kept { Keeps (with_memory M.refused S.sight) shelf.old shelf.new result }
 {
     let Some(message) = shelf.message(&entry.name, report.serial)? else {
-        return Ok(refuse(alloc, Refusal::NoMessage));
+        return Ok(refuse(memory, Refusal::NoMessage));
     };
     let account = shelf.account(&entry.name)?;
-    let decision = take_report(alloc, host, entry, at, account.head, message, report)?;
+    let decision = take_report(memory, host, entry, at, account.head, message, report)?;
     Ok(decision)
 }
 
 /// The answer to the question which messages may be tried.
-pub(crate) fn decide_due<S: Shelf>(
+pub(crate) fn decide_due<S: Shelf, M: Memory>(
     shelf: &mut S,
-    alloc: Global,
+    memory: M,
     at: Moment,
     entry: &Entry,
     after: Option<Serial>,
 ) -> Result<Decision, Fault>
     ensures found { FindsSound S.sight shelf.old shelf.new result entry.now.name
         (λ rows. outcomes.due_page (filter (is_due at) (after_serial after rows.messages))) }
-    ensures kept { Keeps (with_memory S.sight) shelf.old shelf.new result }
+    ensures kept { Keeps (with_memory M.refused S.sight) shelf.old shelf.new result }
 {
     let messages = shelf.messages(&entry.name, after, MOST_MESSAGES)?;
-    Ok(due_page(alloc, at, messages))
+    Ok(due_page(memory, at, messages))
 }
 
 /// The answer to a sweep, and its changes.
-pub(crate) fn decide_sweep<S: Shelf>(
+pub(crate) fn decide_sweep<S: Shelf, M: Memory>(
     shelf: &mut S,
     host: &Host,
-    alloc: Global,
+    memory: M,
     at: Moment,
     entry: &Entry,
 ) -> Result<Decision, Fault>
     ensures found { FindsSound S.sight shelf.old shelf.new result entry.now.name
         (λ rows. sweeps.sweep host.now entry.now at rows.head rows.messages) }
-    ensures kept { Keeps (with_memory S.sight) shelf.old shelf.new result }
+    ensures kind { IfOk result (λ decision. IsAnswerTo SweepCall decision.answer) }
+    ensures kept { Keeps (with_memory M.refused S.sight) shelf.old shelf.new result }
 {
     let messages = shelf.messages(&entry.name, None, MOST_MESSAGES)?;
     let account = shelf.account(&entry.name)?;
-    let decision = sweep(alloc, host, entry, at, account.head, messages)?;
+    let decision = sweep(memory, host, entry, at, account.head, messages)?;
     Ok(decision)
 }

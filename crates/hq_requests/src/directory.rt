@@ -1,6 +1,7 @@
 //! The directory: the relay's key, the customers with their keys, and whom an exchange is for.
 
-ghost use Rattle.std.specs.Prelude.{◌≡◌, ◌⊎◌, IsTrue, IfOk, MatchResult, option_map, true, false};
+ghost use Rattle.std.specs.Prelude.{◌≡◌, ◌⊎◌, ◌≤◌, ◌^◌, IsTrue, IfOk, MatchResult, option_map};
+ghost use Rattle.std.specs.Prelude.{length, true, false};
 ghost use Rattle.std.specs.List.{find, list_any};
 ghost use Rattle.hq_values.specs.Refusals.{no_memory_fail, refused};
 ghost use Rattle.hq_requests.specs.Customers.{are_customers, names_apart, keys_apart, has_key};
@@ -76,6 +77,10 @@ pub fn are_customers(customers: &[Customer]) -> bool
     names_apart(customers) && keys_apart(customers)
 }
 
+/// As many customers as no memory holds. So the room for a reply that tells of each of them is a
+/// number that memory can be asked for.
+const MOST_CUSTOMERS: usize = 1 << 54;
+
 /// The relay's key, the customers, and the routes of the desk. It does not change while a desk is
 /// open.
 #[derive(Drop)]
@@ -84,6 +89,7 @@ pub struct Directory {
     customers: Items<Customer>,
     routes: Routes,
     ghost apart: { IsTrue (are_customers customers) },
+    ghost few: { length customers ≤ 2 ^ 54 },
 }
 
 impl Directory {
@@ -106,6 +112,9 @@ impl Directory {
     {
         if is_taken(customers.as_slice(), relay.as_str()) {
             return Err(Fail::Refused(Refusal::BadRelayKey));
+        }
+        if customers.len() > MOST_CUSTOMERS {
+            return Err(Fail::Fault(Fault::WantOfMemory));
         }
         let Ok(routes) = Routes::new(alloc) else {
             return Err(Fail::Fault(Fault::WantOfMemory));

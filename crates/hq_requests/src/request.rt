@@ -1,8 +1,7 @@
 //! From an exchange to a call: the path, the method, the key, the parameter and the body.
 
 ghost use Rattle.std.specs.Prelude.{◌≡◌, IfOk, option_map, string_bytes};
-ghost use Rattle.hq_values.specs.Readers.{Reads, seen_by, or_refuse};
-ghost use Rattle.hq_values.specs.Serials.{serial_in};
+ghost use Rattle.hq_values.specs.Readers.{ReadsIn, seen_by};
 ghost use Rattle.hq_values.specs.declared.failure.Refusal.TheVariants.{BadField};
 ghost use Rattle.hq_rules.specs.Each.{each_call};
 ghost use Rattle.hq_requests.specs.Routes.{last_segment};
@@ -13,14 +12,13 @@ use crate::exchanges::Exchange;
 use crate::number::notice_number;
 use crate::{Role, Route, last_segment};
 use hq_bodies::{
-    read_check, read_find, read_history_before, read_import, read_line, read_message_after,
-    read_message_id, read_notice_after, read_notice_number, read_pattern, read_report, read_search,
-    read_submission,
+    JsonMemory, read_check, read_find, read_history_before, read_import, read_line,
+    read_message_after, read_message_id, read_notice_after, read_notice_number, read_pattern,
+    read_report, read_search, read_submission,
 };
 use hq_kept::Entry;
 use hq_rules::{Call, EachCall};
 use hq_values::{Fail, Refusal, Serial};
-use std::alloc::Global;
 
 /// The most bytes of a body.
 const BODY_BYTES: usize = 262_144;
@@ -50,8 +48,13 @@ fn number_of(segment: &str) -> Result<u64, Refusal>
 
 /// What a route asks, of its parameter or its body.
 #[tactic(auto, unfolding(crate::specs::Calls::asked_of))]
-fn asked_of(alloc: Global, route: Route, segment: &str, body: &[u8]) -> Result<Call, Fail>
-    ensures { Reads result (calls.asked_of route segment.now body.now) }
+fn asked_of<M: JsonMemory>(
+    memory: M,
+    route: Route,
+    segment: &str,
+    body: &[u8],
+) -> Result<Call, Fail>
+    ensures { ReadsIn M.refused result (calls.asked_of route segment.now body.now) }
 {
     match route {
         Route::Messages => Ok(Call::List(None, None)),
@@ -65,22 +68,22 @@ fn asked_of(alloc: Global, route: Route, segment: &str, body: &[u8]) -> Result<C
         Route::ReleaseAll => Ok(Call::ReleaseAll(None)),
         Route::DeleteAll => Ok(Call::DeleteAll(None)),
         Route::Find => {
-            let (after, pattern) = read_find(alloc, body)?;
+            let (after, pattern) = read_find(memory, body)?;
             Ok(Call::List(after, Some(pattern)))
         }
-        Route::HoldMatching => Ok(Call::HoldAll(Some(read_pattern(alloc, body)?))),
-        Route::ReleaseMatching => Ok(Call::ReleaseAll(Some(read_pattern(alloc, body)?))),
-        Route::DeleteMatching => Ok(Call::DeleteAll(Some(read_pattern(alloc, body)?))),
+        Route::HoldMatching => Ok(Call::HoldAll(Some(read_pattern(memory, body)?))),
+        Route::ReleaseMatching => Ok(Call::ReleaseAll(Some(read_pattern(memory, body)?))),
+        Route::DeleteMatching => Ok(Call::DeleteAll(Some(read_pattern(memory, body)?))),
         Route::Lines => Ok(Call::Lines(None)),
-        Route::LinesAfter => Ok(Call::Lines(Some(read_pattern(alloc, body)?))),
-        Route::PutLine => Ok(Call::PutLine(read_line(alloc, body)?)),
-        Route::DropLine => Ok(Call::DropLine(read_pattern(alloc, body)?)),
+        Route::LinesAfter => Ok(Call::Lines(Some(read_pattern(memory, body)?))),
+        Route::PutLine => Ok(Call::PutLine(read_line(memory, body)?)),
+        Route::DropLine => Ok(Call::DropLine(read_pattern(memory, body)?)),
         Route::Check => {
-            let (class, who) = read_check(alloc, body)?;
+            let (class, who) = read_check(memory, body)?;
             Ok(Call::Check(class, who))
         }
         Route::Import => {
-            let (label, file) = read_import(alloc, body)?;
+            let (label, file) = read_import(memory, body)?;
             Ok(Call::Import(label, file))
         }
         Route::Notices => Ok(Call::Notices(None)),
@@ -89,21 +92,21 @@ fn asked_of(alloc: Global, route: Route, segment: &str, body: &[u8]) -> Result<C
         Route::History => Ok(Call::History(None)),
         Route::HistoryBefore => Ok(Call::History(Some(number_of(segment)?))),
         Route::FindHistory => {
-            let (pattern, before) = read_search(alloc, body)?;
+            let (pattern, before) = read_search(memory, body)?;
             Ok(Call::FindHistory(pattern, before))
         }
         Route::Usage => Ok(Call::Usage),
         Route::Limits => Ok(Call::Limits),
         Route::Report => Ok(Call::Report(None)),
-        Route::Submit => Ok(Call::Submit(read_submission(alloc, body)?)),
-        Route::Outcome => Ok(Call::Outcome(read_report(alloc, body)?)),
-        Route::Due => Ok(Call::Due(read_message_after(alloc, body)?)),
+        Route::Submit => Ok(Call::Submit(read_submission(memory, body)?)),
+        Route::Outcome => Ok(Call::Outcome(read_report(memory, body)?)),
+        Route::Due => Ok(Call::Due(read_message_after(memory, body)?)),
         Route::Sweep => Ok(Call::Sweep),
-        Route::MessagesByBody => Ok(Call::List(read_message_after(alloc, body)?, None)),
-        Route::ShowByBody => Ok(Call::Show(read_message_id(alloc, body)?)),
-        Route::NoticesByBody => Ok(Call::Notices(read_notice_after(alloc, body)?)),
-        Route::NoticeByBody => Ok(Call::Notice(read_notice_number(alloc, body)?)),
-        Route::HistoryByBody => Ok(Call::History(read_history_before(alloc, body)?)),
+        Route::MessagesByBody => Ok(Call::List(read_message_after(memory, body)?, None)),
+        Route::ShowByBody => Ok(Call::Show(read_message_id(memory, body)?)),
+        Route::NoticesByBody => Ok(Call::Notices(read_notice_after(memory, body)?)),
+        Route::NoticeByBody => Ok(Call::Notice(read_notice_number(memory, body)?)),
+        Route::HistoryByBody => Ok(Call::History(read_history_before(memory, body)?)),
     }
 }
 
@@ -119,21 +122,21 @@ pub(crate) fn key_of(exchange: &Exchange) -> Option<&str>
 
 /// The call of one customer that is asked for: refused as 2 `NoKey`, 3 `WrongRole`, 13
 /// `NoCustomer`, and then as the parameter and the body are.
-fn asked_of_one<'d>(
-    alloc: Global,
+fn asked_of_one<'d, M: JsonMemory>(
+    memory: M,
     directory: &'d Directory,
     role: Role,
     route: Route,
     exchange: &Exchange,
 ) -> Result<Asking<'d>, Fail>
-    ensures call { Reads (seen_by calls.asked_seen result)
+    ensures call { ReadsIn M.refused (seen_by calls.asked_seen result)
         (calls.asked_of_one directory.now role route (option_map string_bytes exchange.now.key)
         (last_segment (string_bytes exchange.now.path)) exchange.now.body.items) }
     ensures known { IfOk result (calls.IsKnown directory.now) }
 {
     let segment = last_segment(exchange.path.as_str());
     let entry = directory.customer(role, key_of(exchange), segment)?;
-    let call = asked_of(alloc, route, segment, exchange.body.as_slice())?;
+    let call = asked_of(memory, route, segment, exchange.body.as_slice())?;
     Ok(Asking::CallOf(entry, call))
 }
 
@@ -153,9 +156,9 @@ fn asked_of_all<'d>(
     directory: &'d Directory,
     route: Route,
     exchange: &Exchange,
-) -> Result<Asking<'d>, Fail>
-    ensures call { Reads (seen_by calls.asked_seen result)
-        (calls.asked_of_all directory.now route (option_map string_bytes exchange.now.key)) }
+) -> Result<Asking<'d>, Refusal>
+    ensures call { seen_by calls.asked_seen result
+        ≡ calls.asked_of_all directory.now route (option_map string_bytes exchange.now.key) }
     ensures known { IfOk result (calls.IsKnown directory.now) }
 {
     directory.relay_alone(key_of(exchange))?;
@@ -167,12 +170,12 @@ fn asked_of_all<'d>(
 /// `WrongMethod`, 2 `NoKey`, 3 `WrongRole`, and for one customer 13 `NoCustomer`, then those of the
 /// parameter and the body.
 #[tactic(auto, unfolding(crate::specs::Calls::call_from))]
-pub fn call_of<'d>(
-    alloc: Global,
+pub fn call_of<'d, M: JsonMemory>(
+    memory: M,
     directory: &'d Directory,
     exchange: &Exchange,
 ) -> Result<Asking<'d>, Fail>
-    ensures call { Reads (seen_by calls.asked_seen result)
+    ensures call { ReadsIn M.refused (seen_by calls.asked_seen result)
         (calls.call_of directory.now exchange.now) }
     ensures known { IfOk result (calls.IsKnown directory.now) }
 {
@@ -186,7 +189,7 @@ pub fn call_of<'d>(
         .route(exchange.method.as_str())
         .ok_or(Refusal::WrongMethod)?;
     match role {
-        Role::RelayForAll => asked_of_all(directory, route, exchange),
-        Role::Customer | Role::Relay => asked_of_one(alloc, directory, role, route, exchange),
+        Role::RelayForAll => Ok(asked_of_all(directory, route, exchange)?),
+        Role::Customer | Role::Relay => asked_of_one(memory, directory, role, route, exchange),
     }
 }

@@ -1,13 +1,18 @@
 -- What is said of any desk.
-use Rattle.std.specs.Prelude.{ℕ, ◌≡◌, ◌⊎◌, false, true, List}
+use Rattle.std.specs.Prelude.{ℕ, ◌≡◌, ◌⊎◌, ⊤, false, true, List}
 use Rattle.hq_values.specs.Refusals.{no_memory}
+use Rattle.hq_values.specs.declared.failure.Refusal.TheVariants.{NoticesSpent}
 use Rattle.hq_kept.specs.declared.account.Entry.{Entry}
 use Rattle.hq_tables.specs.Shelves.{Sight, StopLeavesTables, StopLeavesNoMore}
 use Rattle.hq_tables.specs.Tables.{Tables}
 use Rattle.hq_rules.specs.Answers.{answer_number}
 use Rattle.hq_rules.specs.Machine.{shared}
 use Rattle.hq_rules.specs.declared.answer.Answer.{Answer}
+use Rattle.hq_rules.specs.declared.answer.Answer.TheVariants.{Refused, Swept, Used}
+use Rattle.hq_rules.specs.declared.answer.SweepCounts.{SweepCounts}
+use Rattle.hq_rules.specs.declared.answer.Usage.{Usage}
 use Rattle.hq_rules.specs.declared.call.Call.{Call}
+use Rattle.hq_rules.specs.declared.call.Call.TheVariants as call
 use Rattle.hq_rules.specs.declared.render.Rendered.{Rendered}
 
 -- What is seen of a desk.
@@ -17,11 +22,24 @@ pub record DeskSight (D : Type 0) : Type 1 where
   -- the name of its relay
   pub host : D → List ℕ
 
--- The calls of a desk may want memory, whichever its store.
-abbrev pub or_memory : {D : Type 0} → Sight D → Sight D
-or_memory store = record store {
-  may_answer = λ fault. (fault ≡ no_memory) ⊎ store.may_answer fault;
+-- The calls of a desk may also end in want of memory, for this reason alone.
+abbrev pub or_memory : {D : Type 0} → Type 0 → Sight D → Sight D
+or_memory refused store = record store {
+  may_answer = λ fault. ((fault ≡ no_memory) × refused) ⊎ store.may_answer fault;
 }
+
+-- ---- which answers a call has, whatever the store is
+
+-- the answer to a sweep tells counts or 44, and that to a usage tells it; of others nothing is said
+abbrev pub IsAnswerTo : Call → Answer → Type 0
+IsAnswerTo call.Sweep answer = ((counts : SweepCounts) × (answer ≡ Swept counts))
+    ⊎ (answer ≡ Refused NoticesSpent)
+IsAnswerTo call.Usage answer = (usage : Usage) × (answer ≡ Used usage)
+IsAnswerTo _ answer = ⊤
+
+-- each answer to the call is one of these
+abbrev pub AnswersAre : (Answer → Type 0) → Call → Type 0
+AnswersAre takes call = (answer : Answer) → IsAnswerTo call answer → takes answer
 
 -- What calls keep of a desk, whatever they answered.
 pub record Stays {D : Type 0} (sight : DeskSight D) (old new : D) : Type 0 where

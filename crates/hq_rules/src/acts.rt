@@ -1,10 +1,10 @@
 //! What every desk does, whichever store it stands on.
 
 use crate::call::Call;
+use crate::csv_memory::CsvMemory;
 use crate::render::{Render, Rendered};
 use hq_kept::Entry;
 use hq_values::{Fault, Moment};
-use std::alloc::Global;
 
 /// A desk of all customers, for one relay: it does their calls, each on that customer's records
 /// alone.
@@ -15,7 +15,7 @@ pub trait Acts {
     ghost use Rattle.std.specs.Prelude.{◌≡◌, IfOk, OnOk};
     ghost use Rattle.hq_tables.specs.Shelves.{KeepsOnErr, OnSound, OnOpenSound, StopLeavesWhole};
     ghost use Rattle.hq_tables.specs.Sound.{Sound};
-    ghost use Rattle.hq_rules.specs.Desks.{DeskSight, or_memory, stepped};
+    ghost use Rattle.hq_rules.specs.Desks.{AnswersAre, DeskSight, or_memory, stepped};
     ghost use Rattle.hq_rules.specs.Desks.{IsRendered, IsSomeAnswer};
 
     /// What is seen of it.
@@ -26,9 +26,12 @@ pub trait Acts {
     /// after 93 every call answers 93, or 90, until the store is opened again. Wherever in it the
     /// process or its machine stops, an opening finds the tables before it or those of the shared
     /// step.
-    fn act<R: Render>(
+    ///
+    /// It ends in 90 only where this memory refused a request, or where the store may; as long as
+    /// the answers to the call are some that the rendering is for.
+    fn act<R: Render, M: CsvMemory>(
         &mut self,
-        alloc: Global,
+        memory: M,
         at: Moment,
         entry: &Entry,
         call: Call,
@@ -48,6 +51,7 @@ pub trait Acts {
             (stepped sight self.old entry.now at call).1) }
         // Whatever the store is, what is written is some answer's text, and fits.
         ensures shown { IfOk result (IsSomeAnswer (R.text render.now) (R.fits render.now)) }
-        ensures kept { KeepsOnErr (or_memory sight.store) self.old self.new result }
+        ensures kept { KeepsOnErr (or_memory (AnswersAre (R.takes render.now) call → M.refused)
+            sight.store) self.old self.new result }
         ensures host { sight.host self.new ≡ sight.host self.old };
 }

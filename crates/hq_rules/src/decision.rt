@@ -4,9 +4,9 @@ ghost use Rattle.std.specs.Prelude.{◌≡◌};
 ghost use Rattle.hq_rules.specs.Answering as answering;
 
 use crate::answer::Answer;
+use hq_memory::Memory;
 use hq_tables::Change;
 use hq_values::{Items, Refusal};
-use std::alloc::Global;
 
 /// How many messages, lines, notices or ends a page has at most.
 pub const PAGE: usize = 100;
@@ -24,18 +24,18 @@ pub struct Decision {
 }
 
 /// An answer that changes nothing.
-pub fn tell(alloc: Global, answer: Answer) -> Decision
+pub fn tell<M: Memory>(memory: M, answer: Answer) -> Decision
     ensures { result ≡ answering.tell answer }
 {
     Decision {
         answer,
-        changes: Items::from_vec(Vec::new(alloc)),
+        changes: Items::from_vec(memory.none()),
     }
 }
 
 /// A refusal, which changes nothing.
-pub fn refuse(alloc: Global, refusal: Refusal) -> Decision
+pub fn refuse<M: Memory>(memory: M, refusal: Refusal) -> Decision
     ensures { result ≡ answering.refuse refusal }
 {
-    tell(alloc, Answer::Refused(refusal))
+    tell(memory, Answer::Refused(refusal))
 }

@@ -7,6 +7,7 @@
 mod acts;
 mod answer;
 mod call;
+mod csv_memory;
 pub mod decision;
 mod each;
 pub mod histories;
@@ -19,6 +20,7 @@ mod verdict;
 pub use acts::Acts;
 pub use answer::{Allowance, Answer, AttemptCounts, ImportCounts, LinePut, SweepCounts, Usage};
 pub use call::{AttemptReport, Call, Move, Origin, Submission};
+pub use csv_memory::{CsvMemory, MOST_ROWS};
 pub use decision::Decision;
 pub use each::EachCall;
 pub use plan::{Draft, Plan};

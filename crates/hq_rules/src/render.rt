@@ -1,9 +1,10 @@
 //! How answers are written, whoever writes them.
 
-ghost use Rattle.std.specs.Prelude.{◌≡◌, IfOk};
+ghost use Rattle.std.specs.Prelude.{◌≡◌, IfOk, OnErr};
 
 use crate::answer::Answer;
-use std::alloc::{AllocError, Global};
+use hq_memory::Memory;
+use std::alloc::AllocError;
 
 /// An answer as it is written.
 #[derive(Drop)]
@@ -25,9 +26,12 @@ pub trait Render {
     /// What is known of the text that an answer is written as.
     ghost fits: { Self → Answer → List ℕ → Type 0 };
 
-    /// The text of an answer. The only error is want of memory, and that is answered too where the
-    /// text is one that does not fit.
-    fn render(&self, alloc: Global, answer: &Answer) -> Result<Vec<u8>, AllocError>
+    /// The answers that it is for.
+    ghost takes: { Self → Answer → Type 0 };
+
+    /// The text of an answer, or want of memory. An answer that it is not for may end so too.
+    fn render<M: Memory>(&self, memory: M, answer: &Answer) -> Result<Vec<u8>, AllocError>
         ensures text { IfOk result (λ bytes. bytes.items ≡ text self.now answer.now) }
-        ensures fits { IfOk result (λ bytes. fits self.now answer.now bytes.items) };
+        ensures fits { IfOk result (λ bytes. fits self.now answer.now bytes.items) }
+        ensures cause { OnErr result (takes self.now answer.now → M.refused) };
 }

@@ -16,7 +16,7 @@ one_more xs x (Err e) = refl
 
 pub loop-value-preserved : goal.loop-value-preserved
 unfolding entries_of
-loop-value-preserved c =
+loop-value-preserved g c =
     let xs = c.loop-value.entries.items in
     let entry = c.in_ok-entry.entry in
     let left = entries_of (items_view (drop (c.loop-value.value-index + 1) c.args.values.now)) in
@@ -26,6 +26,6 @@ loop-value-preserved c =
       drop-cons c.args.values.now
           c.loop-value.value-index c.value-item.result c.loop-value-test.true,
     ) in
-    let pushed : c.push.new.self.items ≡ xs ++ (entry ∷ []) = search rules in
+    let pushed : c.push.new.to.items ≡ xs ++ (entry ∷ []) = search rules in
     ap (λ ys. left >>= (λ rest. Ok (ys ++ rest))) pushed ∙ one_more xs entry left
     ∙ ap (λ r. r >>= (λ rest. Ok (xs ++ rest))) (sym step) ∙ c.loop-value.invariant

@@ -6,6 +6,6 @@ use Rattle.hq_bodies.proofs.outcomes.entries_of.Given as goal
 
 -- the outcomes so far, and those of the values that are left
 abbrev pub invariant-loop-value : goal.invariant-loop-value
-invariant-loop-value l =
+invariant-loop-value g l =
     (entries_of (items_view (drop l.value-index l.values)) >>=
     (λ rest. Ok (l.entries.items ++ rest))) ≡ entries_of (items_view l.values)

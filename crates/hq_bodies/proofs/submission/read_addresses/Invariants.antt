@@ -5,6 +5,6 @@ use Rattle.hq_bodies.proofs.submission.read_addresses.Given as goal
 
 -- the addresses so far, and those of the texts that are left
 abbrev pub invariant-loop-text : goal.invariant-loop-text
-invariant-loop-text l =
+invariant-loop-text g l =
     (addresses_in (map (λ text. text.now) (drop l.text-index l.texts)) >>=
     (λ rest. Ok (l.addresses.items ++ rest))) ≡ addresses_in (map (λ text. text.now) l.texts)

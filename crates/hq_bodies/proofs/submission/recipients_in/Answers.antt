@@ -5,10 +5,10 @@ use Rattle.hq_bodies.proofs.Submitted.{recipients_taken, recipients_refused}
 use Rattle.hq_bodies.proofs.submission.recipients_in.Goals as goal
 
 pub returns-then-not-contains : goal.returns-then-not-contains
-returns-then-not-contains c = recipients_refused _
+returns-then-not-contains g c = recipients_refused _
     (map (λ text. text.now) c.in_ok-texts.texts.items)
     (ap is_recipient_count (length-map c.in_ok-texts.texts.items (λ text. text.now))
     ∙ search rules) c.in_ok-texts.ensures
 
 pub returns : goal.returns
-returns c = recipients_taken _ _ _ c.in_ok-texts.ensures
+returns g c = recipients_taken _ _ _ c.in_ok-texts.ensures

@@ -6,7 +6,7 @@ use Rattle.hq_bodies.proofs.Submitted.{texts_read, submission_taken}
 use Rattle.hq_bodies.proofs.submission.submission_from.Goals as goal
 
 pub invariant_of-result : goal.invariant_of-result
-invariant_of-result c =
+invariant_of-result g c =
     let fields = texts_shown c.args.fields.now in
     let read : addresses_in fields.recipients.texts ≡ Ok c.in_ok-recipients.recipients.items =
     ap (λ texts. addresses_in (map (λ text. text.now) texts))
@@ -20,7 +20,7 @@ invariant_of-result c =
     }
 
 pub returns : goal.returns
-returns c =
+returns g c =
     let fields = texts_shown c.args.fields.now in
     let read : addresses_in fields.recipients.texts ≡ Ok c.in_ok-recipients.recipients.items =
     ap (λ texts. addresses_in (map (λ text. text.now) texts))

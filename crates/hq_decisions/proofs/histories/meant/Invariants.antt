@@ -4,4 +4,4 @@ use Rattle.hq_decisions.proofs.histories.meant.Given as goal
 
 -- those of the ends so far that are meant
 abbrev pub invariant-loop-end : goal.invariant-loop-end
-invariant-loop-end l = l.found.items ≡ filter (is_meant l.pattern) l.yielded
+invariant-loop-end g l = l.found.items ≡ filter (is_meant l.pattern) l.yielded

@@ -5,4 +5,4 @@ use Rattle.hq_decisions.proofs.imports.changes_of.Given as goal
 
 -- the changes of the rows so far
 abbrev pub invariant-loop-line : goal.invariant-loop-line
-invariant-loop-line l = l.changes.items ≡ flat_map set_by l.yielded
+invariant-loop-line g l = l.changes.items ≡ flat_map set_by l.yielded

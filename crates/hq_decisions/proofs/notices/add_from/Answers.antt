@@ -4,4 +4,4 @@ use Rattle.hq_decisions.proofs.Numbers.{added_more}
 use Rattle.hq_decisions.proofs.notices.add_from.Goals as goal
 
 pub loop-draft-preserved : goal.loop-draft-preserved
-loop-draft-preserved c = grind (arith, common_steps, added_more)
+loop-draft-preserved g c = grind (arith, common_steps, added_more)

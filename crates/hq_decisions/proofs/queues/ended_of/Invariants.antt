@@ -6,5 +6,5 @@ use Rattle.hq_decisions.proofs.queues.ended_of.Given as goal
 
 -- the recipients of the messages so far
 abbrev pub invariant-loop-message : goal.invariant-loop-message
-invariant-loop-message l = l.ended.items ≡ flat_map (all_ended Deleted)
+invariant-loop-message g l = l.ended.items ≡ flat_map (all_ended Deleted)
     (take l.message-index l.messages)

@@ -4,5 +4,5 @@ use Rattle.hq_decisions.proofs.selections.add_selected.Given as goal
 
 -- those of the messages so far are added
 abbrev pub invariant-loop-message : goal.invariant-loop-message
-invariant-loop-message l = l.selected.items ≡ l.fn.selected.items
+invariant-loop-message g l = l.selected.items ≡ l.fn.selected.items
     ++ filter (is_selected (option_map (λ p. p.now) l.which)) l.yielded

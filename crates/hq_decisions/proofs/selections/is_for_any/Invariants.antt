@@ -7,5 +7,5 @@ use Rattle.hq_decisions.proofs.selections.is_for_any.Given as goal
 
 -- it is for none of the recipients so far
 abbrev pub invariant-loop-recipient : goal.invariant-loop-recipient
-invariant-loop-recipient l = list_any (λ (p : Pending). is_key_of l.pattern.1 (From p.address))
+invariant-loop-recipient g l = list_any (λ (p : Pending). is_key_of l.pattern.1 (From p.address))
     (take l.recipient-index l.recipients) ≡ false

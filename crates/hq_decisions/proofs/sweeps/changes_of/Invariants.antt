@@ -5,4 +5,4 @@ use Rattle.hq_decisions.proofs.sweeps.changes_of.Given as goal
 
 -- the changes of the messages so far
 abbrev pub invariant-loop-message : goal.invariant-loop-message
-invariant-loop-message l = l.changes.items ≡ flat_map changed_by l.yielded
+invariant-loop-message g l = l.changes.items ≡ flat_map changed_by l.yielded

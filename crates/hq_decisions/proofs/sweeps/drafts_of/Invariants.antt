@@ -5,4 +5,4 @@ use Rattle.hq_decisions.proofs.sweeps.drafts_of.Given as goal
 
 -- the notices of the messages so far
 abbrev pub invariant-loop-row : goal.invariant-loop-row
-invariant-loop-row l = l.drafts.items ≡ flat_map drafts_of (take l.row-index l.rows)
+invariant-loop-row g l = l.drafts.items ≡ flat_map drafts_of (take l.row-index l.rows)

@@ -3,4 +3,4 @@ use Rattle.hq_rules.specs.Sweeps.{message_met}
 use Rattle.hq_decisions.proofs.sweeps.meet_all.Given as goal
 
 abbrev pub invariant-loop-message : goal.invariant-loop-message
-invariant-loop-message l = l.rows.items ≡ map (message_met l.at l.delay) l.yielded
+invariant-loop-message g l = l.rows.items ≡ map (message_met l.at l.delay) l.yielded

@@ -7,29 +7,29 @@ use Rattle.hq_import.proofs.Rows.{no_span, customer_is}
 use Rattle.hq_import.proofs.directory.customer_read.Goals as goal
 
 pub returns-then-len-columns : goal.returns-then-len-columns
-returns-then-len-columns c =
+returns-then-len-columns g c =
     let fields = fields_of c.args.record.now in
     let other : (length fields == c.args.columns) ≡ false = search rules in
     other_count c.args.columns c.args.row fields other ∙ search rules
 
 pub returns-in_err-name : goal.returns-in_err-name
-returns-in_err-name c =
+returns-in_err-name g c =
     let fields = fields_of c.args.record.now in
     let all : (length fields == c.args.columns) ≡ true = search rules in
     let told : c.from_residual.result ≡ Err c.in_err-name.field-0.0 = search rules in
-    rw told (fails_as c.in_err-name.field-0.0 _ _ c.in_err-name.ensures
+    rw told (fails_as g.M.Memory.refused c.in_err-name.field-0.0 _ _ c.in_err-name.ensures
     (no_name c.args.columns c.args.row fields all))
 
 pub returns-in_err-key : goal.returns-in_err-key
-returns-in_err-key c =
+returns-in_err-key g c =
     let fields = fields_of c.args.record.now in
     let all : (length fields == c.args.columns) ≡ true = search rules in
     let told : c.from_residual-in_err-key.result ≡ Err c.in_err-key.field-0.0 = search rules in
-    rw told (fails_as c.in_err-key.field-0.0 _ _ c.in_err-key.ensures
+    rw told (fails_as g.M.Memory.refused c.in_err-key.field-0.0 _ _ c.in_err-key.ensures
     (no_key c.args.columns c.args.row fields all _ c.in_ok-name.ensures))
 
 pub returns-in_err-quota : goal.returns-in_err-quota
-returns-in_err-quota c =
+returns-in_err-quota g c =
     let fields = fields_of c.args.record.now in
     let all : (length fields == c.args.columns) ≡ true = search rules in
     let told : c.from_residual-in_err-quota.result ≡ Err (Refused c.in_err-quota.field-0.0) =
@@ -38,7 +38,7 @@ returns-in_err-quota c =
     c.in_ok-key.ensures c.in_err-quota.field-0.0 (search rules))
 
 pub returns-in_err-delay : goal.returns-in_err-delay
-returns-in_err-delay c =
+returns-in_err-delay g c =
     let fields = fields_of c.args.record.now in
     let all : (length fields == c.args.columns) ≡ true = search rules in
     let limited : quota_read c.args.row fields ≡ Ok c.in_ok-quota.quota = search rules in
@@ -48,7 +48,7 @@ returns-in_err-delay c =
     c.in_ok-key.ensures _ limited c.in_err-delay.field-0.0 c.in_err-delay.ensures)
 
 pub returns-in_err-history : goal.returns-in_err-history
-returns-in_err-history c =
+returns-in_err-history g c =
     let fields = fields_of c.args.record.now in
     let all : (length fields == c.args.columns) ≡ true = search rules in
     let limited : quota_read c.args.row fields ≡ Ok c.in_ok-quota.quota = search rules in
@@ -59,7 +59,7 @@ returns-in_err-history c =
     c.in_err-history.ensures)
 
 pub returns : goal.returns
-returns c =
+returns g c =
     let fields = fields_of c.args.record.now in
     let all : (length fields == c.args.columns) ≡ true = search rules in
     let limited : quota_read c.args.row fields ≡ Ok c.in_ok-quota.quota = search rules in

@@ -6,7 +6,7 @@ use Rattle.hq_import.proofs.directory.customers_under.Given as goal
 
 -- the rows that are left go on from the customers so far, whose names and keys are noted
 abbrev pub invariant-loop-row : goal.invariant-loop-row
-invariant-loop-row l = record {
+invariant-loop-row g l = record {
   left : customers_under l.columns l.customers.items (map fields_of (drop l.row-index l.rows)) ≡
       customers_under l.columns [] (map fields_of l.rows);
   names : KnowsNames l.names l.customers.items;

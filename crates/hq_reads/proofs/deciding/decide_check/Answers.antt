@@ -30,9 +30,9 @@ returns-clause-found g c = λ clean ours.
       | else-account-eq0+in_ok-found w ↦
           let kept = w.in_ok-found.ensures.kept first.kept.tally.1 in
           let looked = w.in_ok-found.ensures.found first.kept.tally.1 in
-          w.found-is ∙ finds_on (with_memory sight) _ _ _ _ _ name
+          w.found-is ∙ finds_on (with_memory g.M.Memory.refused sight) _ _ _ _ _ name
           (λ rows. found_for rows c.args.class c.args.who.now)
-          (keeps_more sight _ _ _ first.kept) kept looked
+          (keeps_more g.M.Memory.refused sight _ _ _ first.kept) kept looked
           (subst sight.is_clean w.shelf-is clean) ours
     ] in
     let keys = c.from_vec-keys.ensures ∙ c.in_ok-keys_of.ensures in

@@ -18,7 +18,7 @@ returns-clause-found g c = λ clean ours sound.
     let found : rows.message c.args.serial ≡ Some c.in-Some.message =
     sym (first.found (then.kept.quiet clean) ours) ∙ c.in-Some.is in
     let next = (sound.states name).shaped.next_serial in
-    c.in_ok-decision.ensures (subst (λ (h : Head). 0 < h.next_serial) (sym head) next.0)
+    c.in_ok-decision.ensures.decision (subst (λ (h : Head). 0 < h.next_serial) (sym head) next.0)
     (subst (λ (h : Head). h.next_serial ≤ 2 ^ 40) (sym head) next.1)
     ∙ ap (λ (h : Head). rules.requeue_with h c.args.at c.in-Some.message) head
     ∙ ap (rules.requeue rows.head c.args.at) (sym found)

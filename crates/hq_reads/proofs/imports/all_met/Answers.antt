@@ -9,7 +9,7 @@ use Rattle.hq_reads.proofs.imports.all_met.Goals as goal
 
 pub loop-line-preserved : goal.loop-line-preserved
 loop-line-preserved g c = λ opened.
-    let sight = with_memory g.S.Shelf.sight in
+    let sight = with_memory g.M.Memory.refused g.S.Shelf.sight in
     let tables = g.S.Shelf.sight.tables in
     let before = c.loop-line.invariant opened in
     let line = c.in-Some.line in
@@ -18,7 +18,7 @@ loop-line-preserved g c = λ opened.
     let both = keeps_on sight c.args.shelf.now c.loop-line.shelf c.met.new.shelf
     c.loop-line.found.items (Ok one) before.0 kept in
     let met = λ (t : Tables). line_met (read_tables c.args.customer.now t) in (
-      keeps_ok sight c.args.shelf.now c.met.new.shelf one c.push.new.self.items both,
+      keeps_ok sight c.args.shelf.now c.met.new.shelf one c.push.new.to.items both,
       λ clean ours.
           let prior = kept.quiet clean in
           let same = before.0.same prior ours before.0.tally.1 in

@@ -20,8 +20,9 @@ returns-clause-found g c = λ opened clean ours.
     let counts : c.in_ok-account.account.counts ≡ now.counts = ap (λ (a : Account). a.counts)
     (first.found (kept.quiet clean) ours) in
     let rows : c.in_ok-rows.rows ≡ map (line_met now) c.in-Ok.lines.items =
-    finds_on (with_memory sight) _ _ _ _ _ name (λ rows. map (line_met rows) c.in-Ok.lines.items)
-    (keeps_more sight _ _ _ first.kept) kept looked clean ours in
+    finds_on (with_memory g.M.Memory.refused sight) _ _ _ _ _ name (λ rows. map (line_met rows)
+    c.in-Ok.lines.items)
+    (keeps_more g.M.Memory.refused sight _ _ _ first.kept) kept looked clean ours in
     c.in_ok-decision.ensures
     ∙ (λ i. taken quota (counts i).lines c.args.label (c.digest.ensures i) (rows i))
     ∙ ap (first_import quota now c.args.label (sha256 c.args.file.now)) (sym c.in-Ok.ensures.lines)

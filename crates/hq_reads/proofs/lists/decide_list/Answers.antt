@@ -15,4 +15,4 @@ returns-clause-found g c = λ clean ours sound.
     let p = is_selected (option_map (λ p. p.now) c.args.which) in
     c.page.ensures ∙ ap page c.from_vec.ensures
     ∙ page_of_found _ (filter p all) (c.in_ok-add_found.ensures.added clean ours sound few
-    ∙ ap (λ before. take 101 (before ++ filter p all)) c.new-found.ensures.items)
+    ∙ ap (λ before. take 101 (before ++ filter p all)) c.none-found.ensures.items)

@@ -18,5 +18,6 @@ returns-clause-found g c = λ clean ours sound.
     let told : AreTold rows.head rows.messages =
     subst (λ (r : Readings). AreTold r.head r.messages) (sym (same_readings name t))
     (sound.states name).conserved in
-    c.usage.ensures rows.messages (subst (λ (h : Head). AreTold h rows.messages) (sym head) told)
+    c.usage.ensures.usage rows.messages (subst (λ (h : Head). AreTold h rows.messages) (sym head)
+    told)
     ∙ (λ i. usage (account i).head (account i).counts rows.messages)

@@ -23,7 +23,7 @@ returns-clause-found g c = λ clean ours sound.
     let sight = g.S.Shelf.sight in
     let t = sight.tables c.args.shelf.now in
     let first = c.in_ok-account.ensures in
-    let kept = keeps_more sight _ _ _ first.kept in
+    let kept = keeps_more g.M.Memory.refused sight _ _ _ first.kept in
     let judged : (sight.is_clean c.account.new.self)
     × (c.if-account-eq0.verdict ≡ rules.judged (read_tables name t) sub.sender recipients) =
     elim c.if-account-eq0.branch [
@@ -43,7 +43,7 @@ returns-clause-found g c = λ clean ours sound.
           let later = w.in_ok-verdict-2.ensures.kept first.kept.tally.1 in
           let found = w.in_ok-verdict-2.ensures.found first.kept.tally.1 in (
             later.quiet loud,
-            w.verdict-is ∙ finds_on (with_memory sight) _ _ _ _ _ name
+            w.verdict-is ∙ finds_on (with_memory g.M.Memory.refused sight) _ _ _ _ _ name
                 (λ rows. rules.judged rows sub.sender recipients) kept later found loud ours,
           )
     ] in

@@ -2,11 +2,11 @@ use Rattle.std.proofs.Common.{[], ◌∷◌, ◌++◌, sym, ap, ◌∙◌}
 use Rattle.std.specs.Prelude.{if◌then◌else◌}
 use Rattle.std.specs.List.{list_any}
 use Rattle.hq_tables.specs.Sound.{same_address}
-use Rattle.hq_decisions.proofs.SameAddresses.{distinct_more}
-use Rattle.hq_decisions.proofs.distinct.distinct.Goals as goal
+use Rattle.hq_reads.proofs.SameAddresses.{distinct_more}
+use Rattle.hq_reads.proofs.distinct.distinct.Goals as goal
 
 pub loop-address-preserved : goal.loop-address-preserved
-loop-address-preserved c =
+loop-address-preserved g c =
     c.in_ok-add_new.ensures
     ∙ ap (λ kept. kept ++ (if list_any (λ known. same_address known c.in-Some.address) kept then
     [] else c.in-Some.address ∷ [])) c.loop-address.invariant

@@ -5,8 +5,8 @@ use Rattle.csv.specs.Reading.{Reached, default_config, strip_bom}
 use Rattle.csv.specs.Records.{fields_of}
 use Rattle.csv.proofs.ReadFacts.{rows-more, rows-end}
 use Rattle.hq_rules.specs.Records.{records_from, records_in}
-use Rattle.hq_import.proofs.Reading.{go_on, enough_read, all_read}
-use Rattle.hq_import.proofs.records.first_records.Goals as goal
+use Rattle.hq_rules.proofs.Reading.{go_on, enough_read, all_read}
+use Rattle.hq_rules.proofs.csv_memory.first_records.Goals as goal
 
 pub loop-row-init : goal.loop-row-init
 loop-row-init c =

@@ -1,12 +1,14 @@
 //! Addresses without the later ones of those that are the same.
 
-ghost use Rattle.std.specs.Prelude.{◌≡◌, ◌++◌, ◌∷◌, [], IfOk, OnOk, if◌then◌else◌};
+ghost use Rattle.std.specs.Prelude.{◌≡◌, ◌++◌, ◌∷◌, [], if◌then◌else◌};
 ghost use Rattle.std.specs.List.{list_any};
+ghost use Rattle.hq_memory.specs.Making.{MadeIn};
 ghost use Rattle.hq_tables.specs.Sound.{same_address};
 ghost use Rattle.hq_rules.specs.Submissions as rules;
 
+use hq_memory::Memory;
 use hq_values::Address;
-use std::alloc::{AllocError, Global};
+use std::alloc::AllocError;
 
 /// Whether two addresses are the same.
 fn is_same(one: &Address, other: &Address) -> bool
@@ -23,24 +25,31 @@ fn is_among(addresses: &[Address], address: &Address) -> bool
 }
 
 /// Adds an address that is new.
-fn add_new(addresses: &mut Vec<Address>, address: Address) -> Result<(), AllocError>
-    ensures { OnOk result (addresses.new.items ≡ addresses.old.items ++
+fn add_new<M: Memory>(
+    memory: M,
+    addresses: &mut Vec<Address>,
+    address: Address,
+) -> Result<(), AllocError>
+    ensures { MadeIn M.refused result (λ _. addresses.new.items ≡ addresses.old.items ++
         (if list_any (λ known. same_address known address) addresses.old.items then [] else address
         ∷ [])) }
 {
     if !is_among(addresses.as_slice(), &address) {
-        addresses.push(address)?;
+        memory.push(addresses, address)?;
     }
     Ok(())
 }
 
 /// Each address, without the later ones that are the same.
-pub fn distinct(alloc: Global, addresses: Vec<Address>) -> Result<Vec<Address>, AllocError>
-    ensures { IfOk result (λ kept. kept.items ≡ rules.distinct addresses.items) }
+pub(crate) fn distinct<M: Memory>(
+    memory: M,
+    addresses: Vec<Address>,
+) -> Result<Vec<Address>, AllocError>
+    ensures { MadeIn M.refused result (λ kept. kept.items ≡ rules.distinct addresses.items) }
 {
-    let mut kept = Vec::new(alloc);
+    let mut kept = memory.none();
     for address in addresses {
-        add_new(&mut kept, address)?;
+        add_new(memory, &mut kept, address)?;
     }
     Ok(kept)
 }

@@ -3,7 +3,7 @@ use Rattle.csv.specs.Reading.{Ready, default_config, source_of}
 use Rattle.csv.specs.Records.{fields_of}
 use Rattle.csv.specs.declared.reader.Trim.TheVariants.{None as NoTrim}
 use Rattle.hq_rules.specs.Records.{records_from, records_in}
-use Rattle.hq_import.proofs.records.first_records.Given as goal
+use Rattle.hq_rules.proofs.csv_memory.first_records.Given as goal
 
 -- the reader goes on, and what it has left gives the records behind those so far
 abbrev pub invariant-loop-row : goal.invariant-loop-row
