@@ -1,3 +1,4 @@
+pub mod Answering
 pub mod Across
 pub mod Lost
 pub mod Running

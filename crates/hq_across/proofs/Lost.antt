@@ -13,6 +13,7 @@ use Rattle.hq_rules.specs.declared.call.Call.{Call}
 use Rattle.hq_requests.specs.Calls.{Asked, CallOf, CallOfAll}
 use Rattle.hq_requests.specs.Directories.{entry_of, names_of}
 use Rattle.hq_requests.specs.declared.directory.Directory.{Directory}
+use Rattle.hq_wire.specs.Exchanges.{IsWant}
 use Rattle.hq_wire.specs.Exchanges.{AllDone, Ask, CallsAll, IsStruck, MayReply, MayReplyTo, of_part}
 use Rattle.hq_wire.specs.Exchanges.{Unheard, unheard_call, calls_asked, after_calls}
 use Rattle.hq_wire.specs.Replies.{Part, SeenReply, reply_of}
@@ -60,7 +61,7 @@ module _ (host : List ℕ) (d : Directory) (at : ℕ) where
   stepped may t t' (Ok (CallOf name call)) r h = ⊎_elim
       (λ (did : (r ≡ reply_of (shared host (entry_of d name) t at call).0)
       × (t' ≡ (shared host (entry_of d name) t at call).1)). (1, did.1))
-      (λ (no : (fault : Fault) × ((fault ≡ no_memory) ⊎ may fault) × IsStruck fault t r t').
+      (λ (no : (fault : Fault) × may fault × IsStruck fault t r t').
       none t t' (Ok (CallOf name call)) no.2.1) h
   stepped may t t' (Ok (CallOfAll call)) r h = ⊎_elim
       (λ (did : CallsAll may host d t at call r t'). (
@@ -68,7 +69,7 @@ module _ (host : List ℕ) (d : Directory) (at : ℕ) where
         in_parts call t t' r.parts did.done
             ∙ ap (after_calls host d t) (sym (first_calls call r.parts did.left did.order)),
       ))
-      (λ (no : IsStruck no_memory t r t'). none t t' (Ok (CallOfAll call)) no.1) h
+      (λ (no : IsWant may r × (t' ≡ t)). none t t' (Ok (CallOfAll call)) no.1) h
 
 pub lost : (may : Fault → Type 0) (host : List ℕ) (d : Directory) (asks : List Ask)
     (rs : List SeenReply) (a : Ask) (r : SeenReply) (t last t' : Tables) →

@@ -15,6 +15,7 @@ use Rattle.hq_soundness.proofs.Soundness.{shared_sound}
 use Rattle.hq_requests.specs.Calls.{Asked, CallOf, CallOfAll}
 use Rattle.hq_requests.specs.Directories.{entry_of, names_of}
 use Rattle.hq_requests.specs.declared.directory.Directory.{Directory}
+use Rattle.hq_wire.specs.Exchanges.{IsWant}
 use Rattle.hq_wire.specs.Exchanges.{AllDone, Ask, Deed, Exchanged, RepliesAnyway, StopMayLeave}
 use Rattle.hq_wire.specs.Exchanges.{StopsClosed, TellsClosed, Unheard, after_calls, calls_asked}
 use Rattle.hq_wire.specs.Exchanges.{deeds_of, next_call}
@@ -39,11 +40,11 @@ told_closed : {D : Type 0} (sight : Sight D) (d : Directory) (old new : D) (at :
 told_closed sight d old new at (Err e) r closed h = inr (ap sight.is_closed (sym h.1) ∙ closed)
 told_closed sight d old new at (Ok (CallOf name call)) r closed h = ⊎_elim
     (λ (is : r ≡ reply_of_fault Closed). inl (inl is))
-    (λ (same : (r ≡ reply_of_fault no_memory) × (new ≡ old)).
+    (λ (same : IsWant sight.may_answer r × (new ≡ old)).
     inr (ap sight.is_closed (sym same.1) ∙ closed)) (h closed)
 told_closed sight d old new at (Ok (CallOfAll call)) r closed h = ⊎_elim
     (λ (is : StopsClosed r.stopped). inl (inr is))
-    (λ (same : ((r ≡ reply_of_fault no_memory) ⊎ (names_of d ≡ [])) × (new ≡ old)).
+    (λ (same : (IsWant sight.may_answer r ⊎ (names_of d ≡ [])) × (new ≡ old)).
     inr (ap sight.is_closed (sym same.1) ∙ closed)) (h closed)
 
 -- what a stop in an exchange leaves is found where its next call was under way

@@ -1,4 +1,5 @@
 -- The calls of customers, one after the other.
+use Rattle.std.specs.Prelude.{⊤}
 use Rattle.std.proofs.Common.{◌≡◌, ℕ, zero, suc, ◌<◌, false, true, List, [], ◌∷◌, ◌++◌, map, take}
 use Rattle.std.proofs.Common.{drop, length, get_or, Ok, refl, sym, ap, ◌∙◌}
 use Rattle.std.proofs.Common.{subst, arith, length-append}
@@ -84,7 +85,7 @@ module _ {D : Type 0} (sight : DeskSight D) (at : ℕ) (asked : Call) where
       (stepped sight mid entry at asked).0 rendered)
       → OnSound sight.store mid new (tables new ≡ (stepped sight mid entry at asked).1)
       → OnOpenSound sight.store mid new (Sound (tables new))
-      → KeepsOnErr (or_memory sight.store) mid new (Ok rendered)
+      → KeepsOnErr (or_memory ⊤ sight.store) mid new (Ok rendered)
       → sight.host new ≡ sight.host mid
       → SoFar old (called ++ entry ∷ []) (told ++ rendered ∷ []) new
   one_more old mid new called told entry rendered before answer made sound kept host =

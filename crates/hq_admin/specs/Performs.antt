@@ -1,5 +1,5 @@
 -- One call over a shelf.
-use Rattle.std.specs.Prelude.{◌≡◌, Result, IfOk, OnOk}
+use Rattle.std.specs.Prelude.{◌≡◌, ⊤, Result, IfOk, OnOk}
 use Rattle.hq_values.specs.declared.failure.Fault.{Fault}
 use Rattle.hq_tables.specs.Shelves.{Sight, KeepsOnErr, OnSound, StopLeavesWhole}
 use Rattle.hq_rules.specs.Desks.{IsRendered, or_memory, stepped}
@@ -26,4 +26,4 @@ pub record Performs {S : Type 0} (sight : Sight S) (shelf left : S) (asked : Adm
       (stepped (on sight) old asked.entry asked.at asked.call).1))
   pub stops : OnSound (on sight).store old new (StopLeavesWhole (on sight).store old new
       (stepped (on sight) old asked.entry asked.at asked.call).1)
-  pub kept : KeepsOnErr (or_memory (on sight).store) old new result
+  pub kept : KeepsOnErr (or_memory ⊤ (on sight).store) old new result

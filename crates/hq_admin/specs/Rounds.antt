@@ -1,6 +1,6 @@
 -- A round: one call of each customer of a directory, over a shelf.
 use Rattle.std.specs.Prelude.{ℕ, ◌≡◌, List, [], ◌∷◌, ◌++◌, length, map, codes, Option, None, Some}
-use Rattle.std.specs.Prelude.{Err}
+use Rattle.std.specs.Prelude.{Err, ⊤}
 use Rattle.hq_values.specs.Refusals.{refusal_shown}
 use Rattle.hq_values.specs.Turns.{InTurn}
 use Rattle.hq_values.specs.declared.failure.Fault.{Fault}
@@ -39,7 +39,7 @@ pub record EndsInFault {D : Type 0} (sight : DeskSight D) (mid new : D) (at : �
   pub next : Entry
   pub more : List Entry
   pub is : left ≡ next ∷ more
-  pub kept : KeepsOnErr {X = Rendered} (or_memory sight.store) mid new (Err fault)
+  pub kept : KeepsOnErr {X = Rendered} (or_memory ⊤ sight.store) mid new (Err fault)
   pub host : sight.host new ≡ sight.host mid
   pub stops : OnSound sight.store mid new
       (StopLeavesWhole sight.store mid new (stepped sight mid next at asked).1)

@@ -1,18 +1,23 @@
 //! Answers as an administrator reads them.
 
-ghost use Rattle.std.specs.Prelude.{◌≡◌, ◌++◌, OnOk, string_bytes};
+ghost use Rattle.std.specs.Prelude.{◌≡◌, ◌++◌, string_bytes};
+ghost use Rattle.hq_memory.specs.Making.{MadeIn};
 ghost use Rattle.hq_admin.specs.Printed as texts;
 
 use crate::history::{more_from, put_history};
 use hq_kept::{Counts, Tally};
+use hq_memory::Memory;
 use hq_rules::{Answer, ImportCounts, Render, SweepCounts, Usage};
-use std::alloc::{AllocError, Global};
-use std::fmt::Write;
+use std::alloc::AllocError;
 
 /// Adds what an import set.
 #[tactic(auto, unfolding(crate::specs::Printed::import_line))]
-fn put_imported(text: &mut String, counts: ImportCounts) -> Result<(), AllocError>
-    ensures { OnOk result (string_bytes text.new
+fn put_imported<M: Memory>(
+    memory: M,
+    text: &mut String,
+    counts: ImportCounts,
+) -> Result<(), AllocError>
+    ensures { MadeIn M.refused result (λ _. string_bytes text.new
         ≡ string_bytes text.old ++ texts.import_line counts) }
 {
     let ImportCounts {
@@ -20,13 +25,17 @@ fn put_imported(text: &mut String, counts: ImportCounts) -> Result<(), AllocErro
         changed,
         same,
     } = counts;
-    write!(text, "added {added}, changed {changed}, same {same}\n")
+    memory.write(
+        text,
+        format_args!("added {added}, changed {changed}, same {same}\n"),
+    )?;
+    Ok(())
 }
 
 /// Adds what a sweep did.
 #[tactic(auto, unfolding(crate::specs::Printed::sweep_line))]
-fn put_swept(text: &mut String, counts: SweepCounts) -> Result<(), AllocError>
-    ensures { OnOk result (string_bytes text.new
+fn put_swept<M: Memory>(memory: M, text: &mut String, counts: SweepCounts) -> Result<(), AllocError>
+    ensures { MadeIn M.refused result (λ _. string_bytes text.new
         ≡ string_bytes text.old ++ texts.sweep_line counts) }
 {
     let SweepCounts {
@@ -34,16 +43,17 @@ fn put_swept(text: &mut String, counts: SweepCounts) -> Result<(), AllocError>
         notices,
         warned,
     } = counts;
-    write!(
+    memory.write(
         text,
-        "expired {expired}, warned {warned}, notices {notices}\n"
-    )
+        format_args!("expired {expired}, warned {warned}, notices {notices}\n"),
+    )?;
+    Ok(())
 }
 
 /// Adds how much a customer keeps.
 #[tactic(auto, unfolding(crate::specs::Printed::kept_text))]
-fn put_kept(text: &mut String, counts: Counts) -> Result<(), AllocError>
-    ensures { OnOk result (string_bytes text.new
+fn put_kept<M: Memory>(memory: M, text: &mut String, counts: Counts) -> Result<(), AllocError>
+    ensures { MadeIn M.refused result (λ _. string_bytes text.new
         ≡ string_bytes text.old ++ texts.kept_text counts) }
 {
     let Counts {
@@ -51,22 +61,35 @@ fn put_kept(text: &mut String, counts: Counts) -> Result<(), AllocError>
         bytes,
         lines,
     } = counts;
-    write!(text, "messages {messages}, bytes {bytes}, lines {lines}")
+    memory.write(
+        text,
+        format_args!("messages {messages}, bytes {bytes}, lines {lines}"),
+    )?;
+    Ok(())
 }
 
 /// Adds how many of its recipients were accepted and are pending.
 #[tactic(auto, unfolding(crate::specs::Printed::left_text))]
-fn put_left(text: &mut String, accepted: u64, pending: u64) -> Result<(), AllocError>
-    ensures { OnOk result (string_bytes text.new
+fn put_left<M: Memory>(
+    memory: M,
+    text: &mut String,
+    accepted: u64,
+    pending: u64,
+) -> Result<(), AllocError>
+    ensures { MadeIn M.refused result (λ _. string_bytes text.new
         ≡ string_bytes text.old ++ texts.left_text accepted pending) }
 {
-    write!(text, ", accepted {accepted}, pending {pending}")
+    memory.write(
+        text,
+        format_args!(", accepted {accepted}, pending {pending}"),
+    )?;
+    Ok(())
 }
 
 /// Adds what became of the others.
 #[tactic(auto, unfolding(crate::specs::Printed::gone_text))]
-fn put_gone(text: &mut String, tally: Tally) -> Result<(), AllocError>
-    ensures { OnOk result (string_bytes text.new
+fn put_gone<M: Memory>(memory: M, text: &mut String, tally: Tally) -> Result<(), AllocError>
+    ensures { MadeIn M.refused result (λ _. string_bytes text.new
         ≡ string_bytes text.old ++ texts.gone_text tally) }
 {
     let Tally {
@@ -76,53 +99,57 @@ fn put_gone(text: &mut String, tally: Tally) -> Result<(), AllocError>
         expired,
         ..
     } = tally;
-    write!(
+    memory.write(
         text,
-        ", delivered {delivered}, failed {failed}, deleted {deleted}, expired {expired}"
-    )
+        format_args!(
+            ", delivered {delivered}, failed {failed}, deleted {deleted}, expired {expired}"
+        ),
+    )?;
+    Ok(())
 }
 
 /// Adds what a customer uses.
-fn put_used(text: &mut String, usage: &Usage) -> Result<(), AllocError>
-    ensures { OnOk result (string_bytes text.new
+fn put_used<M: Memory>(memory: M, text: &mut String, usage: &Usage) -> Result<(), AllocError>
+    ensures { MadeIn M.refused result (λ _. string_bytes text.new
         ≡ string_bytes text.old ++ texts.usage_line usage.now) }
 {
-    put_kept(text, usage.counts)?;
-    put_left(text, usage.tally.accepted, usage.pending)?;
-    put_gone(text, usage.tally)?;
-    text.push_str("\n")
+    put_kept(memory, text, usage.counts)?;
+    put_left(memory, text, usage.tally.accepted, usage.pending)?;
+    put_gone(memory, text, usage.tally)?;
+    memory.append(text, "\n")
 }
 
 /// Adds how many messages were changed.
 #[tactic(auto, unfolding(crate::specs::Printed::changed_line))]
-fn put_changed(text: &mut String, count: u64) -> Result<(), AllocError>
-    ensures { OnOk result (string_bytes text.new
+fn put_changed<M: Memory>(memory: M, text: &mut String, count: u64) -> Result<(), AllocError>
+    ensures { MadeIn M.refused result (λ _. string_bytes text.new
         ≡ string_bytes text.old ++ texts.changed_line count) }
 {
-    write!(text, "changed {count}\n")
+    memory.write(text, format_args!("changed {count}\n"))?;
+    Ok(())
 }
 
 /// Adds what is printed of an answer.
-pub(crate) fn put_answer(
-    alloc: Global,
+pub(crate) fn put_answer<M: Memory>(
+    memory: M,
     text: &mut String,
     answer: &Answer,
 ) -> Result<(), AllocError>
-    ensures { OnOk result (string_bytes text.new
+    ensures { MadeIn M.refused result (λ _. string_bytes text.new
         ≡ string_bytes text.old ++ texts.printed answer.now) }
 {
     match answer {
-        Answer::Refused(refusal) => write!(text, "{refusal}"),
-        Answer::Reported(report) => text.push_str(report.as_str()),
-        Answer::Imported(counts) => put_imported(text, *counts),
-        Answer::Swept(counts) => put_swept(text, *counts),
-        Answer::Used(usage) => put_used(text, usage),
-        Answer::Changed(count) => put_changed(text, *count),
+        Answer::Refused(refusal) => memory.write(text, format_args!("{refusal}")),
+        Answer::Reported(report) => memory.append(text, report.as_str()),
+        Answer::Imported(counts) => put_imported(memory, text, *counts),
+        Answer::Swept(counts) => put_swept(memory, text, *counts),
+        Answer::Used(usage) => put_used(memory, text, usage),
+        Answer::Changed(count) => put_changed(memory, text, *count),
         Answer::HistoryListed(ends, more) => {
             let next = more_from(ends.as_slice(), *more);
-            put_history(alloc, text, ends.as_slice(), next)
+            put_history(memory, text, ends.as_slice(), next)
         }
-        Answer::HistoryFound(ends, next) => put_history(alloc, text, ends.as_slice(), *next),
+        Answer::HistoryFound(ends, next) => put_history(memory, text, ends.as_slice(), *next),
         _ => Ok(()),
     }
 }
@@ -141,9 +168,11 @@ impl Render for Printed {
 
     ghost fits = { λ _ _ _. ⊤ };
 
-    fn render(&self, alloc: Global, answer: &Answer) -> Result<Vec<u8>, AllocError> {
-        let mut text = String::new(alloc);
-        put_answer(alloc, &mut text, answer)?;
+    ghost takes = { λ _ _. ⊤ };
+
+    fn render<M: Memory>(&self, memory: M, answer: &Answer) -> Result<Vec<u8>, AllocError> {
+        let mut text = memory.no_text();
+        put_answer(memory, &mut text, answer)?;
         Ok(text.into_bytes())
     }
 }

@@ -1,14 +1,15 @@
 //! A round: one call of each customer of a directory.
 
 ghost use Rattle.std.specs.Prelude.{◌≡◌, string_bytes, IfOk, OnErr};
+ghost use Rattle.hq_memory.specs.Making.{MadeIn};
 ghost use Rattle.hq_admin.specs.Rounds.{CallsEach, printed_of};
 
 use crate::printed::put_answer;
 use hq_kept::Customer;
+use hq_memory::Memory;
 use hq_rules::{Acts, Answer, EachCall, Render, Rendered};
 use hq_values::{Fault, Moment, Name};
 use std::alloc::{AllocError, Global};
-use std::fmt::Write;
 
 /// What a round came to.
 #[derive(Drop)]
@@ -21,15 +22,18 @@ pub struct ToldAll {
 }
 
 /// What is printed of one customer among others.
-fn text_of(alloc: Global, name: &Name, answer: &Answer) -> Result<String, AllocError>
-    ensures { IfOk result (λ text. string_bytes text ≡ printed_of name.now answer.now) }
+fn text_of<M: Memory>(memory: M, name: &Name, answer: &Answer) -> Result<String, AllocError>
+    ensures { MadeIn M.refused result (λ text. string_bytes text ≡ printed_of name.now answer.now) }
 {
-    let mut text = String::new(alloc);
+    let mut text = memory.no_text();
     match answer {
-        Answer::Refused(refusal) => write!(text, "{refusal} customer {}", name.as_str())?,
+        Answer::Refused(refusal) => memory.write(
+            &mut text,
+            format_args!("{refusal} customer {}", name.as_str()),
+        )?,
         _ => {
-            write!(text, "{}: ", name.as_str())?;
-            put_answer(alloc, &mut text, answer)?;
+            memory.write(&mut text, format_args!("{}: ", name.as_str()))?;
+            put_answer(memory, &mut text, answer)?;
         }
     }
     Ok(text)
@@ -49,8 +53,10 @@ impl Render for PrintedOf<'_> {
 
     ghost fits = { λ _ _ _. ⊤ };
 
-    fn render(&self, alloc: Global, answer: &Answer) -> Result<Vec<u8>, AllocError> {
-        let text = text_of(alloc, self.name, answer)?;
+    ghost takes = { λ _ _. ⊤ };
+
+    fn render<M: Memory>(&self, memory: M, answer: &Answer) -> Result<Vec<u8>, AllocError> {
+        let text = text_of(memory, self.name, answer)?;
         Ok(text.into_bytes())
     }
 }

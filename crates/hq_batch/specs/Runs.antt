@@ -1,5 +1,6 @@
 -- What a run of a program does, however it ends.
 use Rattle.std.specs.Prelude.{◌≡◌, ⊤, ℕ, List, Option, Result, Ok, Err}
+use Rattle.hq_wire.specs.Exchanges.{with_refusals}
 use Rattle.hq_tables.specs.Shelves.{Sight}
 use Rattle.hq_desk.specs.Desks.{host_of, on, shelf_of}
 use Rattle.hq_desk.specs.declared.desk.Desk.{Desk}
@@ -20,7 +21,7 @@ pub record ServesOver {S : Type 0} (sight : Sight S) (settings : Settings) (shel
   pub host_is : host_of old ≡ settings.host
   pub shelf_is : shelf_of old ≡ shelf
   pub new : Desk S
-  pub replied : Replied (on sight) settings.directory old asked lines new
+  pub replied : Replied (with_refusals ⊤ (on sight)) settings.directory old asked lines new
 
 -- how a run ends: as a batch does, with a fault of it told
 abbrev pub RunEnds : (List (Option LineRequest) → List (List ℕ) → Type 0) → Type 0 → Streams →

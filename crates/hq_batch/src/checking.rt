@@ -1,6 +1,6 @@
 //! What is read and checked, and what is told of it.
 
-ghost use Rattle.std.specs.Prelude.{◌≡◌, ℕ, List, None, IfOk, IsTrue, option_map};
+ghost use Rattle.std.specs.Prelude.{◌≡◌, ℕ, ⊤, List, None, IfOk, IsTrue, option_map};
 ghost use Rattle.hq_values.specs.Readers.{Reads, seen_by};
 ghost use Rattle.hq_kept.specs.Customers.{are_customers};
 ghost use Rattle.hq_import.specs.Directories.{directory_in};
@@ -61,7 +61,7 @@ fn count_in(
     read: Result<Vec<Customer>, DirectoryFail>,
 ) -> Result<usize, Fail>
     requires { IfOk read (λ customers. IsTrue (are_customers customers.items)) }
-    ensures { (file : List ℕ) → ReadsDirectory (seen_by (λ v. v.items) read) (directory_in file)
+    ensures { (file : List ℕ) → ReadsDirectory ⊤ (seen_by (λ v. v.items) read) (directory_in file)
         → Reads result (count_in (option_map relay_seen relay) file) }
 {
     let customers = read?;
@@ -94,7 +94,7 @@ fn told_of(
     read: Result<Vec<Customer>, DirectoryFail>,
 ) -> Result<Rendered, Trouble>
     requires { IfOk read (λ customers. IsTrue (are_customers customers.items)) }
-    ensures { (file : List ℕ) → ReadsDirectory (seen_by (λ v. v.items) read) (directory_in file)
+    ensures { (file : List ℕ) → ReadsDirectory ⊤ (seen_by (λ v. v.items) read) (directory_in file)
         → FileEnds (option_map relay_seen relay) file result }
 {
     let count = count_in(alloc, relay, read)?;

@@ -1,6 +1,7 @@
 //! The desk as what answers the lines of a batch.
 
-ghost use Rattle.std.specs.Prelude.{◌≡◌, Some, IfOk, string_bytes, option_map};
+ghost use Rattle.hq_wire.specs.Exchanges.{with_refusals};
+ghost use Rattle.std.specs.Prelude.{◌≡◌, Some, IfOk, string_bytes, option_map, ⊤};
 ghost use Rattle.hq_lines.specs.Fields.{request_in, line_request};
 ghost use Rattle.hq_batch.specs.Steps.{IsOfLine, IsLineToLog, LineStep, SendsLine};
 
@@ -64,7 +65,8 @@ fn request_reply<'d, D: Acts>(
     directory: &'d Directory,
     line: &RequestLine<'_>,
 ) -> Replied<'d>
-    ensures { SendsLine D.sight directory.now desk.old (Some (line_request line.now)) result
+    ensures { SendsLine (with_refusals ⊤ D.sight) directory.now desk.old (Some (line_request
+        line.now)) result
         desk.new }
 {
     match exchange_of(alloc, line) {
@@ -91,7 +93,8 @@ fn line_reply<'d, D: Acts>(
     directory: &'d Directory,
     line: &[u8],
 ) -> Replied<'d>
-    ensures { SendsLine D.sight directory.now desk.old (request_in line.now) result desk.new }
+    ensures { SendsLine (with_refusals ⊤ D.sight) directory.now desk.old (request_in line.now)
+        result desk.new }
 {
     match read_line(line) {
         Some(line) => request_reply(alloc, desk, directory, &line),
@@ -113,7 +116,7 @@ pub struct Front<'d, 'l, D, L> {
 }
 
 impl<D: Acts, L: Log> Answers for Front<'_, '_, D, L> {
-    ghost steps = { LineStep D.sight L.is_losing L.contents };
+    ghost steps = { LineStep (with_refusals ⊤ D.sight) L.is_losing L.contents };
 
     fn answer<W: Write>(&mut self, line: &[u8], writer: &mut W) -> io::Result<()> {
         self.log.begin();

@@ -1,7 +1,8 @@
 //! A law over what a batch writes, with no program in it: an empty function whose contract is the
 //! law.
 
-ghost use Rattle.std.specs.Prelude.{◌≡◌, ◌∷◌, ◌++◌, [], ℕ, true, List};
+ghost use Rattle.hq_rules.specs.Desks.{or_memory};
+ghost use Rattle.std.specs.Prelude.{◌≡◌, ◌∷◌, ◌++◌, [], ℕ, true, List, ⊤};
 ghost use Rattle.std.specs.List.{list_all};
 ghost use Rattle.hq_values.specs.Words.{is_name};
 ghost use Rattle.hq_tables.specs.Tables.{Tables};
@@ -18,6 +19,7 @@ use hq_rules::Acts;
 /// apart at its LFs into the replies.
 pub fn reply_lines_end_once<D: Acts>()
     ensures { (host : List ℕ) (d : Directory) (a : Ask) (r : SeenReply) (t t' : Tables)
-        → list_all is_name (names_of d) ≡ true → MayReply D.sight.store.may_answer host d t a r t'
+        → list_all is_name (names_of d) ≡ true → MayReply (or_memory ⊤ D.sight.store).may_answer
+        host d t a r t'
         → (line : List ℕ) × (reply_line r ≡ line ++ 10 ∷ []) × (is_one_line line ≡ true) }
 {}

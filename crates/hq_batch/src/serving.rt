@@ -1,6 +1,7 @@
 //! A batch with the desk.
 
-ghost use Rattle.std.specs.Prelude.{◌≡◌};
+ghost use Rattle.hq_wire.specs.Exchanges.{with_refusals};
+ghost use Rattle.std.specs.Prelude.{◌≡◌, ⊤};
 ghost use Rattle.hq_lines.specs.Ends.{InputEnds};
 ghost use Rattle.hq_batch.specs.Batches.{Replied};
 
@@ -21,7 +22,8 @@ fn serve_front<R: Read, W: Write, D: Acts + Drop, L: Log>(
     front: &mut Front<'_, '_, D, L>,
 ) -> Result<(), EngineFault>
     ensures same_reference { front.new.desk.ghost_name ≡ front.old.desk.ghost_name }
-    ensures ended { InputEnds (λ asked lines. Replied D.sight front.old.directory.now
+    ensures ended { InputEnds (λ asked lines. Replied (with_refusals ⊤ D.sight)
+        front.old.directory.now
         front.old.desk.now asked lines front.new.desk.now)
         ((reader.new ≡ reader.old) × (writer.new ≡ writer.old)
         × (front.new.desk.now ≡ front.old.desk.now))
@@ -59,7 +61,8 @@ pub fn batch<R: Read, W: Write, D: Acts + Drop, L: Log>(
     directory: &Directory,
     log: &mut L,
 ) -> Result<(), EngineFault>
-    ensures { InputEnds (λ asked lines. Replied D.sight directory.now desk.old asked lines desk.new)
+    ensures { InputEnds (λ asked lines. Replied (with_refusals ⊤ D.sight) directory.now desk.old
+        asked lines desk.new)
         ((reader.new ≡ reader.old) × (writer.new ≡ writer.old) × (desk.new ≡ desk.old))
         (record { input = R.remaining reader.old; output = W.contents writer.old })
         (record { input = R.remaining reader.new; output = W.contents writer.new }) result }

@@ -6,10 +6,9 @@ ghost use Rattle.hq_desk.specs.Desks.{shelf_of, host_of};
 
 use hq_kept::Entry;
 use hq_reads::decide;
-use hq_rules::{Acts, Call, Render, Rendered};
+use hq_rules::{Acts, Call, CsvMemory, Render, Rendered};
 use hq_tables::Shelf;
 use hq_values::{Fault, Host, Moment};
-use std::alloc::Global;
 
 /// The desk of all customers, over a shelf that keeps their tables.
 #[derive(Drop)]
@@ -40,17 +39,17 @@ impl<S: Shelf + Drop> Acts for Desk<S> {
 
     ghost sight = { on S.sight };
 
-    fn act<R: Render>(
+    fn act<R: Render, M: CsvMemory>(
         &mut self,
-        alloc: Global,
+        memory: M,
         at: Moment,
         entry: &Entry,
         call: Call,
         render: &R,
     ) -> Result<Rendered, Fault> {
-        let decision = decide(&mut self.shelf, &self.host, alloc, at, entry, call)?;
+        let decision = decide(&mut self.shelf, &self.host, memory, at, entry, call)?;
         let number = decision.answer.number();
-        let bytes = render.render(alloc, &decision.answer)?;
+        let bytes = render.render(memory, &decision.answer)?;
         self.shelf.apply(&entry.name, decision.changes.as_slice())?;
         Ok(Rendered { number, bytes })
     }

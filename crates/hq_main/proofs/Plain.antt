@@ -2,7 +2,6 @@
 use Rattle.std.proofs.Common.{◌≡◌, ℕ, false, List, Option, sym, ap, ◌∙◌, subst, refl, arith, lit<}
 use Rattle.std.proofs.Common.{map}
 use Rattle.std.specs.Bool.{⊤}
-use Rattle.hq_values.specs.Refusals.{no_memory}
 use Rattle.hq_values.specs.declared.failure.Fault.TheVariants.{WantOfMemory}
 use Rattle.hq_lists.specs.Lists.{tables_of}
 use Rattle.hq_tables.specs.Shelves.{Sight}
@@ -11,6 +10,7 @@ use Rattle.hq_tables.specs.Tables.{no_tables}
 use Rattle.hq_lists.specs.declared.list_rows.ListRows.{ListRows}
 use Rattle.hq_tables.proofs.Empty.{empty_sound}
 use Rattle.hq_desk.specs.Desks.{host_of, on, shelf_of}
+use Rattle.hq_wire.specs.Exchanges.{with_refusals}
 use Rattle.hq_wire.specs.Runs.{AllReplied, Alone}
 use Rattle.hq_wire.proofs.Serving.{all_replied}
 use Rattle.hq_lines.specs.Fields.{LineRequest}
@@ -19,7 +19,7 @@ use Rattle.hq_settings.specs.Seen.{settings_seen}
 use Rattle.hq_settings.specs.declared.settings.Settings.{Settings}
 use Rattle.hq_batch.specs.Builtin.{settings}
 use Rattle.hq_batch.specs.Runs.{ServesOver}
-use Rattle.hq_main.specs.Runs.{ServesBuiltin}
+use Rattle.hq_main.specs.Runs.{ServesBuiltin, want_alone}
 
 -- what is seen of the shelf of plain lists
 abbrev pub plain : Sight ListRows
@@ -29,7 +29,7 @@ plain = record {
   fault_count = λ _. 0;
   is_clean = λ _. ⊤;
   is_ours = λ _. ⊤;
-  may_answer = λ fault. fault ≡ WantOfMemory;
+  may_answer = λ fault. (fault ≡ WantOfMemory) × ⊤;
   may_leave = λ _ _. ⊥;
   leaves_desk = λ _. ⊤;
 }
@@ -48,7 +48,8 @@ serves set builtin shelf none asked lines it =
     let after = tables_of (shelf_of new) in
     let asks = map (ask_in d) asked in
     let sound = subst Sound (sym empty) empty_sound in
-    let all = all_replied (on plain) d old new asks p.0 p.2.each tt tt refl sound in
+    let all = all_replied (with_refusals ⊤ (on plain)) d old new asks p.0 p.2.each tt tt refl sound
+    in
     let alone = p.2.alone tt tt refl sound in
     let few = p.2.counted (lit< tt) in
     record {
@@ -57,8 +58,8 @@ serves set builtin shelf none asked lines it =
       replies = p.0;
       lines_are = p.1;
       tables = after;
-      replied = subst (λ n. AllReplied (λ fault. fault ≡ no_memory) n d no_tables asks p.0 after)
-          named (subst (λ t. AllReplied (λ fault. fault ≡ no_memory) (host_of old) d t asks p.0
+      replied = subst (λ n. AllReplied want_alone n d no_tables asks p.0 after)
+          named (subst (λ t. AllReplied want_alone (host_of old) d t asks p.0
           after) empty all);
       alone = subst (λ n. Alone n d asks p.0 no_tables after) named
           (subst (λ t. Alone (host_of old) d asks p.0 t after) empty alone);

@@ -1,10 +1,11 @@
 -- What the program does: with lines of the built-in customers, from an empty desk in memory; with
 -- lines, or connections, of those of a directory; and with its words.
 use Rattle.std.specs.Prelude.{◌≡◌, ◌≤◌, ⊤, ℕ, [], List, map, Option, option_map, Result, Ok, Err}
-use Rattle.std.specs.Prelude.{IfOk, string_bytes}
+use Rattle.std.specs.Prelude.{◌⊎◌, IfOk, string_bytes}
 use Rattle.std.specs.Io.KnownBytes.{Appends}
 use Rattle.std.specs.declared.alloc.AllocError.{AllocError}
 use Rattle.hq_values.specs.Refusals.{no_memory}
+use Rattle.hq_values.specs.declared.failure.Fault.{Fault}
 use Rattle.hq_tables.specs.Shelves.{Sight}
 use Rattle.hq_tables.specs.Tables.{Tables, no_tables}
 use Rattle.hq_wire.specs.Replies.{SeenReply, store_faults}
@@ -38,6 +39,10 @@ use Rattle.hq_words.specs.declared.words.Words.{Words}
 use Rattle.hq_words.specs.declared.words.Words.TheVariants.{Builtin, Word as OfWord, Shown, Refused}
 use Rattle.hq_main.specs.Rounds.{DoesSweep, IsRoundPrinted}
 
+-- the faults over plain lists: want of memory, of the desk or of the lists
+abbrev pub want_alone : Fault → Type 0
+want_alone fault = ((fault ≡ no_memory) × ⊤) ⊎ ((fault ≡ no_memory) × ⊤)
+
 -- What lines ask for is replied to as a batch of the built-in customers from empty tables, with no
 -- fault but want of memory; to each customer the desk is its own.
 pub record ServesBuiltin (asked : List (Option LineRequest)) (lines : List (List ℕ)) : Type 0 where
@@ -46,7 +51,7 @@ pub record ServesBuiltin (asked : List (Option LineRequest)) (lines : List (List
   pub replies : List SeenReply
   pub lines_are : lines ≡ map reply_line replies
   pub tables : Tables
-  pub replied : AllReplied (λ fault. fault ≡ no_memory) set.host set.directory no_tables
+  pub replied : AllReplied want_alone set.host set.directory no_tables
       (map (ask_in set.directory) asked) replies tables
   pub alone : Alone set.host set.directory (map (ask_in set.directory) asked) replies no_tables
       tables

@@ -26,7 +26,8 @@ module _ {D : Type 0} (sight : DeskSight D) (d : Directory) (at : ℕ) (a b : Op
   of_nothing h = inl (h, served sight d old old [] [] refl)
 
   -- it was refused
-  pub of_refusal : (why : Refusal) (r : SeenReply) → Received a b (refused why) → IsRefused why r →
+  pub of_refusal : (why : Refusal) (r : SeenReply) → Received a b (refused why) →
+      IsRefused sight.store.may_answer why r →
       tells_store r ≡ false → AnsweredAs sight d at a b old (refused why) (Some r) old
   of_refusal why r h told store = inl (
     h,

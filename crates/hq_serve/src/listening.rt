@@ -1,5 +1,7 @@
 //! The connections of a listening socket.
 
+ghost use Rattle.std.specs.Prelude.{⊤};
+ghost use Rattle.hq_wire.specs.Exchanges.{with_refusals};
 ghost use Rattle.hq_serve.specs.Listening.{connections_left, DoesSome, ServesComing};
 
 use crate::connections::Connections;
@@ -55,7 +57,7 @@ fn serve_between<R: Read, W: Write, D: Acts, L: Log>(
     at: Moment,
     log: &mut L,
 ) -> Result<(), EngineFault>
-    ensures { DoesSome D.sight directory.now 1 desk.old desk.new }
+    ensures { DoesSome (with_refusals ⊤ D.sight) directory.now 1 desk.old desk.new }
 {
     serve_one(alloc, reader, writer, desk, directory, at, log)
 }
@@ -71,7 +73,7 @@ fn serve_gathered<R: Read, W: Write + Drop, D: Acts, L: Log>(
     at: Moment,
     log: &mut L,
 ) -> Result<(), EngineFault>
-    ensures { DoesSome D.sight directory.now 1 desk.old desk.new }
+    ensures { DoesSome (with_refusals ⊤ D.sight) directory.now 1 desk.old desk.new }
 {
     if let Ok(mut gathered) = BufWriter::new(alloc, &mut *writer) {
         return serve_between(alloc, reader, &mut gathered, desk, directory, at, log);
@@ -89,7 +91,7 @@ fn serve_stream<C: Clock + AllocGlobal, D: Acts, L: Log>(
     at: Moment,
     log: &mut L,
 ) -> Result<(), EngineFault>
-    ensures { DoesSome D.sight directory.now 1 desk.old desk.new }
+    ensures { DoesSome (with_refusals ⊤ D.sight) directory.now 1 desk.old desk.new }
 {
     let until = Until::After(limits.request);
     let mut reader = Due {
@@ -151,7 +153,8 @@ pub fn serve_on<C: Clock + AllocGlobal, D: Acts, E: Write, L: Log>(
     errors: &mut E,
     log: &mut L,
 ) -> ServiceEnd
-    ensures { ServesComing D.sight directory.now (connections_left connections.old)
+    ensures { ServesComing (with_refusals ⊤ D.sight) directory.now (connections_left
+        connections.old)
         (connections_left connections.new) result desk.old desk.new }
 {
     loop {

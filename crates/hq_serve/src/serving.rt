@@ -1,6 +1,7 @@
 //! One connection with the desk.
 
-ghost use Rattle.std.specs.Prelude.{◌≡◌, false, List, ℕ, Option, IfOk, IfErr};
+ghost use Rattle.hq_wire.specs.Exchanges.{with_refusals};
+ghost use Rattle.std.specs.Prelude.{◌≡◌, false, List, ℕ, Option, IfOk, IfErr, ⊤};
 ghost use Rattle.hq_http.specs.Stages.{request_seen, InputIs, LeavesOpen};
 ghost use Rattle.hq_lines.specs.Written.{GoesOut};
 ghost use Rattle.hq_wire.specs.Replies.{seen};
@@ -66,7 +67,8 @@ fn reply_to<'d, D: Acts>(
     input: Input,
 ) -> Option<RequestReplied<'d>>
     ensures { (read_old read_new : Option (List ℕ)) → InputIs read_old read_new input
-        → Sends D.sight directory.now at read_old read_new desk.old result desk.new }
+        → Sends (with_refusals ⊤ D.sight) directory.now at read_old read_new desk.old result
+        desk.new }
 {
     match input {
         Input::Nothing => None,
@@ -124,11 +126,12 @@ pub fn serve_one<R: Read, W: Write, D: Acts, L: Log>(
     at: Moment,
     log: &mut L,
 ) -> Result<(), EngineFault>
-    ensures ends { ConnectionEnds D.sight directory.now at
+    ensures ends { ConnectionEnds (with_refusals ⊤ D.sight) directory.now at
         (record { input = R.remaining reader.old; output = W.contents writer.old })
         (record { input = R.remaining reader.new; output = W.contents writer.new })
         (writer.new ≡ writer.old) desk.old desk.new result }
-    ensures logged { L.is_losing log.new ≡ false → LogEnds D.sight directory.now at
+    ensures logged { L.is_losing log.new ≡ false → LogEnds (with_refusals ⊤ D.sight) directory.now
+        at
         (record { input = R.remaining reader.old; output = W.contents writer.old })
         (record { input = R.remaining reader.new; output = W.contents writer.new })
         desk.old desk.new (L.is_losing log.old) (L.contents log.old) (L.contents log.new) result }

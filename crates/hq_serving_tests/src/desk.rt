@@ -14,7 +14,7 @@ const CUSTOMERS: &[u8] = b"name,key,messages,bytes,lines,notices,delay\n\
 /// A desk with the directory of its customers.
 #[derive(Drop)]
 pub struct Office {
-    pub desk: Desk<ListShelf>,
+    pub desk: Desk<ListShelf<Global>>,
     pub directory: Directory,
 }
 

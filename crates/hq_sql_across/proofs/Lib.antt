@@ -1,3 +1,4 @@
 pub mod Found
 pub mod Passing
 pub mod Replied
+pub mod Telling

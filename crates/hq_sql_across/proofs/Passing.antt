@@ -2,6 +2,7 @@
 use Rattle.std.proofs.Common.{◌≡◌, ℕ, true, false, List, [], ◌∷◌, inl, inr, map, sym, ap}
 use Rattle.std.proofs.Common.{◌∙◌, ◌++◌, ◌≤◌, ◌-◌, length, get_or, take, drop, ap₂, subst, refl}
 use Rattle.std.proofs.Common.{arith}
+use Rattle.std.specs.Prelude.{⊤}
 use Rattle.std.proofs.Common.{append_assoc}
 use Rattle.std.proofs.lemmas.List.{map-append, take_all}
 use Rattle.std.specs.Bool.{⊤}
@@ -20,10 +21,12 @@ use Rattle.hq_requests.specs.declared.directory.Directory.{Directory}
 use Rattle.hq_requests.specs.declared.exchanges.Exchange.{Exchange}
 use Rattle.hq_wire.specs.Exchanges.{ask_of}
 use Rattle.hq_wire.specs.Replies.{IsSent}
+use Rattle.hq_wire.specs.Exchanges.{with_refusals}
 use Rattle.hq_wire.specs.Runs.{RunsSo}
 use Rattle.hq_requests.specs.declared.reply.Reply.{Reply}
 use Rattle.hq_wire.proofs.Alone.{alone}
 use Rattle.hq_wire.proofs.Serving.{tells_each}
+use Rattle.hq_sql_across.proofs.Telling.{tells_any}
 use Rattle.hq_across.specs.Histories.{Passed, Session, uncut}
 use Rattle.hq_across.specs.Sessions.{IsJustOpened, IsSession}
 use Rattle.hq_across.proofs.Across.{across, across_sound}
@@ -97,7 +100,8 @@ module _ {S : Type 0} (g : Ghosts S) (d : Directory) (before : Trees → Type 0)
   )
 
   pub asked : (new : Desk (SqlShelf S)) (exchanges : List Exchange) (replies : List Reply)
-      → RunsSo (on (sight_over (state g))) d old (map (ask_of d) exchanges) replies new
+      → RunsSo (with_refusals ⊤ (on (sight_over (state g)))) d old (map (ask_of d) exchanges)
+      replies new
       → (on (sight_over (state g))).store.is_clean new
       → KeepsDesk (state g (shelf_of new).conn).may_leave
       × ((t' : Tables) → MayKeep (state g (shelf_of new).conn).may_leave t' → (t : Tables)
@@ -107,12 +111,13 @@ module _ {S : Type 0} (g : Ghosts S) (d : Directory) (before : Trees → Type 0)
     after : Trees → Type 0
     after = (state g (shelf_of new).conn).may_leave
 
-    opened : IsJustOpened (on (sight_over (state g))) old
+    opened : IsJustOpened (with_refusals ⊤ (on (sight_over (state g)))) old
     opened = record { ours = found.0; sound = sound; rests = rests }
 
     all : StopLeaves (on (sight_over (state g))).store new
         (IsSession (host_of old) d (map (ask_of d) exchanges) ran.told tables)
-    all = is_session (on (sight_over (state g))) d old new (map (ask_of d) exchanges) ran.told
+    all = is_session (with_refusals ⊤ (on (sight_over (state g)))) d old new (map (ask_of d)
+        exchanges) ran.told
         ran.served.each opened clean
 
     session_to : (trees : Trees) (t : Tables) → after trees → tables_with trees ≡ t →
@@ -147,8 +152,9 @@ module _ {S : Type 0} (g : Ghosts S) (d : Directory) (before : Trees → Type 0)
           record {
             by = refl;
             told = ran.sent;
-            tells = tells_each (on (sight_over (state g))) d old (map (ask_of d) exchanges) ran.told
-                new ran.served.each;
+            tells = tells_any _ d (map (ask_of d) exchanges) ran.told
+                (tells_each (with_refusals ⊤ (on (sight_over (state g)))) d old
+                (map (ask_of d) exchanges) ran.told new ran.served.each);
             asked = inl refl;
             stopped_at = one.stopped_at;
           },
@@ -191,7 +197,8 @@ module _ {S : Type 0} (g : Ghosts S) (d : Directory) (before : Trees → Type 0)
     (keeps : KeepsDesk before) (old new : Desk (SqlShelf S)) (taken : Taken g before (shelf_of old))
     (exchanges : List Exchange) (replies : List Reply) where
   -- where exchanges were replied to
-  pub asked_passed : RunsSo (on (sight_over (state g))) d old (map (ask_of d) exchanges) replies
+  pub asked_passed : RunsSo (with_refusals ⊤ (on (sight_over (state g)))) d old (map (ask_of d)
+      exchanges) replies
       new
       → HasCleanDisk (state g (shelf_of new).conn)
       → is_doubtful (shelf_of new).standing ≡ false

@@ -1,4 +1,5 @@
 -- What the replies of a session tell.
+use Rattle.std.specs.Prelude.{⊤}
 use Rattle.std.proofs.Common.{◌≡◌, ◌⊎◌, inl, inr, ⊎_elim, List, [], ◌∷◌, map, subst}
 use Rattle.std.specs.List.{AllZip}
 use Rattle.hq_requests.specs.declared.directory.Directory.{Directory}
@@ -10,7 +11,7 @@ use Rattle.hq_across.specs.Histories.{Session}
 use Rattle.hq_sql_across.specs.Stopped.{IsServed, IsReplyTo}
 
 each : (d : Directory) (xs : List Exchange) (replies : List Reply) (rs : List SeenReply) →
-    AllZip IsSent replies rs → AllZip (Tells d) (map (ask_of d) xs) rs →
+    AllZip IsSent replies rs → AllZip (Tells (λ fault. ⊤) d) (map (ask_of d) xs) rs →
     AllZip (IsReplyTo d) xs replies
 each d [] [] rs sent tells = tt
 each d [] (reply ∷ replies) [] sent tells = absurd sent
@@ -25,5 +26,6 @@ pub replied : (d : Directory) (exchanges : List Exchange) (replies : List Reply)
     IsServed d exchanges replies s → (replies ≡ []) ⊎ AllZip (IsReplyTo d) exchanges replies
 replied d exchanges replies s served = ⊎_elim
     (λ (all : s.asked ≡ map (ask_of d) exchanges). inr (each d exchanges replies s.replies
-    served.told (subst (λ (asks : List Ask). AllZip (Tells d) asks s.replies) all served.tells)))
+    served.told (subst (λ (asks : List Ask). AllZip (Tells (λ fault. ⊤) d) asks s.replies) all
+    served.tells)))
     (λ (none : (s.asked ≡ []) × (replies ≡ [])). inl none.1) served.asked

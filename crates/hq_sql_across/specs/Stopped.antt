@@ -56,13 +56,13 @@ pub record IsServed (d : Directory) (exchanges : List Exchange) (replies : List 
   pub by : s.directory ≡ d
   pub told : AllZip IsSent replies s.replies
   -- what each of them tells, the calls that no customer is told of among them
-  pub tells : AllZip (Tells d) s.asked s.replies
+  pub tells : AllZip (Tells (λ fault. ⊤) d) s.asked s.replies
   pub asked : (s.asked ≡ map (ask_of d) exchanges) ⊎ ((s.asked ≡ []) × (replies ≡ []))
   pub stopped_at : StoppedAt d s.asked s.replies s.under_way
 
 -- the bytes of a reply tell what may be told of an exchange
 abbrev pub IsReplyTo : Directory → Exchange → Reply → Type 0
-IsReplyTo d x reply = (r : SeenReply) × IsSent reply r × Tells d (ask_of d x) r
+IsReplyTo d x reply = (r : SeenReply) × IsSent reply r × Tells (λ fault. ⊤) d (ask_of d x) r
 
 -- From one stop up to the next: it is a desk's still, and whatever an opening may
 -- find then came by a session from what an opening may have found before.

@@ -18,7 +18,7 @@ use Rattle.hq_sql_shelf.specs.declared.shelf.SqlShelf.{SqlShelf}
 use Rattle.hq_desk.specs.Desks.{on, host_of, shelf_of}
 use Rattle.hq_desk.specs.declared.desk.Desk.{Desk}
 use Rattle.hq_settings.specs.declared.settings.Settings.{Settings}
-use Rattle.hq_wire.specs.Exchanges.{Ask}
+use Rattle.hq_wire.specs.Exchanges.{Ask, with_refusals}
 use Rattle.hq_wire.specs.Replies.{SeenReply}
 use Rattle.hq_wire.specs.Runs.{AllReplied, Alone, Served}
 use Rattle.hq_wire.proofs.Serving.{all_replied}
@@ -43,7 +43,8 @@ pub from_empty : (settings : Settings) (shelf : SqlShelf MemStore) →
     tables_in (state over_memory shelf.conn).committed ≡ no_tables
     → (old new : Desk (SqlShelf MemStore)) → host_of old ≡ settings.host → shelf_of old ≡ shelf
     → (asks : List Ask) (replies : List SeenReply) →
-    Served (on memory) settings.directory old asks replies new → FromEmpty settings asks replies new
+    Served (with_refusals ⊤ (on memory)) settings.directory old asks replies new → FromEmpty
+    settings asks replies new
 from_empty settings shelf ours none old new named is asks replies p =
     let d = settings.directory in
     let empty = ap memory.tables is ∙ none in
@@ -56,9 +57,12 @@ from_empty settings shelf ours none old new named is asks replies p =
     let owned = subst memory.is_ours (sym is) ours in
     record {
       replied = λ stays.
-          let all = all_replied (on memory) d old new asks replies p.each clean owned stays sound in
-          subst (λ n. AllReplied memory.may_answer n d no_tables asks replies after) named
-          (subst (λ t. AllReplied memory.may_answer (host_of old) d t asks replies after) empty
+          let all = all_replied (with_refusals ⊤ (on memory)) d old new asks replies p.each clean
+          owned stays sound in
+          subst (λ n. AllReplied (with_refusals ⊤ (on memory)).store.may_answer n d no_tables asks
+          replies after) named
+          (subst (λ t. AllReplied (with_refusals ⊤ (on memory)).store.may_answer (host_of old) d t
+          asks replies after) empty
           all);
       alone = λ stays.
           let alone = p.alone clean owned stays sound in

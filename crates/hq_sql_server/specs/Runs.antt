@@ -1,6 +1,7 @@
 -- What a server of the program does over a store of `sqlite`, however it ends.
 use Rattle.std.specs.Prelude.{◌≡◌, ◌⊎◌, ⊤, ℕ, List, Option, option_map, Result, Ok, Err}
 use Rattle.sqlite_trees.specs.declared.memory.MemStore.{MemStore}
+use Rattle.hq_wire.specs.Exchanges.{with_refusals}
 use Rattle.hq_values.specs.declared.failure.Fault.{Fault}
 use Rattle.hq_tables.specs.Shelves.{Sight}
 use Rattle.hq_sql_shelf.specs.Opened.{OverOpened, OverMemory, OverStore}
@@ -24,7 +25,7 @@ pub record ServesConnections {S : Type 0} (sight : Sight S) (settings : Settings
   pub host_is : host_of old ≡ settings.host
   pub shelf_is : shelf_of old ≡ shelf
   pub new : Desk S
-  pub served : DoesSome (on sight) settings.directory count old new
+  pub served : DoesSome (with_refusals ⊤ (on sight)) settings.directory count old new
 
 -- Why no more are served: as many came as there were to be, or one could not be accepted, or the
 -- clock tells no moment. That as many came is said where connections are counted, of `serve_on`;

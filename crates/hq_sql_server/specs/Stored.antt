@@ -13,7 +13,7 @@ use Rattle.hq_sql_shelf.specs.declared.shelf.SqlShelf.{SqlShelf}
 use Rattle.hq_desk.specs.Desks.{on}
 use Rattle.hq_desk.specs.declared.desk.Desk.{Desk}
 use Rattle.hq_settings.specs.declared.settings.Settings.{Settings}
-use Rattle.hq_wire.specs.Exchanges.{Ask}
+use Rattle.hq_wire.specs.Exchanges.{Ask, with_refusals}
 use Rattle.hq_wire.specs.Replies.{SeenReply}
 use Rattle.hq_wire.specs.Runs.{AllReplied, Alone}
 use Rattle.hq_lines.specs.Fields.{LineRequest}
@@ -45,7 +45,8 @@ memory = sight_over (state over_memory)
 pub record FromEmpty (settings : Settings) (asks : List Ask) (replies : List SeenReply)
     (new : Desk (SqlShelf MemStore)) : Type 0 where
   pub replied : (on memory).store.is_closed new ≡ false
-      → AllReplied memory.may_answer settings.host settings.directory no_tables asks replies
+      → AllReplied (with_refusals ⊤ (on memory)).store.may_answer settings.host settings.directory
+      no_tables asks replies
       ((on memory).store.tables new)
   pub alone : (on memory).store.is_closed new ≡ false
       → Alone settings.host settings.directory asks replies no_tables ((on memory).store.tables new)

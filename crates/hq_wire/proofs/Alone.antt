@@ -21,6 +21,7 @@ use Rattle.hq_rules.specs.declared.answer.Answer.{Answer}
 use Rattle.hq_isolation.proofs.Isolation.{caller, others}
 use Rattle.hq_requests.specs.Calls.{Asked, CallOf, CallOfAll}
 use Rattle.hq_requests.specs.Directories.{entry_of}
+use Rattle.hq_wire.specs.Exchanges.{IsWant}
 use Rattle.hq_wire.specs.Exchanges.{AllDone, Ask, CallsAll, Deed, IsStruck, MayReplyTo, Whole}
 use Rattle.hq_wire.specs.Exchanges.{deeds_of, of_part, told_as}
 use Rattle.hq_wire.specs.Replies.{SeenReply, plain, reply_of, status_of, reply_of_fault, fault_text}
@@ -158,14 +159,14 @@ module _ (may : Fault → Type 0) (host : List ℕ) (d : Directory) where
       (sym (ap (λ (x : SeenReply). eqb x.status 503) did.0
       ∙ answer_not_struck (answer_number (shared host (entry_of d name) t at call).0)))
       (ap Whole did.0, did.1))
-      (λ (no : (fault : Fault) × ((fault ≡ no_memory) ⊎ may fault) × IsStruck fault t r t'). subst
+      (λ (no : (fault : Fault) × may fault × IsStruck fault t r t'). subst
       Out (sym (eq-eqb r.status 503 (ap (λ (x : SeenReply). x.status) no.2.0
       ∙ fault_status no.0))) no.2.1) h
   done_once t t' at (Ok (CallOfAll call)) r h = ⊎_elim
       (λ (did : CallsAll may host d t at call r t'). did.done)
-      (λ (no : IsStruck no_memory t r t'). subst
+      (λ (no : IsWant may r × (t' ≡ t)). subst
       (λ parts. AllDone host d t (map (of_part at call) parts) t')
-      (sym (ap (λ (x : SeenReply). x.parts) no.0 ∙ no_parts no_memory)) no.1) h
+      (sym (ap (λ (x : SeenReply). x.parts) no.0.1 ∙ no_parts no_memory)) no.1) h
 
   all_done : (t t' : Tables) (asks : List Ask) (rs : List SeenReply) →
       AllReplied may host d t asks rs t' → AllDone host d t (deeds asks rs) t'

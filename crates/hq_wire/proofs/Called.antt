@@ -17,12 +17,12 @@ use Rattle.hq_tables.specs.Sound.{Sound}
 use Rattle.hq_tables.specs.Tables.{Tables}
 use Rattle.hq_rules.specs.Machine.{shared}
 use Rattle.hq_rules.specs.declared.call.Call.{Call}
-use Rattle.hq_rules.specs.Desks.{DeskSight, IsRendered, Stays, or_memory, stepped}
+use Rattle.hq_rules.specs.Desks.{DeskSight, IsRendered, Stays, stepped}
 use Rattle.hq_rules.specs.declared.render.Rendered.{Rendered}
 use Rattle.hq_requests.specs.Calls.{CallOfAll}
 use Rattle.hq_requests.specs.Directories.{entry_of, names_of}
-use Rattle.hq_wire.specs.Exchanges.{AllDone, Exchanged, InPart, StopsClosed, Unheard, after_calls}
-use Rattle.hq_wire.specs.Exchanges.{of_part, unheard_call}
+use Rattle.hq_wire.specs.Exchanges.{AllDone, Exchanged, InPart, IsWant, StopsClosed, Unheard}
+use Rattle.hq_wire.specs.Exchanges.{after_calls, of_part, unheard_call}
 use Rattle.hq_wire.specs.Replies.{AreObjects, IsObject, Part, is_memory, comma_joined}
 use Rattle.hq_wire.specs.Replies.{parts_opening, part_text}
 use Rattle.hq_wire.specs.Replies.{separated, parted_reply, reply_of_fault}
@@ -178,7 +178,7 @@ module _ {D : Type 0} (sight : DeskSight D) (d : Directory) (at : ℕ) (call : C
       (stepped sight mid entry at made_call).0 rendered)
       → OnSound sight.store mid new (tables new ≡ (stepped sight mid entry at made_call).1)
       → OnOpenSound sight.store mid new (Sound (tables new))
-      → KeepsOnErr (or_memory sight.store) mid new (Ok rendered)
+      → KeepsOnErr sight.store mid new (Ok rendered)
       → sight.host new ≡ sight.host mid
       → IsObject rendered.bytes.items
       → SoFar old (names ++ entry.name ∷ []) new longer false
@@ -266,7 +266,7 @@ module _ {D : Type 0} (sight : DeskSight D) (d : Directory) (at : ℕ) (call : C
   } where
     either : ((names ≡ []) × (new ≡ old)) ⊎ (sight.store.is_closed new ≡ false) →
         sight.store.is_closed new ≡ true →
-        ((parted_reply so_far.parts None ≡ reply_of_fault no_memory) ⊎ (names_of d ≡ []))
+        (IsWant sight.store.may_answer (parted_reply so_far.parts None) ⊎ (names_of d ≡ []))
         × (new ≡ old)
     either (inl none) closed = (inr (sym all ∙ none.0), none.1)
     either (inr open_) closed = apart (sym open_ ∙ closed)
@@ -281,7 +281,7 @@ module _ {D : Type 0} (sight : DeskSight D) (d : Directory) (at : ℕ) (call : C
       → OnOpenSound sight.store mid new (Sound (tables new))
       → OnSound sight.store mid new (StopLeavesWhole sight.store mid new
       (stepped sight mid entry at made_call).1)
-      → KeepsOnErr {X = Rendered} (or_memory sight.store) mid new (Err fault)
+      → KeepsOnErr {X = Rendered} sight.store mid new (Err fault)
       → sight.host new ≡ sight.host mid
       → Exchanged sight d old (record { at = at; called = Ok (CallOfAll call) })
       (parted_reply so_far.parts (Some (record { customer = entry.name; fault = fault }))) new
@@ -321,7 +321,7 @@ module _ {D : Type 0} (sight : DeskSight D) (d : Directory) (at : ℕ) (call : C
         tells = inl (record {
           left = name ∷ more;
           order = all ∙ ap (λ ns. ns ++ name ∷ more) (sym so_far.whose);
-          ends = (inr tt, (more, refl));
+          ends = (kept.cause, (more, refl));
           objects = so_far.objects;
           reply = refl;
         });

@@ -11,16 +11,19 @@ use Rattle.hq_values.specs.declared.failure.Fault.{Fault}
 use Rattle.hq_values.specs.declared.failure.Fault.TheVariants.{WantOfMemory, Disk, BadSchema}
 use Rattle.hq_values.specs.declared.failure.Fault.TheVariants.{Closed}
 use Rattle.hq_values.specs.declared.failure.Refusal.{Refusal}
-use Rattle.hq_tables.specs.Shelves.{Sight, IsTallied, StopLeaves, StopLeavesTables, one_more}
+use Rattle.hq_tables.specs.Shelves.{Sight, IsTallied, KeepsOnErr, StopLeaves, StopLeavesTables}
+use Rattle.hq_tables.specs.Shelves.{one_more}
+use Rattle.std.specs.Prelude.{IfErr}
 use Rattle.hq_tables.specs.Tables.{Tables}
 use Rattle.hq_kept.specs.declared.account.Entry.{Entry}
 use Rattle.hq_rules.specs.Machine.{shared}
 use Rattle.hq_rules.specs.declared.call.Call.{Call}
 use Rattle.hq_requests.specs.Directories.{entry_of}
-use Rattle.hq_rules.specs.Desks.{DeskSight, Stays}
+use Rattle.hq_rules.specs.Desks.{DeskSight, Stays, or_memory}
 use Rattle.hq_rules.specs.declared.render.Rendered.{Rendered}
 use Rattle.hq_requests.specs.Calls.{Asked, CallOf, CallOfAll}
-use Rattle.hq_wire.specs.Exchanges.{Ask, MayReplyTo, IsRefused, RepliesAnyway, StopsClosed}
+use Rattle.hq_wire.specs.Exchanges.{Ask, MayReplyTo, IsRefused, IsWant, RepliesAnyway}
+use Rattle.hq_wire.specs.Exchanges.{StopsClosed, with_refusals}
 use Rattle.hq_wire.specs.Exchanges.{TellsClosed, TellsOf, Exchanged, AllDone, Deed, StopMayLeave}
 use Rattle.hq_wire.specs.Exchanges.{Whole, after_calls, deeds_of, of_part, unheard_call}
 use Rattle.hq_wire.specs.Replies.{Part, SeenReply, Stop, fault_text, is_memory, reply_of_fault}
@@ -132,26 +135,27 @@ leaves_one sight host d old new entry at call r none known left =
       ),
     )
 
--- want of memory may be told of anything that was asked
+-- want of memory may be told of anything that was asked, where it may be answered
 pub without_room : (may : Fault → Type 0) (host : List ℕ) (d : Directory) (t : Tables) (at : ℕ)
-    (called : Result Asked Refusal) (r : SeenReply) → r ≡ reply_of_fault no_memory →
+    (called : Result Asked Refusal) (r : SeenReply) → IsWant may r →
     MayReplyTo may host d t at called r t
-without_room may host d t at (Err e) r h = (inr h, refl)
-without_room may host d t at (Ok (CallOf name call)) r h = inr (no_memory, inl refl, (h, refl))
-without_room may host d t at (Ok (CallOfAll call)) r h = inr (h, refl)
+without_room may host d t at (Err e) r want = (inr want, refl)
+without_room may host d t at (Ok (CallOf name call)) r want =
+    inr (no_memory, want.0, (want.1, refl))
+without_room may host d t at (Ok (CallOfAll call)) r want = inr (want, refl)
 
 room_anyway : {D : Type 0} (sight : Sight D) (d : Directory) (desk : D)
-    (called : Result Asked Refusal) (r : SeenReply) → r ≡ reply_of_fault no_memory →
+    (called : Result Asked Refusal) (r : SeenReply) → IsWant sight.may_answer r →
     RepliesAnyway sight d desk called r desk
-room_anyway sight d desk (Err e) r h = (inr h, refl)
-room_anyway sight d desk (Ok (CallOf name call)) r h = λ closed. inr (h, refl)
-room_anyway sight d desk (Ok (CallOfAll call)) r h = λ closed. inr (inl h, refl)
+room_anyway sight d desk (Err e) r want = (inr want, refl)
+room_anyway sight d desk (Ok (CallOf name call)) r want = λ closed. inr (want, refl)
+room_anyway sight d desk (Ok (CallOfAll call)) r want = λ closed. inr (inl want, refl)
 
-room_tells : (d : Directory) (called : Result Asked Refusal) (r : SeenReply) →
-    r ≡ reply_of_fault no_memory → TellsOf d called r
-room_tells d (Err e) r h = inr h
-room_tells d (Ok (CallOf name call)) r h = inr (no_memory, h)
-room_tells d (Ok (CallOfAll call)) r h = inr h
+room_tells : (may : Fault → Type 0) (d : Directory) (called : Result Asked Refusal)
+    (r : SeenReply) → IsWant may r → TellsOf may d called r
+room_tells may d (Err e) r want = inr want
+room_tells may d (Ok (CallOf name call)) r want = inr (no_memory, want.0, want.1)
+room_tells may d (Ok (CallOfAll call)) r want = inr want
 
 none_more : (b : Bool) (n : ℕ) → b ≡ false → cond b 1 0 + n ≡ n
 none_more b n h = subst (λ (x : Bool). cond x 1 0 + n ≡ n) (sym h) (omega arith)
@@ -273,24 +277,25 @@ stop_closes Closed was is m n parts name h told = h.0
 
 module _ {D : Type 0} (sight : DeskSight D) (d : Directory) (desk : D) where
   -- there was no room for it, and nothing was done
-  pub no_room : (a : Ask) (r : SeenReply) → r ≡ reply_of_fault no_memory →
+  pub no_room : (a : Ask) (r : SeenReply) → IsWant sight.store.may_answer r →
       Exchanged sight d desk a r desk
-  no_room a r h = record {
-    replied = λ clean ours open_ sound. without_room sight.store.may_answer _ d _ a.at a.called r h;
-    tells = room_tells d a.called r h;
-    anyway = room_anyway sight.store d desk a.called r h;
-    closed = tells_none r (ap tells_store h ∙ memory_is_none);
+  no_room a r want = record {
+    replied = λ clean ours open_ sound.
+        without_room sight.store.may_answer _ d _ a.at a.called r want;
+    tells = room_tells sight.store.may_answer d a.called r want;
+    anyway = room_anyway sight.store d desk a.called r want;
+    closed = tells_none r (ap tells_store want.1 ∙ memory_is_none);
     sound = λ clean ours open_ sound. sound;
     stays = stay_put sight desk;
     stops = λ clean ours sound. leaves_as_before sight.store (sight.host desk) d desk a r
-        (no_deeds no_memory a.at a.called r h);
-    shut = λ closed. no_deeds no_memory a.at a.called r h;
-    counted = λ small. none_more (tells_store r) _ (ap tells_store h ∙ memory_is_none);
+        (no_deeds no_memory a.at a.called r want.1);
+    shut = λ closed. no_deeds no_memory a.at a.called r want.1;
+    counted = λ small. none_more (tells_store r) _ (ap tells_store want.1 ∙ memory_is_none);
   }
 
   -- it was refused, and nothing was done
-  pub refused : (at : ℕ) (e : Refusal) (r : SeenReply) → IsRefused e r → tells_store r ≡ false →
-      Exchanged sight d desk (record { at = at; called = Err e }) r desk
+  pub refused : (at : ℕ) (e : Refusal) (r : SeenReply) → IsRefused sight.store.may_answer e r →
+      tells_store r ≡ false → Exchanged sight d desk (record { at = at; called = Err e }) r desk
   refused at e r h none = record {
     replied = λ clean ours open_ sound. (h, refl);
     tells = h;
@@ -303,3 +308,37 @@ module _ {D : Type 0} (sight : DeskSight D) (d : Directory) (desk : D) where
     shut = λ closed. refl;
     counted = λ small. none_more (tells_store r) _ none;
   }
+
+-- ---- refusals of memory
+
+-- a fault that this memory caused may be answered, by those who ask it
+module _ {D : Type 0} (refused : Type 0) (sight : DeskSight D) where
+  pub wanted : (r : SeenReply) → refused → r ≡ reply_of_fault no_memory →
+      IsWant (with_refusals refused sight).store.may_answer r
+  wanted r why h = (inl (refl, why), h)
+
+  pub refused_so : (e : Refusal) (r : SeenReply) →
+      IsRefused (λ fault. (fault ≡ no_memory) × refused) e r →
+      IsRefused (with_refusals refused sight).store.may_answer e r
+  refused_so e r (inl told) = inl told
+  refused_so e r (inr want) = inr (inl want.0, want.1)
+
+  -- what is kept where each answer was rendered, or memory refused room for it
+  pub rendered_all : {X : Type 0} (all : Type 0) (old new : D) (result : Result X Fault) → all →
+      KeepsOnErr (or_memory (all → refused) sight.store) old new result →
+      KeepsOnErr (with_refusals refused sight).store old new result
+  rendered_all all old new result takes kept = record {
+    none = kept.none;
+    ours = kept.ours;
+    quiet = kept.quiet;
+    tally = kept.tally;
+    cause = cause result kept.cause;
+    rests = kept.rests;
+    shut = kept.shut;
+  } where
+    cause : {X : Type 0} (result : Result X Fault) →
+        IfErr result (or_memory (all → refused) sight.store).may_answer →
+        IfErr result (with_refusals refused sight).store.may_answer
+    cause (Ok x) may = tt
+    cause (Err fault) (inl want) = inl (want.0, want.1 takes)
+    cause (Err fault) (inr may) = inr may

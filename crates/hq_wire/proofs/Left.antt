@@ -16,6 +16,7 @@ use Rattle.hq_rules.specs.declared.call.Call.{Call}
 use Rattle.hq_rules.proofs.Unchanged.{no_changes, reading_has_none}
 use Rattle.hq_requests.specs.Calls.{Asked, CallOf, CallOfAll, call_in}
 use Rattle.hq_requests.specs.Directories.{entry_of}
+use Rattle.hq_wire.specs.Exchanges.{IsWant}
 use Rattle.hq_wire.specs.Exchanges.{AllDone, CallsAll, IsStruck, MayReplyTo, of_part}
 use Rattle.hq_wire.specs.Replies.{Part, SeenReply, reply_of, status_of}
 use Rattle.hq_requests.specs.declared.directory.Directory.{Directory}
@@ -45,12 +46,12 @@ module _ (may : Fault → Type 0) (host : List ℕ) (d : Directory) (t t' : Tabl
   left_by_others (Ok (CallOf name call)) r h other = ⊎_elim
       (λ (did : (r ≡ reply_of (done_by name call).0) × (t' ≡ (done_by name call).1)). did.1
       ∙ called name call (λ same. other (ap (λ (x : SeenReply). x.status) did.0 ∙ same)))
-      (λ (struck : (fault : Fault) × ((fault ≡ no_memory) ⊎ may fault) × IsStruck fault t r t').
+      (λ (struck : (fault : Fault) × may fault × IsStruck fault t r t').
       struck.2.1) h
   left_by_others (Ok (CallOfAll call)) r h other = ⊎_elim
       (λ (did : CallsAll may host d t at call r t'). absurd
       (other (ap (λ (x : SeenReply). x.status) did.reply)))
-      (λ (struck : IsStruck no_memory t r t'). struck.1) h
+      (λ (struck : IsWant may r × (t' ≡ t)). struck.1) h
 
   read : (name : List ℕ) (call : Call) (s : Tables) → only_reads call ≡ true →
       (shared host (entry_of d name) s at call).1 ≡ s
@@ -71,8 +72,8 @@ module _ (may : Fault → Type 0) (host : List ℕ) (d : Directory) (t t' : Tabl
   left_by_reading (CallOf name call) r h reads = ⊎_elim
       (λ (did : (r ≡ reply_of (done_by name call).0) × (t' ≡ (done_by name call).1)). did.1
       ∙ read name call t reads)
-      (λ (struck : (fault : Fault) × ((fault ≡ no_memory) ⊎ may fault) × IsStruck fault t r t').
+      (λ (struck : (fault : Fault) × may fault × IsStruck fault t r t').
       struck.2.1) h
   left_by_reading (CallOfAll call) r h reads = ⊎_elim
       (λ (did : CallsAll may host d t at call r t'). all_read call t r.parts reads did.done)
-      (λ (struck : IsStruck no_memory t r t'). struck.1) h
+      (λ (struck : IsWant may r × (t' ≡ t)). struck.1) h

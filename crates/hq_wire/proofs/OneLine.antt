@@ -22,6 +22,7 @@ use Rattle.hq_json.specs.Replies.{answer_text}
 use Rattle.hq_json.proofs.OneLine.{answer_one_line, both_one_line}
 use Rattle.hq_requests.specs.Calls.{Asked, CallOf, CallOfAll}
 use Rattle.hq_requests.specs.Directories.{entry_of, names_of}
+use Rattle.hq_wire.specs.Exchanges.{IsWant}
 use Rattle.hq_wire.specs.Exchanges.{AllDone, CallsAll, EndsAt, InPart, IsStruck, MayReplyTo}
 use Rattle.hq_wire.specs.Exchanges.{of_part}
 use Rattle.hq_wire.specs.Replies.{Part, SeenReply, Stop, closing, fault_text, for_customer}
@@ -138,20 +139,19 @@ module _ (host : List ℕ) (d : Directory) (at : ℕ) where
           (λ (told : r ≡ reply_of (Refused refusal)). ap
           (λ (x : SeenReply). is_one_line x.body) told
           ∙ answer_one_line (Refused refusal))
-          (λ (struck : r ≡ reply_of_fault no_memory). ap (λ (x : SeenReply). is_one_line x.body)
-          struck ∙ struck_one no_memory) h.0
+          (λ (struck : IsWant may r). ap (λ (x : SeenReply). is_one_line x.body) struck.1
+          ∙ struck_one no_memory) h.0
       reply_one_line_of (Ok (CallOf name call)) r h = ⊎_elim
           (λ (did : (r ≡ reply_of (shared host (entry_of d name) t at call).0)
           × (t' ≡ (shared host (entry_of d name) t at call).1)). ap
           (λ (x : SeenReply). is_one_line x.body) did.0
           ∙ answer_one_line (shared host (entry_of d name) t at call).0)
-          (λ (struck : (fault : Fault) × ((fault ≡ no_memory) ⊎ may fault) × IsStruck fault t r t').
+          (λ (struck : (fault : Fault) × may fault × IsStruck fault t r t').
           ap (λ (x : SeenReply). is_one_line x.body) struck.2.0 ∙ struck_one struck.0) h
       reply_one_line_of (Ok (CallOfAll call)) r h = ⊎_elim
           (λ (did : CallsAll may host d t at call r t'). called_one call r did)
-          (λ (struck : IsStruck no_memory t r t'). ap (λ (x : SeenReply). is_one_line x.body)
-          struck.0
-          ∙ struck_one no_memory) h
+          (λ (struck : IsWant may r × (t' ≡ t)). ap (λ (x : SeenReply). is_one_line x.body)
+          struck.0.1 ∙ struck_one no_memory) h
 
 pub reply_one_line : (may : Fault → Type 0) (host : List ℕ) (d : Directory) (t t' : Tables) (at : ℕ)
     → list_all is_name (names_of d) ≡ true → (asked : Result Asked Refusal) (r : SeenReply) →

@@ -191,11 +191,12 @@ calls_apart call may mights host name d at moment t t' u u' r q one other e =
     one.reply ∙ (λ i. parted_reply (names.0 i) (stops i)) ∙ sym other.reply
 
 -- a reply to no call of all has no parts
-refusal_plain : (refusal : Refusal) (r : SeenReply) → IsRefused refusal r →
-    r ≡ plain r.status r.body
+refusal_plain : (may : Fault → Type 0) (refusal : Refusal) (r : SeenReply) →
+    IsRefused may refusal r → r ≡ plain r.status r.body
 unfolding reply_of_fault
-refusal_plain refusal r (inl is) = is ∙ sym (ap (λ (x : SeenReply). plain x.status x.body) is)
-refusal_plain refusal r (inr is) = is ∙ sym (ap (λ (x : SeenReply). plain x.status x.body) is)
+refusal_plain may refusal r (inl is) = is ∙ sym (ap (λ (x : SeenReply). plain x.status x.body) is)
+refusal_plain may refusal r (inr is) = is.1
+    ∙ sym (ap (λ (x : SeenReply). plain x.status x.body) is.1)
 
 fault_plain : (fault : Fault) (r : SeenReply) → r ≡ reply_of_fault fault → r ≡ plain r.status r.body
 unfolding reply_of_fault
@@ -219,15 +220,16 @@ module _ (may mights : Fault → Type 0) (host name : List ℕ) (d : Directory) 
   pub one_reading : (asked : Result Asked Refusal) (r q : SeenReply) →
       MayReplyTo may host d t at asked r t' → MayReplyTo mights name d u moment asked q u' →
       r.status ≡ q.status → r.body ≡ q.body → r ≡ q
-  one_reading (Err refusal) r q one other status body = refusal_plain refusal r one.0
-      ∙ (λ i. plain (status i) (body i)) ∙ sym (refusal_plain refusal q other.0)
+  one_reading (Err refusal) r q one other status body = refusal_plain may refusal r one.0
+      ∙ (λ i. plain (status i) (body i)) ∙ sym (refusal_plain mights refusal q other.0)
   one_reading (Ok (CallOf c call)) r q one other status body =
       call_plain may host t t' at c call r one ∙ (λ i. plain (status i) (body i))
       ∙ sym (call_plain mights name u u' moment c call q other)
   one_reading (Ok (CallOfAll call)) r q (inl one) (inl other) status body =
       calls_apart call may mights host name d at moment t t' u u' r q one other body
   one_reading (Ok (CallOfAll call)) r q (inl one) (inr other) status body =
-      absurd (no_fault no_memory r q one.reply other.0 status)
+      absurd (no_fault no_memory r q one.reply other.0.1 status)
   one_reading (Ok (CallOfAll call)) r q (inr one) (inl other) status body =
-      absurd (no_fault no_memory q r other.reply one.0 (sym status))
-  one_reading (Ok (CallOfAll call)) r q (inr one) (inr other) status body = one.0 ∙ sym other.0
+      absurd (no_fault no_memory q r other.reply one.0.1 (sym status))
+  one_reading (Ok (CallOfAll call)) r q (inr one) (inr other) status body =
+      one.0.1 ∙ sym other.0.1

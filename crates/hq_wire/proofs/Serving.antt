@@ -117,7 +117,7 @@ module _ {D : Type 0} (sight : DeskSight D) (d : Directory) where
 -- what each reply tells
 pub tells_each : {D : Type 0} (sight : DeskSight D) (d : Directory) (old : D) (asks : List Ask)
     (rs : List SeenReply) (new : D) → InTurn (Exchanged sight d) old asks rs new →
-    AllZip (Tells d) asks rs
+    AllZip (Tells sight.store.may_answer d) asks rs
 tells_each sight d old [] [] new h = tt
 tells_each sight d old [] (r ∷ rs) new h = absurd h
 tells_each sight d old (a ∷ asks) [] new h = absurd h

@@ -1,7 +1,7 @@
 -- One exchange: what may be replied, and what is left.
 use Rattle.std.specs.Prelude.{◌≡◌, ◌⊎◌, ℕ, ◌+◌, ◌-◌, ◌^◌, ◌<◌, ◌≤◌, ◌==◌, Bool, true, false, List}
 use Rattle.std.specs.Prelude.{[], ◌∷◌, ◌++◌, map, length, take, drop, Option, None, Some, Result}
-use Rattle.std.specs.Prelude.{Ok, Err, ⊤}
+use Rattle.std.specs.Prelude.{Ok, Err}
 use Rattle.std.specs.Prelude.{if◌then◌else◌}
 use Rattle.hq_values.specs.Refusals.{no_memory}
 use Rattle.hq_values.specs.declared.failure.Fault.{Fault}
@@ -10,7 +10,7 @@ use Rattle.hq_values.specs.declared.failure.Refusal.{Refusal}
 use Rattle.hq_tables.specs.Shelves.{Sight, OnSound, OnOpenSound, StopLeaves, StopLeavesTables}
 use Rattle.hq_tables.specs.Sound.{Sound}
 use Rattle.hq_tables.specs.Tables.{Tables}
-use Rattle.hq_rules.specs.Desks.{DeskSight, Stays}
+use Rattle.hq_rules.specs.Desks.{DeskSight, Stays, or_memory}
 use Rattle.hq_rules.specs.Machine.{shared}
 use Rattle.hq_rules.specs.declared.answer.Answer.{Answer}
 use Rattle.hq_rules.specs.declared.answer.Answer.TheVariants.{Refused}
@@ -30,9 +30,17 @@ pub record Ask : Type 0 where
 abbrev pub ask_of : Directory → Exchange → Ask
 ask_of d x = record { at = x.at; called = call_of d x }
 
+-- what is seen of a desk by exchanges that ask a memory for room, which may refuse
+abbrev pub with_refusals : {D : Type 0} → Type 0 → DeskSight D → DeskSight D
+with_refusals refused sight = record sight { store = or_memory refused sight.store }
+
+-- want of memory is replied, where it may be answered
+abbrev pub IsWant : (Fault → Type 0) → SeenReply → Type 0
+IsWant may r = may no_memory × (r ≡ reply_of_fault no_memory)
+
 -- the reply to a refusal, or want of memory in its place
-abbrev pub IsRefused : Refusal → SeenReply → Type 0
-IsRefused refusal r = (r ≡ reply_of (Refused refusal)) ⊎ (r ≡ reply_of_fault no_memory)
+abbrev pub IsRefused : (Fault → Type 0) → Refusal → SeenReply → Type 0
+IsRefused may refusal r = (r ≡ reply_of (Refused refusal)) ⊎ IsWant may r
 
 -- the reply tells this fault, and the tables are as before
 abbrev pub IsStruck : Fault → Tables → SeenReply → Tables → Type 0
@@ -123,7 +131,7 @@ StopMayLeave host d t at called r t' = (told : Tables)
 -- A call of all ends with the last customer; or at the first of those that are left, by a fault.
 abbrev pub EndsAt : (Fault → Type 0) → List (List ℕ) → Option Stop → Type 0
 EndsAt may left None = left ≡ []
-EndsAt may left (Some stop) = ((stop.fault ≡ no_memory) ⊎ may stop.fault)
+EndsAt may left (Some stop) = may stop.fault
     × ((more : List (List ℕ)) × (left ≡ stop.customer ∷ more))
 
 -- A call of all: of the first customers of the directory it is done, of each in its turn, and
@@ -143,13 +151,13 @@ pub record CallsAll (may : Fault → Type 0) (host : List ℕ) (d : Directory) (
 -- changes nothing. So of a call of all, in whose place want of memory may be told.
 abbrev pub MayReplyTo : (Fault → Type 0) → List ℕ → Directory → Tables → ℕ → Result Asked Refusal →
     SeenReply → Tables → Type 0
-MayReplyTo may host d t at (Err refusal) r t' = IsRefused refusal r × (t' ≡ t)
+MayReplyTo may host d t at (Err refusal) r t' = IsRefused may refusal r × (t' ≡ t)
 MayReplyTo may host d t at (Ok (CallOf name call)) r t' =
     let done = shared host (entry_of d name) t at call in
-    ((r ≡ reply_of done.0) × (t' ≡ done.1)) ⊎ ((fault : Fault) × ((fault ≡ no_memory) ⊎ may fault)
+    ((r ≡ reply_of done.0) × (t' ≡ done.1)) ⊎ ((fault : Fault) × may fault
     × IsStruck fault t r t')
 MayReplyTo may host d t at (Ok (CallOfAll call)) r t' = CallsAll may host d t at call r t'
-    ⊎ IsStruck no_memory t r t'
+    ⊎ (IsWant may r × (t' ≡ t))
 
 abbrev pub MayReply : (Fault → Type 0) → List ℕ → Directory → Tables → Ask → SeenReply → Tables →
     Type 0
@@ -157,24 +165,24 @@ MayReply may host d t a r t' = MayReplyTo may host d t a.at a.called r t'
 
 -- The reply to a call of all has the parts of the first customers of the directory, and then ends,
 -- or names the next one and the fault that stopped it there.
-pub record ArePartsOf (d : Directory) (r : SeenReply) : Type 0 where
+pub record ArePartsOf (may : Fault → Type 0) (d : Directory) (r : SeenReply) : Type 0 where
   pub left : List (List ℕ)
   pub order : names_of d ≡ map (λ (part : Part). part.customer) r.parts ++ left
-  pub ends : EndsAt (λ fault. ⊤) left r.stopped
+  pub ends : EndsAt may left r.stopped
   pub objects : AreObjects r.parts
   pub reply : r ≡ parted_reply r.parts r.stopped
 
 -- What a reply tells, whatever the store is: of what was refused, the refusal; of a call of a
 -- customer, an answer or a fault; of a call of all, parts and what stopped it. Want of memory may
 -- stand in place of any.
-abbrev pub TellsOf : Directory → Result Asked Refusal → SeenReply → Type 0
-TellsOf d (Err refusal) r = IsRefused refusal r
-TellsOf d (Ok (CallOf name call)) r = ((answer : Answer) × (r ≡ reply_of answer))
-    ⊎ ((fault : Fault) × (r ≡ reply_of_fault fault))
-TellsOf d (Ok (CallOfAll call)) r = ArePartsOf d r ⊎ (r ≡ reply_of_fault no_memory)
+abbrev pub TellsOf : (Fault → Type 0) → Directory → Result Asked Refusal → SeenReply → Type 0
+TellsOf may d (Err refusal) r = IsRefused may refusal r
+TellsOf may d (Ok (CallOf name call)) r = ((answer : Answer) × (r ≡ reply_of answer))
+    ⊎ ((fault : Fault) × may fault × (r ≡ reply_of_fault fault))
+TellsOf may d (Ok (CallOfAll call)) r = ArePartsOf may d r ⊎ IsWant may r
 
-abbrev pub Tells : Directory → Ask → SeenReply → Type 0
-Tells d a r = TellsOf d a.called r
+abbrev pub Tells : (Fault → Type 0) → Directory → Ask → SeenReply → Type 0
+Tells may d a r = TellsOf may d a.called r
 
 -- a call of all was stopped by 93
 abbrev pub StopsClosed : Option Stop → Type 0
@@ -190,12 +198,12 @@ TellsClosed r = (r ≡ reply_of_fault Closed) ⊎ StopsClosed r.stopped
 -- a call of all, unless there is no customer.
 abbrev pub RepliesAnyway : {D : Type 0} → Sight D → Directory → D → Result Asked Refusal
     → SeenReply → D → Type 0
-RepliesAnyway sight d old (Err refusal) r new = IsRefused refusal r × (new ≡ old)
+RepliesAnyway sight d old (Err refusal) r new = IsRefused sight.may_answer refusal r × (new ≡ old)
 RepliesAnyway sight d old (Ok (CallOf name call)) r new = sight.is_closed new ≡ true →
-    (r ≡ reply_of_fault Closed) ⊎ ((r ≡ reply_of_fault no_memory) × (new ≡ old))
+    (r ≡ reply_of_fault Closed) ⊎ (IsWant sight.may_answer r × (new ≡ old))
 RepliesAnyway sight d old (Ok (CallOfAll call)) r new = sight.is_closed new ≡ true →
     StopsClosed r.stopped
-    ⊎ (((r ≡ reply_of_fault no_memory) ⊎ (names_of d ≡ [])) × (new ≡ old))
+    ⊎ ((IsWant sight.may_answer r ⊎ (names_of d ≡ [])) × (new ≡ old))
 
 -- What one exchange does to a desk, by what is seen of its shelf.
 pub record Exchanged {D : Type 0} (sight : DeskSight D) (d : Directory) (old : D) (a : Ask)
@@ -203,7 +211,7 @@ pub record Exchanged {D : Type 0} (sight : DeskSight D) (d : Directory) (old : D
   pub replied : OnOpenSound sight.store old new
       (MayReply sight.store.may_answer (sight.host old) d (sight.store.tables old) a r
       (sight.store.tables new))
-  pub tells : Tells d a r
+  pub tells : Tells sight.store.may_answer d a r
   pub anyway : RepliesAnyway sight.store d old a.called r new
   -- 93 is told only where the store is closed then
   pub closed : TellsClosed r → sight.store.is_closed new ≡ true

@@ -1,3 +1,4 @@
 pub mod Exchanges
+pub mod Parts
 pub mod Replies
 pub mod Runs

@@ -4,7 +4,8 @@ ghost use Rattle.std.specs.Prelude.{◌≡◌, Ok, Some, false, option_map};
 ghost use Rattle.hq_requests.specs.Calls.{CallOf};
 ghost use Rattle.hq_requests.specs.Directories.{entry_of};
 ghost use Rattle.hq_requests.specs.Bodies.{error_told, number_shown};
-ghost use Rattle.hq_wire.specs.Exchanges.{Exchanged, IsRefused, ask_of};
+ghost use Rattle.hq_values.specs.Refusals.{no_memory};
+ghost use Rattle.hq_wire.specs.Exchanges.{Exchanged, IsRefused, ask_of, with_refusals};
 ghost use Rattle.hq_requests.specs.Named.{customer_of_exchange, customer_told};
 ghost use Rattle.hq_wire.specs.Replies.{plain, seen, status_of, tells_store};
 ghost use Rattle.hq_wire.specs.Runs.{RepliesSo};
@@ -12,12 +13,13 @@ ghost use Rattle.hq_requests.specs.declared.directory.Directory.{Directory};
 
 use crate::calling::call_all;
 use crate::faults::fault_reply;
+use hq_bodies::JsonMemory;
 use hq_json::{Json, refusal_text};
 use hq_kept::Entry;
+use hq_memory::Memory;
 use hq_requests::{Asking, Body, Directory, Exchange, Reply, call_of, customer_named};
 use hq_rules::{Acts, Call};
 use hq_values::{Fail, Fault, Moment, Name, Refusal};
-use std::alloc::Global;
 
 /// The HTTP status of an answer, by its number.
 #[tactic(auto, unfolding(crate::specs::Replies::status_of))]
@@ -52,34 +54,38 @@ fn answer_reply<'d>(customer: Option<&'d Name>, number: u16, bytes: Vec<u8>) -> 
 
 /// The reply to a refusal that no call was made for, of this customer; or to want of memory where
 /// its text has no room.
-pub fn refusal_reply<'d>(alloc: Global, customer: Option<&'d Name>, refusal: Refusal) -> Reply<'d>
-    ensures told { IsRefused refusal (seen result) }
+pub fn refusal_reply<'d, M: Memory>(
+    memory: M,
+    customer: Option<&'d Name>,
+    refusal: Refusal,
+) -> Reply<'d>
+    ensures told { IsRefused (λ fault. (fault ≡ no_memory) × M.refused) refusal (seen result) }
     ensures store { tells_store (seen result) ≡ false }
     ensures customer { customer_told result
         ≡ option_map (λ c. c.now) customer.entry }
 {
     let number = refusal.number();
-    match refusal_text(alloc, refusal) {
+    match refusal_text(memory, refusal) {
         Ok(bytes) => answer_reply(customer, number, bytes),
         Err(_) => fault_reply(customer, Fault::WantOfMemory),
     }
 }
 
 /// The reply to a call of a customer, under any directory that has this entry.
-fn call_reply<'d, D: Acts>(
-    alloc: Global,
+fn call_reply<'d, D: Acts, M: JsonMemory>(
+    memory: M,
     desk: &mut D,
     at: Moment,
     entry: &'d Entry,
     call: Call,
 ) -> Reply<'d>
     ensures done { (d : Directory) → entry.now ≡ entry_of d entry.now.name
-        → Exchanged D.sight d desk.old
+        → Exchanged (with_refusals M.refused D.sight) d desk.old
         (record { at = at; called = Ok (CallOf entry.now.name call) }) (seen result) desk.new }
     ensures customer { customer_told result ≡ Some entry.now.name }
 {
     let customer = Some(&entry.name);
-    match desk.act(alloc, at, entry, call, &Json) {
+    match desk.act(memory, at, entry, call, &Json) {
         Ok(rendered) => answer_reply(customer, rendered.number, rendered.bytes),
         Err(fault) => fault_reply(customer, fault),
     }
@@ -99,22 +105,22 @@ fn call_reply<'d, D: Acts>(
 /// only then.
 ///
 /// The reply is of the customer whose key is shown, or whom the relay names, also where it refuses.
-pub fn exchange<'d, D: Acts>(
-    alloc: Global,
+pub fn exchange<'d, D: Acts, M: JsonMemory>(
+    memory: M,
     desk: &mut D,
     directory: &'d Directory,
     exchange: &Exchange,
 ) -> Reply<'d>
-    ensures done { RepliesSo D.sight directory.now desk.old (ask_of directory.now exchange.now)
-        result desk.new }
+    ensures done { RepliesSo (with_refusals M.refused D.sight) directory.now desk.old
+        (ask_of directory.now exchange.now) result desk.new }
     ensures customer { customer_told result
         ≡ customer_of_exchange directory.now exchange.now }
 {
-    match call_of(alloc, directory, exchange) {
-        Ok(Asking::CallOf(entry, call)) => call_reply(alloc, desk, exchange.at, entry, call),
-        Ok(Asking::CallOfAll(each)) => call_all(alloc, desk, directory, exchange.at, each),
+    match call_of(memory, directory, exchange) {
+        Ok(Asking::CallOf(entry, call)) => call_reply(memory, desk, exchange.at, entry, call),
+        Ok(Asking::CallOfAll(each)) => call_all(memory, desk, directory, exchange.at, each),
         Err(Fail::Refused(refusal)) => {
-            refusal_reply(alloc, customer_named(directory, exchange), refusal)
+            refusal_reply(memory, customer_named(directory, exchange), refusal)
         }
         Err(Fail::Fault(fault)) => fault_reply(customer_named(directory, exchange), fault),
     }

@@ -2,26 +2,31 @@
 
 ghost use Rattle.std.specs.Prelude.{◌≡◌, ◌+◌, ◌*◌, ◌≤◌, ◌++◌, true, Ok, Some, None, length, drop};
 ghost use Rattle.std.specs.Prelude.{vec_len, vec_capacity, IfOk, IfSome};
-ghost use Rattle.std.specs.List.{list_all};
+ghost use Rattle.hq_memory.specs.Making.{MadeIn};
 ghost use Rattle.hq_rules.specs.Each.{each_call};
 ghost use Rattle.hq_requests.specs.Calls.{CallOfAll};
 ghost use Rattle.hq_requests.specs.Bodies.{body_bytes};
-ghost use Rattle.hq_wire.specs.Exchanges.{Exchanged};
+ghost use Rattle.hq_wire.specs.Exchanges.{Exchanged, with_refusals};
 ghost use Rattle.hq_requests.specs.Named.{customer_told};
-ghost use Rattle.hq_wire.specs.Replies.{SeenReply, IsSent, Closes, is_inside};
-ghost use Rattle.hq_wire.specs.Replies.{for_customer, fault_text, separated, parts_opening};
+ghost use Rattle.hq_wire.specs.Parts.{AreNumbers, TellsNumbers, is_for, part_room};
+ghost use Rattle.hq_wire.specs.Replies.{SeenReply, IsSent};
+ghost use Rattle.hq_wire.specs.Replies.{part_text, fault_text, separated, parts_opening};
 ghost use Rattle.hq_wire.specs.Replies.{closing};
 
 use crate::faults::{fault_reply, fault_text};
-use hq_json::Json;
+use hq_bodies::JsonMemory;
+use hq_json::answer_bytes;
+use hq_memory::Memory;
 use hq_requests::{Body, Directory, Reply};
 use hq_rules::{Acts, Answer, EachCall, Render};
-use hq_values::{Fault, Moment, Name};
-use std::alloc::{AllocError, Global};
+use hq_values::{Fault, Moment, Name, Refusal};
+use std::alloc::AllocError;
 
 /// Room for the longest part and a comma: a name has 32 bytes at most, and each count 20 digits, of
 /// which a sweep tells three and a usage nine.
-fn part_room(each: EachCall) -> usize {
+fn part_room(each: EachCall) -> usize
+    ensures { result ≡ part_room each }
+{
     match each {
         EachCall::Sweep => 140,
         EachCall::Usage => 326,
@@ -44,14 +49,6 @@ fn behind_first(text: &[u8]) -> &[u8]
     }
 }
 
-/// The bytes of a name.
-fn name_bytes(name: &Name) -> &[u8]
-    ensures same { result.now ≡ name.now }
-    ensures short { length result.now ≤ 32 }
-{
-    name.as_str().as_bytes()
-}
-
 /// What tells a fault, behind the brace.
 fn fault_members(fault: Fault) -> &'static [u8]
     ensures same { result.now ≡ drop 1 (fault_text fault) }
@@ -60,59 +57,90 @@ fn fault_members(fault: Fault) -> &'static [u8]
     behind_first(fault_text(fault).as_bytes())
 }
 
-/// Whether no byte of a text closes a brace.
-fn is_inside(text: &[u8]) -> bool
-    ensures { result ≡ list_all is_inside text.now }
+/// The text of an answer, an object, with the customer before its other members.
+fn part_bytes<M: Memory>(
+    memory: M,
+    room: usize,
+    name: &[u8],
+    answer: &Answer,
+) -> Result<Vec<u8>, AllocError>
+    ensures { MadeIn M.refused result (λ bytes. bytes.items ≡ part_text name.now answer.now) }
 {
-    text.iter().all(|byte| *byte != b'}')
+    let object = answer_bytes(memory, answer)?;
+    let mut bytes = memory.room(room)?;
+    memory.extend(&mut bytes, b"{\"customer\":\"")?;
+    memory.extend(&mut bytes, name)?;
+    memory.extend(&mut bytes, b"\",")?;
+    memory.extend(&mut bytes, behind_first(object.as_slice()))?;
+    Ok(bytes)
 }
 
-/// Whether the last byte of a text closes a brace, and no other does.
-fn closes_last(text: &[u8]) -> bool
-    ensures { result ≡ true → Closes text.now }
+/// Three numbers of 64 bits are below 2^64.
+fn are_numbers(_one: u64, _two: u64, _three: u64)
+    ensures { AreNumbers _one _two _three }
+{}
+
+/// The numbers that an answer to a call of all tells are those of its type.
+fn tells_numbers(answer: &Answer)
+    ensures { TellsNumbers answer.now }
 {
-    match text.split_last() {
-        Some((b'}', before)) => is_inside(before),
-        _ => false,
+    match answer {
+        Answer::Swept(counts) => are_numbers(counts.expired, counts.notices, counts.warned),
+        Answer::Used(usage) => {
+            are_numbers(
+                usage.tally.accepted,
+                usage.tally.delivered,
+                usage.tally.failed,
+            );
+            are_numbers(usage.tally.deleted, usage.tally.expired, usage.pending);
+            are_numbers(
+                usage.counts.messages,
+                usage.counts.bytes,
+                usage.counts.lines,
+            );
+        }
+        _ => {}
     }
 }
 
-/// The text of an object with the customer before its other members.
-fn part_bytes(alloc: Global, room: usize, name: &Name, object: &[u8]) -> Result<Vec<u8>, AllocError>
-    ensures { IfOk result (λ bytes. bytes.items ≡ for_customer name.now object.now) }
+/// Whether an answer is one to such a call.
+fn is_for(each: EachCall, answer: &Answer) -> bool
+    ensures { result ≡ is_for each answer.now }
 {
-    let mut bytes = Vec::with_capacity(alloc, room)?;
-    bytes.extend_from_slice(b"{\"customer\":\"")?;
-    bytes.extend_from_slice(name_bytes(name))?;
-    bytes.extend_from_slice(b"\",")?;
-    bytes.extend_from_slice(behind_first(object))?;
-    Ok(bytes)
+    match (each, answer) {
+        (EachCall::Sweep, Answer::Swept(_))
+        | (EachCall::Sweep, Answer::Refused(Refusal::NoticesSpent))
+        | (EachCall::Usage, Answer::Used(_)) => true,
+        _ => false,
+    }
 }
 
 /// An answer as the part of a customer.
 #[derive(Drop)]
 struct PartText<'n> {
     name: &'n Name,
-    /// For the part and a comma.
-    room: usize,
+    each: EachCall,
 }
 
 impl Render for PartText<'_> {
-    ghost use Rattle.std.specs.Prelude.{◌+◌, ◌≤◌, length};
+    ghost use Rattle.std.specs.Prelude.{◌≡◌, true};
+    ghost use Rattle.hq_wire.specs.Parts.{HasRoom, is_for};
     ghost use Rattle.hq_wire.specs.Replies.{IsObject, part_text};
 
     ghost text = { λ part answer. part_text part.name.now answer };
 
-    ghost fits = { λ part answer bytes. (1 + length bytes ≤ part.room) × IsObject bytes };
+    ghost fits = { λ part answer bytes. HasRoom part.each bytes × IsObject bytes };
 
-    fn render(&self, alloc: Global, answer: &Answer) -> Result<Vec<u8>, AllocError> {
-        let told = Json.render(alloc, answer)?;
-        let bytes = part_bytes(alloc, self.room, self.name, told.as_slice())?;
-        // So is every answer to such a call: checked here, it is known of the part whatever the
-        // store is.
-        if bytes.len() >= self.room || !closes_last(bytes.as_slice()) {
+    ghost takes = { λ part answer. is_for part.each answer ≡ true };
+
+    fn render<M: Memory>(&self, memory: M, answer: &Answer) -> Result<Vec<u8>, AllocError> {
+        if !is_for(self.each, answer) {
             return Err(AllocError);
         }
+        // Such an answer has room, since its numbers have 64 bits.
+        tells_numbers(answer);
+        let name = self.name.as_bytes();
+        let bytes = part_bytes(memory, part_room(self.each), name, answer)?;
         Ok(bytes)
     }
 }
@@ -131,13 +159,14 @@ fn put(body: &mut Vec<u8>, bytes: &[u8])
 
 /// Room for the longest reply about so many customers, each with this room for its part, with what
 /// stands before the parts.
-fn room_for(alloc: Global, customers: usize, part: usize) -> Option<Vec<u8>>
+fn room_for<M: Memory>(memory: M, customers: usize, part: usize) -> Option<Vec<u8>>
+    requires { customers * part + 102 ≤ usize.MAX }
     ensures opened { IfSome result (λ body. body.items ≡ parts_opening) }
     ensures room { IfSome result (λ body. vec_len body + (customers * part + 93)
         ≤ vec_capacity body) }
+    ensures cause { result ≡ None → M.refused }
 {
-    let room = customers.checked_mul(part)?.checked_add(OTHER_ROOM)?;
-    let Ok(mut body) = Vec::with_capacity(alloc, room) else {
+    let Ok(mut body) = memory.room(customers * part + OTHER_ROOM) else {
         return None;
     };
     put(&mut body, OPENING);
@@ -172,7 +201,7 @@ fn put_stop(body: &mut Vec<u8>, name: &Name, fault: Fault)
         ++ closing (Some (record { customer = name.now; fault = fault })) }
 {
     put(body, b"],\"stopped\":{\"customer\":\"");
-    put(body, name_bytes(name));
+    put(body, name.as_bytes());
     put(body, b"\",");
     put(body, fault_members(fault));
     put(body, b"}");
@@ -197,27 +226,28 @@ fn parted(body: Vec<u8>) -> Reply<'static>
 ///
 /// Room for the longest reply is taken first; where it is refused, nothing is done, and 90 is told.
 /// Each part is written before its customer's changes are made, and added without taking memory.
-pub(crate) fn call_all<D: Acts>(
-    alloc: Global,
+pub(crate) fn call_all<D: Acts, M: JsonMemory>(
+    memory: M,
     desk: &mut D,
     directory: &Directory,
     at: Moment,
     each: EachCall,
 ) -> Reply<'static>
-    ensures done { (r : SeenReply) × IsSent result r × Exchanged D.sight directory.now desk.old
+    ensures done { (r : SeenReply) × IsSent result r
+        × Exchanged (with_refusals M.refused D.sight) directory.now desk.old
         (record { at = at; called = Ok (CallOfAll (each_call each)) }) r desk.new }
     ensures customer { customer_told result ≡ None }
 {
     let customers = directory.customers();
     let room = part_room(each);
-    let Some(mut body) = room_for(alloc, customers.len(), room) else {
+    let Some(mut body) = room_for(memory, customers.len(), room) else {
         return fault_reply(None, Fault::WantOfMemory);
     };
     let mut is_first = true;
     for customer in customers {
         let name = &customer.entry.name;
-        let part = PartText { name, room };
-        match desk.act(alloc, at, &customer.entry, each.call(), &part) {
+        let part = PartText { name, each };
+        match desk.act(memory, at, &customer.entry, each.call(), &part) {
             Ok(rendered) => put_part(&mut body, is_first, rendered.bytes.as_slice()),
             Err(fault) => {
                 put_stop(&mut body, name, fault);

@@ -2,13 +2,14 @@
 
 ghost use Rattle.std.specs.Prelude.{◌≡◌, IfOk, OnErr, map};
 ghost use Rattle.hq_requests.specs.Named.{customer_of_exchange, customer_told};
-ghost use Rattle.hq_wire.specs.Exchanges.{ask_of};
+ghost use Rattle.hq_wire.specs.Exchanges.{ask_of, with_refusals};
 ghost use Rattle.hq_wire.specs.Runs.{RunsSo};
 
 use crate::answering::exchange;
+use hq_bodies::JsonMemory;
 use hq_requests::{Directory, Exchange, Reply};
 use hq_rules::Acts;
-use std::alloc::{AllocError, Allocator, Global};
+use std::alloc::{AllocError, Allocator};
 
 /// Replies to exchanges in order, one reply each.
 ///
@@ -18,22 +19,22 @@ use std::alloc::{AllocError, Allocator, Global};
 /// Each reply carries the customer of its exchange.
 ///
 /// Room for all replies is taken first from `room`; where it is refused, nothing was done.
-pub fn run<'d, D: Acts, A: Allocator>(
-    alloc: Global,
+pub fn run<'d, D: Acts, M: JsonMemory, A: Allocator>(
+    memory: M,
     room: A,
     desk: &mut D,
     directory: &'d Directory,
     exchanges: &[Exchange],
 ) -> Result<Vec<Reply<'d>, A>, AllocError>
-    ensures served { IfOk result (λ replies. RunsSo D.sight directory.now desk.old
-        (map (ask_of directory.now) exchanges.now) replies.items desk.new) }
+    ensures served { IfOk result (λ replies. RunsSo (with_refusals M.refused D.sight)
+        directory.now desk.old (map (ask_of directory.now) exchanges.now) replies.items desk.new) }
     ensures customers { IfOk result (λ replies. map customer_told replies.items
         ≡ map (customer_of_exchange directory.now) exchanges.now) }
     ensures none { OnErr result (desk.new ≡ desk.old) }
 {
     let mut replies = Vec::with_capacity(room, exchanges.len())?;
     for item in exchanges {
-        let reply = exchange(alloc, desk, directory, item);
+        let reply = exchange(memory, desk, directory, item);
         replies.push_reserved(reply);
     }
     Ok(replies)

@@ -121,7 +121,7 @@ pub fn line_of(alloc: Global, reply: &Reply<'_>) -> Result<String, Fail> {
 /// A reply, in a function of its own: its callers need nothing of the contract of an exchange.
 fn replied<'d>(
     alloc: Global,
-    desk: &mut Desk<ListShelf>,
+    desk: &mut Desk<ListShelf<Global>>,
     directory: &'d Directory,
     asked: &Exchange,
 ) -> Reply<'d> {
@@ -131,7 +131,7 @@ fn replied<'d>(
 /// Asks, and compares what is replied.
 pub fn expect_reply(
     rt: &(impl Abort + AllocGlobal),
-    desk: &mut Desk<ListShelf>,
+    desk: &mut Desk<ListShelf<Global>>,
     asked: &Exchange,
     want: &str,
 ) -> Result<(), Fail> {
@@ -154,7 +154,7 @@ pub fn expect_first_reply(
 /// Asks each line in turn, and compares what is replied.
 pub fn expect_rows(
     rt: &(impl Abort + AllocGlobal),
-    desk: &mut Desk<ListShelf>,
+    desk: &mut Desk<ListShelf<Global>>,
     rows: &[(&str, &str)],
 ) -> Result<(), Fail> {
     for (line, want) in rows {

@@ -6,5 +6,5 @@ use Rattle.hq_admin.proofs.history.put_history.Given as goal
 
 -- the lines of the ends so far
 abbrev pub invariant-loop-end : goal.invariant-loop-end
-invariant-loop-end l = string_bytes l.text ≡ string_bytes l.initial.text
+invariant-loop-end g l = string_bytes l.text ≡ string_bytes l.initial.text
     ++ flat_map end_line (take l.end-index l.ends)

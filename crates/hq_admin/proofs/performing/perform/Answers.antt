@@ -1,4 +1,6 @@
 use Rattle.std.proofs.Common.{sym}
+use Rattle.hq_desk.specs.Desks.{on}
+use Rattle.hq_admin.proofs.Reasons.{any_reason}
 use Rattle.hq_admin.proofs.performing.perform.Goals as goal
 
 pub returns : goal.returns
@@ -11,5 +13,5 @@ returns g c = record {
   answer = c.act-done.ensures.answer;
   tables = c.act-done.ensures.tables;
   stops = c.act-done.ensures.stops;
-  kept = c.act-done.ensures.kept;
+  kept = any_reason (on g.S.Shelf.sight) _ _ _ _ c.act-done.ensures.kept;
 }

@@ -3,6 +3,7 @@ use Rattle.std.proofs.Common.{ap, ◌∙◌, subst, arith}
 use Rattle.std.proofs.lemmas.List.{take_all, take_more, map-append}
 use Rattle.hq_rules.specs.Each.{each_call}
 use Rattle.hq_admin.specs.Rounds.{customer_entry}
+use Rattle.hq_admin.proofs.Reasons.{any_reason}
 use Rattle.hq_admin.proofs.Called.{SoFar, on_end, one_more, split_at}
 use Rattle.hq_admin.proofs.rounds.call_each.Goals as goal
 
@@ -27,7 +28,8 @@ loop-customer-preserved g c =
           (map customer_entry (take i xs)) c.loop-customer.told.items item.entry c.in-Ok.rendered
           c.loop-customer.invariant.so_far (rw c.call.ensures at c.in-Ok.ensures.answer)
           (rw c.call.ensures at c.in-Ok.ensures.tables)
-          c.in-Ok.ensures.sound c.in-Ok.ensures.kept c.in-Ok.ensures.host));
+          c.in-Ok.ensures.sound
+          (any_reason g.D.Acts.sight _ _ _ _ c.in-Ok.ensures.kept) c.in-Ok.ensures.host));
       count = omega (arith, c.push_reserved.ensures.len, c.loop-customer.invariant.count);
       room = omega (arith, c.push_reserved.ensures.capacity, c.loop-customer.invariant.room);
     }
@@ -52,7 +54,7 @@ returns-in-Err-clause-done g c =
         next = item.entry;
         more = map customer_entry (drop (suc i) xs);
         is = refl;
-        kept = c.in-Err.ensures.kept;
+        kept = any_reason g.D.Acts.sight _ _ _ _ c.in-Err.ensures.kept;
         host = c.in-Err.ensures.host;
         stops = rw c.call.ensures at c.in-Err.ensures.stops;
       };

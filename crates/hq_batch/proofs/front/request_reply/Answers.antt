@@ -1,10 +1,12 @@
+use Rattle.std.specs.Prelude.{⊤}
+use Rattle.hq_wire.specs.Exchanges.{with_refusals}
 use Rattle.std.proofs.Common.{ℕ, Result, Some, inr, refl, subst}
 use Rattle.hq_values.specs.declared.failure.Refusal.{Refusal}
 use Rattle.hq_lines.specs.Fields.{line_request}
 use Rattle.hq_requests.specs.Calls.{Asked, call_from}
 use Rattle.hq_wire.specs.Exchanges.{Exchanged}
 use Rattle.hq_wire.specs.Replies.{seen}
-use Rattle.hq_wire.proofs.Exchanging.{no_room}
+use Rattle.hq_wire.proofs.Exchanging.{no_room, wanted}
 use Rattle.hq_batch.specs.Batches.{ask_in}
 use Rattle.hq_batch.proofs.front.request_reply.Goals as goal
 
@@ -16,7 +18,8 @@ returns-in-Ok g c =
     record {
       told = so.told;
       sent = so.sent;
-      done = subst (λ (a : ℕ × Result Asked Refusal). Exchanged g.D.Acts.sight d c.args.desk.now
+      done = subst (λ (a : ℕ × Result Asked Refusal). Exchanged (with_refusals ⊤ g.D.Acts.sight) d
+          c.args.desk.now
           (record { at = a.0; called = a.1 }) so.told c.exchange-reply.new.desk)
           (λ i. (is.0 i, call_from d (is.1 i) (is.2 i) (is.3 i) (is.4 i))) so.done;
       moment = refl;
@@ -32,7 +35,8 @@ returns-in-Err g c =
     record {
       told = r;
       sent = (refl, refl);
-      done = no_room g.D.Acts.sight d c.args.desk.now ask r c.fault_reply.ensures.told;
+      done = no_room (with_refusals ⊤ g.D.Acts.sight) d c.args.desk.now ask r
+          (wanted ⊤ g.D.Acts.sight r tt c.fault_reply.ensures.told);
       moment = refl;
       holds = inr (c.fault_reply.ensures.told, refl);
       customer = c.fault_reply.ensures.customer;

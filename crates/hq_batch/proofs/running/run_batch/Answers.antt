@@ -1,5 +1,7 @@
 use Rattle.std.proofs.Common.{◌≡◌, Err, refl}
 use Rattle.std.proofs.lemmas.Result.{err_from_is_err_and}
+use Rattle.std.specs.Prelude.{⊤}
+use Rattle.hq_wire.specs.Exchanges.{with_refusals}
 use Rattle.hq_desk.specs.Desks.{on}
 use Rattle.hq_lines.proofs.Steps.{ends_as}
 use Rattle.hq_batch.specs.Batches.{Replied}
@@ -18,7 +20,7 @@ returns-in_err-batch g c =
     rw (told.1, told.2) (
       c.in_err-batch.field-0.0,
       refl,
-      ends_as (λ asked lines. Replied (on g.S.Shelf.sight) d old asked lines new)
+      ends_as (λ asked lines. Replied (with_refusals ⊤ (on g.S.Shelf.sight)) d old asked lines new)
           (ServesOver g.S.Shelf.sight c.args.settings c.args.shelf)
           (λ asked lines p. record {
             old = old;

@@ -1,3 +1,5 @@
+use Rattle.std.specs.Prelude.{⊤}
+use Rattle.hq_wire.specs.Exchanges.{with_refusals}
 use Rattle.std.proofs.Common.{ap}
 use Rattle.hq_lines.proofs.Steps.{ends_as}
 use Rattle.hq_batch.proofs.Replying.{lent_desk, replied}
@@ -5,13 +7,14 @@ use Rattle.hq_batch.proofs.serving.serve_front.Goals as goal
 
 pub returns-clause-same_reference : goal.returns-clause-same_reference
 returns-clause-same_reference g c =
-    lent_desk g.D.Acts.sight g.L.Log.is_losing g.L.Log.contents c.args.front.now
+    lent_desk (with_refusals ⊤ g.D.Acts.sight) g.L.Log.is_losing g.L.Log.contents c.args.front.now
     c.answer_lines.new.answers (λ same. same.2) _ _
     c.answer_lines.result c.answer_lines.ensures
 
 pub returns-clause-ended : goal.returns-clause-ended
 returns-clause-ended g c =
-    ends_as _ _ (replied g.D.Acts.sight g.L.Log.is_losing g.L.Log.contents c.args.front.now
+    ends_as _ _ (replied (with_refusals ⊤ g.D.Acts.sight) g.L.Log.is_losing g.L.Log.contents
+    c.args.front.now
     c.answer_lines.new.answers)
     (λ same. (same.0, same.1, ap (λ f. f.desk.now) same.2)) _ _ c.answer_lines.result
     c.answer_lines.ensures

@@ -1,3 +1,4 @@
+use Rattle.std.specs.Prelude.{⊤}
 use Rattle.std.proofs.Common.{◌≡◌, ℕ, false, List, map, sym, ap, ◌∙◌, subst, inl, inr}
 use Rattle.sqlite.specs.Held.{Held, state}
 use Rattle.sqlite.specs.State.{HasCleanDisk}
@@ -5,6 +6,7 @@ use Rattle.hq_keyed.proofs.Left.{clean_before}
 use Rattle.hq_tables.specs.Tables.{Tables}
 use Rattle.hq_desk.specs.Desks.{host_of, on, shelf_of}
 use Rattle.hq_wire.specs.Exchanges.{ask_of}
+use Rattle.hq_wire.specs.Exchanges.{with_refusals}
 use Rattle.hq_wire.specs.Runs.{RunsSo}
 use Rattle.hq_requests.specs.Named.{customer_told}
 use Rattle.hq_requests.specs.declared.reply.Reply.{Reply}
@@ -71,7 +73,8 @@ returns-clause-passed g c clean sure keeps =
     let passed : Passes (host_of old) (shelf_of new).conn = elim c.match-run.branch [
       | in-Ok-run w ↦ asked_passed g.S.Store d before keeps old new here c.args.exchanges.now
           replies
-          (subst (λ (r : List Reply). RunsSo (on (sight_over (state g.S.Store))) d old
+          (subst (λ (r : List Reply). RunsSo (with_refusals ⊤ (on (sight_over (state g.S.Store))))
+          d old
           (map (ask_of d) c.args.exchanges.now) r new) (sym (ap (λ v. v.items) w.replies-is))
           w.in-Ok-run.ensures.served) end_clean not_doubtful
       | in-Err-run w ↦ unasked_passed g.S.Store d before keeps old new here c.args.exchanges.now

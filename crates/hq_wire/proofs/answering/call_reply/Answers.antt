@@ -4,11 +4,11 @@ use Rattle.hq_values.specs.declared.failure.Refusal.{Refusal}
 use Rattle.hq_tables.specs.Shelves.{OnOpenSound}
 use Rattle.hq_requests.specs.Calls.{Asked, CallOf}
 use Rattle.hq_requests.specs.Bodies.{error_told, number_shown}
-use Rattle.hq_wire.specs.Exchanges.{Exchanged, MayReplyTo}
+use Rattle.hq_wire.specs.Exchanges.{Exchanged, MayReplyTo, with_refusals}
 use Rattle.hq_wire.specs.Replies.{plain, seen, status_of, tells_store}
 use Rattle.hq_wire.proofs.Alone.{done_once, tells_answer}
 use Rattle.hq_wire.proofs.Exchanging.{counts_told, fault_closes, fault_told, leaves_one}
-use Rattle.hq_wire.proofs.Exchanging.{no_deeds, tells_none}
+use Rattle.hq_wire.proofs.Exchanging.{no_deeds, rendered_all, tells_none}
 use Rattle.hq_wire.proofs.Numbers.{of_answer}
 use Rattle.hq_wire.proofs.answering.call_reply.Goals as goal
 
@@ -28,7 +28,7 @@ returns-in-Ok-clause-done g c = λ d entry.
     let tally = c.in-Ok.ensures.kept.tally in
     let old = g.D.Acts.sight.store.fault_count c.args.desk.now in
     let new = g.D.Acts.sight.store.fault_count c.act.new.self in
-    let sight = g.D.Acts.sight in
+    let sight = with_refusals g.M.Memory.refused g.D.Acts.sight in
     let called : Result Asked Refusal = Ok (CallOf c.args.entry.now.name c.args.call) in
     let told = plain (status_of number) c.in-Ok.rendered.bytes.items in
     let host = sight.host c.args.desk.now in
@@ -64,14 +64,23 @@ returns-in-Ok-clause-done g c = λ d entry.
 
 pub returns-in-Err-clause-done : goal.returns-in-Err-clause-done
 returns-in-Err-clause-done g c = λ d entry.
-    let sight = g.D.Acts.sight in
+    let sight = with_refusals g.M.Memory.refused g.D.Acts.sight in
     let fault = c.in-Err.fault in
     let r = seen c.fault_reply.result in
     let none = no_deeds fault c.args.at (Ok (CallOf c.args.entry.now.name c.args.call)) r
     c.fault_reply.ensures.told in
+    let kept = rendered_all g.M.Memory.refused g.D.Acts.sight _ _ _ _ (λ answer told. tt)
+    c.in-Err.ensures.kept in
     record {
-      replied = search rules;
-      tells = inr (fault, c.fault_reply.ensures.told);
+      replied = λ clean ours open_ sound. inr (
+        fault,
+        kept.cause,
+        (
+          c.fault_reply.ensures.told,
+          kept.none clean ours open_,
+        ),
+      );
+      tells = inr (fault, kept.cause, c.fault_reply.ensures.told);
       anyway = fault_told fault _ _ _ _ r c.in-Err.ensures.kept.tally c.fault_reply.ensures.told;
       closed = fault_closes fault _ _ _ _ r c.in-Err.ensures.kept.tally c.fault_reply.ensures.told;
       sound = search rules;

@@ -1,18 +1,18 @@
 use Rattle.std.proofs.Common.{◌≡◌, Result, Ok, Err, refl, sym, ap, ◌∙◌, subst}
-use Rattle.hq_values.specs.Readers.{Fails}
+use Rattle.hq_values.specs.Readers.{ReadsIn}
 use Rattle.hq_values.specs.declared.failure.Refusal.{Refusal}
 use Rattle.hq_requests.specs.Calls.{Asked, CallOf, CallOfAll, IsKnown, asked_seen, call_of}
 use Rattle.hq_rules.specs.Each.{each_call}
 use Rattle.hq_requests.proofs.Whose.{whose_all, whose_call}
-use Rattle.hq_wire.specs.Exchanges.{ask_of, Exchanged}
+use Rattle.hq_wire.specs.Exchanges.{Exchanged, ask_of, with_refusals}
 use Rattle.hq_wire.specs.Replies.{seen, reply_of_fault}
-use Rattle.hq_wire.proofs.Exchanging.{no_room, refused}
+use Rattle.hq_wire.proofs.Exchanging.{no_room, refused, refused_so, wanted}
 use Rattle.hq_wire.proofs.Serving.{told_once}
 use Rattle.hq_wire.proofs.answering.exchange.Goals as goal
 
 pub returns-in-Ok-CallOf-clause-done : goal.returns-in-Ok-CallOf-clause-done
 returns-in-Ok-CallOf-clause-done g c =
-    let sight = g.D.Acts.sight in
+    let sight = with_refusals g.M.Memory.refused g.D.Acts.sight in
     let d = c.args.directory.now in
     let x = c.args.exchange.now in
     let old = c.args.desk.now in
@@ -28,7 +28,7 @@ returns-in-Ok-CallOf-clause-done g c =
 
 pub returns-in-Ok-CallOfAll-clause-done : goal.returns-in-Ok-CallOfAll-clause-done
 returns-in-Ok-CallOfAll-clause-done g c =
-    let sight = g.D.Acts.sight in
+    let sight = with_refusals g.M.Memory.refused g.D.Acts.sight in
     let d = c.args.directory.now in
     let x = c.args.exchange.now in
     let old = c.args.desk.now in
@@ -42,18 +42,20 @@ returns-in-Ok-CallOfAll-clause-done g c =
 
 pub returns-in-Err-Refused-clause-done : goal.returns-in-Err-Refused-clause-done
 returns-in-Err-Refused-clause-done g c =
-    let sight = g.D.Acts.sight in
+    let sight = with_refusals g.M.Memory.refused g.D.Acts.sight in
     let d = c.args.directory.now in
     let x = c.args.exchange.now in
     let desk = c.args.desk.now in
     let r = seen c.refusal_reply.result in
     let called : call_of d x ≡ Err c.in-Err-Refused.refusal =
-    subst (λ e. Fails e (call_of d x)) c.in-Err-Refused.field-0-is c.in-Err-Refused.ensures.call
+    subst (λ e. ReadsIn g.M.Memory.refused (Err e) (call_of d x))
+    c.in-Err-Refused.field-0-is c.in-Err-Refused.ensures.call
     in
     told_once sight d desk desk (ask_of d x) c.refusal_reply.result r (refl, refl)
     (subst (λ (asked : Result Asked Refusal). Exchanged sight d desk
     (record { at = x.at; called = asked }) r desk) (sym called)
-    (refused sight d desk x.at c.in-Err-Refused.refusal r c.refusal_reply.ensures.told
+    (refused sight d desk x.at c.in-Err-Refused.refusal r
+    (refused_so g.M.Memory.refused g.D.Acts.sight _ r c.refusal_reply.ensures.told)
     c.refusal_reply.ensures.store))
 
 pub returns-in-Err-Fault-clause-done : goal.returns-in-Err-Fault-clause-done
@@ -62,10 +64,12 @@ returns-in-Err-Fault-clause-done g c =
     let x = c.args.exchange.now in
     let desk = c.args.desk.now in
     let r = seen c.fault_reply.result in
-    told_once g.D.Acts.sight d desk desk (ask_of d x) c.fault_reply.result r (refl, refl)
-    (no_room g.D.Acts.sight d desk (ask_of d x) r (c.fault_reply.ensures.told
-    ∙ ap reply_of_fault (subst (λ e. Fails e (call_of d x)) c.in-Err-Fault.field-0-is
-    c.in-Err-Fault.ensures.call)))
+    let sight = with_refusals g.M.Memory.refused g.D.Acts.sight in
+    let want = subst (λ e. ReadsIn g.M.Memory.refused (Err e) (call_of d x))
+    c.in-Err-Fault.field-0-is c.in-Err-Fault.ensures.call in
+    told_once sight d desk desk (ask_of d x) c.fault_reply.result r (refl, refl)
+    (no_room sight d desk (ask_of d x) r (wanted g.M.Memory.refused g.D.Acts.sight r want.1
+    (c.fault_reply.ensures.told ∙ ap reply_of_fault want.0)))
 
 pub returns-in-Ok-CallOf-clause-customer : goal.returns-in-Ok-CallOf-clause-customer
 returns-in-Ok-CallOf-clause-customer g c = c.call_reply.ensures.customer

@@ -5,9 +5,12 @@ use Rattle.hq_kept.specs.Customers.{are_customers}
 use Rattle.hq_rules.specs.Each.{each_call}
 use Rattle.hq_requests.specs.Calls.{CallOfAll}
 use Rattle.hq_requests.specs.Directories.{entry_in, entry_of, name_of, names_of}
+use Rattle.hq_wire.specs.Parts.{part_room}
 use Rattle.hq_wire.specs.Replies.{Stop, closing, seen, separated, parted_reply}
 use Rattle.hq_requests.proofs.Entries.{entry_at}
-use Rattle.hq_wire.proofs.Exchanging.{no_room}
+use Rattle.hq_wire.specs.Exchanges.{with_refusals}
+use Rattle.hq_wire.proofs.Exchanging.{no_room, rendered_all, wanted}
+use Rattle.hq_wire.proofs.PartTexts.{taken_so}
 use Rattle.hq_wire.proofs.Called.{SoFar, done_by_all, none_yet, one_more_done, split_at, stopped_at}
 use Rattle.hq_wire.proofs.calling.call_all.Goals as goal
 
@@ -16,21 +19,24 @@ returns-in_default-clause-done g c =
     let r = seen c.fault_reply.result in (
       r,
       (refl, refl),
-      no_room g.D.Acts.sight c.args.directory.now c.args.desk.now
+      no_room (with_refusals g.M.Memory.refused g.D.Acts.sight) c.args.directory.now
+          c.args.desk.now
           (record { at = c.args.at; called = Ok (CallOfAll (each_call c.args.each)) }) r
-          c.fault_reply.ensures.told,
+          (wanted g.M.Memory.refused g.D.Acts.sight r (c.room_for.ensures.cause c.in_default.is)
+          c.fault_reply.ensures.told),
     )
 
 pub loop-customer-init : goal.loop-customer-init
 loop-customer-init g c = record {
-  so_far = none_yet g.D.Acts.sight c.args.directory.now c.args.at (each_call c.args.each)
+  so_far = none_yet (with_refusals g.M.Memory.refused g.D.Acts.sight)
+      c.args.directory.now c.args.at (each_call c.args.each)
       c.args.desk.now c.in-Some.body.items c.in-Some.ensures.opened;
   room = omega (arith, c.in-Some.ensures.room);
 }
 
 pub loop-customer-preserved : goal.loop-customer-preserved
 loop-customer-preserved g c =
-    let sight = g.D.Acts.sight in
+    let sight = with_refusals g.M.Memory.refused g.D.Acts.sight in
     let d = c.args.directory.now in
     let call = each_call c.args.each in
     let i = c.loop-customer.customer-index in
@@ -51,16 +57,20 @@ loop-customer-preserved g c =
     let more : map name_of (take (i + 1) xs) ≡ map name_of (take i xs) ++ name ∷ [] =
     ap (map name_of) (take_more xs i item c.loop-customer-test.true ∙ ap (λ x. take i xs ++ x
     ∷ []) (sym c.customer-item.is)) ∙ map-append name_of (take i xs) (item ∷ []) in
-    let short : 1 + length c.as_slice.result.now ≤ c.part_room-room.result = subst
-    (λ (part : List ℕ). 1 + length part ≤ c.part_room-room.result)
-    (sym c.as_slice.ensures.value) c.in-Ok.ensures.shown.2.0 in
+    let short : 1 + length c.as_slice.result.now ≤ c.part_room-room.result =
+    subst (λ n. 1 + length c.as_slice.result.now ≤ n) (sym c.part_room-room.ensures) (subst
+    (λ (part : List ℕ). 1 + length part ≤ part_room c.args.each)
+    (sym c.as_slice.ensures.value) c.in-Ok.ensures.shown.2.0) in
     record {
       so_far = subst (λ names. SoFar sight d c.args.at call c.args.desk.now names c.act.new.self
           c.put_part.new.body.items false) (sym more)
           (one_more_done sight d c.args.at call c.args.desk.now c.loop-customer.desk c.act.new.self
           (map name_of (take i xs)) c.loop-customer.body.items c.put_part.new.body.items
           is_first item.entry c.call.result c.in-Ok.rendered so_far known c.call.ensures put
-          c.in-Ok.ensures.answer c.in-Ok.ensures.tables c.in-Ok.ensures.sound c.in-Ok.ensures.kept
+          c.in-Ok.ensures.answer c.in-Ok.ensures.tables c.in-Ok.ensures.sound
+          (rendered_all g.M.Memory.refused g.D.Acts.sight _ _ _ _ (taken_so c.args.each
+          c.call.result c.call.ensures)
+          c.in-Ok.ensures.kept)
           c.in-Ok.ensures.host c.in-Ok.ensures.shown.2.1);
       room = omega (
         arith,
@@ -92,11 +102,15 @@ returns-in-Err-clause-done g c =
         sym (c.parted.ensures.body ∙ c.put_stop.ensures
             ∙ ap (λ body. body ++ closing (Some stop)) so_far.text),
       ),
-      stopped_at g.D.Acts.sight d c.args.at (each_call c.args.each) c.args.desk.now
+      stopped_at (with_refusals g.M.Memory.refused g.D.Acts.sight) d c.args.at (each_call
+          c.args.each) c.args.desk.now
           c.loop-customer.desk c.act.new.self (map name_of (take i xs)) c.loop-customer.body.items
           c.loop-customer.is_first item.entry c.call.result (map name_of (drop (suc i) xs))
           c.in-Err.fault so_far all known c.call.ensures c.in-Err.ensures.sound
-          c.in-Err.ensures.stops c.in-Err.ensures.kept c.in-Err.ensures.host,
+          c.in-Err.ensures.stops
+          (rendered_all g.M.Memory.refused g.D.Acts.sight _ _ _ _ (taken_so c.args.each
+          c.call.result c.call.ensures)
+          c.in-Err.ensures.kept) c.in-Err.ensures.host,
     )
 
 pub returns-clause-done : goal.returns-clause-done
@@ -113,7 +127,8 @@ returns-clause-done g c =
         sym (c.parted-2.ensures.body ∙ c.put_all_done.ensures
             ∙ ap (λ body. body ++ closing None) so_far.text),
       ),
-      done_by_all g.D.Acts.sight d c.args.at (each_call c.args.each) c.args.desk.now
+      done_by_all (with_refusals g.M.Memory.refused g.D.Acts.sight) d c.args.at (each_call
+          c.args.each) c.args.desk.now
           c.loop-customer.desk (map name_of (take i xs)) c.loop-customer.body.items
           c.loop-customer.is_first so_far all,
     )

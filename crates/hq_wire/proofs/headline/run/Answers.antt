@@ -5,7 +5,7 @@ use Rattle.std.proofs.lemmas.Slice.Zip.{all_zipped_more}
 use Rattle.hq_values.specs.Turns.{InTurn}
 use Rattle.hq_values.proofs.Turns.{turns_on, one_turn}
 use Rattle.hq_requests.specs.Named.{customer_of_exchange, customer_told}
-use Rattle.hq_wire.specs.Exchanges.{Exchanged, ask_of}
+use Rattle.hq_wire.specs.Exchanges.{Exchanged, ask_of, with_refusals}
 use Rattle.hq_wire.specs.Replies.{IsSent}
 use Rattle.hq_wire.proofs.Serving.{served}
 use Rattle.hq_wire.proofs.headline.run.Goals as goal
@@ -23,7 +23,7 @@ loop-item-preserved g c =
     let d = c.args.directory.now in
     let i = c.loop-item.item-index in
     let xs = c.args.exchanges.now in
-    let step = Exchanged g.D.Acts.sight d in
+    let step = Exchanged (with_refusals g.M.Memory.refused g.D.Acts.sight) d in
     let item = c.item-item.result in
     let reply = c.exchange-reply.result in
     let so = c.exchange-reply.ensures.done in
@@ -74,8 +74,9 @@ returns-clause-served g c =
     record {
       told = was.0;
       sent = was.1;
-      served = served g.D.Acts.sight d _ _ _ was.0
-          (subst (λ xs. InTurn (Exchanged g.D.Acts.sight d) c.args.desk.now (map (ask_of d) xs)
+      served = served (with_refusals g.M.Memory.refused g.D.Acts.sight) d _ _ _ was.0
+          (subst (λ xs. InTurn (Exchanged (with_refusals g.M.Memory.refused g.D.Acts.sight) d)
+          c.args.desk.now (map (ask_of d) xs)
           was.0 c.loop-item.desk) (take_all c.loop-item.item-index c.args.exchanges.now
           (omega arith)) was.2);
     }

@@ -2,14 +2,15 @@ use Rattle.std.proofs.Common.{◌≡◌, ◌≤◌, List, map, take, length, vec
 use Rattle.std.specs.List.{AllZip}
 use Rattle.hq_values.specs.Turns.{InTurn}
 use Rattle.hq_requests.specs.Named.{customer_of_exchange, customer_told}
-use Rattle.hq_wire.specs.Exchanges.{Exchanged, ask_of}
+use Rattle.hq_wire.specs.Exchanges.{Exchanged, ask_of, with_refusals}
 use Rattle.hq_wire.specs.Replies.{IsSent, SeenReply}
 use Rattle.hq_wire.proofs.headline.run.Given as goal
 
 abbrev pub invariant-loop-item : goal.invariant-loop-item
 invariant-loop-item g l = record {
   each : (told : List SeenReply) × AllZip IsSent l.replies.items told
-      × InTurn (Exchanged g.D.Acts.sight l.directory) l.fn.desk
+      × InTurn (Exchanged (with_refusals g.M.Memory.refused g.D.Acts.sight)
+      l.directory) l.fn.desk
       (map (ask_of l.directory) (take l.item-index l.exchanges)) told l.desk;
   customers : map customer_told l.replies.items
       ≡ map (customer_of_exchange l.directory) (take l.item-index l.exchanges);

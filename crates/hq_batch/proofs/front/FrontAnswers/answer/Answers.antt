@@ -1,3 +1,5 @@
+use Rattle.std.specs.Prelude.{⊤}
+use Rattle.hq_wire.specs.Exchanges.{with_refusals}
 use Rattle.std.proofs.Common.{◌≡◌, ◌∷◌, ◌++◌, [], refl, sym}
 use Rattle.hq_wire.specs.Replies.{seen}
 use Rattle.hq_batch.proofs.Logging.{logged_as}
@@ -17,7 +19,8 @@ returns g c =
         reply = so.told;
         line_is = same;
         done = so.done;
-        logged = λ keeps. logged_as g.D.Acts.sight _ _ _ _ _ _ _ _ _ c.answered.result
+        logged = λ keeps. logged_as (with_refusals ⊤ g.D.Acts.sight) _ _ _ _ _ _ _ _ _
+            c.answered.result
             c.line_reply-replied.result c.begin.ensures.losing c.begin.ensures.contents
             c.answered.ensures so (c.replied.ensures keeps);
       },

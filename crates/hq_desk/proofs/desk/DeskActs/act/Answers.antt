@@ -2,6 +2,7 @@ use Rattle.std.proofs.Common.{◌≡◌, inl, inr, ⊎_elim, Err, sym, subst, ap
 use Rattle.std.proofs.lemmas.Result.{err_from_is_err_and}
 use Rattle.hq_tables.specs.Sound.{Sound}
 use Rattle.hq_tables.specs.Tables.{write_all}
+use Rattle.hq_rules.specs.Desks.{AnswersAre}
 use Rattle.hq_reads.proofs.Reading.{changes_on, no_memory_on, rests_on}
 use Rattle.hq_soundness.proofs.Soundness.{shared_sound}
 use Rattle.hq_desk.proofs.desk.DeskActs.act.Goals as goal
@@ -26,7 +27,8 @@ returns-in_err-apply-clause-kept g c =
     let fault =
     err_from_is_err_and c.from_residual-in_err-apply.result
     c.from_residual-in_err-apply.ensures.1 in
-    let both = changes_on g.S.Shelf.sight _ _ _ _ c.in_err-apply.field-0.0
+    let both = changes_on _ (AnswersAre (g.R.Render.takes c.args.render.now) c.args.call
+    → g.M.Memory.refused) g.S.Shelf.sight _ _ _ _ c.in_err-apply.field-0.0
     c.from_residual-in_err-apply.result (fault.1 ∙ ap Err fault.2) c.in_ok-decision.ensures.kept
     c.in_err-apply.ensures.kept in
     record {
@@ -44,7 +46,9 @@ returns-in_err-bytes-clause-kept g c =
     let fault =
     err_from_is_err_and c.from_residual-in_err-bytes.result
     c.from_residual-in_err-bytes.ensures.1 in
-    let kept = no_memory_on g.S.Shelf.sight _ _ _ c.from_residual-in_err-bytes.result (fault.1
+    let kept = no_memory_on _ (AnswersAre (g.R.Render.takes c.args.render.now) c.args.call
+    → g.M.Memory.refused) g.S.Shelf.sight _ _ _ c.from_residual-in_err-bytes.result
+    (λ all. c.in_err-bytes.ensures.cause (all _ c.in_ok-decision.ensures.kind)) (fault.1
     ∙ ap Err fault.2) c.in_ok-decision.ensures.kept in
     record {
       none = kept.none;
