@@ -3,7 +3,6 @@
 ghost use Rattle.std.specs.Prelude.{◌≡◌, ◌≢◌, ℕ, false, List, map};
 ghost use Rattle.std.specs.List.{flat_map};
 ghost use Rattle.hq_values.specs.Turns.{InTurn};
-ghost use Rattle.hq_values.specs.declared.failure.Fault.{Fault};
 ghost use Rattle.hq_tables.specs.Shelves.{StopLeaves};
 ghost use Rattle.hq_tables.specs.Sound.{Sound};
 ghost use Rattle.hq_tables.specs.Tables.{Tables};
@@ -12,7 +11,7 @@ ghost use Rattle.hq_wire.specs.Exchanges.{Ask, Exchanged, MayReply, calls_asked,
 ghost use Rattle.hq_wire.specs.Replies.{SeenReply};
 ghost use Rattle.hq_wire.specs.Runs.{AllReplied, deeds};
 ghost use Rattle.hq_requests.specs.declared.directory.Directory.{Directory};
-ghost use Rattle.hq_across.specs.Answered.{IsAnswered, as_asked};
+ghost use Rattle.hq_across.specs.Answered.{IsAnswered, NoFault, as_asked};
 ghost use Rattle.hq_across.specs.Histories.{Session, Passed, InSessions, AloneAcross};
 ghost use Rattle.hq_across.specs.Histories.{uncut, cut_with};
 ghost use Rattle.hq_across.specs.Sessions.{IsJustOpened, IsSession};
@@ -60,17 +59,17 @@ pub fn lost_reply_is_under_way<D: Acts, M: Memory>()
         → Passed host (cut_with d asks rs a) t t' }
 {}
 
-/// Where no fault may be answered, everything that was asked is answered as its definition has it,
-/// and none by 503; and in a run everything that was asked is done, so that of what each customer
-/// hears alone nothing is left out. So it is over plain lists, in memory that never refuses.
+/// Where no fault may be answered, each call is answered as its definition has it, and none by 503.
+/// In a run all that was asked is done, so nothing is left out of what each customer hears alone.
+/// So it is over plain lists, in memory that never refuses.
 pub fn all_is_answered<D: Acts, M: Memory>()
     ensures answers { (host : List ℕ) (d : Directory) (a : Ask) (r : SeenReply) (t t' : Tables)
-        → ((fault : Fault) → (or_memory M.refused D.sight.store).may_answer fault → ⊥)
+        → NoFault (or_memory M.refused D.sight.store)
         → MayReply (or_memory M.refused D.sight.store).may_answer host d t a r t'
         → IsAnswered host d t a r t' × (r.status ≢ 503) }
     ensures done { (host : List ℕ) (d : Directory) (asks : List Ask) (rs : List SeenReply)
         (t t' : Tables)
-        → ((fault : Fault) → (or_memory M.refused D.sight.store).may_answer fault → ⊥)
+        → NoFault (or_memory M.refused D.sight.store)
         → AllReplied (or_memory M.refused D.sight.store).may_answer host d t asks rs t'
         → map as_asked (deeds asks rs)
         ≡ flat_map (λ (a : Ask). calls_asked d a.at a.called) asks }

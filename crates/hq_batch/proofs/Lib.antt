@@ -1,5 +1,4 @@
 pub mod Logging
 pub mod Replying
-pub mod Customers
 pub mod Ends
 pub mod Printed

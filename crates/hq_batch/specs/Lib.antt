@@ -1,6 +1,5 @@
 pub mod Batches
 pub mod Steps
-pub mod Builtin
 pub mod Printing
 pub mod Runs
 pub mod Checks

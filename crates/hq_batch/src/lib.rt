@@ -2,7 +2,7 @@
 //!
 //! `run_batch` runs a batch over any shelf, for the customers of some settings, and `check` tells
 //! whether a desk would start with them. The rest is what the program shares with other commands:
-//! its words, its built-in customers, and how answers and faults are printed.
+//! its words, and how answers and faults are printed.
 //!
 //! ```
 //! let status = check(rt, given, output, errors); // 0 and `3 customers`, or 1 and why
@@ -10,7 +10,6 @@
 #![tactic(auto)]
 
 mod arguments;
-mod builtin;
 mod checking;
 mod front;
 pub mod laws;
@@ -21,7 +20,6 @@ mod telling;
 mod writing;
 
 pub use arguments::words;
-pub use builtin::settings as builtin_settings;
 pub use checking::check;
 pub use hq_values::EngineFault;
 pub use printing::{print, print_all, put, show};

@@ -1,3 +1,4 @@
 pub mod Escapes
 pub mod OneLine
 pub mod ReadBack
+pub mod PartTexts

@@ -1,20 +1,24 @@
 -- Whatever a value is, its text stands on one line: in strings an LF is escaped, and nothing else
 -- writes one.
 use Rattle.std.proofs.Common.{◌≡◌, ◌≤◌, ◌+◌, ◌/◌, ◌%◌, ℕ, zero, suc, ℤ, pos, negsuc, Bool, true}
-use Rattle.std.proofs.Common.{false, cond, List, [], ◌∷◌, ◌++◌, refl, ◌∙◌, arith}
-use Rattle.std.specs.Prelude.{◌==◌, ◌||◌, nat_lt, flat_map}
+use Rattle.std.proofs.Common.{false, cond, List, [], ◌∷◌, ◌++◌, drop, refl, ◌∙◌, arith}
+use Rattle.std.specs.Prelude.{◌==◌, ◌||◌, ◌&&◌, nat_le, nat_lt, flat_map, length, codes}
 use Rattle.std.specs.Char.{digit_char}
 use Rattle.std.specs.Cmp.Derive.{both_true}
 use Rattle.std.specs.Fmt.{decimal, digits, digits_onto, digit_glyph}
+use Rattle.std.specs.List.{list_all}
 use Rattle.std.proofs.lemmas.Bool.Decides.{nat_tests}
+use Rattle.std.proofs.lemmas.Bool.{and_parts}
 use Rattle.std.proofs.lemmas.List.Folds.{list_all-append}
 use Rattle.json.specs.Print.{escape_byte, escape_letter, quoted}
 use Rattle.serde_json.specs.Data.{Num, unsigned, negative, float, Data, null, boolean, number}
 use Rattle.serde_json.specs.Data.{string, array, object, Items, no_items, item, Members, no_members}
 use Rattle.serde_json.specs.Data.{member}
 use Rattle.serde_json.specs.Written.{compact_text, items_text, members_text, number_text, comma_if}
+use Rattle.hq_values.specs.Words.{is_name, is_name_byte}
 use Rattle.hq_rules.specs.declared.answer.Answer.{Answer}
 use Rattle.hq_json.specs.OneLine.{is_in_line, is_one_line}
+use Rattle.hq_json.specs.Parts.{for_customer}
 use Rattle.hq_json.specs.Replies.{answer_data, answer_text}
 
 -- as a record of a fact of a text
@@ -143,3 +147,33 @@ mutual
 pub answer_one_line : (answer : Answer) → is_one_line (answer_text answer) ≡ true
 unfolding answer_text
 answer_one_line answer = data_one (answer_data answer)
+
+-- ---- names
+
+name_byte : (b : ℕ) → is_name_byte b ≡ true → is_in_line b ≡ true
+name_byte b h = grind (arith, nat_tests)
+
+name_bytes : (bytes : List ℕ) → list_all is_name_byte bytes ≡ true → is_one_line bytes ≡ true
+name_bytes [] h = refl
+name_bytes (b ∷ bs) h =
+    let parts = and_parts (is_name_byte b) (list_all is_name_byte bs) h in
+    both_true (name_byte b parts.0) (name_bytes bs parts.1)
+
+name_one : (name : List ℕ) → is_name name ≡ true → is_one_line name ≡ true
+name_one name h = name_bytes name (and_parts (nat_lt 0 (length name) && nat_le (length name) 32)
+    (list_all is_name_byte name) h).1
+
+-- ---- what a customer is told
+
+behind_first : (xs : List ℕ) → is_one_line xs ≡ true → is_one_line (drop 1 xs) ≡ true
+behind_first [] h = refl
+behind_first (x ∷ xs) h = (and_parts (is_in_line x) (is_one_line xs) h).1
+
+pub customer_one : (name object : List ℕ) → is_name name ≡ true → is_one_line object ≡ true →
+    is_one_line (for_customer name object) ≡ true
+customer_one name object known h =
+    let opened : is_one_line (codes "{\"customer\":\"" ++ name) ≡ true =
+    both_one_line (codes "{\"customer\":\"") name refl (name_one name known) in
+    both_one_line (codes "{\"customer\":\"" ++ name ++ codes "\",") (drop 1 object)
+    (both_one_line (codes "{\"customer\":\"" ++ name) (codes "\",") opened refl)
+    (behind_first object h)

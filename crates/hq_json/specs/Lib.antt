@@ -8,3 +8,5 @@ pub mod ReadBack
 pub mod TableReplies
 pub mod Replies
 pub mod Writing
+pub mod PartRoom
+pub mod Parts

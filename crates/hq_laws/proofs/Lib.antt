@@ -6,3 +6,5 @@ pub mod Leaving
 pub mod Past
 pub mod Queued
 pub mod Steps
+pub mod Left
+pub mod Readings

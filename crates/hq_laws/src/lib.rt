@@ -1,14 +1,17 @@
-//! Laws over the definitions of the calls, with no program in them: counts of an import are kept
-//! for good, and a history keeps each end until newer ones take its place.
+//! Laws over the definitions of the calls and of runs, with no program in them: counts of an import
+//! are kept for good; a history keeps each end until newer ones take its place; in a run nobody
+//! else matters, and a reply is read in one way.
 //!
 //! Each law is the contract of an empty function.
 #![tactic(auto)]
 
 mod histories;
 mod imports;
+mod runs;
 
 pub use histories::{
     no_number_is_given_twice, nothing_goes_where_nobody_left, the_newest_are_told,
     what_is_told_stays,
 };
 pub use imports::imports_are_kept;
+pub use runs::{nobody_else_matters, one_reading, tables_stay};

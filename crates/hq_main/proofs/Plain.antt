@@ -17,7 +17,7 @@ use Rattle.hq_lines.specs.Fields.{LineRequest}
 use Rattle.hq_batch.specs.Batches.{ask_in}
 use Rattle.hq_settings.specs.Seen.{settings_seen}
 use Rattle.hq_settings.specs.declared.settings.Settings.{Settings}
-use Rattle.hq_batch.specs.Builtin.{settings}
+use Rattle.hq_settings.specs.Builtin.{settings}
 use Rattle.hq_batch.specs.Runs.{ServesOver}
 use Rattle.hq_main.specs.Runs.{ServesBuiltin, want_alone}
 

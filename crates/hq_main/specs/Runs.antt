@@ -16,7 +16,7 @@ use Rattle.hq_rules.specs.declared.render.Rendered.{Rendered}
 use Rattle.hq_lines.specs.Fields.{LineRequest}
 use Rattle.hq_lines.specs.Lines.{Streams}
 use Rattle.hq_batch.specs.Batches.{ask_in, reply_line}
-use Rattle.hq_batch.specs.Builtin.{settings}
+use Rattle.hq_settings.specs.Builtin.{settings}
 use Rattle.hq_batch.specs.Runs.{RunEnds, Exits}
 use Rattle.hq_settings.specs.SettingUp.{SetsUp}
 use Rattle.hq_batch.specs.Checks.{CheckEnds, Checks}

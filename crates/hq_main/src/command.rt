@@ -6,10 +6,10 @@ ghost use Rattle.hq_words.specs.Asked.{given_of};
 ghost use Rattle.hq_main.specs.Runs.{ServesBuiltin, BatchEnds, DoesWord, Commands};
 
 use crate::rounds::{do_sweep, print_round};
-use hq_batch::{builtin_settings, check, print, refuse, run_batch, show, tell};
+use hq_batch::{check, print, refuse, run_batch, show, tell};
 use hq_lists::ListShelf;
 use hq_log::{NoLog, log_of};
-use hq_settings::{Trouble, set_up};
+use hq_settings::{Trouble, builtin_settings, set_up};
 use hq_sql_admin::{delete, history, hold, import, migrate, queue, release, usage};
 use hq_sql_server::{run_stored, serve_http};
 use hq_sql_shelf::FileShelf;

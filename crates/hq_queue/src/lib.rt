@@ -13,6 +13,7 @@
 
 mod admission;
 mod backoff;
+mod distinct;
 mod ending;
 mod moves;
 mod reporting;
@@ -21,6 +22,7 @@ mod sweep;
 
 pub use admission::admit;
 pub use backoff::next_try;
+pub use distinct::distinct;
 pub use ending::end_all;
 pub use moves::{due, hold, release};
 pub use reporting::report;

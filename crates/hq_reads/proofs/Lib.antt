@@ -3,7 +3,6 @@ pub mod NoLines
 pub mod Paged
 pub mod Pages
 pub mod Reading
-pub mod SameAddresses
 pub mod ShelfLines
 pub mod SweepAnswers
 pub mod Then

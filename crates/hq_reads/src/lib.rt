@@ -4,7 +4,6 @@
 
 mod customer_lines;
 mod deciding;
-mod distinct;
 mod histories;
 mod imports;
 mod lists;

@@ -9,12 +9,11 @@ ghost use Rattle.hq_reads.specs.ShelfLines.{FindsOpen, KeepsOpen};
 ghost use Rattle.hq_rules.specs.Submissions as rules;
 
 use crate::customer_lines::{action_for, with_actions};
-use crate::distinct::distinct;
 use hq_access::decide as decide_verdict;
 use hq_decisions::submissions::settle;
 use hq_kept::{Action, Class, Entry};
 use hq_memory::Memory;
-use hq_queue::admit as admitted;
+use hq_queue::{admit as admitted, distinct};
 use hq_rules::decision::{Decision, tell};
 use hq_rules::{Answer, Origin, Submission, Verdict};
 use hq_tables::Shelf;

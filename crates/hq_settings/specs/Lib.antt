@@ -3,3 +3,4 @@ pub mod Seen
 pub mod Settings
 pub mod SettingUp
 pub mod Steps
+pub mod Builtin

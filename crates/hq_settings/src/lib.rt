@@ -1,5 +1,6 @@
 //! The settings of a desk: the relay's name and key, and the directory of customers. They come from
-//! texts and the bytes of files, which words name; each is checked in the written order.
+//! texts and the bytes of files, which words name; each is checked in the written order. Without
+//! words there are built-in ones.
 //!
 //! `Trouble` says why a program did not do what its words asked for.
 //!
@@ -10,6 +11,7 @@
 //! ```
 #![tactic(auto)]
 
+mod builtin;
 mod files;
 mod relay;
 mod relay_words;
@@ -21,6 +23,7 @@ mod trouble;
 #[cfg(test)]
 mod words_tests;
 
+pub use builtin::settings as builtin_settings;
 pub use files::{customers_of, file_of};
 pub use relay::Relay;
 pub use relay_words::relay_of;

@@ -23,8 +23,10 @@ use Rattle.hq_requests.specs.Calls.{CallOfAll}
 use Rattle.hq_requests.specs.Directories.{entry_of, names_of}
 use Rattle.hq_wire.specs.Exchanges.{AllDone, Exchanged, InPart, IsWant, StopsClosed, Unheard}
 use Rattle.hq_wire.specs.Exchanges.{after_calls, of_part, unheard_call}
-use Rattle.hq_wire.specs.Replies.{AreObjects, IsObject, Part, is_memory, comma_joined}
-use Rattle.hq_wire.specs.Replies.{parts_opening, part_text}
+use Rattle.hq_json.specs.Parts.{IsObject}
+use Rattle.hq_wire.specs.Replies.{AreObjects, Part, is_memory, comma_joined}
+use Rattle.hq_json.specs.Parts.{part_text}
+use Rattle.hq_wire.specs.Replies.{parts_opening}
 use Rattle.hq_wire.specs.Replies.{separated, parted_reply, reply_of_fault}
 use Rattle.hq_requests.specs.declared.directory.Directory.{Directory}
 use Rattle.hq_wire.proofs.Alone.{all_done_on}

@@ -1,10 +1,8 @@
 -- Every reply is one line, where the names of the customers are names.
 use Rattle.std.proofs.Common.{◌≡◌, ◌⊎◌, ⊎_elim, ℕ, true, List, [], ◌∷◌, ◌++◌, map}
-use Rattle.std.proofs.Common.{drop, Option, Some, None, Result, Ok, Err, refl, sym, ap, ◌∙◌, arith}
-use Rattle.std.specs.Prelude.{◌&&◌, nat_le, nat_lt, length, codes}
+use Rattle.std.proofs.Common.{Option, Some, None, Result, Ok, Err, refl, sym, ap, ◌∙◌}
+use Rattle.std.specs.Prelude.{◌&&◌, codes}
 use Rattle.std.specs.List.{flat_map, list_all}
-use Rattle.std.specs.Cmp.Derive.{both_true}
-use Rattle.std.proofs.lemmas.Bool.Decides.{nat_tests}
 use Rattle.std.proofs.lemmas.Bool.{and_parts}
 use Rattle.std.proofs.lemmas.List.Folds.{list_all-append}
 use Rattle.hq_values.specs.Refusals.{no_memory}
@@ -12,54 +10,26 @@ use Rattle.hq_values.specs.declared.failure.Fault.{Fault}
 use Rattle.hq_values.specs.declared.failure.Fault.TheVariants.{WantOfMemory, Disk, BadSchema}
 use Rattle.hq_values.specs.declared.failure.Fault.TheVariants.{Closed}
 use Rattle.hq_values.specs.declared.failure.Refusal.{Refusal}
-use Rattle.hq_values.specs.Words.{is_name, is_name_byte}
+use Rattle.hq_values.specs.Words.{is_name}
 use Rattle.hq_tables.specs.Tables.{Tables}
 use Rattle.hq_rules.specs.Machine.{shared}
 use Rattle.hq_rules.specs.declared.answer.Answer.TheVariants.{Refused}
 use Rattle.hq_rules.specs.declared.call.Call.{Call}
-use Rattle.hq_json.specs.OneLine.{is_in_line, is_one_line}
+use Rattle.hq_json.specs.OneLine.{is_one_line}
+use Rattle.hq_json.specs.Parts.{part_text}
 use Rattle.hq_json.specs.Replies.{answer_text}
-use Rattle.hq_json.proofs.OneLine.{answer_one_line, both_one_line}
+use Rattle.hq_json.proofs.OneLine.{answer_one_line, both_one_line, customer_one}
 use Rattle.hq_requests.specs.Calls.{Asked, CallOf, CallOfAll}
 use Rattle.hq_requests.specs.Directories.{entry_of, names_of}
 use Rattle.hq_wire.specs.Exchanges.{IsWant}
 use Rattle.hq_wire.specs.Exchanges.{AllDone, CallsAll, EndsAt, InPart, IsStruck, MayReplyTo}
 use Rattle.hq_wire.specs.Exchanges.{of_part}
-use Rattle.hq_wire.specs.Replies.{Part, SeenReply, Stop, closing, fault_text, for_customer}
-use Rattle.hq_wire.specs.Replies.{comma_joined}
-use Rattle.hq_wire.specs.Replies.{part_text, reply_of, reply_of_fault, stopped_text}
+use Rattle.hq_wire.specs.Replies.{Part, SeenReply, Stop, closing, comma_joined, fault_text}
+use Rattle.hq_wire.specs.Replies.{reply_of, reply_of_fault, stopped_text}
 use Rattle.hq_requests.specs.declared.directory.Directory.{Directory}
 use Rattle.hq_wire.proofs.Called.{behind_comma, customer_of_part as whose}
 
--- ---- names
-
-name_byte : (b : ℕ) → is_name_byte b ≡ true → is_in_line b ≡ true
-name_byte b h = grind (arith, nat_tests)
-
-name_bytes : (bytes : List ℕ) → list_all is_name_byte bytes ≡ true → is_one_line bytes ≡ true
-name_bytes [] h = refl
-name_bytes (b ∷ bs) h =
-    let parts = and_parts (is_name_byte b) (list_all is_name_byte bs) h in
-    both_true (name_byte b parts.0) (name_bytes bs parts.1)
-
-name_one : (name : List ℕ) → is_name name ≡ true → is_one_line name ≡ true
-name_one name h = name_bytes name (and_parts (nat_lt 0 (length name) && nat_le (length name) 32)
-    (list_all is_name_byte name) h).1
-
--- ---- what a customer is told
-
-behind_first : (xs : List ℕ) → is_one_line xs ≡ true → is_one_line (drop 1 xs) ≡ true
-behind_first [] h = refl
-behind_first (x ∷ xs) h = (and_parts (is_in_line x) (is_one_line xs) h).1
-
-customer_one : (name object : List ℕ) → is_name name ≡ true → is_one_line object ≡ true →
-    is_one_line (for_customer name object) ≡ true
-customer_one name object known h =
-    let opened : is_one_line (codes "{\"customer\":\"" ++ name) ≡ true =
-    both_one_line (codes "{\"customer\":\"") name refl (name_one name known) in
-    both_one_line (codes "{\"customer\":\"" ++ name ++ codes "\",") (drop 1 object)
-    (both_one_line (codes "{\"customer\":\"" ++ name) (codes "\",") opened refl)
-    (behind_first object h)
+-- ---- one customer
 
 fault_one : (fault : Fault) → is_one_line (fault_text fault) ≡ true
 fault_one WantOfMemory = refl

@@ -17,7 +17,8 @@ use Rattle.hq_rules.specs.declared.answer.Answer.TheVariants.{Refused}
 use Rattle.hq_rules.specs.declared.call.Call.{Call}
 use Rattle.hq_requests.specs.Calls.{Asked, CallOf, CallOfAll, call_of}
 use Rattle.hq_requests.specs.Directories.{entry_of, names_of}
-use Rattle.hq_wire.specs.Replies.{SeenReply, Part, Stop, AreObjects, part_text, reply_of}
+use Rattle.hq_json.specs.Parts.{part_text}
+use Rattle.hq_wire.specs.Replies.{SeenReply, Part, Stop, AreObjects, reply_of}
 use Rattle.hq_wire.specs.Replies.{reply_of_fault, parted_reply, tells_store}
 use Rattle.hq_requests.specs.declared.directory.Directory.{Directory}
 use Rattle.hq_requests.specs.declared.exchanges.Exchange.{Exchange}

@@ -1,4 +1,3 @@
 pub mod Exchanges
-pub mod Parts
 pub mod Replies
 pub mod Runs

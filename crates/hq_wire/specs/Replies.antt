@@ -1,13 +1,14 @@
 -- What is replied: a status and the bytes of a body.
 use Rattle.std.specs.Prelude.{ℕ, ⊤, ◌≡◌, ◌==◌, ◌&&◌, ◌||◌, Bool, true, false, not, nat_le, List, []}
-use Rattle.std.specs.Prelude.{◌∷◌, ◌++◌, take, drop, Option, None, Some, bytes_eq, codes, count_by}
+use Rattle.std.specs.Prelude.{◌∷◌, ◌++◌, Option, None, Some, bytes_eq, codes, count_by}
 use Rattle.std.specs.Prelude.{if◌then◌else◌}
-use Rattle.std.specs.List.{flat_map, list_all}
+use Rattle.std.specs.List.{flat_map}
 use Rattle.hq_values.specs.declared.failure.Fault.{Fault}
 use Rattle.hq_values.specs.declared.failure.Fault.TheVariants.{WantOfMemory, Disk, BadSchema}
 use Rattle.hq_values.specs.declared.failure.Fault.TheVariants.{Closed}
 use Rattle.hq_rules.specs.Answers.{answer_number}
 use Rattle.hq_rules.specs.declared.answer.Answer.{Answer}
+use Rattle.hq_json.specs.Parts.{IsObject, for_customer}
 use Rattle.hq_json.specs.Replies.{answer_text}
 use Rattle.hq_requests.specs.Bodies.{body_bytes}
 use Rattle.hq_requests.specs.declared.reply.Reply.{Reply}
@@ -77,14 +78,6 @@ reply_of_fault fault = plain 503 (fault_text fault)
 
 -- ---- a call of all
 
--- an object's text with the member `customer` before its others
-abbrev pub for_customer : List ℕ → List ℕ → List ℕ
-for_customer name object = codes "{\"customer\":\"" ++ name ++ codes "\"," ++ drop 1 object
-
--- what a customer is told of its answer, as a part
-abbrev pub part_text : List ℕ → Answer → List ℕ
-part_text name a = for_customer name (answer_text a)
-
 -- a part behind others has a comma before it
 abbrev pub separated : Bool → List ℕ → List ℕ
 separated true part = part
@@ -118,20 +111,6 @@ parted_reply parts stopped = record {
 }
 
 -- ---- what the bytes of such a reply tell
-
--- does not close a brace
-abbrev pub is_inside : ℕ → Bool
-is_inside byte = not (byte == 125)
-
--- the last byte closes a brace, and no other does
-pub record Closes (text : List ℕ) : Type 0 where
-  pub before : List ℕ
-  pub text_is : text ≡ before ++ 125 ∷ []
-  pub inside : list_all is_inside before ≡ true
-
--- begins with a brace, and ends where one is first closed
-abbrev pub IsObject : List ℕ → Type 0
-IsObject text = (take 1 text ≡ 123 ∷ []) × Closes text
 
 abbrev pub AreObjects : List Part → Type 0
 AreObjects [] = ⊤

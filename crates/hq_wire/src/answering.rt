@@ -91,18 +91,19 @@ fn call_reply<'d, D: Acts, M: JsonMemory>(
     }
 }
 
-/// Replies to one exchange: with the shared step's answer, and its tables are left; or with the
-/// refusal that no call was made for, and the desk stays as it is; or, in place of either, with
-/// want of memory, and only where there was a call with a fault that the shelf can answer, and the
-/// tables are as before. It always replies.
+/// Replies to one exchange, always: with the shared step's answer, whose tables are left; with the
+/// refusal that no call was made for; or with a fault. After the last two the tables are as before.
 ///
-/// A call of all is replied to with a part for each customer that is done, which are the first of
-/// the directory, each by the shared step; and with the customer and the fault that stopped it.
+/// It tells 90 only where this memory refused a request, or where the store may answer 90; and any
+/// other fault only where the store may.
 ///
-/// What is said of tables is said where the store is clean and open as the call ends, its rows were
+/// The reply to a call of all has a part for each customer that is done, by the shared step. They
+/// are the first of the directory. A fault ends it, and is told with its customer.
+///
+/// Contracts speak of tables where the store is clean and open as the call ends, its rows were
 /// those of the tables before, and the tables were sound. Whatever the store is, a refusal is told
-/// as such, and where the store is closed after a call the reply is 93 `Closed`, or 90; 93 is told
-/// only then.
+/// as such. Where the store is closed after a call the reply is 93 `Closed`, or 90; 93 is told only
+/// then.
 ///
 /// The reply is of the customer whose key is shown, or whom the relay names, also where it refuses.
 pub fn exchange<'d, D: Acts, M: JsonMemory>(

@@ -8,9 +8,10 @@ ghost use Rattle.hq_requests.specs.Calls.{CallOfAll};
 ghost use Rattle.hq_requests.specs.Bodies.{body_bytes};
 ghost use Rattle.hq_wire.specs.Exchanges.{Exchanged, with_refusals};
 ghost use Rattle.hq_requests.specs.Named.{customer_told};
-ghost use Rattle.hq_wire.specs.Parts.{AreNumbers, TellsNumbers, is_for, part_room};
+ghost use Rattle.hq_json.specs.PartRoom.{AreNumbers, TellsNumbers, is_for, part_room};
 ghost use Rattle.hq_wire.specs.Replies.{SeenReply, IsSent};
-ghost use Rattle.hq_wire.specs.Replies.{part_text, fault_text, separated, parts_opening};
+ghost use Rattle.hq_json.specs.Parts.{part_text};
+ghost use Rattle.hq_wire.specs.Replies.{fault_text, separated, parts_opening};
 ghost use Rattle.hq_wire.specs.Replies.{closing};
 
 use crate::faults::{fault_reply, fault_text};
@@ -124,8 +125,8 @@ struct PartText<'n> {
 
 impl Render for PartText<'_> {
     ghost use Rattle.std.specs.Prelude.{◌≡◌, true};
-    ghost use Rattle.hq_wire.specs.Parts.{HasRoom, is_for};
-    ghost use Rattle.hq_wire.specs.Replies.{IsObject, part_text};
+    ghost use Rattle.hq_json.specs.PartRoom.{HasRoom, is_for};
+    ghost use Rattle.hq_json.specs.Parts.{IsObject, part_text};
 
     ghost text = { λ part answer. part_text part.name.now answer };
 
@@ -157,8 +158,7 @@ fn put(body: &mut Vec<u8>, bytes: &[u8])
     };
 }
 
-/// Room for the longest reply about so many customers, each with this room for its part, with what
-/// stands before the parts.
+/// Room for the longest reply about so many customers, with what stands before the parts.
 fn room_for<M: Memory>(memory: M, customers: usize, part: usize) -> Option<Vec<u8>>
     requires { customers * part + 102 ≤ usize.MAX }
     ensures opened { IfSome result (λ body. body.items ≡ parts_opening) }
@@ -221,11 +221,11 @@ fn parted(body: Vec<u8>) -> Reply<'static>
     }
 }
 
-/// Makes a call for every customer at a moment, in the order of the directory, and stops at the
-/// first fault. A refusal is told as the customer's part.
+/// Calls for every customer, in the order of the directory, and stops at the first fault. A refusal
+/// is told as the customer's part.
 ///
-/// Room for the longest reply is taken first; where it is refused, nothing is done, and 90 is told.
-/// Each part is written before its customer's changes are made, and added without taking memory.
+/// Room for the longest reply is taken first; where it is refused, nothing is done. Each part is
+/// written before its customer's changes are made, and added without taking memory.
 pub(crate) fn call_all<D: Acts, M: JsonMemory>(
     memory: M,
     desk: &mut D,

@@ -16,7 +16,8 @@ use std::alloc::{AllocError, Allocator};
 /// To every customer the replies to the calls made by or for it, and what is kept of it afterwards,
 /// are those of the machine of one customer, started from its own state and given its share of the
 /// calls alone, whatever other calls come between. A call that is answered 503 does not count.
-/// Each reply carries the customer of its exchange.
+/// 90 is told only where `memory` refused a request, or where the store may answer it. Each reply
+/// carries the customer of its exchange.
 ///
 /// Room for all replies is taken first from `room`; where it is refused, nothing was done.
 pub fn run<'d, D: Acts, M: JsonMemory, A: Allocator>(

@@ -1,60 +1,19 @@
-//! Laws over the definitions of whole runs, with no program in them. Each is an empty function
-//! whose contract is the law.
+//! A law over the definitions of replies, with no program in it: an empty function whose contract
+//! is the law.
 
-ghost use Rattle.std.specs.Prelude.{◌≡◌, ◌≢◌, ℕ, true, List, Ok};
+ghost use Rattle.std.specs.Prelude.{◌≡◌, ℕ, true, List};
 ghost use Rattle.std.specs.List.{list_all};
 ghost use Rattle.hq_values.specs.Words.{is_name};
-ghost use Rattle.hq_tables.specs.Tables.{Tables, own};
+ghost use Rattle.hq_tables.specs.Tables.{Tables};
 ghost use Rattle.hq_rules.specs.Desks.{or_memory};
-ghost use Rattle.hq_rules.specs.Unchanged.{only_reads};
 ghost use Rattle.hq_json.specs.OneLine.{is_one_line};
-ghost use Rattle.hq_requests.specs.Calls.{Asked, call_in};
 ghost use Rattle.hq_requests.specs.Directories.{names_of};
 ghost use Rattle.hq_wire.specs.Exchanges.{Ask, MayReply};
 ghost use Rattle.hq_wire.specs.Replies.{SeenReply};
-ghost use Rattle.hq_wire.specs.Runs.{AllReplied, share, heard};
 ghost use Rattle.hq_requests.specs.declared.directory.Directory.{Directory};
 
 use hq_memory::Memory;
 use hq_rules::Acts;
-
-/// Nobody else matters: two lists of what was asked, by exchanges or by lines, under one directory
-/// and host, each over any kind of shelf, from tables that hold the same of a customer, in which
-/// that customer's share is the same, give it equal replies, those of 503 left out, and leave the
-/// same of it.
-pub fn nobody_else_matters<D: Acts, M: Memory, E: Acts, N: Memory>()
-    ensures replies { (host : List ℕ) (d : Directory) (c : List ℕ)
-        (xs ys : List Ask) (rs qs : List SeenReply) (t u t' u' : Tables)
-        → AllReplied (or_memory M.refused D.sight.store).may_answer host d t xs rs t'
-        → AllReplied (or_memory N.refused E.sight.store).may_answer host d u ys qs u'
-        → own c t ≡ own c u → share c xs rs ≡ share c ys qs → heard c xs rs ≡ heard c ys qs }
-    ensures state { (host : List ℕ) (d : Directory) (c : List ℕ)
-        (xs ys : List Ask) (rs qs : List SeenReply) (t u t' u' : Tables)
-        → AllReplied (or_memory M.refused D.sight.store).may_answer host d t xs rs t'
-        → AllReplied (or_memory N.refused E.sight.store).may_answer host d u ys qs u'
-        → own c t ≡ own c u → share c xs rs ≡ share c ys qs → own c t' ≡ own c u' }
-{}
-
-/// A reply is read in one way: two replies of the same bytes and status to what was asked, over any
-/// tables and any kinds of shelf, are the same. So the bytes of the reply to a call of all tell
-/// which customers were done, what each of them was told, and at whom it stopped by which fault.
-pub fn one_reading<D: Acts, M: Memory, E: Acts, N: Memory>()
-    ensures { (host : List ℕ) (d : Directory) (a : Ask) (r q : SeenReply) (t t' u u' : Tables)
-        → MayReply (or_memory M.refused D.sight.store).may_answer host d t a r t'
-        → MayReply (or_memory N.refused E.sight.store).may_answer host d u a q u'
-        → r.status ≡ q.status → r.body ≡ q.body → r ≡ q }
-{}
-
-/// The tables of all customers stay as they were where the status of a reply is not 200, so after
-/// every refusal; and whatever is replied to a call that only reads, of one customer or of all.
-pub fn tables_stay<D: Acts, M: Memory>()
-    ensures refused { (host : List ℕ) (d : Directory) (a : Ask) (r : SeenReply) (t t' : Tables)
-        → MayReply (or_memory M.refused D.sight.store).may_answer host d t a r t' → r.status ≢ 200
-        → t' ≡ t }
-    ensures reads { (host : List ℕ) (d : Directory) (a : Ask) (r : SeenReply) (t t' : Tables)
-        (asked : Asked) → MayReply (or_memory M.refused D.sight.store).may_answer host d t a r t'
-        → a.called ≡ Ok asked → only_reads (call_in asked) ≡ true → t' ≡ t }
-{}
 
 /// Every reply is one line: its bytes have no LF, whatever texts they tell of.
 pub fn replies_are_one_line<D: Acts, M: Memory>()

@@ -1,9 +1,9 @@
 //! A batch over plain lists, and readers and writers in memory: how it ends, and what it writes.
 
-use hq_batch::{builtin_settings, run_batch};
+use hq_batch::run_batch;
 use hq_lists::ListShelf;
 use hq_log::NoLog;
-use hq_settings::{Relay, Settings, Trouble};
+use hq_settings::{Relay, Settings, Trouble, builtin_settings};
 use hq_trial::{Narrow, Pieces};
 use std::alloc::{AllocError, Global};
 use std::io::{self, Read, Write};

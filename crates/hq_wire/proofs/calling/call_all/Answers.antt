@@ -5,12 +5,12 @@ use Rattle.hq_kept.specs.Customers.{are_customers}
 use Rattle.hq_rules.specs.Each.{each_call}
 use Rattle.hq_requests.specs.Calls.{CallOfAll}
 use Rattle.hq_requests.specs.Directories.{entry_in, entry_of, name_of, names_of}
-use Rattle.hq_wire.specs.Parts.{part_room}
+use Rattle.hq_json.specs.PartRoom.{part_room}
 use Rattle.hq_wire.specs.Replies.{Stop, closing, seen, separated, parted_reply}
 use Rattle.hq_requests.proofs.Entries.{entry_at}
 use Rattle.hq_wire.specs.Exchanges.{with_refusals}
 use Rattle.hq_wire.proofs.Exchanging.{no_room, rendered_all, wanted}
-use Rattle.hq_wire.proofs.PartTexts.{taken_so}
+use Rattle.hq_json.proofs.PartTexts.{taken_so}
 use Rattle.hq_wire.proofs.Called.{SoFar, done_by_all, none_yet, one_more_done, split_at, stopped_at}
 use Rattle.hq_wire.proofs.calling.call_all.Goals as goal
 

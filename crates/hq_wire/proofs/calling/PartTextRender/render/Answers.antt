@@ -1,7 +1,7 @@
 use Rattle.std.proofs.Common.{◌≡◌, true, rules, subst, sym}
-use Rattle.hq_wire.specs.Parts.{HasRoom, is_for}
-use Rattle.hq_wire.specs.Replies.{IsObject}
-use Rattle.hq_wire.proofs.PartTexts.{fits}
+use Rattle.hq_json.specs.PartRoom.{HasRoom, is_for}
+use Rattle.hq_json.specs.Parts.{IsObject}
+use Rattle.hq_json.proofs.PartTexts.{fits}
 use Rattle.hq_wire.proofs.calling.PartTextRender.render.Goals as goal
 
 pub returns-clause-fits : goal.returns-clause-fits

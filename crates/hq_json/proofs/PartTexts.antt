@@ -29,8 +29,8 @@ use Rattle.hq_rules.specs.declared.each.EachCall.{EachCall}
 use Rattle.hq_rules.specs.declared.each.EachCall.TheVariants as each
 use Rattle.hq_json.specs.Objects.{count}
 use Rattle.hq_json.specs.Replies.{answer_text}
-use Rattle.hq_wire.specs.Parts.{TellsNumbers, HasRoom, is_for}
-use Rattle.hq_wire.specs.Replies.{Closes, IsObject, for_customer, is_inside, part_text}
+use Rattle.hq_json.specs.PartRoom.{TellsNumbers, HasRoom, is_for}
+use Rattle.hq_json.specs.Parts.{Closes, IsObject, for_customer, is_inside, part_text}
 
 abbrev Inside : List ℕ → Type 0
 Inside text = list_all is_inside text ≡ true

@@ -1,6 +1,6 @@
 use Rattle.hq_rules.specs.Desks.{or_memory}
-use Rattle.hq_wire.proofs.Readings.{one_reading}
-use Rattle.hq_wire.proofs.laws.one_reading.Goals as goal
+use Rattle.hq_laws.proofs.Readings.{one_reading}
+use Rattle.hq_laws.proofs.runs.one_reading.Goals as goal
 
 pub returns : goal.returns
 returns g c = λ host d a r q t t' u u' one other status body.

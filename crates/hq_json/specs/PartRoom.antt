@@ -1,5 +1,4 @@
--- Parts of the reply to a call of all, as the crate's own functions write them. No claim rests on
--- them.
+-- Room for the parts of the reply to a call of all, and the numbers that they tell.
 -- Inner: it serves proofs alone, and no promise rests on it.
 use Rattle.std.specs.Prelude.{ℕ, ◌+◌, ◌<◌, ◌≤◌, ◌^◌, ⊤, Bool, true, false, List, length}
 use Rattle.hq_values.specs.declared.failure.Refusal.TheVariants.{NoticesSpent}

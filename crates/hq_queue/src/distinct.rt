@@ -40,11 +40,8 @@ fn add_new<M: Memory>(
     Ok(())
 }
 
-/// Each address, without the later ones that are the same.
-pub(crate) fn distinct<M: Memory>(
-    memory: M,
-    addresses: Vec<Address>,
-) -> Result<Vec<Address>, AllocError>
+/// Each address, without the later ones that are the same, in their order; or want of memory.
+pub fn distinct<M: Memory>(memory: M, addresses: Vec<Address>) -> Result<Vec<Address>, AllocError>
     ensures { MadeIn M.refused result (λ kept. kept.items ≡ rules.distinct addresses.items) }
 {
     let mut kept = memory.none();

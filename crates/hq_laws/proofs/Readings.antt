@@ -14,8 +14,10 @@ use Rattle.hq_tables.specs.Tables.{Tables}
 use Rattle.hq_rules.specs.declared.call.Call.{Call}
 use Rattle.hq_requests.specs.Calls.{Asked, CallOf, CallOfAll}
 use Rattle.hq_wire.specs.Exchanges.{CallsAll, EndsAt, IsRefused, MayReplyTo}
-use Rattle.hq_wire.specs.Replies.{AreObjects, Closes, Part, SeenReply, Stop, closing, fault_text}
-use Rattle.hq_wire.specs.Replies.{for_customer, is_inside, comma_joined, parts_opening, plain}
+use Rattle.hq_json.specs.Parts.{Closes}
+use Rattle.hq_wire.specs.Replies.{AreObjects, Part, SeenReply, Stop, closing, fault_text}
+use Rattle.hq_json.specs.Parts.{for_customer, is_inside}
+use Rattle.hq_wire.specs.Replies.{comma_joined, parts_opening, plain}
 use Rattle.hq_wire.specs.Replies.{reply_of_fault}
 use Rattle.hq_wire.specs.Replies.{stopped_text, parted_reply}
 use Rattle.hq_requests.specs.declared.directory.Directory.{Directory}

@@ -2,13 +2,13 @@
 
 ghost use Rattle.std.specs.Prelude.{◌≡◌, MatchResult};
 ghost use Rattle.hq_values.specs.Refusals.{no_memory_fail};
-ghost use Rattle.hq_batch.specs.Builtin as builtin;
+ghost use Rattle.hq_settings.specs.Builtin as builtin;
 ghost use Rattle.hq_settings.specs.Seen.{settings_seen};
 
+use crate::settings::Settings;
 use hq_kept::{Customer, Entry, Quota};
-use hq_settings::Settings;
+use hq_requests::Directory;
 use hq_values::{Fail, Host, Key, Name};
-use hq_wire::Directory;
 use std::alloc::Global;
 
 /// The name of the relay.

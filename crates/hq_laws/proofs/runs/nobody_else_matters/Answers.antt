@@ -4,7 +4,7 @@ use Rattle.hq_rules.specs.Desks.{or_memory}
 use Rattle.hq_wire.specs.Runs.{calls_in, told_in}
 use Rattle.hq_rules.specs.Machine.{answers, state_after}
 use Rattle.hq_wire.proofs.Alone.{alone}
-use Rattle.hq_wire.proofs.laws.nobody_else_matters.Goals as goal
+use Rattle.hq_laws.proofs.runs.nobody_else_matters.Goals as goal
 
 pub returns-clause-replies : goal.returns-clause-replies
 returns-clause-replies g c = λ host d name xs ys rs qs t u t' u' one other start same.

@@ -3,8 +3,8 @@ use Rattle.hq_values.specs.declared.failure.Refusal.{Refusal}
 use Rattle.hq_requests.specs.Calls.{Asked}
 use Rattle.hq_rules.specs.Desks.{or_memory}
 use Rattle.hq_wire.specs.Exchanges.{MayReplyTo}
-use Rattle.hq_wire.proofs.Left.{left_by_others, left_by_reading}
-use Rattle.hq_wire.proofs.laws.tables_stay.Goals as goal
+use Rattle.hq_laws.proofs.Left.{left_by_others, left_by_reading}
+use Rattle.hq_laws.proofs.runs.tables_stay.Goals as goal
 
 pub returns-clause-refused : goal.returns-clause-refused
 returns-clause-refused g c = λ host d a r t t' replied other.
