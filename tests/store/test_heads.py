@@ -1,14 +1,16 @@
 """What sqlite3 reads and writes of the head rows of a store in a file.
 
 1. After each line its customer's head row has the counts that are written here beside the line.
-2. Where sqlite3 writes the last queue ID, or the last number of a notice, as the next one, the desk gives the last ID and
-   refuses what needs one more, and changes nothing.
+2. sqlite3 writes acme's head row, and the desk replies to the lines of a folder of tests/store/spent as it has them: where
+   the next queue ID, or the next number of a notice, is the last one or past it, it gives the last one, refuses what needs
+   one more, and changes nothing; and the greatest counts are told whole.
 """
 import subprocess
 from pathlib import Path
 
 import pytest
 from serving import LONGEST, expect, words
+from worked import lines_of, replies_of
 
 sqlite3 = pytest.importorskip("sqlite3")
 
@@ -20,7 +22,6 @@ SUBMIT = (b'1767225600 POST /relay/submit/acme relaykey00000001 {"spool":"%s","s
 REQUEUE = b"1767225600 POST /v1/requeue/0000000001 acmekey000000001\n"
 REPORT = (b'1767225610 POST /relay/outcome/acme relaykey00000001 {"id":"%s","attempt":1,"outcomes":'
           b'[{"recipient":"bob@far.example","result":"%s","status":"%s","text":"x"}]}\n')
-LIST = b"1767225610 GET /v1/messages acmekey000000001\n"
 # each line, and acme's messages, their bytes and its lines then
 STEPS = [
     (PUT % b"OK", (0, 0, 1)),
@@ -31,10 +32,14 @@ STEPS = [
     (REQUEUE, (1, 900, 0)),
     (REPORT % (b"0000000002", b"delivered", b"2.0.0"), (0, 0, 0)),
 ]
-LAST = 2**40 - 1
-QUEUED = b'200 {"id":"%s","recipients":["bob@far.example"],"refused":[],"state":"incoming","verdict":"queued"}\n'
-LISTED = (b'200 {"messages":[{"arrival":1767225600,"id":"0000000001","reason":"","recipients":1,"sender":"ann@a.example",'
-          b'"size":900,"state":"incoming"}],"more":false}\n')
+LAST, GREATEST = 2**40 - 1, 2**63 - 1
+# acme's head row for each folder: the next queue ID and the next notice, five tallies, and three counts
+SPENT = {
+    "last-serial": (LAST, 1, *8 * [0]),
+    "no-notice-left": (1, LAST + 1, *8 * [0]),
+    "one-notice-left": (1, LAST, *8 * [0]),
+    "great-counts": (2, 1, *8 * [GREATEST]),
+}
 
 
 def replies(program, store, *lines):
@@ -51,7 +56,9 @@ def sql(store, text):
     return rows
 
 
-def count_steps(program, store):
+def test_counts(program, folder):
+    """The counts after each line."""
+    store = folder / "store"
     for line, counts in STEPS:
         told = replies(program, store, line)
         expect(len(told) == 1 and told[0].startswith(b"200 "), line, told)
@@ -59,24 +66,11 @@ def count_steps(program, store):
         expect(rows == [counts], line, rows, "and not", counts)
 
 
-def spend_serials(program, store):
+@pytest.mark.parametrize("name", SPENT)
+def test_spent(program, folder, name):
+    """The last queue ID, the last notice, and the greatest counts."""
+    store, place = folder / "store", ROOT / "tests" / "store" / "spent" / name
     expect(replies(program, store) == [], "an empty desk")
-    sql(store, f"INSERT INTO heads VALUES ('acme', {LAST}, 1, 0, 0, 0, 0, 0, 0, 0, 0)")
-    told = replies(program, store, SUBMIT % b"s1", SUBMIT % b"s2")
-    expect(told == [QUEUED % b"FFFFFFFFFF", b'409 {"error":43,"name":"SerialsSpent"}\n'], "serials", told)
-
-
-def spend_notices(program, store):
-    expect(replies(program, store, SUBMIT % b"s1") == [QUEUED % b"0000000001"], "a submission")
-    sql(store, f"UPDATE heads SET next_notice = {LAST + 1}")
-    before = sql(store, "SELECT * FROM messages"), sql(store, "SELECT * FROM recipients"), sql(store, "SELECT * FROM heads")
-    told = replies(program, store, REPORT % (b"0000000001", b"failed", b"5.1.1"), LIST)
-    expect(told == [b'409 {"error":44,"name":"NoticesSpent"}\n', LISTED], "notices", told)
-    after = sql(store, "SELECT * FROM messages"), sql(store, "SELECT * FROM recipients"), sql(store, "SELECT * FROM heads")
-    expect(after == before, "notices", after, "and not", before)
-
-
-@pytest.mark.parametrize("way", [count_steps, spend_serials, spend_notices])
-def test_heads(program, folder, way):
-    """The counts after each line, the last queue ID and the last notice."""
-    way(program, folder / "store")
+    sql(store, f"INSERT INTO heads VALUES ('acme', {', '.join(map(str, SPENT[name]))})")
+    told = replies(program, store, *lines_of(place))
+    expect(told == replies_of(place), name, told, "and not", replies_of(place))

@@ -1,5 +1,5 @@
-//! Laws over the definitions of whole runs, in one session, with no program in them. Each is an empty
-//! function whose contract is the law.
+//! Laws over whole runs in one session: nobody else matters, which replies change nothing, and one
+//! reading of each.
 
 ghost use Rattle.std.specs.Prelude.{◌≡◌, ◌≢◌, ℕ, true, List, Ok};
 ghost use Rattle.hq_tables.specs.Tables.{Tables, own};

@@ -162,19 +162,3 @@ pub fn expect_rows(
     }
     Ok(())
 }
-
-/// Asks at so many seconds after the start, over any shelf, and compares what is replied.
-pub fn expect_at<S: Shelf + Drop>(
-    rt: &(impl Abort + AllocGlobal),
-    desk: &mut Desk<S>,
-    seconds: u64,
-    line: &str,
-    want: &str,
-) -> Result<(), Fail> {
-    let directory = directory(rt)?;
-    let mut asked = asked(rt.alloc(), line)?;
-    asked.at = Moment::new(START.saturating_add(seconds)).ok_or("no moment")?;
-    let reply = exchange(rt.alloc(), desk, &directory, &asked);
-    assert_eq!(rt; line_of(rt.alloc(), &reply)?.as_str(), want);
-    Ok(())
-}

@@ -3,8 +3,6 @@
 use crate::relay::{asked, desk_over, directory, expect_rows, line_of};
 use hq_desk::Desk;
 use hq_lists::ListShelf;
-use hq_sql_shelf::SqlShelf;
-use hq_tables::Shelf;
 use hq_wire::{Directory, Exchange, Reply, run};
 use linked_list_allocator::LocalHeap;
 use std::alloc::{AllocError, Allocator, Global};
@@ -33,10 +31,10 @@ const LISTED_BIRCH: &str =
      \"more\":false}";
 
 /// The replies of one run, in this room.
-fn replies_in<'d, S: Shelf + Drop, A: Allocator>(
+fn replies_in<'d, A: Allocator>(
     alloc: Global,
     room: A,
-    desk: &mut Desk<S>,
+    desk: &mut Desk<ListShelf<Global>>,
     directory: &'d Directory,
     exchanges: &[Exchange],
 ) -> Result<Vec<Reply<'d>, A>, AllocError> {
@@ -56,16 +54,12 @@ fn expect_replies(
     Ok(())
 }
 
-/// The rows are replied to in one run over a desk on this empty shelf.
-fn expect_run<S: Shelf + Drop>(
-    rt: &(impl Abort + AllocGlobal),
-    shelf: S,
-    rows: &[(&str, &str)],
-) -> Result<(), Fail> {
+/// The rows are replied to in one run over an empty desk.
+fn expect_run(rt: &(impl Abort + AllocGlobal), rows: &[(&str, &str)]) -> Result<(), Fail> {
     let alloc = rt.alloc();
     let directory = directory(rt)?;
     let exchanges = exchanges(alloc, rows)?;
-    let mut desk = desk_over(alloc, shelf)?;
+    let mut desk = desk_over(alloc, ListShelf::new(alloc))?;
     let replies = replies_in(alloc, alloc, &mut desk, &directory, exchanges.as_slice())?;
     expect_replies(rt, replies.as_slice(), rows)
 }
@@ -93,8 +87,7 @@ const BIRCH_ROWS: &[(&str, &str)] = &[(SUBMIT_BIRCH, QUEUED_FIRST), (LIST_BIRCH,
 #[test]
 fn runs(rt: HostRuntime) -> Result<(), Fail> {
     for rows in [FIRST_ROWS, BIRCH_ROWS, &[]] {
-        expect_run(&rt, ListShelf::new(rt.alloc()), rows)?;
-        expect_run(&rt, SqlShelf::open_memory(rt.alloc())?, rows)?;
+        expect_run(&rt, rows)?;
     }
     Ok(())
 }
