@@ -169,11 +169,11 @@ behind_first : (xs : List ℕ) → is_one_line xs ≡ true → is_one_line (drop
 behind_first [] h = refl
 behind_first (x ∷ xs) h = (and_parts (is_in_line x) (is_one_line xs) h).1
 
-pub customer_one : (name object : List ℕ) → is_name name ≡ true → is_one_line object ≡ true →
-    is_one_line (for_customer name object) ≡ true
-customer_one name object known h =
+pub customer_one : (name text : List ℕ) → is_name name ≡ true → is_one_line text ≡ true →
+    is_one_line (for_customer name text) ≡ true
+customer_one name text known h =
     let opened : is_one_line (codes "{\"customer\":\"" ++ name) ≡ true =
     both_one_line (codes "{\"customer\":\"") name refl (name_one name known) in
-    both_one_line (codes "{\"customer\":\"" ++ name ++ codes "\",") (drop 1 object)
+    both_one_line (codes "{\"customer\":\"" ++ name ++ codes "\",") (drop 1 text)
     (both_one_line (codes "{\"customer\":\"" ++ name) (codes "\",") opened refl)
-    (behind_first object h)
+    (behind_first text h)

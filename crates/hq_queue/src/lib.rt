@@ -11,18 +11,18 @@
 //! ```
 #![tactic(auto)]
 
+mod addresses;
 mod admission;
 mod backoff;
-mod distinct;
 mod ending;
 mod moves;
 mod reporting;
 mod requeueing;
 mod sweep;
 
+pub use addresses::distinct;
 pub use admission::admit;
 pub use backoff::next_try;
-pub use distinct::distinct;
 pub use ending::end_all;
 pub use moves::{due, hold, release};
 pub use reporting::report;

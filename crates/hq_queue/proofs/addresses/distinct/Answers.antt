@@ -3,7 +3,7 @@ use Rattle.std.specs.Prelude.{if◌then◌else◌}
 use Rattle.std.specs.List.{list_any}
 use Rattle.hq_tables.specs.Sound.{same_address}
 use Rattle.hq_queue.proofs.SameAddresses.{distinct_more}
-use Rattle.hq_queue.proofs.distinct.distinct.Goals as goal
+use Rattle.hq_queue.proofs.addresses.distinct.Goals as goal
 
 pub loop-address-preserved : goal.loop-address-preserved
 loop-address-preserved g c =
