@@ -97,8 +97,8 @@ fn call_reply<'d, D: Acts, M: JsonMemory>(
 /// It tells 90 only where this memory refused a request, or where the store may answer 90; and any
 /// other fault only where the store may.
 ///
-/// The reply to a call of all has a part for each customer that is done, by the shared step. They
-/// are the first of the directory. A fault ends it, and is told with its customer.
+/// The reply to a call of all has a part for each customer that is done, by the shared step: the
+/// first of the directory. A fault stops the call, and the reply names its customer.
 ///
 /// Contracts speak of tables where the store is clean and open as the call ends, its rows were
 /// those of the tables before, and the tables were sound. Whatever the store is, a refusal is told

@@ -221,8 +221,8 @@ fn parted(body: Vec<u8>) -> Reply<'static>
     }
 }
 
-/// Calls for every customer, in the order of the directory, and stops at the first fault. A refusal
-/// is told as the customer's part.
+/// Calls for every customer, in the order of the directory, and stops at the first fault. A
+/// customer's part may be a refusal.
 ///
 /// Room for the longest reply is taken first; where it is refused, nothing is done. Each part is
 /// written before its customer's changes are made, and added without taking memory.

@@ -6,7 +6,7 @@ use hq_trial::{FailingShelf, Failure};
 use hq_wire::exchange;
 use std::test::Fail;
 
-/// It asks for no more than a hundred, and a report of nothing is told.
+/// A report asks for at most a hundred messages, also of an empty queue.
 #[test]
 fn a_report_asks_for_a_hundred(rt: HostRuntime) -> Result<(), Fail> {
     let shelf = FailingShelf::new(ListShelf::new(rt.alloc()), Failure::DiskOnce { at: 0 });
