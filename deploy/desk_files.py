@@ -1,4 +1,4 @@
-"""The files of /etc/hq that say who is a customer, for hq-customers: read, tried, and written all or none.
+"""The files of /etc/hq that say who is a customer, for hq-customers and hq-ask: read, tried, and written all or none.
 
 `NAME.csv` of each desk is the directory that it serves, and `senders.csv` has the logins and domains of the
 worker. Made of these are the worker's copy of the directories, which has no key (`relay.csv`), and the maps
@@ -14,6 +14,7 @@ import io
 import json
 import os
 import shutil
+import socket
 import subprocess
 import tempfile
 import time
@@ -96,6 +97,28 @@ def text_of(rows: List[List[str]]) -> str:
     return made.getvalue()
 
 
+class OverPath(http.client.HTTPConnection):
+    """A connection to a desk that listens at a path."""
+
+    def __init__(self, path: str, longest: int):
+        super().__init__("localhost", timeout=longest)
+        self.path = path
+
+    def connect(self) -> None:
+        self.sock = socket.socket(socket.AF_UNIX)
+        self.sock.settimeout(self.timeout)
+        self.sock.connect(self.path)
+
+
+def client_of(listen: str, longest: int = LONGEST) -> http.client.HTTPConnection:
+    """A connection to the desk that listens at HOST:PORT or unix:PATH, each of whose waits takes so many seconds at most."""
+    kind, _, path = listen.partition(":")
+    if kind == "unix":
+        return OverPath(path, longest)
+    host, _, port = listen.rpartition(":")
+    return http.client.HTTPConnection(host.strip("[]"), int(port), timeout=longest)
+
+
 class Desk:
     """A desk of this machine: its settings, and its customers."""
 
@@ -119,11 +142,7 @@ class Desk:
 
     def queued(self, key: str) -> int:
         """How many messages of a customer are queued there."""
-        kind, _, path = self.settings["LISTEN"].partition(":")
-        if kind == "unix":
-            raise Refused(f"the desk {self.name} listens at a path, {path}: see for yourself, and use --queued")
-        host, _, port = self.settings["LISTEN"].rpartition(":")
-        client = http.client.HTTPConnection(host.strip("[]"), int(port), timeout=LONGEST)
+        client = client_of(self.settings["LISTEN"])
         try:
             client.request("GET", "/v1/usage", headers={"X-Desk-Key": key})
             response = client.getresponse()

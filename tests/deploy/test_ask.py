@@ -1,0 +1,140 @@
+"""hq-ask: a desk that runs is asked at its address, and one that does not over its store."""
+import os
+import stat
+import subprocess
+import time
+
+import pytest
+from deploying import DEPLOY, Desk
+from serving import LONGEST, RELAY, batch_line, expect, submission
+
+ROWS = ["acme,acmekey000000001,1000,500000000,1000,100,14400", "birch,birchkey00000001,100,1000000,100,10,0"]
+QUEUE = """\
+Queue ID          Size Arrival                         Sender/Recipient
+0000000001         900 MOMENT ann@a.example
+    bob@far.example
+0000000002         900 MOMENT ann@a.example
+    bob@far.example
+-- 2 queued, 1800 bytes, 0 on hold
+"""
+NOTHING = "accepted 0, pending 0, delivered 0, failed 0, deleted 0, expired 0"
+
+
+class Asking:
+    """The script over the files of a desk."""
+
+    def __init__(self, folder, program):
+        self.folder, self.bin = folder, folder / "bin"
+        self.bin.mkdir()
+        (self.bin / "hq").symlink_to(program)
+
+    def submit(self, *bodies):
+        """Submits mail of acme to the store of the desk, which does not run."""
+        lines = [batch_line(int(time.time()), "POST", "/relay/submit/acme", RELAY, it) for it in bodies]
+        words = [self.bin / "hq", "batch", "--directory", self.folder / "north.csv", "--host", "relay.example", "--relay-key", RELAY,
+                 "--store", self.folder / "north.db"]
+        told = subprocess.run(words, input="".join(f"{it}\n" for it in lines), capture_output=True, text=True, timeout=LONGEST)
+        expect(told.stdout.count('"verdict":"queued"') == len(bodies), "a submission got", told)
+
+    def run(self, *given):
+        words = [DEPLOY / "hq-ask", "--folder", self.folder, "--store", self.folder, *given]
+        env = {**os.environ, "PATH": f"{self.bin}:{os.environ['PATH']}"}
+        return subprocess.run(words, capture_output=True, text=True, timeout=LONGEST, env=env, stdin=subprocess.DEVNULL)
+
+    def done(self, *given):
+        ended = self.run(*given)
+        expect((ended.returncode, ended.stderr) == (0, ""), given, "ended with", ended)
+        return ended.stdout
+
+    def refused(self, told, *given, status=1):
+        ended = self.run(*given)
+        expect((ended.returncode, ended.stdout) == (status, "") and ended.stderr.strip().endswith(told), given, "ended with", ended)
+
+
+@pytest.fixture
+def asking(folder, program):
+    return Asking(folder, program)
+
+
+@pytest.fixture(params=["an address", "a path"])
+def desk(request, folder, program, asking):
+    """A desk with two messages of acme."""
+    it = Desk(folder, program, "north", ROWS, address=f"unix:{folder}/sock" if request.param == "a path" else None)
+    asking.submit(submission("s1"), submission("s2"))
+    with it:
+        yield it
+
+
+def moved(asking):
+    """The commands, one after another, over a queue of two."""
+    arrival = asking.done("queue", "acme").splitlines()[1][23:54]
+    expect(asking.done("queue", "acme") == QUEUE.replace("MOMENT", arrival), asking.done("queue", "acme"))
+    expect(asking.done("usage", "birch") == f"birch: messages 0, bytes 0, lines 0, {NOTHING}\n", asking.done("usage", "birch"))
+    expect(len(asking.done("usage").splitlines()) == 2, asking.done("usage"))
+    found = asking.done("find", "acme", "recipient", "far.example").splitlines()
+    expect([it[:19] for it in found] == ["0000000001 incoming", "0000000002 incoming"], found)
+    expect(asking.done("hold", "acme", "0000000001") == "changed 1\n", "one is not held")
+    expect(asking.done("hold", "acme", "sender", "a.example") == "changed 1\n", "the other is not held")
+    expect("-- 2 queued, 1800 bytes, 2 on hold\n" in asking.done("queue", "acme"), asking.done("queue", "acme"))
+    expect(asking.done("release", "acme", "ALL") == "changed 2\n", "they are not released")
+    expect(asking.done("requeue", "acme", "0000000001") == "id 0000000003\n", "it is not queued anew")
+    expect(asking.done("sweep", "acme") == "acme: expired 0, warned 0, notices 0\n", "it is not swept")
+    expect(asking.done("sweep").splitlines()[1] == "birch: expired 0, warned 0, notices 0", "all are not swept")
+    expect(asking.done("delete", "acme", "0000000003") == "changed 1\n", "it is not deleted")
+    expect(asking.done("history", "acme") == "", "what no history is kept of has one")
+
+
+def test_over_a_desk_that_runs(asking, desk):
+    moved(asking)
+    asking.refused("hq-ask: 10 NoMessage", "hold", "acme", "0000000009")
+    expect("0000000002" in asking.done("queue", "acme"), "the desk does not have what was done")
+
+
+def test_over_its_store(asking, desk):
+    """The same over the store of a desk that was stopped; its files stay those of their owner."""
+    desk.stop()
+    moved(asking)
+    for it in asking.folder.glob("north.db*"):
+        expect(stat.S_IMODE(it.stat().st_mode) == 0o600 and it.stat().st_uid == (asking.folder / "north.db").stat().st_uid, it)
+    desk.start()
+    expect("0000000002" in asking.done("queue", "acme"), "the desk does not have what was done")
+
+
+def test_a_store_that_another_process_has(asking, desk):
+    """The settings name another address: the store is locked, and that is told."""
+    settings = asking.folder / "north.env"
+    settings.write_text("HOST=relay.example\nLISTEN=unix:/nobody/there\n")
+    asking.refused(f"hq: 91 Disk: another process may have {asking.folder}/north.db", "queue", "acme")
+
+
+def test_without_a_store(asking, folder, program):
+    Desk(folder, program, "north", ROWS)
+    asking.refused(f"and there is no store {folder}/north.db", "queue", "acme")
+    expect(not (folder / "north.db").exists(), "it made a store")
+
+
+def test_history(asking, desk):
+    """What became of each recipient, page after page, the newest first."""
+    desk.stop()
+    (asking.folder / "north.csv").write_text("name,key,messages,bytes,lines,notices,delay,history\n"
+                                             "acme,acmekey000000001,1000,500000000,1000,100,14400,1000\n")
+    recipients = [f"r{number}@far.example" for number in range(60)]
+    asking.submit(*({**submission(spool), "recipients": recipients} for spool in ("p", "q")))
+    desk.start()
+    asking.done("delete", "acme", "ALL")
+    lines = asking.done("history", "acme").splitlines()
+    expect(len(lines) == 122 and lines[0].split(" ", 3)[3] == "0000000004 ann@a.example r59@far.example deleted", lines[:2])
+    found = asking.done("history", "acme", "recipient", "r7@far.example").splitlines()
+    expect([it.split()[3] for it in found] == ["0000000004", "0000000003"], found)
+
+
+def test_words(asking, folder, program):
+    """Words that are not taken are told, and nobody is asked."""
+    Desk(folder, program, "north", ROWS)
+    asking.refused("hq-ask: there is no customer cedar", "queue", "cedar")
+    asking.refused("hq-ask: there is no customer acme on south", "--desk", "south", "queue", "acme")
+    asking.refused("has no settings of a desk south", "--desk", "south", "usage")
+    asking.refused("queue wants a customer", "queue", status=2)
+    asking.refused("find takes no such words", "find", "acme", status=2)
+    asking.refused("a class is sender or recipient", "hold", "acme", "side", "a.example", status=2)
+    asking.refused("'../x' is no queue ID", "hold", "acme", "../x", status=2)
