@@ -7,7 +7,7 @@ use Rattle.hq_tables.specs.Readings.{saturated, counts_told}
 use Rattle.hq_rows.specs.declared.rows.LineRow.{LineRow}
 use Rattle.hq_rows.specs.declared.rows.MessageRow.{MessageRow}
 use Rattle.hq_rows.specs.Lookups.{AreUnique, AreUniqueLines, is_past, is_line_past}
-use Rattle.hq_rows.proofs.Counts.{messages_are, bytes_are, lines_are}
+use Rattle.hq_lists.proofs.Counts.{messages_are, bytes_are, lines_are}
 use Rattle.hq_lists.specs.Lists.{counts_in}
 
 abbrev walked : List ℕ → List MessageRow → List LineRow → Counts

@@ -1,10 +1,7 @@
 //! The program `hq_main`: the desk of a mail relay's customers.
 //!
-//! `serve` serves the customers of a directory over HTTP and `batch` over lines, in memory or over
-//! a file; without words two built-in customers are served over lines, from an empty desk in
-//! memory. `check` tells whether a desk would start. `queue`, `import` and `sweep` do one call of
-//! one customer over a store in a file and print its answer, `usage`, and `sweep` without a
-//! customer, one of each; `migrate` makes a store of the release before one of this release.
+//! `serve` answers over HTTP and `batch` over lines; other words do one call over a store. Without
+//! words two built-in customers are served over lines, from an empty desk in memory.
 #![tactic(auto)]
 
 mod command;

@@ -1,8 +1,6 @@
-pub mod Counts
 pub mod EndPages
-pub mod Keys
 pub mod LinePages
 pub mod NoRows
 pub mod NoticePages
+pub mod Notices
 pub mod Pages
-pub mod Serials

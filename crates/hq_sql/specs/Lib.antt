@@ -1,5 +1,6 @@
 pub mod Rows
-pub mod Errors
+pub mod Causes
+pub mod Unfit
 pub mod Bound
 pub mod Tables
 pub mod Kept

@@ -1,12 +1,15 @@
 //! Typed values as the parameters of statements.
 
-ghost use Rattle.std.specs.Prelude.{◌≡◌, pos, [], ◌∷◌, IfOk};
+ghost use Rattle.std.specs.Prelude.{◌≡◌, pos, [], ◌∷◌};
 ghost use Rattle.sqlite.specs.Values.{bound};
 ghost use Rattle.sqlite.specs.declared.types.Value.TheVariants.{Text};
 ghost use Rattle.hq_tables.specs.declared.account.Account.{Account};
 ghost use Rattle.hq_sql.specs.Rows.{head_columns};
+ghost use Rattle.hq_sql.specs.Causes.{EndsSo};
 ghost use Rattle.hq_sql.specs.Bound.{head_numbers, message_key_columns, between_columns};
 
+use crate::memory::SqliteMemory;
+use crate::unfit::Limits;
 use hq_kept::Head;
 use hq_tables::Account;
 use hq_values::{Name, Serial};
@@ -14,12 +17,12 @@ use sqlite::Error;
 use sqlite::types::ValueRef;
 
 /// A number as a column takes it; an error for one of 2^63 or more.
-pub fn large(number: u64) -> Result<i64, Error>
-    ensures { IfOk result (λ bound. bound ≡ pos number) }
+pub fn large<M: SqliteMemory>(memory: M, number: u64) -> Result<i64, Error>
+    ensures { EndsSo M.refused M.failed result (λ bound. bound ≡ pos number) }
 {
     match i64::try_from(number) {
         Ok(bound) => Ok(bound),
-        Err(_) => Err(Error::InvalidQuery),
+        Err(_) => Err(memory.outside(Limits::Column, number)),
     }
 }
 
@@ -46,8 +49,8 @@ pub(crate) struct HeadNumbers {
 }
 
 /// The numbers of a head; one of 2^63 or more fits no column.
-pub(crate) fn numbers(account: &Account) -> Result<HeadNumbers, Error>
-    ensures { IfOk result (λ bound. bound ≡ head_numbers account.now) }
+pub(crate) fn numbers<M: SqliteMemory>(memory: M, account: &Account) -> Result<HeadNumbers, Error>
+    ensures { EndsSo M.refused M.failed result (λ bound. bound ≡ head_numbers account.now) }
 {
     let Head {
         next_serial,
@@ -56,16 +59,16 @@ pub(crate) fn numbers(account: &Account) -> Result<HeadNumbers, Error>
     } = account.head;
     let counts = account.counts;
     Ok(HeadNumbers {
-        next_serial: large(next_serial)?,
-        next_notice: large(next_notice)?,
-        accepted: large(tally.accepted)?,
-        delivered: large(tally.delivered)?,
-        failed: large(tally.failed)?,
-        deleted: large(tally.deleted)?,
-        expired: large(tally.expired)?,
-        messages: large(counts.messages)?,
-        bytes: large(counts.bytes)?,
-        lines: large(counts.lines)?,
+        next_serial: large(memory, next_serial)?,
+        next_notice: large(memory, next_notice)?,
+        accepted: large(memory, tally.accepted)?,
+        delivered: large(memory, tally.delivered)?,
+        failed: large(memory, tally.failed)?,
+        deleted: large(memory, tally.deleted)?,
+        expired: large(memory, tally.expired)?,
+        messages: large(memory, counts.messages)?,
+        bytes: large(memory, counts.bytes)?,
+        lines: large(memory, counts.lines)?,
     })
 }
 
@@ -97,13 +100,12 @@ pub struct RowLimit {
 }
 
 /// A limit as a column takes it; an error for one of 2^63 or more.
-pub fn limit(limit: usize) -> Result<RowLimit, Error>
-    ensures { IfOk result (λ most. most.rows ≡ pos limit) }
+pub fn limit<M: SqliteMemory>(memory: M, limit: usize) -> Result<RowLimit, Error>
+    ensures { EndsSo M.refused M.failed result (λ most. most.rows ≡ pos limit) }
 {
-    match i64::try_from(limit) {
-        Ok(rows) => Ok(RowLimit { rows }),
-        Err(_) => Err(Error::InvalidQuery),
-    }
+    Ok(RowLimit {
+        rows: large(memory, limit as u64)?,
+    })
 }
 
 /// A serial as a column takes it.

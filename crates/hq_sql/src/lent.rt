@@ -1,13 +1,16 @@
 //! Queries whose rows are lent one after another: each is taken as it comes, and none is held.
 
-ghost use Rattle.std.specs.Prelude.{IfOk, OnOk};
+ghost use Rattle.std.specs.Prelude.{IfOk, IfErr, OnOk};
 ghost use Rattle.sqlite.specs.State.{HasCleanDisk};
 ghost use Rattle.sqlite.specs.Values.{bound};
 ghost use Rattle.sqlite.specs.Held.{state};
 ghost use Rattle.hq_sql.specs.Tables.{IsDesk};
+ghost use Rattle.hq_sql.specs.Causes.{HasCause};
 ghost use Rattle.hq_sql.specs.Kept.{Intact};
 ghost use Rattle.hq_sql.specs.Lent.{IsQuery, TakesAll};
 
+use crate::memory::SqliteMemory;
+use crate::unfit::Limits;
 use sqlite::types::ValueRef;
 use sqlite::{Alter, Connection, Error, Row};
 
@@ -19,12 +22,14 @@ pub trait Taker: Drop {
     ghost takes: { Self → Row → Self → Type 0 };
 
     /// Takes the next row. After an error it is of no use.
-    fn take(&mut self, row: &Row) -> Result<(), Error>
-        ensures { OnOk result (takes self.old row.now self.new) };
+    fn take<M: SqliteMemory>(&mut self, memory: M, row: &Row) -> Result<(), Error>
+        ensures took { OnOk result (takes self.old row.now self.new) }
+        ensures cause { IfErr result (HasCause M.refused M.failed) };
 }
 
 /// Has all rows of a query's answer taken, in their order.
-pub fn walk<'k, S: Alter, T: Taker>(
+pub fn walk<'k, S: Alter, T: Taker, M: SqliteMemory>(
+    memory: M,
     conn: &mut Connection<S>,
     sql: &'k str,
     params: &'k [ValueRef<'k>],
@@ -35,14 +40,16 @@ pub fn walk<'k, S: Alter, T: Taker>(
         (bound params.now) (state S.Store conn.old) (state S.Store conn.new) taker) }
     ensures kept { IsQuery sql.now
         → Intact (state S.Store conn.old) (state S.Store conn.new) result }
+    ensures cause { IfErr result (HasCause M.refused M.failed) }
 {
-    let mut rows = conn.query(sql, params)?;
+    let mut rows = M::query(conn, sql, params)?;
     'rows: for _ in 0..u64::MAX {
-        let Some(row) = rows.next()? else {
-            return Ok(taker);
-        };
-        taker.take(row)?;
+        memory.advance(&mut rows)?;
+        match rows.get() {
+            Some(row) => taker.take(memory, row)?,
+            None => return Ok(taker),
+        }
     }
-    // No answer has so many rows.
-    Err(Error::InvalidQuery)
+    // No column counts so many rows.
+    Err(memory.outside(Limits::Column, u64::MAX))
 }

@@ -6,5 +6,10 @@ pub mod bind;
 mod decode;
 pub mod heads;
 pub mod lent;
+mod memory;
 pub mod read;
+mod unfit;
 pub mod values;
+
+pub use memory::SqliteMemory;
+pub use unfit::{Form, Limits};

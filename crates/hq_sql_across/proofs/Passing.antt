@@ -1,4 +1,5 @@
 -- What one session over a store passes on.
+use Rattle.std.specs.Global.{Global}
 use Rattle.std.proofs.Common.{◌≡◌, ℕ, true, false, List, [], ◌∷◌, inl, inr, map, sym, ap}
 use Rattle.std.proofs.Common.{◌∙◌, ◌++◌, ◌≤◌, ◌-◌, length, get_or, take, drop, ap₂, subst, refl}
 use Rattle.std.proofs.Common.{arith}
@@ -38,7 +39,8 @@ use Rattle.hq_sql_open.specs.Found.{tables_with}
 use Rattle.hq_sql_open.specs.Transactions.{IsSettled}
 use Rattle.hq_sql_shelf.specs.declared.shelf.SqlShelf.{SqlShelf}
 use Rattle.hq_sql_open.specs.declared.transaction.Standing.{Standing}
-use Rattle.hq_sql_open.specs.declared.transaction.Standing.TheVariants.{Open, Gone, InDoubt, Lost}
+use Rattle.hq_sql_open.specs.declared.transaction.Standing.TheVariants.{Open, Gone, InDoubt}
+use Rattle.hq_sql_open.specs.declared.transaction.Standing.TheVariants.{Unasked, Lost}
 use Rattle.hq_sql_shelf.specs.Shelf.{Adopts, IsOurs, Stands, is_doubtful, sight_over}
 use Rattle.hq_sql_across.specs.Stopped.{IsServed, KeepsDesk, MayKeep, Reopens}
 use Rattle.hq_sql_across.specs.Stopped.{PassesSession, PassesSessions, PassesHistory, Visit}
@@ -76,10 +78,10 @@ nothing_passed host d exchanges replies before after stops none keeps =
     )
 
 module _ {S : Type 0} (g : Ghosts S) (d : Directory) (before : Trees → Type 0)
-    (keeps : KeepsDesk before) (old : Desk (SqlShelf S))
+    (keeps : KeepsDesk before) (old : Desk (SqlShelf S Global))
     (found : IsOurs (state g (shelf_of old).conn)
     × MayKeep before (tables_in (state g (shelf_of old).conn).committed))
-    (rests : StopLeavesTables (sight_over (state g)) (shelf_of old)) where
+    (rests : StopLeavesTables (sight_over ⊤ ⊤ (state g)) (shelf_of old)) where
   abbrev tables : Tables
   tables = tables_in (state g (shelf_of old).conn).committed
 
@@ -99,10 +101,10 @@ module _ {S : Type 0} (g : Ghosts S) (d : Directory) (before : Trees → Type 0)
         subst (MayKeep before) (sym (rests.1 t (kept.0, kept.1, held))) found.1,
   )
 
-  pub asked : (new : Desk (SqlShelf S)) (exchanges : List Exchange) (replies : List Reply)
-      → RunsSo (with_refusals ⊤ (on (sight_over (state g)))) d old (map (ask_of d) exchanges)
+  pub asked : (new : Desk (SqlShelf S Global)) (exchanges : List Exchange) (replies : List Reply)
+      → RunsSo (with_refusals ⊤ (on (sight_over ⊤ ⊤ (state g)))) d old (map (ask_of d) exchanges)
       replies new
-      → (on (sight_over (state g))).store.is_clean new
+      → (on (sight_over ⊤ ⊤ (state g))).store.is_clean new
       → KeepsDesk (state g (shelf_of new).conn).may_leave
       × ((t' : Tables) → MayKeep (state g (shelf_of new).conn).may_leave t' → (t : Tables)
       × MayKeep before t
@@ -111,12 +113,12 @@ module _ {S : Type 0} (g : Ghosts S) (d : Directory) (before : Trees → Type 0)
     after : Trees → Type 0
     after = (state g (shelf_of new).conn).may_leave
 
-    opened : IsJustOpened (with_refusals ⊤ (on (sight_over (state g)))) old
+    opened : IsJustOpened (with_refusals ⊤ (on (sight_over ⊤ ⊤ (state g)))) old
     opened = record { ours = found.0; sound = sound; rests = rests }
 
-    all : StopLeaves (on (sight_over (state g))).store new
+    all : StopLeaves (on (sight_over ⊤ ⊤ (state g))).store new
         (IsSession (host_of old) d (map (ask_of d) exchanges) ran.told tables)
-    all = is_session (with_refusals ⊤ (on (sight_over (state g)))) d old new (map (ask_of d)
+    all = is_session (with_refusals ⊤ (on (sight_over ⊤ ⊤ (state g)))) d old new (map (ask_of d)
         exchanges) ran.told
         ran.served.each opened clean
 
@@ -153,7 +155,7 @@ module _ {S : Type 0} (g : Ghosts S) (d : Directory) (before : Trees → Type 0)
             by = refl;
             told = ran.sent;
             tells = tells_any _ d (map (ask_of d) exchanges) ran.told
-                (tells_each (with_refusals ⊤ (on (sight_over (state g)))) d old
+                (tells_each (with_refusals ⊤ (on (sight_over ⊤ ⊤ (state g)))) d old
                 (map (ask_of d) exchanges) ran.told new ran.served.each);
             asked = inl refl;
             stopped_at = one.stopped_at;
@@ -168,21 +170,23 @@ stands_sure : (standing : Standing) (s : State) → is_doubtful standing ≡ fal
 stands_sure Open s sure = tt
 stands_sure Gone s sure = tt
 stands_sure InDoubt s sure = absurd (let no : true ≡ false = sure in cc)
+stands_sure Unasked s sure = absurd (let no : true ≡ false = sure in cc)
 stands_sure Lost s sure = absurd (let no : true ≡ false = sure in cc)
 
 -- a shelf over a store that was opened again, once it is known to be clean
-pub record Taken {S : Type 0} (g : Ghosts S) (before : Trees → Type 0) (shelf : SqlShelf S) : Type 0
-  where
-    pub found : HasCleanDisk (state g shelf.conn) → IsOurs (state g shelf.conn)
-        × MayKeep before (tables_in (state g shelf.conn).committed)
-    pub rests : HasCleanDisk (state g shelf.conn) → StopLeavesTables (sight_over (state g)) shelf
+pub record Taken {S : Type 0} (g : Ghosts S) (before : Trees → Type 0)
+    (shelf : SqlShelf S Global) : Type 0 where
+  pub found : HasCleanDisk (state g shelf.conn) → IsOurs (state g shelf.conn)
+      × MayKeep before (tables_in (state g shelf.conn).committed)
+  pub rests : HasCleanDisk (state g shelf.conn) →
+      StopLeavesTables (sight_over ⊤ ⊤ (state g)) shelf
 
-pub taken : {S : Type 0} (g : Ghosts S) (old conn : State) (shelf : SqlShelf S)
+pub taken : {S : Type 0} (g : Ghosts S) (old conn : State) (shelf : SqlShelf S Global)
     → IsQuiet conn (state g shelf.conn)
     → (HasCleanDisk conn → Reopens old conn)
     → (HasCleanDisk (state g shelf.conn) → IsSettled conn → Adopts conn (state g shelf.conn))
     → (HasCleanDisk (state g shelf.conn) → IsOurs (state g shelf.conn) →
-    StopLeavesTables (sight_over (state g)) shelf)
+    StopLeavesTables (sight_over ⊤ ⊤ (state g)) shelf)
     → KeepsDesk old.may_leave → Taken g old.may_leave shelf
 taken g old conn shelf quiet reopens adopts rests keeps = record {
   found = found;
@@ -194,10 +198,11 @@ taken g old conn shelf quiet reopens adopts rests keeps = record {
       (reopens (clean_before conn (state g shelf.conn) quiet clean)) (adopts clean) keeps
 
 module _ {S : Type 0} (g : Ghosts S) (d : Directory) (before : Trees → Type 0)
-    (keeps : KeepsDesk before) (old new : Desk (SqlShelf S)) (taken : Taken g before (shelf_of old))
+    (keeps : KeepsDesk before) (old new : Desk (SqlShelf S Global))
+    (taken : Taken g before (shelf_of old))
     (exchanges : List Exchange) (replies : List Reply) where
   -- where exchanges were replied to
-  pub asked_passed : RunsSo (with_refusals ⊤ (on (sight_over (state g)))) d old (map (ask_of d)
+  pub asked_passed : RunsSo (with_refusals ⊤ (on (sight_over ⊤ ⊤ (state g)))) d old (map (ask_of d)
       exchanges) replies
       new
       → HasCleanDisk (state g (shelf_of new).conn)
@@ -207,7 +212,7 @@ module _ {S : Type 0} (g : Ghosts S) (d : Directory) (before : Trees → Type 0)
       × MayKeep before t
       × (s : Session) × IsServed d exchanges replies s × Passed (host_of old) s t t')
   asked_passed ran clean sure =
-      let seen : (on (sight_over (state g))).store.is_clean new =
+      let seen : (on (sight_over ⊤ ⊤ (state g))).store.is_clean new =
       (clean, stands_sure (shelf_of new).standing (state g (shelf_of new).conn) sure) in
       let was = (ran.served.stays.quiet seen).0 in
       asked g d before keeps old (taken.found was) (taken.rests was) new exchanges replies ran seen
@@ -221,10 +226,11 @@ module _ {S : Type 0} (g : Ghosts S) (d : Directory) (before : Trees → Type 0)
       × MayKeep before t
       × (s : Session) × IsServed d exchanges replies s × Passed (host_of old) s t t')
   unasked_passed same clean none =
-      let was = subst (λ (n : Desk (SqlShelf S)). HasCleanDisk (state g (shelf_of n).conn)) same
-      clean in
+      let was = subst
+      (λ (n : Desk (SqlShelf S Global)). HasCleanDisk (state g (shelf_of n).conn)) same clean in
       nothing_passed (host_of old) d exchanges replies before
-      (state g (shelf_of new).conn).may_leave (λ _. subst (λ (n : Desk (SqlShelf S)). KeepsDesk
+      (state g (shelf_of new).conn).may_leave (λ _. subst
+      (λ (n : Desk (SqlShelf S Global)). KeepsDesk
       (state g (shelf_of n).conn).may_leave × ((t : Tables) →
       MayKeep (state g (shelf_of n).conn).may_leave t → MayKeep before t)) (sym same)
       (unasked g d before keeps old (taken.found was) (taken.rests was))) none keeps

@@ -5,18 +5,26 @@ ghost use Rattle.std.specs.List.{AllZip};
 ghost use Rattle.sqlite.specs.Held.{state};
 ghost use Rattle.sqlite.specs.State.{HasCleanDisk};
 ghost use Rattle.hq_sql.specs.Tables.{tables_in};
+ghost use Rattle.hq_rules.specs.Desks.{or_memory};
+ghost use Rattle.hq_desk.specs.Desks.{on};
+ghost use Rattle.hq_across.specs.Answered.{NoFault};
 ghost use Rattle.hq_sql_shelf.specs.Shelf.{IsOurs};
 ghost use Rattle.hq_sql_shelf.specs.Stops.{LeavesOnly};
+ghost use Rattle.hq_sql_open.specs.Faults.{IsCaused};
 ghost use Rattle.hq_sql_open.specs.Transactions.{IsSettled};
 ghost use Rattle.hq_sql_open.specs.Stores.{IsFirst, IsSecond};
+ghost use Rattle.hq_values.specs.declared.failure.Fault.{Fault};
 ghost use Rattle.hq_requests.specs.declared.directory.Directory.{Directory};
 ghost use Rattle.hq_requests.specs.declared.exchanges.Exchange.{Exchange};
 ghost use Rattle.hq_requests.specs.declared.reply.Reply.{Reply};
 ghost use Rattle.hq_across.specs.Histories.{Session};
 ghost use Rattle.hq_sql_across.specs.Stopped.{BeginsHistory, BeginsUpgraded, IsServed, IsReplyTo};
 
+use hq_memory::Memory;
+use hq_sql::SqliteMemory;
 use hq_sql_open::transaction::sees_database;
-use hq_sql_shelf::migrate;
+use hq_sql_shelf::{SqlShelf, migrate};
+use hq_tables::Shelf;
 use hq_values::Fault;
 use sqlite::{Alter, Connection};
 use std::alloc::Global;
@@ -29,6 +37,19 @@ pub fn open_desk_leaves_its_tables<S: Alter>(conn: &Connection<S>)
 {
     sees_database(conn);
 }
+
+/// Over `sqlite` each fault has its cause. 90 is answered only where memory was refused, that of
+/// the call or that of the shelf. 91 and 93 are answered only where a call of `sqlite` failed.
+///
+/// So no fault is answered where none of that was. Then `hq_across::laws::all_is_answered` says
+/// that every call is answered as its definition has it.
+pub fn faults_have_causes<S: Alter, M: SqliteMemory, N: Memory>()
+    ensures causes { (fault : Fault)
+        → (or_memory N.refused (on ⟦<SqlShelf<S, M> as Shelf>⟧.sight).store).may_answer fault
+        → IsCaused (N.refused ⊎ M.refused) M.failed fault }
+    ensures none { (N.refused → ⊥) → (M.refused → ⊥) → (M.failed → ⊥)
+        → NoFault (or_memory N.refused (on ⟦<SqlShelf<S, M> as Shelf>⟧.sight).store) }
+{}
 
 /// Wherever the process or its machine stops in a migration, an opening finds the store of version
 /// 1 as it was, or a desk from which a history goes on, in which each customer has its own state,

@@ -1,5 +1,6 @@
 //! One call over a store in a file.
 
+ghost use Rattle.std.specs.Prelude.{⊤};
 ghost use Rattle.sqlite.specs.Held.{state};
 ghost use Rattle.hq_sql_shelf.specs.Shelf.{sight_over};
 ghost use Rattle.hq_sql_admin.specs.Calls.{PerformsOpened, PerformsInFile};
@@ -11,14 +12,15 @@ use hq_sql_shelf::{FileShelf, SqlShelf, open_file};
 use hq_tables::Shelf;
 use hq_values::Fault;
 use sqlite::Alter;
+use std::alloc::Global;
 
 /// Does what is asked for over a store as it was opened; or tells why it could not be opened.
 fn perform_opened<S: Alter + Drop>(
     rt: &HostRuntime,
-    opened: Result<SqlShelf<S>, Fault>,
+    opened: Result<SqlShelf<S, Global>, Fault>,
     request: AdminCall,
 ) -> Result<Rendered, Trouble>
-    ensures { PerformsOpened (sight_over (state S.Store)) opened request result }
+    ensures { PerformsOpened (sight_over ⊤ ⊤ (state S.Store)) opened request result }
 {
     let (_shelf, done) = perform(rt.alloc(), opened?, request);
     Ok(done?)

@@ -1,6 +1,7 @@
 //! The words `usage`, and `sweep` without a customer: a call of each customer of a directory, one
 //! after the other.
 
+ghost use Rattle.std.specs.Prelude.{⊤};
 ghost use Rattle.sqlite.specs.Held.{state};
 ghost use Rattle.hq_sql_shelf.specs.Shelf.{sight_over};
 ghost use Rattle.hq_sql_admin.specs.Rounds.{AsksRound, RoundOpened, RoundInFile};
@@ -17,6 +18,7 @@ use hq_tables::Shelf;
 use hq_values::{Fault, Host, Moment};
 use hq_words::{Sweep, UsageWord};
 use sqlite::Alter;
+use std::alloc::Global;
 
 /// A call of each customer that is asked for.
 #[derive(Drop)]
@@ -54,10 +56,10 @@ fn round_of(
 /// Does the calls that are asked for over a store as it was opened; or tells why it could not be.
 fn round_opened<S: Alter + Drop>(
     rt: &HostRuntime,
-    opened: Result<SqlShelf<S>, Fault>,
+    opened: Result<SqlShelf<S, Global>, Fault>,
     asked: Round,
 ) -> Result<ToldAll, Trouble>
-    ensures { RoundOpened (sight_over (state S.Store)) opened asked result }
+    ensures { RoundOpened (sight_over ⊤ ⊤ (state S.Store)) opened asked result }
 {
     let Round {
         host,

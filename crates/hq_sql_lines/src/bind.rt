@@ -1,14 +1,16 @@
 //! Lines and marks as the parameters of statements.
 
-ghost use Rattle.std.specs.Prelude.{◌≡◌, ℕ, pos, [], ◌∷◌, IfOk};
+ghost use Rattle.std.specs.Prelude.{◌≡◌, ℕ, pos, [], ◌∷◌};
 ghost use Rattle.sqlite.specs.Values.{bound};
 ghost use Rattle.sqlite.specs.declared.types.Value.TheVariants.{Text};
 ghost use Rattle.hq_kept.specs.Patterns.{class_name};
+ghost use Rattle.hq_sql.specs.Causes.{EndsSo};
 ghost use Rattle.hq_sql.specs.Rows.{mark_columns};
 ghost use Rattle.hq_sql_lines.specs.LinePages.{first_columns, after_columns};
 ghost use Rattle.hq_sql_lines.specs.Marks.{mark_key_columns, mark_numbers, mark_row};
 
 use hq_kept::{Class, Mark, Pattern};
+use hq_sql::SqliteMemory;
 use hq_sql::bind::{RowLimit, large};
 use hq_values::{Label, Name};
 use sqlite::Error;
@@ -90,13 +92,13 @@ pub(crate) struct MarkNumbers {
 }
 
 /// The numbers of a mark; one of 2^63 or more fits no column.
-pub(crate) fn numbers(mark: &Mark) -> Result<MarkNumbers, Error>
-    ensures { IfOk result (λ bound. bound ≡ mark_numbers mark.now) }
+pub(crate) fn numbers<M: SqliteMemory>(memory: M, mark: &Mark) -> Result<MarkNumbers, Error>
+    ensures { EndsSo M.refused M.failed result (λ bound. bound ≡ mark_numbers mark.now) }
 {
     Ok(MarkNumbers {
-        added: large(mark.added)?,
-        changed: large(mark.changed)?,
-        same: large(mark.same)?,
+        added: large(memory, mark.added)?,
+        changed: large(memory, mark.changed)?,
+        same: large(memory, mark.same)?,
     })
 }
 

@@ -1,10 +1,11 @@
 //! The table of lines: the access tables of all customers.
 
-ghost use Rattle.std.specs.Prelude.{◌≡◌, IfOk, option_map, slice_get, is_some, string_bytes};
+ghost use Rattle.std.specs.Prelude.{◌≡◌, option_map, slice_get, is_some, string_bytes, IfErr};
 ghost use Rattle.std.specs.FinMap.{get};
 ghost use Rattle.sqlite.specs.Held.{state};
 ghost use Rattle.hq_kept.specs.Actions.{action_text};
 ghost use Rattle.hq_rows.specs.Listed.{line_row_value};
+ghost use Rattle.hq_sql.specs.Causes.{EndsSo, HasCause};
 ghost use Rattle.hq_sql.specs.Kept.{Shows, Yields, Writes, Inserts, Updates, Intact};
 ghost use Rattle.hq_sql.specs.Kept.{KeepsCommitted};
 ghost use Rattle.hq_sql_lines.specs.Lines.{line_row, tables_with_line, tables_without_line};
@@ -12,11 +13,12 @@ ghost use Rattle.hq_sql.specs.Rows.{line_shown};
 
 use crate::{bind, decode};
 use hq_kept::{Action, Class, Line, LookupKey, Pattern};
+use hq_sql::SqliteMemory;
 use hq_values::Name;
 use sqlite::{Alter, Connection, Error, ErrorCode, Row};
-use std::alloc::Global;
 
-fn query<S: Alter>(
+fn query<S: Alter, M: SqliteMemory>(
+    memory: M,
     conn: &mut Connection<S>,
     customer: &Name,
     class: Class,
@@ -26,9 +28,11 @@ fn query<S: Alter>(
         (λ rows. option_map (λ r. line_row_value (line_shown r)) (slice_get rows.items 0))
         (λ t. get t.lines (customer.now, (class, key.now))) }
     ensures kept { Intact (state S.Store conn.old) (state S.Store conn.new) result }
+    ensures cause { IfErr result (HasCause M.refused M.failed) }
 {
     let params = bind::line_key(customer, class, key);
-    let rows = conn.query_all(
+    let rows = memory.query_all(
+        conn,
         "SELECT customer, class, pattern, action FROM lines \
          WHERE customer = ?1 AND class = ?2 AND pattern = ?3",
         &params,
@@ -37,8 +41,8 @@ fn query<S: Alter>(
 }
 
 /// The action of the customer's line of this class, at this key.
-pub fn line<S: Alter>(
-    alloc: Global,
+pub fn line<S: Alter, M: SqliteMemory>(
+    memory: M,
     conn: &mut Connection<S>,
     customer: &Name,
     class: Class,
@@ -47,13 +51,15 @@ pub fn line<S: Alter>(
     ensures found { Yields (state S.Store conn.old) (state S.Store conn.new) result
         (λ t. get t.lines (customer.now, (class, key.now))) }
     ensures kept { Intact (state S.Store conn.old) (state S.Store conn.new) result }
+    ensures cause { IfErr result (HasCause M.refused M.failed) }
 {
-    let rows = query(conn, customer, class, key.as_str())?;
-    decode::first_action(alloc, rows.as_slice())
+    let rows = query(memory, conn, customer, class, key.as_str())?;
+    decode::first_action(memory, rows.as_slice())
 }
 
 /// Whether the customer has a line of this pattern.
-pub fn has<S: Alter>(
+pub fn has<S: Alter, M: SqliteMemory>(
+    memory: M,
     conn: &mut Connection<S>,
     customer: &Name,
     pattern: &Pattern,
@@ -61,24 +67,26 @@ pub fn has<S: Alter>(
     ensures found { Yields (state S.Store conn.old) (state S.Store conn.new) result
         (λ t. is_some (get t.lines (customer.now, pattern.now))) }
     ensures kept { Intact (state S.Store conn.old) (state S.Store conn.new) result }
+    ensures cause { IfErr result (HasCause M.refused M.failed) }
 {
-    let rows = query(conn, customer, pattern.class(), pattern.as_str())?;
+    let rows = query(memory, conn, customer, pattern.class(), pattern.as_str())?;
     Ok(decode::has_first(rows.as_slice()))
 }
 
 /// The written form of an action.
-fn written(alloc: Global, action: &Action) -> Result<String, Error>
-    ensures { IfOk result (λ text. string_bytes text ≡ action_text action.now) }
+fn written<M: SqliteMemory>(memory: M, action: &Action) -> Result<String, Error>
+    ensures { EndsSo M.refused M.failed result
+        (λ text. string_bytes text ≡ action_text action.now) }
 {
-    match action.text(alloc) {
+    match action.text(memory) {
         Ok(text) => Ok(text),
         Err(_) => Err(Error::SqliteFailure(ErrorCode::OutOfMemory)),
     }
 }
 
 /// Sets the action of the customer's line of this pattern; whether there is one is told.
-fn update<S: Alter>(
-    alloc: Global,
+fn update<S: Alter, M: SqliteMemory>(
+    memory: M,
     conn: &mut Connection<S>,
     customer: &Name,
     line: &Line,
@@ -87,15 +95,17 @@ fn update<S: Alter>(
         (λ t. get t.lines (customer.now, line.now.pattern))
         (tables_with_line (line_row customer.now line.now)) }
     ensures kept { KeepsCommitted (state S.Store conn.old) (state S.Store conn.new) }
+    ensures cause { IfErr result (HasCause M.refused M.failed) }
 {
-    let action = written(alloc, &line.action)?;
+    let action = written(memory, &line.action)?;
     let params = bind::line(
         customer,
         line.pattern.class(),
         line.pattern.as_str(),
         action.as_str(),
     );
-    let count = conn.execute(
+    let count = memory.execute(
+        conn,
         "UPDATE lines SET action = ?4 WHERE customer = ?1 AND class = ?2 AND pattern = ?3",
         &params,
     )?;
@@ -103,8 +113,8 @@ fn update<S: Alter>(
 }
 
 /// Adds a line of a new pattern.
-fn insert<S: Alter>(
-    alloc: Global,
+fn insert<S: Alter, M: SqliteMemory>(
+    memory: M,
     conn: &mut Connection<S>,
     customer: &Name,
     line: &Line,
@@ -113,15 +123,17 @@ fn insert<S: Alter>(
         (λ t. get t.lines (customer.now, line.now.pattern))
         (tables_with_line (line_row customer.now line.now)) }
     ensures kept { KeepsCommitted (state S.Store conn.old) (state S.Store conn.new) }
+    ensures cause { IfErr result (HasCause M.refused M.failed) }
 {
-    let action = written(alloc, &line.action)?;
+    let action = written(memory, &line.action)?;
     let params = bind::line(
         customer,
         line.pattern.class(),
         line.pattern.as_str(),
         action.as_str(),
     );
-    conn.execute(
+    memory.execute(
+        conn,
         "INSERT INTO lines (customer, class, pattern, action) VALUES (?1, ?2, ?3, ?4)",
         &params,
     )?;
@@ -129,8 +141,8 @@ fn insert<S: Alter>(
 }
 
 /// Sets the line of its pattern, in the row that is there or a new one.
-pub fn put<S: Alter>(
-    alloc: Global,
+pub fn put<S: Alter, M: SqliteMemory>(
+    memory: M,
     conn: &mut Connection<S>,
     customer: &Name,
     line: &Line,
@@ -138,15 +150,17 @@ pub fn put<S: Alter>(
     ensures made { Writes (state S.Store conn.old) (state S.Store conn.new) result
         (tables_with_line (line_row customer.now line.now)) }
     ensures kept { KeepsCommitted (state S.Store conn.old) (state S.Store conn.new) }
+    ensures cause { IfErr result (HasCause M.refused M.failed) }
 {
-    if !update(alloc, conn, customer, line)? {
-        insert(alloc, conn, customer, line)?;
+    if !update(memory, conn, customer, line)? {
+        insert(memory, conn, customer, line)?;
     }
     Ok(())
 }
 
 /// Drops the line of a pattern; nothing where there is none.
-pub fn remove<S: Alter>(
+pub fn remove<S: Alter, M: SqliteMemory>(
+    memory: M,
     conn: &mut Connection<S>,
     customer: &Name,
     pattern: &Pattern,
@@ -154,9 +168,11 @@ pub fn remove<S: Alter>(
     ensures made { Writes (state S.Store conn.old) (state S.Store conn.new) result
         (tables_without_line (customer.now, pattern.now)) }
     ensures kept { KeepsCommitted (state S.Store conn.old) (state S.Store conn.new) }
+    ensures cause { IfErr result (HasCause M.refused M.failed) }
 {
     let params = bind::line_key(customer, pattern.class(), pattern.as_str());
-    conn.execute(
+    memory.execute(
+        conn,
         "DELETE FROM lines WHERE customer = ?1 AND class = ?2 AND pattern = ?3",
         &params,
     )?;

@@ -1,9 +1,10 @@
 //! The table of marks: the imports of all customers.
 
-ghost use Rattle.std.specs.Prelude.{option_map, slice_get};
+ghost use Rattle.std.specs.Prelude.{option_map, slice_get, IfErr};
 ghost use Rattle.std.specs.FinMap.{get};
 ghost use Rattle.sqlite.specs.Held.{state};
 ghost use Rattle.hq_rows.specs.Listed.{mark_value};
+ghost use Rattle.hq_sql.specs.Causes.{HasCause};
 ghost use Rattle.hq_sql.specs.Kept.{Shows, Yields, Writes, Inserts, Intact};
 ghost use Rattle.hq_sql.specs.Kept.{KeepsCommitted};
 ghost use Rattle.hq_sql.specs.Rows.{mark_shown};
@@ -11,11 +12,12 @@ ghost use Rattle.hq_sql_lines.specs.Marks.{mark_row, with_mark, without_mark};
 
 use crate::{bind, decode};
 use hq_kept::Mark;
+use hq_sql::SqliteMemory;
 use hq_values::{Label, Name};
 use sqlite::{Alter, Connection, Error, Row};
-use std::alloc::Global;
 
-fn query<S: Alter>(
+fn query<S: Alter, M: SqliteMemory>(
+    memory: M,
     conn: &mut Connection<S>,
     customer: &Name,
     label: &Label,
@@ -24,9 +26,11 @@ fn query<S: Alter>(
         (λ rows. option_map (λ r. mark_value (mark_shown r)) (slice_get rows.items 0))
         (λ t. get t.marks (customer.now, label.now)) }
     ensures kept { Intact (state S.Store conn.old) (state S.Store conn.new) result }
+    ensures cause { IfErr result (HasCause M.refused M.failed) }
 {
     let params = bind::mark_key(customer, label);
-    let rows = conn.query_all(
+    let rows = memory.query_all(
+        conn,
         "SELECT customer, label, digest, added, changed, same FROM marks \
          WHERE customer = ?1 AND label = ?2",
         &params,
@@ -35,8 +39,8 @@ fn query<S: Alter>(
 }
 
 /// The customer's mark of this label.
-pub fn mark<S: Alter>(
-    alloc: Global,
+pub fn mark<S: Alter, M: SqliteMemory>(
+    memory: M,
     conn: &mut Connection<S>,
     customer: &Name,
     label: &Label,
@@ -44,19 +48,27 @@ pub fn mark<S: Alter>(
     ensures found { Yields (state S.Store conn.old) (state S.Store conn.new) result
         (λ t. get t.marks (customer.now, label.now)) }
     ensures kept { Intact (state S.Store conn.old) (state S.Store conn.new) result }
+    ensures cause { IfErr result (HasCause M.refused M.failed) }
 {
-    let rows = query(conn, customer, label)?;
-    decode::first_mark(alloc, rows.as_slice())
+    let rows = query(memory, conn, customer, label)?;
+    decode::first_mark(memory, rows.as_slice())
 }
 
 /// Drops the mark of a label; nothing where there is none.
-fn remove<S: Alter>(conn: &mut Connection<S>, customer: &Name, label: &Label) -> Result<(), Error>
+fn remove<S: Alter, M: SqliteMemory>(
+    memory: M,
+    conn: &mut Connection<S>,
+    customer: &Name,
+    label: &Label,
+) -> Result<(), Error>
     ensures made { Writes (state S.Store conn.old) (state S.Store conn.new) result
         (without_mark (customer.now, label.now)) }
     ensures kept { KeepsCommitted (state S.Store conn.old) (state S.Store conn.new) }
+    ensures cause { IfErr result (HasCause M.refused M.failed) }
 {
     let params = bind::mark_key(customer, label);
-    conn.execute(
+    memory.execute(
+        conn,
         "DELETE FROM marks WHERE customer = ?1 AND label = ?2",
         &params,
     )?;
@@ -64,15 +76,22 @@ fn remove<S: Alter>(conn: &mut Connection<S>, customer: &Name, label: &Label) ->
 }
 
 /// Adds a mark of a new label.
-fn insert<S: Alter>(conn: &mut Connection<S>, customer: &Name, mark: &Mark) -> Result<(), Error>
+fn insert<S: Alter, M: SqliteMemory>(
+    memory: M,
+    conn: &mut Connection<S>,
+    customer: &Name,
+    mark: &Mark,
+) -> Result<(), Error>
     ensures made { Inserts (state S.Store conn.old) (state S.Store conn.new) result
         (λ t. get t.marks (customer.now, mark.now.label))
         (with_mark (mark_row customer.now mark.now)) }
     ensures kept { KeepsCommitted (state S.Store conn.old) (state S.Store conn.new) }
+    ensures cause { IfErr result (HasCause M.refused M.failed) }
 {
-    let numbers = bind::numbers(mark)?;
+    let numbers = bind::numbers(memory, mark)?;
     let params = bind::mark(customer, mark, &numbers);
-    conn.execute(
+    memory.execute(
+        conn,
         "INSERT INTO marks (customer, label, digest, added, changed, same) \
          VALUES (?1, ?2, ?3, ?4, ?5, ?6)",
         &params,
@@ -81,12 +100,18 @@ fn insert<S: Alter>(conn: &mut Connection<S>, customer: &Name, mark: &Mark) -> R
 }
 
 /// Sets the mark of its label, in a new row.
-pub fn put<S: Alter>(conn: &mut Connection<S>, customer: &Name, mark: &Mark) -> Result<(), Error>
+pub fn put<S: Alter, M: SqliteMemory>(
+    memory: M,
+    conn: &mut Connection<S>,
+    customer: &Name,
+    mark: &Mark,
+) -> Result<(), Error>
     ensures made { Writes (state S.Store conn.old) (state S.Store conn.new) result
         (with_mark (mark_row customer.now mark.now)) }
     ensures kept { KeepsCommitted (state S.Store conn.old) (state S.Store conn.new) }
+    ensures cause { IfErr result (HasCause M.refused M.failed) }
 {
-    remove(conn, customer, &mark.label)?;
-    insert(conn, customer, mark)?;
+    remove(memory, conn, customer, &mark.label)?;
+    insert(memory, conn, customer, mark)?;
     Ok(())
 }

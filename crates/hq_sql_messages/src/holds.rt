@@ -1,22 +1,24 @@
 //! The table of holds: the reasons of the messages on hold of all customers.
 
-ghost use Rattle.std.specs.Prelude.{option_map, slice_get};
+ghost use Rattle.std.specs.Prelude.{option_map, slice_get, IfErr};
 ghost use Rattle.std.specs.FinMap.{get};
 ghost use Rattle.sqlite.specs.Held.{state};
 ghost use Rattle.hq_tables.specs.Tables.{reason_of};
 ghost use Rattle.hq_rows.specs.Listed.{hold_value};
+ghost use Rattle.hq_sql.specs.Causes.{HasCause};
 ghost use Rattle.hq_sql.specs.Kept.{Shows, Yields, Writes, Inserts, Intact};
 ghost use Rattle.hq_sql.specs.Kept.{KeepsCommitted};
 ghost use Rattle.hq_sql.specs.Rows.{hold_shown};
 ghost use Rattle.hq_sql_messages.specs.Holds.{hold_row, with_hold, without_hold, with_reason};
 
 use crate::{hold_rows, hold_values};
+use hq_sql::SqliteMemory;
 use hq_sql::bind::message_key;
 use hq_values::{Name, Serial, Text};
 use sqlite::{Alter, Connection, Error, Row};
-use std::alloc::Global;
 
-fn query<S: Alter>(
+fn query<S: Alter, M: SqliteMemory>(
+    memory: M,
     conn: &mut Connection<S>,
     customer: &Name,
     key: Serial,
@@ -25,9 +27,11 @@ fn query<S: Alter>(
         (λ rows. option_map (λ r. hold_value (hold_shown r)) (slice_get rows.items 0))
         (λ t. get t.holds (customer.now, key)) }
     ensures kept { Intact (state S.Store conn.old) (state S.Store conn.new) result }
+    ensures cause { IfErr result (HasCause M.refused M.failed) }
 {
     let params = message_key(customer, key);
-    let rows = conn.query_all(
+    let rows = memory.query_all(
+        conn,
         "SELECT customer, serial, hold_reason FROM holds \
          WHERE customer = ?1 AND serial = ?2",
         &params,
@@ -37,8 +41,8 @@ fn query<S: Alter>(
 
 /// The reason of the customer's message; empty where it is not on hold.
 #[tactic(auto, unfolding(hq_tables::specs::Tables::reason_of))]
-pub fn reason<S: Alter>(
-    alloc: Global,
+pub fn reason<S: Alter, M: SqliteMemory>(
+    memory: M,
     conn: &mut Connection<S>,
     customer: &Name,
     key: Serial,
@@ -46,19 +50,27 @@ pub fn reason<S: Alter>(
     ensures found { Yields (state S.Store conn.old) (state S.Store conn.new) result
         (λ t. reason_of customer.now key t.holds) }
     ensures kept { Intact (state S.Store conn.old) (state S.Store conn.new) result }
+    ensures cause { IfErr result (HasCause M.refused M.failed) }
 {
-    let rows = query(conn, customer, key)?;
-    hold_rows::first_reason(alloc, rows.as_slice())
+    let rows = query(memory, conn, customer, key)?;
+    hold_rows::first_reason(memory, rows.as_slice())
 }
 
 /// Drops the reason of a message; nothing where there is none.
-pub fn remove<S: Alter>(conn: &mut Connection<S>, customer: &Name, key: Serial) -> Result<(), Error>
+pub fn remove<S: Alter, M: SqliteMemory>(
+    memory: M,
+    conn: &mut Connection<S>,
+    customer: &Name,
+    key: Serial,
+) -> Result<(), Error>
     ensures made { Writes (state S.Store conn.old) (state S.Store conn.new) result
         (without_hold (customer.now, key)) }
     ensures kept { KeepsCommitted (state S.Store conn.old) (state S.Store conn.new) }
+    ensures cause { IfErr result (HasCause M.refused M.failed) }
 {
     let params = message_key(customer, key);
-    conn.execute(
+    memory.execute(
+        conn,
         "DELETE FROM holds WHERE customer = ?1 AND serial = ?2",
         &params,
     )?;
@@ -66,7 +78,8 @@ pub fn remove<S: Alter>(conn: &mut Connection<S>, customer: &Name, key: Serial) 
 }
 
 /// Adds the reason of a message that has none.
-fn insert<S: Alter>(
+fn insert<S: Alter, M: SqliteMemory>(
+    memory: M,
     conn: &mut Connection<S>,
     customer: &Name,
     key: Serial,
@@ -76,9 +89,11 @@ fn insert<S: Alter>(
         (λ t. get t.holds (customer.now, key))
         (with_hold (hold_row customer.now key reason.now)) }
     ensures kept { KeepsCommitted (state S.Store conn.old) (state S.Store conn.new) }
+    ensures cause { IfErr result (HasCause M.refused M.failed) }
 {
     let params = hold_values::hold(customer, key, reason);
-    conn.execute(
+    memory.execute(
+        conn,
         "INSERT INTO holds (customer, serial, hold_reason) VALUES (?1, ?2, ?3)",
         &params,
     )?;
@@ -86,7 +101,8 @@ fn insert<S: Alter>(
 }
 
 /// Sets the reason of a message, in a new row.
-fn set<S: Alter>(
+fn set<S: Alter, M: SqliteMemory>(
+    memory: M,
     conn: &mut Connection<S>,
     customer: &Name,
     key: Serial,
@@ -95,15 +111,17 @@ fn set<S: Alter>(
     ensures made { Writes (state S.Store conn.old) (state S.Store conn.new) result
         (with_hold (hold_row customer.now key reason.now)) }
     ensures kept { KeepsCommitted (state S.Store conn.old) (state S.Store conn.new) }
+    ensures cause { IfErr result (HasCause M.refused M.failed) }
 {
-    remove(conn, customer, key)?;
-    insert(conn, customer, key, reason)?;
+    remove(memory, conn, customer, key)?;
+    insert(memory, conn, customer, key, reason)?;
     Ok(())
 }
 
 /// Sets the reason of a message; an empty one is not kept.
 #[tactic(auto, unfolding(hq_tables::specs::Tables::give_reason))]
-pub fn put<S: Alter>(
+pub fn put<S: Alter, M: SqliteMemory>(
+    memory: M,
     conn: &mut Connection<S>,
     customer: &Name,
     key: Serial,
@@ -112,9 +130,10 @@ pub fn put<S: Alter>(
     ensures made { Writes (state S.Store conn.old) (state S.Store conn.new) result
         (with_reason customer.now key reason.now) }
     ensures kept { KeepsCommitted (state S.Store conn.old) (state S.Store conn.new) }
+    ensures cause { IfErr result (HasCause M.refused M.failed) }
 {
     if reason.as_str().is_empty() {
-        return remove(conn, customer, key);
+        return remove(memory, conn, customer, key);
     }
-    set(conn, customer, key, reason)
+    set(memory, conn, customer, key, reason)
 }

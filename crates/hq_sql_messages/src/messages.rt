@@ -1,11 +1,12 @@
 //! The table of messages: their rows, without reasons and recipients.
 
-ghost use Rattle.std.specs.Prelude.{◌≡◌, [], ◌∷◌, ◌++◌};
+ghost use Rattle.std.specs.Prelude.{◌≡◌, [], ◌∷◌, ◌++◌, IfErr};
 ghost use Rattle.std.specs.Prelude.{map, option_map, slice_get, take, filter};
 ghost use Rattle.std.specs.FinMap.{get, entries};
 ghost use Rattle.sqlite.specs.Held.{state};
 ghost use Rattle.hq_owned.specs.Rows.{pairs_of};
 ghost use Rattle.hq_rows.specs.Listed.{message_key, message_value};
+ghost use Rattle.hq_sql.specs.Causes.{HasCause};
 ghost use Rattle.hq_sql.specs.Rows.{message_shown};
 ghost use Rattle.hq_sql.specs.Kept.{Shows, Yields, Writes, Inserts, Updates, Intact};
 ghost use Rattle.hq_sql.specs.Kept.{KeepsCommitted};
@@ -15,14 +16,14 @@ ghost use Rattle.hq_sql_messages.specs.Messages.{bare, bare_entry};
 
 use crate::{message_rows, message_values};
 use hq_kept::Message;
-use hq_sql::lent;
 use hq_sql::lent::Taker;
+use hq_sql::{SqliteMemory, lent};
 use hq_values::{Items, Name, Serial, Spool, Text};
 use sqlite::{Alter, Connection, Error, Row};
-use std::alloc::Global;
 
 /// The row of the customer's message of a serial: one, or none.
-pub fn query<S: Alter>(
+pub fn query<S: Alter, M: SqliteMemory>(
+    memory: M,
     conn: &mut Connection<S>,
     customer: &Name,
     serial: Serial,
@@ -31,9 +32,11 @@ pub fn query<S: Alter>(
         (λ rows. option_map (λ r. message_value (message_shown r)) (slice_get rows.items 0))
         (λ t. get t.messages (customer.now, serial)) }
     ensures kept { Intact (state S.Store conn.old) (state S.Store conn.new) result }
+    ensures cause { IfErr result (HasCause M.refused M.failed) }
 {
     let params = hq_sql::bind::message_key(customer, serial);
-    let rows = conn.query_all(
+    let rows = memory.query_all(
+        conn,
         "SELECT customer, serial, sender, spool, size, arrival, state, next_try, attempts, warned \
          FROM messages WHERE customer = ?1 AND serial = ?2",
         &params,
@@ -42,7 +45,8 @@ pub fn query<S: Alter>(
 }
 
 /// The row of the customer's message with a spool name: of several that of the smallest serial.
-pub fn query_by_spool<S: Alter>(
+pub fn query_by_spool<S: Alter, M: SqliteMemory>(
+    memory: M,
     conn: &mut Connection<S>,
     customer: &Name,
     spool: &Spool,
@@ -51,9 +55,11 @@ pub fn query_by_spool<S: Alter>(
         (λ rows. pairs_of message_key message_value (map message_shown rows.items))
         (λ t. take 1 (filter (has_spool_name customer.now spool.now) (entries t.messages))) }
     ensures kept { Intact (state S.Store conn.old) (state S.Store conn.new) result }
+    ensures cause { IfErr result (HasCause M.refused M.failed) }
 {
     let params = message_values::spool(customer, spool);
-    let rows = conn.query_all(
+    let rows = memory.query_all(
+        conn,
         "SELECT customer, serial, sender, spool, size, arrival, state, next_try, attempts, warned \
          FROM messages WHERE customer = ?1 AND spool = ?2 ORDER BY customer, serial LIMIT 1",
         &params,
@@ -64,24 +70,17 @@ pub fn query_by_spool<S: Alter>(
 /// The messages of the rows so far, without reasons and recipients.
 #[derive(Drop)]
 struct TakenMessages {
-    alloc: Global,
     page: Vec<Message>,
 }
 
 impl Taker for TakenMessages {
     ghost takes = { λ before row after. after.page.items ≡ before.page.items ++ bare row ∷ [] };
 
-    fn take(&mut self, row: &Row) -> Result<(), Error> {
-        let serial = message_rows::serial(row)?;
-        let none = Items::from_vec(Vec::new(self.alloc));
-        let message = message_rows::message(
-            self.alloc,
-            row,
-            serial,
-            Text::empty(self.alloc),
-            none,
-        )?;
-        self.page.push(message)?;
+    fn take<M: SqliteMemory>(&mut self, memory: M, row: &Row) -> Result<(), Error> {
+        let serial = message_rows::serial(memory, row)?;
+        let none = Items::from_vec(memory.none());
+        let message = message_rows::message(memory, row, serial, Text::empty(memory), none)?;
+        memory.push(&mut self.page, message)?;
         Ok(())
     }
 }
@@ -89,8 +88,8 @@ impl Taker for TakenMessages {
 /// The customer's messages after a serial, or all, without reasons and recipients, in order of
 /// serial: at most `limit` of them. Their rows are lent one after another. A limit of 2^63 or more
 /// is an error.
-pub fn page<S: Alter>(
-    alloc: Global,
+pub fn page<S: Alter, M: SqliteMemory>(
+    memory: M,
     conn: &mut Connection<S>,
     customer: &Name,
     after: Option<Serial>,
@@ -101,22 +100,25 @@ pub fn page<S: Alter>(
         (λ t. map bare_entry
         (take limit (filter (is_on_page customer.now after) (entries t.messages)))) }
     ensures kept { Intact (state S.Store conn.old) (state S.Store conn.new) result }
+    ensures cause { IfErr result (HasCause M.refused M.failed) }
 {
-    let most = hq_sql::bind::limit(limit)?;
+    let most = hq_sql::bind::limit(memory, limit)?;
     let params = message_values::page(customer, after, &most);
-    let page = Vec::new(alloc);
+    let page = memory.none();
     let taken = lent::walk(
+        memory,
         conn,
         "SELECT customer, serial, sender, spool, size, arrival, state, next_try, attempts, warned \
          FROM messages WHERE customer = ?1 AND serial > ?2 ORDER BY customer, serial LIMIT ?3",
         &params,
-        TakenMessages { alloc, page },
+        TakenMessages { page },
     )?;
     Ok(taken.page)
 }
 
 /// The size of the customer's message of a serial, in bytes.
-pub fn size<S: Alter>(
+pub fn size<S: Alter, M: SqliteMemory>(
+    memory: M,
     conn: &mut Connection<S>,
     customer: &Name,
     serial: Serial,
@@ -124,13 +126,15 @@ pub fn size<S: Alter>(
     ensures found { Yields (state S.Store conn.old) (state S.Store conn.new) result
         (λ t. option_map (λ r. r.size) (get t.messages (customer.now, serial))) }
     ensures kept { Intact (state S.Store conn.old) (state S.Store conn.new) result }
+    ensures cause { IfErr result (HasCause M.refused M.failed) }
 {
-    let rows = query(conn, customer, serial)?;
-    message_rows::first_size(rows.as_slice())
+    let rows = query(memory, conn, customer, serial)?;
+    message_rows::first_size(memory, rows.as_slice())
 }
 
 /// Sets all columns of the message's row; whether it has one is told.
-fn update<S: Alter>(
+fn update<S: Alter, M: SqliteMemory>(
+    memory: M,
     conn: &mut Connection<S>,
     customer: &Name,
     message: &Message,
@@ -139,9 +143,11 @@ fn update<S: Alter>(
         (λ t. get t.messages (customer.now, message.now.serial))
         (with_row customer.now message.now) }
     ensures kept { KeepsCommitted (state S.Store conn.old) (state S.Store conn.new) }
+    ensures cause { IfErr result (HasCause M.refused M.failed) }
 {
     let params = message_values::message(customer, message);
-    let count = conn.execute(
+    let count = memory.execute(
+        conn,
         "UPDATE messages SET sender = ?3, spool = ?4, size = ?5, arrival = ?6, state = ?7, \
          next_try = ?8, attempts = ?9, warned = ?10 WHERE customer = ?1 AND serial = ?2",
         &params,
@@ -150,7 +156,8 @@ fn update<S: Alter>(
 }
 
 /// Sets all columns of the row of a message that has this size; whether there is one is told.
-pub fn update_of_size<S: Alter>(
+pub fn update_of_size<S: Alter, M: SqliteMemory>(
+    memory: M,
     conn: &mut Connection<S>,
     customer: &Name,
     message: &Message,
@@ -159,9 +166,11 @@ pub fn update_of_size<S: Alter>(
         (λ t. option_map (λ r. r.size) (get t.messages (customer.now, message.now.serial)))
         message.now.size (with_row customer.now message.now) }
     ensures kept { KeepsCommitted (state S.Store conn.old) (state S.Store conn.new) }
+    ensures cause { IfErr result (HasCause M.refused M.failed) }
 {
     let params = message_values::message(customer, message);
-    let changed = conn.execute(
+    let changed = memory.execute(
+        conn,
         "UPDATE messages SET sender = ?3, spool = ?4, size = ?5, arrival = ?6, state = ?7, \
          next_try = ?8, attempts = ?9, warned = ?10 \
          WHERE customer = ?1 AND serial = ?2 AND size = ?5",
@@ -172,7 +181,8 @@ pub fn update_of_size<S: Alter>(
 
 /// Adds the row of a new message, without its recipients. A spool name that another message of the
 /// customer has is an error.
-pub fn insert<S: Alter>(
+pub fn insert<S: Alter, M: SqliteMemory>(
+    memory: M,
     conn: &mut Connection<S>,
     customer: &Name,
     message: &Message,
@@ -181,9 +191,11 @@ pub fn insert<S: Alter>(
         (λ t. get t.messages (customer.now, message.now.serial))
         (with_row customer.now message.now) }
     ensures kept { KeepsCommitted (state S.Store conn.old) (state S.Store conn.new) }
+    ensures cause { IfErr result (HasCause M.refused M.failed) }
 {
     let params = message_values::message(customer, message);
-    conn.execute(
+    memory.execute(
+        conn,
         "INSERT INTO messages (customer, serial, sender, spool, size, arrival, state, next_try, \
          attempts, warned) VALUES (?1, ?2, ?3, ?4, ?5, ?6, ?7, ?8, ?9, ?10)",
         &params,
@@ -193,7 +205,8 @@ pub fn insert<S: Alter>(
 
 /// Sets the message, without its recipients, in the row that it has or a new one. A spool name
 /// that another message of the customer has is an error.
-pub fn put<S: Alter>(
+pub fn put<S: Alter, M: SqliteMemory>(
+    memory: M,
     conn: &mut Connection<S>,
     customer: &Name,
     message: &Message,
@@ -201,15 +214,17 @@ pub fn put<S: Alter>(
     ensures made { Writes (state S.Store conn.old) (state S.Store conn.new) result
         (with_row customer.now message.now) }
     ensures kept { KeepsCommitted (state S.Store conn.old) (state S.Store conn.new) }
+    ensures cause { IfErr result (HasCause M.refused M.failed) }
 {
-    if !update(conn, customer, message)? {
-        insert(conn, customer, message)?;
+    if !update(memory, conn, customer, message)? {
+        insert(memory, conn, customer, message)?;
     }
     Ok(())
 }
 
 /// Drops the message of a serial, without its recipients; nothing where there is none.
-pub fn remove<S: Alter>(
+pub fn remove<S: Alter, M: SqliteMemory>(
+    memory: M,
     conn: &mut Connection<S>,
     customer: &Name,
     serial: Serial,
@@ -217,9 +232,11 @@ pub fn remove<S: Alter>(
     ensures made { Writes (state S.Store conn.old) (state S.Store conn.new) result
         (without_row (customer.now, serial)) }
     ensures kept { KeepsCommitted (state S.Store conn.old) (state S.Store conn.new) }
+    ensures cause { IfErr result (HasCause M.refused M.failed) }
 {
     let params = hq_sql::bind::message_key(customer, serial);
-    conn.execute(
+    memory.execute(
+        conn,
         "DELETE FROM messages WHERE customer = ?1 AND serial = ?2",
         &params,
     )?;

@@ -41,7 +41,7 @@ use Rattle.hq_tables.specs.Tables.{Noted, text_cmp, notice_cmp, notice_of}
 use Rattle.hq_rows.specs.Listed.{notice_key, notice_value}
 use Rattle.hq_rows.specs.Lookups.{is_after, is_notice, AreUniqueNotices, notice_rows_with}
 use Rattle.hq_tables.specs.Readings.{read_tables, after_number}
-use Rattle.hq_rows.proofs.Keys.{notice_found}
+use Rattle.hq_rows.proofs.Notices.{notice_found}
 use Rattle.hq_tables.proofs.Orders.{message_total, message_exact}
 use Rattle.hq_rows.proofs.NoticePages.{notice_pages, after_is}
 use Rattle.hq_rows.proofs.Pages.{sorted_found}

@@ -1,14 +1,16 @@
 //! Ends as the parameters of statements.
 
-ghost use Rattle.std.specs.Prelude.{◌≡◌, ℕ, pos, IfOk};
+ghost use Rattle.std.specs.Prelude.{◌≡◌, ℕ, pos};
 ghost use Rattle.sqlite.specs.Values.{bound};
 ghost use Rattle.hq_values.specs.Senders.{sender_text};
+ghost use Rattle.hq_sql.specs.Causes.{EndsSo};
 ghost use Rattle.hq_sql.specs.Rows.{end_columns, fate_code, sender_of, status_column, status_read};
 ghost use Rattle.hq_sql_notices.specs.Ends.{end_at, end_numbers, end_row};
 ghost use Rattle.hq_sql_notices.specs.Ends.{newest_columns, page_columns, AreReadable};
 
 use crate::numbered::NumberColumn;
 use hq_kept::{Ended, Fate, Status};
+use hq_sql::SqliteMemory;
 use hq_sql::bind::{RowLimit, large};
 use hq_values::{Moment, Name, Sender};
 use sqlite::Error;
@@ -36,13 +38,19 @@ fn fate(fate: Fate) -> i64
 }
 
 /// The numbers of an end; one of 2^63 or more fits no column.
-pub(crate) fn numbers(number: u64, at: Moment, ended: &Ended) -> Result<EndNumbers, Error>
-    ensures { IfOk result (λ bound. bound ≡ end_numbers (end_at number at ended.now)) }
+pub(crate) fn numbers<M: SqliteMemory>(
+    memory: M,
+    number: u64,
+    at: Moment,
+    ended: &Ended,
+) -> Result<EndNumbers, Error>
+    ensures { EndsSo M.refused M.failed result
+        (λ bound. bound ≡ end_numbers (end_at number at ended.now)) }
 {
     Ok(EndNumbers {
-        number: large(number)?,
-        at: large(at.get())?,
-        serial: large(ended.serial.get())?,
+        number: large(memory, number)?,
+        at: large(memory, at.get())?,
+        serial: large(memory, ended.serial.get())?,
         fate: fate(ended.fate),
     })
 }

@@ -1,13 +1,15 @@
 //! Notices as the parameters of statements.
 
-ghost use Rattle.std.specs.Prelude.{◌≡◌, ℕ, pos, Option as AnyOption, IfOk};
+ghost use Rattle.std.specs.Prelude.{◌≡◌, ℕ, pos, Option as AnyOption};
 ghost use Rattle.sqlite.specs.Values.{bound};
+ghost use Rattle.hq_sql.specs.Causes.{EndsSo};
 ghost use Rattle.hq_sql.specs.Rows.{kind_code, notice_columns};
 ghost use Rattle.hq_sql_notices.specs.Notices.{from_number, notice_numbers};
 ghost use Rattle.hq_sql_notices.specs.Notices.{notice_row, notice_page_columns};
 
 use crate::numbered::{NumberColumn, number};
 use hq_kept::{Kind, Notice};
+use hq_sql::SqliteMemory;
 use hq_sql::bind::{RowLimit, large};
 use hq_values::Name;
 use sqlite::Error;
@@ -33,14 +35,14 @@ fn kind(kind: Kind) -> i64
 }
 
 /// The numbers of a notice; one of 2^63 or more fits no column.
-pub(crate) fn numbers(notice: &Notice) -> Result<NoticeNumbers, Error>
-    ensures { IfOk result (λ bound. bound ≡ notice_numbers notice.now) }
+pub(crate) fn numbers<M: SqliteMemory>(memory: M, notice: &Notice) -> Result<NoticeNumbers, Error>
+    ensures { EndsSo M.refused M.failed result (λ bound. bound ≡ notice_numbers notice.now) }
 {
     Ok(NoticeNumbers {
-        number: large(notice.number)?,
+        number: large(memory, notice.number)?,
         kind: kind(notice.kind),
-        serial: large(notice.serial.get())?,
-        at: large(notice.at.get())?,
+        serial: large(memory, notice.serial.get())?,
+        at: large(memory, notice.at.get())?,
     })
 }
 
@@ -67,12 +69,12 @@ pub(crate) fn notice<'a>(
 
 /// The number above which notices are wanted, as a column takes it: -1 for all; an error for one of
 /// 2^63 or more.
-pub(crate) fn after(after: Option<u64>) -> Result<NumberColumn, Error>
-    ensures { IfOk result (λ column. column.number ≡ from_number after) }
+pub(crate) fn after<M: SqliteMemory>(memory: M, after: Option<u64>) -> Result<NumberColumn, Error>
+    ensures { EndsSo M.refused M.failed result (λ column. column.number ≡ from_number after) }
 {
     match after {
         None => Ok(NumberColumn { number: -1 }),
-        Some(last) => number(last),
+        Some(last) => number(memory, last),
     }
 }
 

@@ -1,9 +1,10 @@
 //! The table of notices: one, put or found, and old ones dropped.
 
-ghost use Rattle.std.specs.Prelude.{option_map, slice_get};
+ghost use Rattle.std.specs.Prelude.{option_map, slice_get, IfErr};
 ghost use Rattle.std.specs.FinMap.{get};
 ghost use Rattle.sqlite.specs.Held.{state};
 ghost use Rattle.hq_tables.specs.Tables.{Noted, notice_of};
+ghost use Rattle.hq_sql.specs.Causes.{HasCause};
 ghost use Rattle.hq_sql.specs.Kept.{Shows, Yields, Writes, Inserts, Intact};
 ghost use Rattle.hq_sql.specs.Kept.{KeepsCommitted};
 ghost use Rattle.hq_sql.specs.Rows.{notice_shown};
@@ -12,11 +13,12 @@ ghost use Rattle.hq_sql_notices.specs.Notices.{without_below};
 
 use crate::{notice_rows, notice_values, numbered};
 use hq_kept::Notice;
+use hq_sql::SqliteMemory;
 use hq_values::Name;
 use sqlite::{Alter, Connection, Error, Row};
-use std::alloc::Global;
 
-fn query<S: Alter>(
+fn query<S: Alter, M: SqliteMemory>(
+    memory: M,
     conn: &mut Connection<S>,
     customer: &Name,
     number: u64,
@@ -26,10 +28,12 @@ fn query<S: Alter>(
         (λ t. option_map (λ (n : Noted). notice_of (number, n))
         (get t.notices (customer.now, number))) }
     ensures kept { Intact (state S.Store conn.old) (state S.Store conn.new) result }
+    ensures cause { IfErr result (HasCause M.refused M.failed) }
 {
-    let column = numbered::number(number)?;
+    let column = numbered::number(memory, number)?;
     let params = numbered::key(customer, &column);
-    let rows = conn.query_all(
+    let rows = memory.query_all(
+        conn,
         "SELECT customer, number, kind, serial, moment, sender, human, status FROM notices \
          WHERE customer = ?1 AND number = ?2",
         &params,
@@ -38,8 +42,8 @@ fn query<S: Alter>(
 }
 
 /// The customer's notice of this number; an error for a number of 2^63 or more.
-pub fn notice<S: Alter>(
-    alloc: Global,
+pub fn notice<S: Alter, M: SqliteMemory>(
+    memory: M,
     conn: &mut Connection<S>,
     customer: &Name,
     number: u64,
@@ -48,20 +52,28 @@ pub fn notice<S: Alter>(
         (λ t. option_map (λ (n : Noted). notice_of (number, n))
         (get t.notices (customer.now, number))) }
     ensures kept { Intact (state S.Store conn.old) (state S.Store conn.new) result }
+    ensures cause { IfErr result (HasCause M.refused M.failed) }
 {
-    let rows = query(conn, customer, number)?;
-    notice_rows::first_notice(alloc, rows.as_slice())
+    let rows = query(memory, conn, customer, number)?;
+    notice_rows::first_notice(memory, rows.as_slice())
 }
 
 /// Drops the notice of a number; nothing where there is none.
-fn remove<S: Alter>(conn: &mut Connection<S>, customer: &Name, number: u64) -> Result<(), Error>
+fn remove<S: Alter, M: SqliteMemory>(
+    memory: M,
+    conn: &mut Connection<S>,
+    customer: &Name,
+    number: u64,
+) -> Result<(), Error>
     ensures made { Writes (state S.Store conn.old) (state S.Store conn.new) result
         (without_notice (customer.now, number)) }
     ensures kept { KeepsCommitted (state S.Store conn.old) (state S.Store conn.new) }
+    ensures cause { IfErr result (HasCause M.refused M.failed) }
 {
-    let column = numbered::number(number)?;
+    let column = numbered::number(memory, number)?;
     let params = numbered::key(customer, &column);
-    conn.execute(
+    memory.execute(
+        conn,
         "DELETE FROM notices WHERE customer = ?1 AND number = ?2",
         &params,
     )?;
@@ -69,15 +81,22 @@ fn remove<S: Alter>(conn: &mut Connection<S>, customer: &Name, number: u64) -> R
 }
 
 /// Adds a notice of a new number.
-fn insert<S: Alter>(conn: &mut Connection<S>, customer: &Name, notice: &Notice) -> Result<(), Error>
+fn insert<S: Alter, M: SqliteMemory>(
+    memory: M,
+    conn: &mut Connection<S>,
+    customer: &Name,
+    notice: &Notice,
+) -> Result<(), Error>
     ensures made { Inserts (state S.Store conn.old) (state S.Store conn.new) result
         (λ t. get t.notices (customer.now, notice.now.number))
         (with_notice (notice_row customer.now notice.now)) }
     ensures kept { KeepsCommitted (state S.Store conn.old) (state S.Store conn.new) }
+    ensures cause { IfErr result (HasCause M.refused M.failed) }
 {
-    let numbers = notice_values::numbers(notice)?;
+    let numbers = notice_values::numbers(memory, notice)?;
     let params = notice_values::notice(customer, notice, &numbers);
-    conn.execute(
+    memory.execute(
+        conn,
         "INSERT INTO notices (customer, number, kind, serial, moment, sender, human, status) \
          VALUES (?1, ?2, ?3, ?4, ?5, ?6, ?7, ?8)",
         &params,
@@ -86,7 +105,8 @@ fn insert<S: Alter>(conn: &mut Connection<S>, customer: &Name, notice: &Notice) 
 }
 
 /// Sets the notice of its number, in a new row.
-pub fn put<S: Alter>(
+pub fn put<S: Alter, M: SqliteMemory>(
+    memory: M,
     conn: &mut Connection<S>,
     customer: &Name,
     notice: &Notice,
@@ -94,14 +114,16 @@ pub fn put<S: Alter>(
     ensures made { Writes (state S.Store conn.old) (state S.Store conn.new) result
         (with_notice (notice_row customer.now notice.now)) }
     ensures kept { KeepsCommitted (state S.Store conn.old) (state S.Store conn.new) }
+    ensures cause { IfErr result (HasCause M.refused M.failed) }
 {
-    remove(conn, customer, notice.number)?;
-    insert(conn, customer, notice)?;
+    remove(memory, conn, customer, notice.number)?;
+    insert(memory, conn, customer, notice)?;
     Ok(())
 }
 
 /// Drops the notices of numbers below this one.
-pub fn drop_below<S: Alter>(
+pub fn drop_below<S: Alter, M: SqliteMemory>(
+    memory: M,
     conn: &mut Connection<S>,
     customer: &Name,
     number: u64,
@@ -109,10 +131,12 @@ pub fn drop_below<S: Alter>(
     ensures made { Writes (state S.Store conn.old) (state S.Store conn.new) result
         (without_below customer.now number) }
     ensures kept { KeepsCommitted (state S.Store conn.old) (state S.Store conn.new) }
+    ensures cause { IfErr result (HasCause M.refused M.failed) }
 {
-    let column = numbered::number(number)?;
+    let column = numbered::number(memory, number)?;
     let params = numbered::key(customer, &column);
-    conn.execute(
+    memory.execute(
+        conn,
         "DELETE FROM notices WHERE customer = ?1 AND number < ?2",
         &params,
     )?;

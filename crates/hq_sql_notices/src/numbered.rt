@@ -1,9 +1,11 @@
 //! The numbers and keys of notices and of ends as the parameters of statements.
 
-ghost use Rattle.std.specs.Prelude.{◌≡◌, ℕ, pos, IfOk};
+ghost use Rattle.std.specs.Prelude.{◌≡◌, ℕ, pos};
 ghost use Rattle.sqlite.specs.Values.{bound};
+ghost use Rattle.hq_sql.specs.Causes.{EndsSo};
 ghost use Rattle.hq_sql_notices.specs.Numbered.{number_key_columns};
 
+use hq_sql::SqliteMemory;
 use hq_sql::bind::large;
 use hq_values::Name;
 use sqlite::Error;
@@ -16,11 +18,11 @@ pub(crate) struct NumberColumn {
 }
 
 /// A number as a column takes it; an error for one of 2^63 or more.
-pub(crate) fn number(number: u64) -> Result<NumberColumn, Error>
-    ensures { IfOk result (λ column. column.number ≡ pos number) }
+pub(crate) fn number<M: SqliteMemory>(memory: M, number: u64) -> Result<NumberColumn, Error>
+    ensures { EndsSo M.refused M.failed result (λ column. column.number ≡ pos number) }
 {
     Ok(NumberColumn {
-        number: large(number)?,
+        number: large(memory, number)?,
     })
 }
 

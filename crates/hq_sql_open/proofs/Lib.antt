@@ -10,3 +10,4 @@ pub mod Migrated
 pub mod Versions
 pub mod Customers
 pub mod Lifted
+pub mod Reasons

@@ -6,3 +6,4 @@ pub mod Opening
 pub mod Lifted
 pub mod Stores
 pub mod Migration
+pub mod Faults

@@ -5,6 +5,7 @@
 #![tactic(auto)]
 
 mod create;
+mod faults;
 pub mod laws;
 mod lifting;
 mod migrating;
@@ -12,5 +13,6 @@ mod opening;
 pub mod transaction;
 mod version;
 
+pub use faults::fault_of;
 pub use migrating::migration;
 pub use opening::{is_current, open};

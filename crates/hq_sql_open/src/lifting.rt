@@ -1,7 +1,7 @@
 //! A store of version 1 or 2 becomes one of version 3: the tables that it lacks are made, that of
 //! the reasons of messages on hold is filled, and the version written, in one transaction.
 
-ghost use Rattle.std.specs.Prelude.{◌≡◌, ℕ, [], ◌∷◌, IsTrue, IfOk, OnOk};
+ghost use Rattle.std.specs.Prelude.{◌≡◌, ℕ, [], ◌∷◌, IsTrue, IfOk, OnOk, IfErr};
 ghost use Rattle.sqlite.specs.Held.{state};
 ghost use Rattle.sqlite.specs.State.{HasCleanDisk};
 ghost use Rattle.sqlite.specs.Values.{bound};
@@ -9,6 +9,7 @@ ghost use Rattle.sqlite.specs.declared.types.Value.TheVariants.{Text};
 ghost use Rattle.hq_keyed.specs.Left.{IsQuiet};
 ghost use Rattle.hq_keyed.specs.Made.{CreatesTable};
 ghost use Rattle.hq_schema.specs.Schema.{holds, ends, first_schema, second_schema, desk_schema};
+ghost use Rattle.hq_sql.specs.Causes.{HasCause};
 ghost use Rattle.hq_sql_open.specs.Making.{GoesOn};
 ghost use Rattle.hq_sql_open.specs.Transactions.{IsSettled, KeepsAll};
 ghost use Rattle.hq_sql_open.specs.Stores.{HasVersion, IsFirst, IsSecond, lifted_in};
@@ -17,11 +18,12 @@ ghost use Rattle.hq_sql_open.specs.Migration.{HasEmptyHolds, Fills, Stamps, Lift
 ghost use Rattle.hq_sql_open.specs.Migration.{KeepsMigration, Raises, Upgrades, Widens};
 
 use crate::transaction::{begin, commit, sees_database};
+use hq_sql::SqliteMemory;
 use sqlite::types::ValueRef;
 use sqlite::{Alter, Connection, Error};
 
 /// Makes the table of holds, without a row.
-fn make_holds<S: Alter>(conn: &mut Connection<S>) -> Result<(), Error>
+fn make_holds<S: Alter, M: SqliteMemory>(memory: M, conn: &mut Connection<S>) -> Result<(), Error>
     ensures made { (state S.Store conn.old).now.schema ≡ first_schema
         → HasCleanDisk (state S.Store conn.new)
         → OnOk result (CreatesTable (state S.Store conn.old) (state S.Store conn.new) first_schema
@@ -30,8 +32,10 @@ fn make_holds<S: Alter>(conn: &mut Connection<S>) -> Result<(), Error>
         → IsTrue (state S.Store conn.old).in_transaction
         → KeepsAll (state S.Store conn.old) (state S.Store conn.new) }
     ensures quiet { IsQuiet (state S.Store conn.old) (state S.Store conn.new) }
+    ensures cause { IfErr result (HasCause M.refused M.failed) }
 {
-    conn.execute(
+    memory.execute(
+        conn,
         "CREATE TABLE holds (customer TEXT NOT NULL, serial INTEGER NOT NULL, \
          hold_reason TEXT NOT NULL, PRIMARY KEY (customer, serial)) STRICT",
         &[],
@@ -40,7 +44,7 @@ fn make_holds<S: Alter>(conn: &mut Connection<S>) -> Result<(), Error>
 }
 
 /// Makes the table of ends, without a row.
-fn make_ends<S: Alter>(conn: &mut Connection<S>) -> Result<(), Error>
+fn make_ends<S: Alter, M: SqliteMemory>(memory: M, conn: &mut Connection<S>) -> Result<(), Error>
     ensures made { (state S.Store conn.old).now.schema ≡ second_schema
         → HasCleanDisk (state S.Store conn.new)
         → OnOk result (CreatesTable (state S.Store conn.old) (state S.Store conn.new) second_schema
@@ -49,8 +53,10 @@ fn make_ends<S: Alter>(conn: &mut Connection<S>) -> Result<(), Error>
         → IsTrue (state S.Store conn.old).in_transaction
         → KeepsAll (state S.Store conn.old) (state S.Store conn.new) }
     ensures quiet { IsQuiet (state S.Store conn.old) (state S.Store conn.new) }
+    ensures cause { IfErr result (HasCause M.refused M.failed) }
 {
-    conn.execute(
+    memory.execute(
+        conn,
         "CREATE TABLE ends (customer TEXT NOT NULL, number INTEGER NOT NULL, \
          moment INTEGER NOT NULL, serial INTEGER NOT NULL, sender TEXT NOT NULL, \
          recipient TEXT NOT NULL, fate INTEGER NOT NULL, status TEXT NOT NULL, \
@@ -61,7 +67,7 @@ fn make_ends<S: Alter>(conn: &mut Connection<S>) -> Result<(), Error>
 }
 
 /// Makes the tables that a store of version 1 lacks, without a row.
-fn make_tables<S: Alter>(conn: &mut Connection<S>) -> Result<(), Error>
+fn make_tables<S: Alter, M: SqliteMemory>(memory: M, conn: &mut Connection<S>) -> Result<(), Error>
     ensures made { (state S.Store conn.old).now.schema ≡ first_schema
         → HasCleanDisk (state S.Store conn.new)
         → OnOk result (Widens (state S.Store conn.old) (state S.Store conn.new)) }
@@ -69,9 +75,10 @@ fn make_tables<S: Alter>(conn: &mut Connection<S>) -> Result<(), Error>
         → IsTrue (state S.Store conn.old).in_transaction
         → KeepsAll (state S.Store conn.old) (state S.Store conn.new) }
     ensures quiet { IsQuiet (state S.Store conn.old) (state S.Store conn.new) }
+    ensures cause { IfErr result (HasCause M.refused M.failed) }
 {
-    make_holds(conn)?;
-    make_ends(conn)?;
+    make_holds(memory, conn)?;
+    make_ends(memory, conn)?;
     Ok(())
 }
 
@@ -83,7 +90,11 @@ fn bind<'a>(reason: &'a str) -> [ValueRef<'a>; 1]
 }
 
 /// Adds a row with this reason for each message on hold, and tells how many there are.
-fn fill_holds<S: Alter>(conn: &mut Connection<S>, reason: &str) -> Result<usize, Error>
+fn fill_holds<S: Alter, M: SqliteMemory>(
+    memory: M,
+    conn: &mut Connection<S>,
+    reason: &str,
+) -> Result<usize, Error>
     ensures made { HasEmptyHolds (state S.Store conn.old).now
         → HasCleanDisk (state S.Store conn.new)
         → IfOk result (λ count.
@@ -96,9 +107,11 @@ fn fill_holds<S: Alter>(conn: &mut Connection<S>, reason: &str) -> Result<usize,
         → IsTrue (state S.Store conn.old).in_transaction
         → KeepsAll (state S.Store conn.old) (state S.Store conn.new) }
     ensures quiet { IsQuiet (state S.Store conn.old) (state S.Store conn.new) }
+    ensures cause { IfErr result (HasCause M.refused M.failed) }
 {
     let params = bind(reason);
-    let count = conn.execute(
+    let count = memory.execute(
+        conn,
         "INSERT INTO holds (customer, serial, hold_reason) SELECT customer, serial, ?1 \
          FROM messages WHERE state = 2 ORDER BY customer, serial",
         &params,
@@ -107,7 +120,7 @@ fn fill_holds<S: Alter>(conn: &mut Connection<S>, reason: &str) -> Result<usize,
 }
 
 /// Writes the version 3 in the place of another.
-fn set_version<S: Alter>(conn: &mut Connection<S>) -> Result<(), Error>
+fn set_version<S: Alter, M: SqliteMemory>(memory: M, conn: &mut Connection<S>) -> Result<(), Error>
     ensures made { (version : ℕ) → (state S.Store conn.old).now.schema ≡ desk_schema
         → HasVersion (state S.Store conn.old).now version
         → HasCleanDisk (state S.Store conn.new)
@@ -116,13 +129,18 @@ fn set_version<S: Alter>(conn: &mut Connection<S>) -> Result<(), Error>
         → IsTrue (state S.Store conn.old).in_transaction
         → KeepsAll (state S.Store conn.old) (state S.Store conn.new) }
     ensures quiet { IsQuiet (state S.Store conn.old) (state S.Store conn.new) }
+    ensures cause { IfErr result (HasCause M.refused M.failed) }
 {
-    conn.execute("UPDATE desk_schema SET version = 3", &[])?;
+    memory.execute(conn, "UPDATE desk_schema SET version = 3", &[])?;
     Ok(())
 }
 
 /// Makes the tables that a store of version 1 lacks, fills that of holds, and writes the version.
-fn lift<S: Alter>(conn: &mut Connection<S>, reason: &str) -> Result<usize, Error>
+fn lift<S: Alter, M: SqliteMemory>(
+    memory: M,
+    conn: &mut Connection<S>,
+    reason: &str,
+) -> Result<usize, Error>
     ensures made { IsFirst (state S.Store conn.old).now
         → HasCleanDisk (state S.Store conn.new)
         → IfOk result (λ count.
@@ -131,15 +149,16 @@ fn lift<S: Alter>(conn: &mut Connection<S>, reason: &str) -> Result<usize, Error
         → IsTrue (state S.Store conn.old).in_transaction
         → KeepsAll (state S.Store conn.old) (state S.Store conn.new) }
     ensures quiet { IsQuiet (state S.Store conn.old) (state S.Store conn.new) }
+    ensures cause { IfErr result (HasCause M.refused M.failed) }
 {
-    make_tables(conn)?;
-    let count = fill_holds(conn, reason)?;
-    set_version(conn)?;
+    make_tables(memory, conn)?;
+    let count = fill_holds(memory, conn, reason)?;
+    set_version(memory, conn)?;
     Ok(count)
 }
 
 /// Makes the table that a store of version 2 lacks, and writes the version.
-fn raise<S: Alter>(conn: &mut Connection<S>) -> Result<(), Error>
+fn raise<S: Alter, M: SqliteMemory>(memory: M, conn: &mut Connection<S>) -> Result<(), Error>
     ensures made { IsSecond (state S.Store conn.old).now
         → HasCleanDisk (state S.Store conn.new)
         → OnOk result (Raises (state S.Store conn.old) (state S.Store conn.new)) }
@@ -147,16 +166,21 @@ fn raise<S: Alter>(conn: &mut Connection<S>) -> Result<(), Error>
         → IsTrue (state S.Store conn.old).in_transaction
         → KeepsAll (state S.Store conn.old) (state S.Store conn.new) }
     ensures quiet { IsQuiet (state S.Store conn.old) (state S.Store conn.new) }
+    ensures cause { IfErr result (HasCause M.refused M.failed) }
 {
-    make_ends(conn)?;
-    set_version(conn)?;
+    make_ends(memory, conn)?;
+    set_version(memory, conn)?;
     Ok(())
 }
 
 /// Makes a store of version 3 of one of version 1, in one transaction, and tells how many messages
 /// are on hold. It asks for a connection in no transaction. After an error `settle` undoes what was
 /// begun.
-pub(crate) fn migrate<S: Alter>(conn: &mut Connection<S>, reason: &str) -> Result<usize, Error>
+pub(crate) fn migrate<S: Alter, M: SqliteMemory>(
+    memory: M,
+    conn: &mut Connection<S>,
+    reason: &str,
+) -> Result<usize, Error>
     ensures made { IsFirst (state S.Store conn.old).now → IsSettled (state S.Store conn.old)
         → HasCleanDisk (state S.Store conn.new)
         → IfOk result (λ count.
@@ -166,16 +190,20 @@ pub(crate) fn migrate<S: Alter>(conn: &mut Connection<S>, reason: &str) -> Resul
         → KeepsMigration IsFirst (lifted_in reason.now) (state S.Store conn.old)
         (state S.Store conn.new) result }
     ensures quiet { IsQuiet (state S.Store conn.old) (state S.Store conn.new) }
+    ensures cause { IfErr result (HasCause M.refused M.failed) }
 {
-    begin(conn)?;
-    let count = lift(conn, reason)?;
+    begin(memory, conn)?;
+    let count = lift(memory, conn, reason)?;
     sees_database(conn);
-    commit(conn)?;
+    commit(memory, conn)?;
     Ok(count)
 }
 
 /// Makes a store of version 3 of one of version 2, in one transaction, as `migrate` does.
-pub(crate) fn upgrade<S: Alter>(conn: &mut Connection<S>) -> Result<(), Error>
+pub(crate) fn upgrade<S: Alter, M: SqliteMemory>(
+    memory: M,
+    conn: &mut Connection<S>,
+) -> Result<(), Error>
     ensures made { IsSecond (state S.Store conn.old).now → IsSettled (state S.Store conn.old)
         → HasCleanDisk (state S.Store conn.new)
         → OnOk result (Upgrades (state S.Store conn.old) (state S.Store conn.new)) }
@@ -184,9 +212,10 @@ pub(crate) fn upgrade<S: Alter>(conn: &mut Connection<S>) -> Result<(), Error>
         → KeepsMigration IsSecond second_tables_in (state S.Store conn.old)
         (state S.Store conn.new) result }
     ensures quiet { IsQuiet (state S.Store conn.old) (state S.Store conn.new) }
+    ensures cause { IfErr result (HasCause M.refused M.failed) }
 {
-    begin(conn)?;
-    raise(conn)?;
+    begin(memory, conn)?;
+    raise(memory, conn)?;
     sees_database(conn);
-    commit(conn)
+    commit(memory, conn)
 }

@@ -1,7 +1,7 @@
 //! Opening: what is in a store decides whether it gets the tables of a desk, is taken as one, or is
 //! left alone.
 
-ghost use Rattle.std.specs.Prelude.{◌≡◌, ◌↔◌, [], ◌∷◌, List, map, fold, IsTrue, IfOk, OnOk};
+ghost use Rattle.std.specs.Prelude.{◌≡◌, ◌↔◌, [], ◌∷◌, List, map, fold, IsTrue, IfOk, OnOk, IfErr};
 ghost use Rattle.sqlite.specs.Change.{created};
 ghost use Rattle.sqlite.specs.Held.{state};
 ghost use Rattle.sqlite.specs.Schema.{Schema};
@@ -11,6 +11,7 @@ ghost use Rattle.hq_keyed.specs.Left.{IsQuiet};
 ghost use Rattle.hq_schema.specs.Schema.{no_schema, version_alone, desk_schema};
 ghost use Rattle.hq_tables.specs.Tables.{no_tables};
 ghost use Rattle.hq_sql.specs.Tables.{Leaves};
+ghost use Rattle.hq_sql.specs.Causes.{HasCause};
 ghost use Rattle.hq_sql_open.specs.Making.{MakeTables, AreEmpty};
 ghost use Rattle.hq_sql_open.specs.Opening.{IsUnmade, IsVersioned, Opens, KeepsOpening};
 ghost use Rattle.hq_sql_open.specs.Opening.{ShowVersions, ShowsOne, HasVersions, TellsWhether};
@@ -20,6 +21,7 @@ ghost use Rattle.hq_sql_open.specs.Transactions.{IsSettled, Commits, KeepsAll};
 use crate::create::create_all;
 use crate::transaction::{begin, commit, sees_database};
 use hq_schema::{is_blank, is_desk, is_version_alone};
+use hq_sql::SqliteMemory;
 use sqlite::types::ValueRef;
 use sqlite::{Alter, Connection, Error, Row};
 
@@ -56,7 +58,7 @@ const TABLES: [&str; 9] = [
 ];
 
 /// Writes the version, where no table has a row.
-fn stamp<S: Alter>(conn: &mut Connection<S>) -> Result<(), Error>
+fn stamp<S: Alter, M: SqliteMemory>(memory: M, conn: &mut Connection<S>) -> Result<(), Error>
     ensures made { (state S.Store conn.old).now.schema ≡ desk_schema
         → AreEmpty desk_schema.tables (state S.Store conn.old).now.trees
         → HasCleanDisk (state S.Store conn.new)
@@ -65,13 +67,18 @@ fn stamp<S: Alter>(conn: &mut Connection<S>) -> Result<(), Error>
         → IsTrue (state S.Store conn.old).in_transaction
         → KeepsAll (state S.Store conn.old) (state S.Store conn.new) }
     ensures quiet { IsQuiet (state S.Store conn.old) (state S.Store conn.new) }
+    ensures cause { IfErr result (HasCause M.refused M.failed) }
 {
-    conn.execute("INSERT INTO desk_schema (version) VALUES (3)", &[])?;
+    memory.execute(conn, "INSERT INTO desk_schema (version) VALUES (3)", &[])?;
     Ok(())
 }
 
 /// Makes the tables that are missing, and writes the version.
-fn fill<S: Alter>(conn: &mut Connection<S>, texts: &[&str]) -> Result<(), Error>
+fn fill<S: Alter, M: SqliteMemory>(
+    memory: M,
+    conn: &mut Connection<S>,
+    texts: &[&str],
+) -> Result<(), Error>
     ensures made { (s : Schema) → (tables : List Table)
         → MakeTables s (map (λ t. t.now) texts.now) tables → fold created s tables ≡ desk_schema
         → (state S.Store conn.old).now.schema ≡ s
@@ -85,13 +92,18 @@ fn fill<S: Alter>(conn: &mut Connection<S>, texts: &[&str]) -> Result<(), Error>
         → IsTrue (state S.Store conn.old).in_transaction
         → KeepsAll (state S.Store conn.old) (state S.Store conn.new) }
     ensures quiet { IsQuiet (state S.Store conn.old) (state S.Store conn.new) }
+    ensures cause { IfErr result (HasCause M.refused M.failed) }
 {
-    create_all(conn, texts)?;
-    stamp(conn)
+    create_all(memory, conn, texts)?;
+    stamp(memory, conn)
 }
 
 /// Makes an empty desk of a store in which these tables are missing, in one transaction.
-fn make_desk<S: Alter>(conn: &mut Connection<S>, texts: &[&str]) -> Result<(), Error>
+fn make_desk<S: Alter, M: SqliteMemory>(
+    memory: M,
+    conn: &mut Connection<S>,
+    texts: &[&str],
+) -> Result<(), Error>
     ensures made { (s : Schema) → (tables : List Table)
         → MakeTables s (map (λ t. t.now) texts.now) tables → fold created s tables ≡ desk_schema
         → (state S.Store conn.old).now.schema ≡ s
@@ -105,27 +117,29 @@ fn make_desk<S: Alter>(conn: &mut Connection<S>, texts: &[&str]) -> Result<(), E
         → IsUnmade (state S.Store conn.old).now
         → KeepsOpening (state S.Store conn.old) (state S.Store conn.new) result }
     ensures quiet { IsQuiet (state S.Store conn.old) (state S.Store conn.new) }
+    ensures cause { IfErr result (HasCause M.refused M.failed) }
 {
-    begin(conn)?;
-    fill(conn, texts)?;
+    begin(memory, conn)?;
+    fill(memory, conn, texts)?;
     sees_database(conn);
-    commit(conn)
+    commit(memory, conn)
 }
 
 /// Makes an empty desk of a store in which nothing was made yet.
-fn make_all<S: Alter>(conn: &mut Connection<S>) -> Result<(), Error>
+fn make_all<S: Alter, M: SqliteMemory>(memory: M, conn: &mut Connection<S>) -> Result<(), Error>
     ensures made { (state S.Store conn.old).now.schema ≡ no_schema
         → IsSettled (state S.Store conn.old) → HasCleanDisk (state S.Store conn.new)
         → OnOk result (Commits (state S.Store conn.new) no_tables) }
     ensures kept { (state S.Store conn.old).now.schema ≡ no_schema
         → KeepsOpening (state S.Store conn.old) (state S.Store conn.new) result }
     ensures quiet { IsQuiet (state S.Store conn.old) (state S.Store conn.new) }
+    ensures cause { IfErr result (HasCause M.refused M.failed) }
 {
-    make_desk(conn, &TABLES)
+    make_desk(memory, conn, &TABLES)
 }
 
 /// Makes an empty desk of a store that has the version table alone, without a row.
-fn make_others<S: Alter>(conn: &mut Connection<S>) -> Result<(), Error>
+fn make_others<S: Alter, M: SqliteMemory>(memory: M, conn: &mut Connection<S>) -> Result<(), Error>
     ensures made { (state S.Store conn.old).now.schema ≡ version_alone
         → (state S.Store conn.old).now.trees 0 ≡ []
         → IsSettled (state S.Store conn.old) → HasCleanDisk (state S.Store conn.new)
@@ -134,19 +148,24 @@ fn make_others<S: Alter>(conn: &mut Connection<S>) -> Result<(), Error>
         → (state S.Store conn.old).now.trees 0 ≡ []
         → KeepsOpening (state S.Store conn.old) (state S.Store conn.new) result }
     ensures quiet { IsQuiet (state S.Store conn.old) (state S.Store conn.new) }
+    ensures cause { IfErr result (HasCause M.refused M.failed) }
 {
-    make_desk(conn, &TABLES[1..])
+    make_desk(memory, conn, &TABLES[1..])
 }
 
 /// The rows of the version table.
-fn versions<S: Alter>(conn: &mut Connection<S>) -> Result<Vec<Row>, Error>
+fn versions<S: Alter, M: SqliteMemory>(
+    memory: M,
+    conn: &mut Connection<S>,
+) -> Result<Vec<Row>, Error>
     ensures found { HasCleanDisk (state S.Store conn.new)
         → HasVersions (state S.Store conn.old).now
         → IfOk result (λ rows. ShowVersions (state S.Store conn.old).now rows.items
         × IsUnchanged (state S.Store conn.old) (state S.Store conn.new)) }
     ensures kept { KeepsReading (state S.Store conn.old) (state S.Store conn.new) result }
+    ensures cause { IfErr result (HasCause M.refused M.failed) }
 {
-    let rows = conn.query_all("SELECT version FROM desk_schema", &[])?;
+    let rows = memory.query_all(conn, "SELECT version FROM desk_schema", &[])?;
     Ok(rows)
 }
 
@@ -161,14 +180,18 @@ fn is_one(rows: &[Row]) -> bool
 }
 
 /// Whether the one version of a desk is 3.
-pub fn is_current<S: Alter>(conn: &mut Connection<S>) -> Result<bool, Error>
+pub fn is_current<S: Alter, M: SqliteMemory>(
+    memory: M,
+    conn: &mut Connection<S>,
+) -> Result<bool, Error>
     ensures found { HasCleanDisk (state S.Store conn.new)
         → HasVersions (state S.Store conn.old).now
         → IfOk result (λ yes. TellsWhether yes (IsVersioned (state S.Store conn.old).now)
         (state S.Store conn.old) (state S.Store conn.new)) }
     ensures kept { KeepsReading (state S.Store conn.old) (state S.Store conn.new) result }
+    ensures cause { IfErr result (HasCause M.refused M.failed) }
 {
-    let rows = versions(conn)?;
+    let rows = versions(memory, conn)?;
     Ok(is_one(rows.as_slice()))
 }
 
@@ -179,30 +202,35 @@ fn are_none(rows: &[Row]) -> bool
 }
 
 /// Whether the version table has no row.
-fn is_unversioned<S: Alter>(conn: &mut Connection<S>) -> Result<bool, Error>
+fn is_unversioned<S: Alter, M: SqliteMemory>(
+    memory: M,
+    conn: &mut Connection<S>,
+) -> Result<bool, Error>
     ensures found { HasCleanDisk (state S.Store conn.new)
         → HasVersions (state S.Store conn.old).now
         → IfOk result (λ yes. TellsWhether yes ((state S.Store conn.old).now.trees 0 ≡ [])
         (state S.Store conn.old) (state S.Store conn.new)) }
     ensures kept { KeepsReading (state S.Store conn.old) (state S.Store conn.new) result }
+    ensures cause { IfErr result (HasCause M.refused M.failed) }
 {
-    let rows = versions(conn)?;
+    let rows = versions(memory, conn)?;
     Ok(are_none(rows.as_slice()))
 }
 
 /// Makes an empty desk of a store that has the version table alone, where it has no row; else it
 /// answers false.
-fn complete<S: Alter>(conn: &mut Connection<S>) -> Result<bool, Error>
+fn complete<S: Alter, M: SqliteMemory>(memory: M, conn: &mut Connection<S>) -> Result<bool, Error>
     ensures opened { (state S.Store conn.old).now.schema ≡ version_alone
         → HasCleanDisk (state S.Store conn.new) → IsSettled (state S.Store conn.old)
         → IfOk result (λ is. Opens is (state S.Store conn.old) (state S.Store conn.new)) }
     ensures kept { (state S.Store conn.old).now.schema ≡ version_alone
         → KeepsOpening (state S.Store conn.old) (state S.Store conn.new) result }
+    ensures cause { IfErr result (HasCause M.refused M.failed) }
 {
-    if !is_unversioned(conn)? {
+    if !is_unversioned(memory, conn)? {
         return Ok(false);
     }
-    make_others(conn)?;
+    make_others(memory, conn)?;
     Ok(true)
 }
 
@@ -212,20 +240,21 @@ fn complete<S: Alter>(conn: &mut Connection<S>) -> Result<bool, Error>
 /// it is. For any other store it answers false, and changes nothing.
 ///
 /// It asks for a connection in no transaction. After an error `settle` undoes what was begun.
-pub fn open<S: Alter>(conn: &mut Connection<S>) -> Result<bool, Error>
+pub fn open<S: Alter, M: SqliteMemory>(memory: M, conn: &mut Connection<S>) -> Result<bool, Error>
     ensures opened { HasCleanDisk (state S.Store conn.new) → IsSettled (state S.Store conn.old)
         → IfOk result (λ is. Opens is (state S.Store conn.old) (state S.Store conn.new)) }
     ensures kept { KeepsOpening (state S.Store conn.old) (state S.Store conn.new) result }
+    ensures cause { IfErr result (HasCause M.refused M.failed) }
 {
     if is_blank(conn.schema()) {
-        make_all(conn)?;
+        make_all(memory, conn)?;
         return Ok(true);
     }
     if is_desk(conn.schema()) {
-        return is_current(conn);
+        return is_current(memory, conn);
     }
     if is_version_alone(conn.schema()) {
-        return complete(conn);
+        return complete(memory, conn);
     }
     Ok(false)
 }

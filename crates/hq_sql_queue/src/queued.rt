@@ -1,10 +1,11 @@
 //! Whole messages: their rows with their reasons and their recipients.
 
 ghost use Rattle.sqlite.specs.Held.{state};
-ghost use Rattle.std.specs.Prelude.{map};
+ghost use Rattle.std.specs.Prelude.{map, IfErr};
 ghost use Rattle.hq_tables.specs.Tables.{joined, pending_of, reason_of};
 ghost use Rattle.hq_rows.specs.Listed.{message_value};
 ghost use Rattle.hq_tables.specs.Readings.{read_tables, page_of};
+ghost use Rattle.hq_sql.specs.Causes.{HasCause};
 ghost use Rattle.hq_sql.specs.Rows.{message_shown};
 ghost use Rattle.hq_sql.specs.Kept.{Yields, Shows, Intact};
 ghost use Rattle.hq_sql_queue.specs.Queued.{whole};
@@ -13,15 +14,15 @@ ghost use Rattle.hq_sql_queue.specs.Parts.{with_parts};
 
 use crate::{dealing, page_parts};
 use hq_kept::{Message, Pending};
+use hq_sql::SqliteMemory;
 use hq_sql_messages::{holds, message_rows, messages};
 use hq_sql_recipients::recipients;
 use hq_values::{Items, Name, Serial, Spool, Text};
 use sqlite::{Alter, Connection, Error, Row};
-use std::alloc::Global;
 
 /// The recipients and the reason of the customer's message of this serial.
-fn parts<S: Alter>(
-    alloc: Global,
+fn parts<S: Alter, M: SqliteMemory>(
+    memory: M,
     conn: &mut Connection<S>,
     customer: &Name,
     serial: Serial,
@@ -32,16 +33,17 @@ fn parts<S: Alter>(
           reason_of customer.now serial t.holds,
         )) }
     ensures kept { Intact (state S.Store conn.old) (state S.Store conn.new) result }
+    ensures cause { IfErr result (HasCause M.refused M.failed) }
 {
-    let pending = recipients::pending(alloc, conn, customer, serial)?;
-    let reason = holds::reason(alloc, conn, customer, serial)?;
+    let pending = recipients::pending(memory, conn, customer, serial)?;
+    let reason = holds::reason(memory, conn, customer, serial)?;
     Ok((pending, reason))
 }
 
 /// The message of a row, with the recipients and the reason of the customer's message of this
 /// serial.
-fn joined<S: Alter>(
-    alloc: Global,
+fn joined<S: Alter, M: SqliteMemory>(
+    memory: M,
     conn: &mut Connection<S>,
     customer: &Name,
     serial: Serial,
@@ -51,14 +53,15 @@ fn joined<S: Alter>(
         (λ t. joined customer.now t.recipients t.holds serial
         (message_value (message_shown row.now))) }
     ensures kept { Intact (state S.Store conn.old) (state S.Store conn.new) result }
+    ensures cause { IfErr result (HasCause M.refused M.failed) }
 {
-    let (pending, reason) = parts(alloc, conn, customer, serial)?;
-    message_rows::message(alloc, row, serial, reason, pending)
+    let (pending, reason) = parts(memory, conn, customer, serial)?;
+    message_rows::message(memory, row, serial, reason, pending)
 }
 
 /// The message of a row, with its recipients and its reason.
-fn whole<S: Alter>(
-    alloc: Global,
+fn whole<S: Alter, M: SqliteMemory>(
+    memory: M,
     conn: &mut Connection<S>,
     customer: &Name,
     row: &Row,
@@ -66,15 +69,16 @@ fn whole<S: Alter>(
     ensures found { Yields (state S.Store conn.old) (state S.Store conn.new) result
         (λ t. whole customer.now t row.now) }
     ensures kept { Intact (state S.Store conn.old) (state S.Store conn.new) result }
+    ensures cause { IfErr result (HasCause M.refused M.failed) }
 {
-    let serial = message_rows::serial(row)?;
-    let message = joined(alloc, conn, customer, serial, row)?;
+    let serial = message_rows::serial(memory, row)?;
+    let message = joined(memory, conn, customer, serial, row)?;
     Ok(message)
 }
 
 /// The customer's message of a serial, with its recipients and its reason.
-pub fn message<S: Alter>(
-    alloc: Global,
+pub fn message<S: Alter, M: SqliteMemory>(
+    memory: M,
     conn: &mut Connection<S>,
     customer: &Name,
     serial: Serial,
@@ -82,12 +86,13 @@ pub fn message<S: Alter>(
     ensures found { Yields (state S.Store conn.old) (state S.Store conn.new) result
         (λ t. (read_tables customer.now t).message serial) }
     ensures kept { Intact (state S.Store conn.old) (state S.Store conn.new) result }
+    ensures cause { IfErr result (HasCause M.refused M.failed) }
 {
-    let rows = messages::query(conn, customer, serial)?;
+    let rows = messages::query(memory, conn, customer, serial)?;
     match rows.as_slice().first() {
         None => Ok(None),
         Some(row) => {
-            let message = joined(alloc, conn, customer, serial, row)?;
+            let message = joined(memory, conn, customer, serial, row)?;
             Ok(Some(message))
         }
     }
@@ -95,8 +100,8 @@ pub fn message<S: Alter>(
 
 /// The customer's message with a spool name, with its recipients and its reason: of several that
 /// of the smallest serial.
-pub fn by_spool<S: Alter>(
-    alloc: Global,
+pub fn by_spool<S: Alter, M: SqliteMemory>(
+    memory: M,
     conn: &mut Connection<S>,
     customer: &Name,
     spool: &Spool,
@@ -104,12 +109,13 @@ pub fn by_spool<S: Alter>(
     ensures found { Yields (state S.Store conn.old) (state S.Store conn.new) result
         (λ t. (read_tables customer.now t).by_spool spool.now) }
     ensures kept { Intact (state S.Store conn.old) (state S.Store conn.new) result }
+    ensures cause { IfErr result (HasCause M.refused M.failed) }
 {
-    let rows = messages::query_by_spool(conn, customer, spool)?;
+    let rows = messages::query_by_spool(memory, conn, customer, spool)?;
     match rows.as_slice().first() {
         None => Ok(None),
         Some(row) => {
-            let message = whole(alloc, conn, customer, row)?;
+            let message = whole(memory, conn, customer, row)?;
             Ok(Some(message))
         }
     }
@@ -117,8 +123,8 @@ pub fn by_spool<S: Alter>(
 
 /// Gives their recipients and reasons to messages of the customer, which stand in the order of
 /// their serials, from `low` to `high`.
-fn filled<S: Alter>(
-    alloc: Global,
+fn filled<S: Alter, M: SqliteMemory>(
+    memory: M,
     conn: &mut Connection<S>,
     customer: &Name,
     low: Serial,
@@ -129,9 +135,10 @@ fn filled<S: Alter>(
         → Shows (state S.Store conn.old) (state S.Store conn.new) result
         (λ filled. filled.items) (λ t. map (with_parts customer.now t) page.items) }
     ensures kept { Intact (state S.Store conn.old) (state S.Store conn.new) result }
+    ensures cause { IfErr result (HasCause M.refused M.failed) }
 {
-    let dealt = page_parts::recipients(alloc, conn, customer, low, high, page)?;
-    let given = page_parts::reasons(alloc, conn, customer, low, high, dealt)?;
+    let dealt = page_parts::recipients(memory, conn, customer, low, high, page)?;
+    let given = page_parts::reasons(memory, conn, customer, low, high, dealt)?;
     Ok(given)
 }
 
@@ -139,8 +146,8 @@ fn filled<S: Alter>(
 /// serial: at most `limit` of them. A limit of 2^63 or more is an error. Nothing is held here but
 /// the page: the rows of the messages are lent one after another, then those of their recipients,
 /// and then those of their reasons.
-pub fn page<S: Alter>(
-    alloc: Global,
+pub fn page<S: Alter, M: SqliteMemory>(
+    memory: M,
     conn: &mut Connection<S>,
     customer: &Name,
     after: Option<Serial>,
@@ -149,12 +156,13 @@ pub fn page<S: Alter>(
     ensures found { Yields (state S.Store conn.old) (state S.Store conn.new) result
         (λ t. page_of after limit (read_tables customer.now t).messages) }
     ensures kept { Intact (state S.Store conn.old) (state S.Store conn.new) result }
+    ensures cause { IfErr result (HasCause M.refused M.failed) }
 {
-    let page = messages::page(alloc, conn, customer, after, limit)?;
+    let page = messages::page(memory, conn, customer, after, limit)?;
     match dealing::ends(page.as_slice()) {
         None => Ok(Items::from_vec(page)),
         Some((low, high)) => {
-            let filled = filled(alloc, conn, customer, low, high, page)?;
+            let filled = filled(memory, conn, customer, low, high, page)?;
             Ok(Items::from_vec(filled))
         }
     }

@@ -1,7 +1,7 @@
 -- What is left, and what is kept, while the recipients of a message are put in their places one
 -- after another.
 use Rattle.std.proofs.Common.{◌≡◌, ℕ, zero, suc, ◌+◌, Bool, true, false, List, [], ◌∷◌, ◌++◌, map}
-use Rattle.std.proofs.Common.{filter, take, length, Some, None, Ok, slice_get, IsTrue, refl, sym}
+use Rattle.std.proofs.Common.{filter, take, length, Some, None, Ok, slice_get, refl, sym}
 use Rattle.std.proofs.Common.{ap, ◌∙◌, subst, arith}
 use Rattle.std.specs.Prelude.{nat_eq, unwrap_or}
 use Rattle.std.specs.List.{list_any}

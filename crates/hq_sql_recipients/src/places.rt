@@ -1,21 +1,21 @@
 //! Recipients as the parameters of statements, and out of the rows of answers.
 
-ghost use Rattle.std.specs.Prelude.{◌≡◌, ◌↔◌, true, IfOk, length, map};
+ghost use Rattle.std.specs.Prelude.{◌≡◌, ◌↔◌, true, length, map};
 ghost use Rattle.std.specs.List.{list_any};
 ghost use Rattle.sqlite.specs.Values.{bound};
 ghost use Rattle.sqlite.specs.Order.{column};
 ghost use Rattle.hq_rows.specs.Listed.{recipient_value};
+ghost use Rattle.hq_sql.specs.Causes.{EndsSo};
 ghost use Rattle.hq_sql.specs.Rows.{value_text, status_read, status_column};
 ghost use Rattle.hq_sql.specs.Rows.{recipient_columns, recipient_shown};
 ghost use Rattle.hq_sql_recipients.specs.Places.{is_far, StandsAfter};
 ghost use Rattle.hq_sql_recipients.specs.Recipients.{recipient_row, range_columns};
 
 use hq_kept::{Pending, Status};
-use hq_sql::{bind, read, values};
+use hq_sql::{Limits, SqliteMemory, bind, read, values};
 use hq_values::{Items, Name, Serial, Text};
 use sqlite::types::ValueRef;
 use sqlite::{Error, Row};
-use std::alloc::Global;
 
 /// The text of a status, which reads back as the status; the empty text of none.
 fn status_str(status: &Option<Status>) -> &str
@@ -32,12 +32,13 @@ fn status_str(status: &Option<Status>) -> &str
 }
 
 /// How many places a list takes; an error for more than 2^32 - 1.
-pub(crate) fn count(pending: &[Pending]) -> Result<u32, Error>
-    ensures { IfOk result (λ count. count ≡ length pending.now) }
+pub(crate) fn count<M: SqliteMemory>(memory: M, pending: &[Pending]) -> Result<u32, Error>
+    ensures { EndsSo M.refused M.failed result (λ count. count ≡ length pending.now) }
 {
-    match u32::try_from(pending.len()) {
+    let count = pending.len();
+    match u32::try_from(count) {
         Ok(count) => Ok(count),
-        Err(_) => Err(Error::InvalidQuery),
+        Err(_) => Err(memory.outside(Limits::Places, count as u64)),
     }
 }
 
@@ -74,12 +75,13 @@ pub(crate) fn range<'a>(customer: &'a Name, serial: Serial, last: u32) -> [Value
 }
 
 /// The recipient of a row.
-pub fn recipient(alloc: Global, row: &Row) -> Result<Pending, Error>
-    ensures { IfOk result (λ pending. pending ≡ recipient_value (recipient_shown row.now)) }
+pub fn recipient<M: SqliteMemory>(memory: M, row: &Row) -> Result<Pending, Error>
+    ensures { EndsSo M.refused M.failed result
+        (λ pending. pending ≡ recipient_value (recipient_shown row.now)) }
 {
-    let address = values::address(alloc, row, 3)?;
-    let status = values::status(row, 4)?;
-    let text = values::reason(alloc, row, 5)?;
+    let address = values::address(memory, row, 3)?;
+    let status = values::status(memory, row, 4)?;
+    let text = values::reason(memory, row, 5)?;
     Ok(Pending {
         address,
         status,
@@ -88,53 +90,69 @@ pub fn recipient(alloc: Global, row: &Row) -> Result<Pending, Error>
 }
 
 /// The recipients of rows, in the order of the rows.
-pub(crate) fn all(alloc: Global, rows: &[Row]) -> Result<Items<Pending>, Error>
-    ensures { IfOk result (λ all. all ≡ map (λ r. recipient_value (recipient_shown r)) rows.now) }
+pub(crate) fn all<M: SqliteMemory>(memory: M, rows: &[Row]) -> Result<Items<Pending>, Error>
+    ensures { EndsSo M.refused M.failed result
+        (λ all. all ≡ map (λ r. recipient_value (recipient_shown r)) rows.now) }
 {
-    let mut all = Vec::new(alloc);
+    let mut all = memory.none();
     for row in rows {
-        all.push(recipient(alloc, row)?)?;
+        let recipient = recipient(memory, row)?;
+        memory.push(&mut all, recipient)?;
     }
     Ok(Items::from_vec(all))
 }
 
 /// Whether a text is that of the column.
-fn is_text(row: &Row, at: usize, text: &str) -> Result<bool, Error>
-    ensures { IfOk result (λ is. (is ≡ true) ↔ (value_text (column row.now at) ≡ text.now)) }
+fn is_text<M: SqliteMemory>(memory: M, row: &Row, at: usize, text: &str) -> Result<bool, Error>
+    ensures { EndsSo M.refused M.failed result
+        (λ is. (is ≡ true) ↔ (value_text (column row.now at) ≡ text.now)) }
 {
-    let found = read::text(row, at)?;
+    let found = read::text(memory, row, at)?;
     Ok(found.as_str() == text)
 }
 
 /// Whether a row has this recipient.
-fn has(row: &Row, recipient: &Pending) -> Result<bool, Error>
-    ensures { IfOk result (λ has. (has ≡ true)
+fn has<M: SqliteMemory>(memory: M, row: &Row, recipient: &Pending) -> Result<bool, Error>
+    ensures { EndsSo M.refused M.failed result (λ has. (has ≡ true)
         ↔ (recipient_value (recipient_shown row.now) ≡ recipient.now)) }
 {
-    let address = is_text(row, 3, recipient.address.as_str())?;
-    let status = is_text(row, 4, status_str(&recipient.status))?;
-    let text = is_text(row, 5, recipient.text.as_str())?;
+    let address = is_text(memory, row, 3, recipient.address.as_str())?;
+    let status = is_text(memory, row, 4, status_str(&recipient.status))?;
+    let text = is_text(memory, row, 5, recipient.text.as_str())?;
     Ok(address && status && text)
 }
 
 /// Whether the recipient stands already at the place after `last`. The rows are those of all places
 /// of the message, in order.
-pub(crate) fn stands(rows: &[Row], last: u32, recipient: &Pending) -> Result<bool, Error>
-    ensures { IfOk result (λ stands. (stands ≡ true) ↔ StandsAfter rows.now last recipient.now) }
+pub(crate) fn stands<M: SqliteMemory>(
+    memory: M,
+    rows: &[Row],
+    last: u32,
+    recipient: &Pending,
+) -> Result<bool, Error>
+    ensures { EndsSo M.refused M.failed result
+        (λ stands. (stands ≡ true) ↔ StandsAfter rows.now last recipient.now) }
 {
     match rows.get(last as usize) {
         None => Ok(false),
-        Some(row) => Ok(read::number(row, 2)? == u64::from(last) + 1 && has(row, recipient)?),
+        Some(row) => {
+            let place = read::number(memory, row, 2)?;
+            Ok(place == u64::from(last) + 1 && has(memory, row, recipient)?)
+        }
     }
 }
 
 /// Whether a row is of a place that is none of 1 to `count`.
-pub(crate) fn are_beside(rows: &[Row], count: u32) -> Result<bool, Error>
-    ensures { IfOk result (λ beside. beside
+pub(crate) fn are_beside<M: SqliteMemory>(
+    memory: M,
+    rows: &[Row],
+    count: u32,
+) -> Result<bool, Error>
+    ensures { EndsSo M.refused M.failed result (λ beside. beside
         ≡ list_any (λ r. is_far count (recipient_shown r).place) rows.now) }
 {
     for row in rows {
-        let place = read::number(row, 2)?;
+        let place = read::number(memory, row, 2)?;
         if place < 1 || u64::from(count) < place {
             return Ok(true);
         }

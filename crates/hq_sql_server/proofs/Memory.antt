@@ -1,4 +1,5 @@
 -- What a batch over a shelf in memory does from empty tables.
+use Rattle.std.specs.Global.{Global}
 use Rattle.std.proofs.Common.{◌≡◌, inl, inr, ℕ, List, Option, Result, Ok, Err, IfOk, refl, sym, ap}
 use Rattle.std.proofs.Common.{◌∙◌, subst, map}
 use Rattle.std.specs.Bool.{⊤}
@@ -12,7 +13,8 @@ use Rattle.hq_tables.specs.Tables.{no_tables}
 use Rattle.hq_tables.proofs.Empty.{empty_sound}
 use Rattle.hq_sql.specs.Tables.{tables_in}
 use Rattle.hq_sql_open.specs.declared.transaction.Standing.{Standing}
-use Rattle.hq_sql_open.specs.declared.transaction.Standing.TheVariants.{Open, Gone, InDoubt, Lost}
+use Rattle.hq_sql_open.specs.declared.transaction.Standing.TheVariants.{Open, Gone, InDoubt}
+use Rattle.hq_sql_open.specs.declared.transaction.Standing.TheVariants.{Unasked, Lost}
 use Rattle.hq_sql_shelf.specs.Shelf.{IsOurs, Stands}
 use Rattle.hq_sql_shelf.specs.declared.shelf.SqlShelf.{SqlShelf}
 use Rattle.hq_desk.specs.Desks.{on, host_of, shelf_of}
@@ -35,13 +37,15 @@ stands_in_memory : (standing : Standing) (c : Held MemStore) → Stands standing
 stands_in_memory Open c = tt
 stands_in_memory Gone c = tt
 stands_in_memory InDoubt c = refl
+stands_in_memory Unasked c = refl
 stands_in_memory Lost c = refl
 
 -- what a desk over a shelf in memory that is empty replied to
-pub from_empty : (settings : Settings) (shelf : SqlShelf MemStore) →
+pub from_empty : (settings : Settings) (shelf : SqlShelf MemStore Global) →
     IsOurs (state over_memory shelf.conn) →
     tables_in (state over_memory shelf.conn).committed ≡ no_tables
-    → (old new : Desk (SqlShelf MemStore)) → host_of old ≡ settings.host → shelf_of old ≡ shelf
+    → (old new : Desk (SqlShelf MemStore Global)) → host_of old ≡ settings.host
+    → shelf_of old ≡ shelf
     → (asks : List Ask) (replies : List SeenReply) →
     Served (with_refusals ⊤ (on memory)) settings.directory old asks replies new → FromEmpty
     settings asks replies new
@@ -70,7 +74,8 @@ from_empty settings shelf ours none old new named is asks replies p =
           (subst (λ t. Alone (host_of old) d asks replies t after) empty alone);
     }
 
-serves : (settings : Settings) (shelf : SqlShelf MemStore) → IsOurs (state over_memory shelf.conn) →
+serves : (settings : Settings) (shelf : SqlShelf MemStore Global)
+    → IsOurs (state over_memory shelf.conn) →
     tables_in (state over_memory shelf.conn).committed ≡ no_tables
     → (asked : List (Option LineRequest)) (lines : List (List ℕ)) →
     ServesOver memory settings shelf asked lines → ServesFromEmpty settings asked lines
@@ -81,7 +86,7 @@ serves settings shelf ours none asked lines it = record {
       (map (ask_in settings.directory) asked) it.replied.0 it.replied.2;
 }
 
-pub memory_ends : (settings : Settings) (opened : Result (SqlShelf MemStore) Fault)
+pub memory_ends : (settings : Settings) (opened : Result (SqlShelf MemStore Global) Fault)
     (untouched : Type 0) (old new : Streams) (result : Result ⊤ Trouble)
     → IfOk opened (λ s. IsOurs (state over_memory s.conn)) →
     IfOk opened (λ s. tables_in (state over_memory s.conn).committed ≡ no_tables)

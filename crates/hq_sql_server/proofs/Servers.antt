@@ -1,4 +1,5 @@
 -- What a server does over a shelf in memory that is empty.
+use Rattle.std.specs.Global.{Global}
 use Rattle.std.proofs.Common.{◌≡◌, inl, inr, ℕ, Result, Ok, Err, IfOk}
 use Rattle.std.specs.Bool.{⊤}
 use Rattle.sqlite.specs.Held.{state}
@@ -24,7 +25,7 @@ module _ (served other : Type 0) (so : served → other) (unwritten told : Type 
   served_ends_as (inl unheard) = inl unheard
   served_ends_as (inr ended) = inr (ended.0, ended.1, so ended.2)
 
-serves_empty : (settings : Settings) (count : ℕ) (shelf : SqlShelf MemStore) →
+serves_empty : (settings : Settings) (count : ℕ) (shelf : SqlShelf MemStore Global) →
     IsOurs (state over_memory shelf.conn) →
     tables_in (state over_memory shelf.conn).committed ≡ no_tables
     → ServesConnections memory settings count shelf → ServesEmpty settings count
@@ -35,7 +36,8 @@ serves_empty settings count shelf ours none it = record {
       it.served.asks it.served.replies it.served.served;
 }
 
-pub memory_ends : (settings : Settings) (count : ℕ) (opened : Result (SqlShelf MemStore) Fault)
+pub memory_ends : (settings : Settings) (count : ℕ)
+    (opened : Result (SqlShelf MemStore Global) Fault)
     (unwritten told : Type 0) (result : Result ⊤ Trouble)
     → IfOk opened (λ s. IsOurs (state over_memory s.conn)) →
     IfOk opened (λ s. tables_in (state over_memory s.conn).committed ≡ no_tables)

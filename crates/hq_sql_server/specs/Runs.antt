@@ -1,4 +1,5 @@
 -- What a server of the program does over a store of `sqlite`, however it ends.
+use Rattle.std.specs.Global.{Global}
 use Rattle.std.specs.Prelude.{◌≡◌, ◌⊎◌, ⊤, ℕ, List, Option, option_map, Result, Ok, Err}
 use Rattle.sqlite_trees.specs.declared.memory.MemStore.{MemStore}
 use Rattle.hq_wire.specs.Exchanges.{with_refusals}
@@ -59,7 +60,7 @@ OpenedServerEnds sight settings count opened unwritten told result = OverOpened
 -- Connections are served by a desk over a shelf in memory, which began with empty tables: to each
 -- customer the desk is its own.
 pub record ServesEmpty (settings : Settings) (count : ℕ) : Type 0 where
-  pub shelf : SqlShelf MemStore
+  pub shelf : SqlShelf MemStore Global
   pub over : ServesConnections memory settings count shelf
   pub from_empty : FromEmpty settings over.served.asks over.served.replies over.new
 

@@ -1,4 +1,5 @@
 -- What a batch of the program does over a store of `sqlite`, however it ends.
+use Rattle.std.specs.Global.{Global}
 use Rattle.std.specs.Prelude.{◌≡◌, ⊤, ℕ, false, List, map, Option, Result, Err}
 use Rattle.sqlite.specs.Held.{state}
 use Rattle.sqlite.specs.Steps.{over_memory}
@@ -37,13 +38,13 @@ OpenedEnds sight settings opened untouched old new result = OverOpened
 
 -- ---- in memory
 
-abbrev pub memory : Sight (SqlShelf MemStore)
-memory = sight_over (state over_memory)
+abbrev pub memory : Sight (SqlShelf MemStore Global)
+memory = sight_over ⊤ ⊤ (state over_memory)
 
 -- What was asked of a desk from empty tables, and replied to: where its store was not closed, each
 -- was replied to as its exchange is, and to each customer the desk is its own.
 pub record FromEmpty (settings : Settings) (asks : List Ask) (replies : List SeenReply)
-    (new : Desk (SqlShelf MemStore)) : Type 0 where
+    (new : Desk (SqlShelf MemStore Global)) : Type 0 where
   pub replied : (on memory).store.is_closed new ≡ false
       → AllReplied (with_refusals ⊤ (on memory)).store.may_answer settings.host settings.directory
       no_tables asks replies
@@ -55,7 +56,7 @@ pub record FromEmpty (settings : Settings) (asks : List Ask) (replies : List See
 -- tables.
 pub record ServesFromEmpty (settings : Settings) (asked : List (Option LineRequest))
     (lines : List (List ℕ)) : Type 0 where
-  pub shelf : SqlShelf MemStore
+  pub shelf : SqlShelf MemStore Global
   pub over : ServesOver memory settings shelf asked lines
   pub from_empty : FromEmpty settings (map (ask_in settings.directory) asked) over.replied.0
       over.new

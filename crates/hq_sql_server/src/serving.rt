@@ -1,6 +1,8 @@
 //! The connections of a server, over a store as it was opened.
 
-ghost use Rattle.std.specs.Prelude.{◌≡◌, option_map};
+ghost use Rattle.std.specs.Prelude.{◌≡◌, option_map, ⊤};
+ghost use Rattle.sqlite.specs.Held.{state};
+ghost use Rattle.hq_sql_shelf.specs.Shelf.{sight_over};
 ghost use Rattle.hq_sql_server.specs.Listening.{HasTold};
 ghost use Rattle.hq_sql_server.specs.Runs.{IsEnd, OpenedServerEnds, MemoryServerEnds};
 ghost use Rattle.hq_sql_server.specs.Runs.{StoreServerEnds, ServeEnds};
@@ -14,6 +16,8 @@ use hq_sql_shelf::{FileShelf, SqlShelf, open_file};
 use hq_tables::Shelf;
 use hq_values::Fault;
 use hq_words::Serve;
+use sqlite::Alter;
+use std::alloc::Global;
 use std::io::Write;
 
 /// Why a server ends, as the program tells it.
@@ -57,6 +61,23 @@ fn serve_over<S: Shelf + Drop, W: Write, E: Write>(
     ))
 }
 
+/// Serves the connections of an address over a store of `sqlite` as it was opened, as `serve_over`
+/// does.
+fn serve_opened<S: Alter + Drop, W: Write, E: Write>(
+    rt: &HostRuntime,
+    opened: Result<SqlShelf<S, Global>, Fault>,
+    settings: Settings,
+    given: &Serve,
+    output: &mut W,
+    errors: &mut E,
+) -> Result<(), Trouble>
+    ensures { OpenedServerEnds (sight_over ⊤ ⊤ (state S.Store)) settings given.now.count opened
+        (output.new ≡ output.old)
+        (HasTold given.now.listen.now (W.contents output.old) (W.contents output.new)) result }
+{
+    serve_over(rt, opened, settings, given, output, errors)
+}
+
 /// Serves the connections of an address from an empty desk, whose store stands in memory.
 fn serve_memory<W: Write, E: Write>(
     rt: &HostRuntime,
@@ -69,7 +90,7 @@ fn serve_memory<W: Write, E: Write>(
         (HasTold given.now.listen.now (W.contents output.old) (W.contents output.new)) result }
 {
     let opened = SqlShelf::open_memory(rt.alloc());
-    serve_over(rt, opened, settings, given, output, errors)
+    serve_opened(rt, opened, settings, given, output, errors)
 }
 
 /// Serves connections over the store of a path, which is made where it is missing. Without a path
@@ -88,7 +109,7 @@ fn serve_stored<W: Write, E: Write>(
 {
     match given.store {
         None => serve_memory(rt, settings, given, output, errors),
-        Some(path) => serve_over(rt, open_file(rt, path), settings, given, output, errors),
+        Some(path) => serve_opened(rt, open_file(rt, path), settings, given, output, errors),
     }
 }
 

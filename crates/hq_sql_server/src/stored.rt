@@ -1,6 +1,6 @@
 //! The program's batch over a store on `sqlite`, in memory or in a file.
 
-ghost use Rattle.std.specs.Prelude.{◌≡◌, option_map};
+ghost use Rattle.std.specs.Prelude.{◌≡◌, option_map, ⊤};
 ghost use Rattle.sqlite.specs.Held.{state};
 ghost use Rattle.hq_sql_shelf.specs.Shelf.{sight_over};
 ghost use Rattle.hq_sql_server.specs.Stored.{OpenedEnds, MemoryEnds, StoreEnds};
@@ -12,19 +12,20 @@ use hq_sql_shelf::{FileShelf, SqlShelf, open_file};
 use hq_tables::Shelf;
 use hq_values::Fault;
 use sqlite::Alter;
+use std::alloc::Global;
 use std::io::{Read, Write};
 
 /// Replies to the lines of an input for the customers of these settings, over a store as it was
 /// opened; or tells why it could not be opened, and then nothing is read or written.
 fn run_opened<S: Alter + Drop, R: Read, W: Write, L: Log>(
     rt: &HostRuntime,
-    opened: Result<SqlShelf<S>, Fault>,
+    opened: Result<SqlShelf<S, Global>, Fault>,
     settings: Settings,
     input: &mut R,
     output: &mut W,
     log: &mut L,
 ) -> Result<(), Trouble>
-    ensures { OpenedEnds (sight_over (state S.Store)) settings opened
+    ensures { OpenedEnds (sight_over ⊤ ⊤ (state S.Store)) settings opened
         ((input.new ≡ input.old) × (output.new ≡ output.old))
         (record { input = R.remaining input.old; output = W.contents output.old })
         (record { input = R.remaining input.new; output = W.contents output.new }) result }

@@ -5,3 +5,4 @@ pub mod Reading
 pub mod Recounted
 pub mod Migrated
 pub mod Owing
+pub mod Causes

@@ -1,5 +1,5 @@
 -- What a call keeps that makes ready, asks the store, and answers or gives up.
-use Rattle.std.proofs.Common.{◌≡◌, ◌≢◌, inl, inr, ℕ, Bool, false, true≢false, IsTrue}
+use Rattle.std.proofs.Common.{◌≡◌, inl, inr, ℕ, Bool, false, true≢false, IsTrue}
 use Rattle.std.proofs.Common.{Result, Ok, Err, refl, sym, ap, ◌∙◌, subst}
 use Rattle.std.specs.Prelude.{⊤, IfErr}
 use Rattle.sqlite.specs.Held.{Held, state}
@@ -14,10 +14,12 @@ use Rattle.hq_keyed.proofs.Left.{clean_before}
 use Rattle.hq_tables.specs.Shelves.{Sight, Keeps, IsTallied, one_more}
 use Rattle.hq_sql.specs.Kept.{Intact}
 use Rattle.hq_sql.specs.Tables.{IsDesk, tables_in}
+use Rattle.hq_sql_open.specs.Faults.{IsCaused}
 use Rattle.hq_sql_open.specs.Standings.{Settles}
 use Rattle.hq_sql_open.specs.Transactions.{IsSettled}
 use Rattle.hq_sql_open.specs.declared.transaction.Standing.{Standing}
 use Rattle.hq_sql_open.specs.declared.transaction.Standing.TheVariants.{Open, Gone, InDoubt, Lost}
+use Rattle.hq_sql_open.specs.declared.transaction.Standing.TheVariants.{Unasked}
 use Rattle.hq_sql_shelf.specs.declared.shelf.SqlShelf.{SqlShelf}
 use Rattle.hq_sql_shelf.specs.Shelf.{IsOurs, HoldsTables, Stands, GivesUp, sight_over, is_gone}
 use Rattle.hq_sql_shelf.proofs.Ours.{open_stands}
@@ -32,19 +34,15 @@ tallied X was is m n k Disk was_open same it = (was_open, it.1, it.2 ∙ ap one_
 tallied X was is m n k BadSchema was_open same it = absurd it
 tallied X was is m n k Closed was_open same it = (it.0, it.1 ∙ ap one_more same)
 
-never_bad : (is : Bool) (m n : ℕ) (fault : Fault) → IsTallied {X = ⊤} false is m n (Err fault) →
-    fault ≢ BadSchema
-never_bad is m n WantOfMemory it = λ e. absurd cc
-never_bad is m n Disk it = λ e. absurd cc
-never_bad is m n BadSchema it = λ e. it
-never_bad is m n Closed it = λ e. absurd cc
-
 still_settled : (old new : State) (standing : Standing) → Settles old new standing →
     HasCleanDisk new → Stands standing new → is_gone standing ≡ false → IsSettled new
 still_settled old new Open it clean stands stays = it.settled clean refl
 still_settled old new Gone it clean stands stays = absurd (true≢false stays)
 still_settled old new Lost it clean stands stays = absurd (true≢false stays)
 still_settled old new InDoubt it clean stands stays =
+    let undone = it.undone clean in
+    record { is_open = stands; mode = undone.mode; now = undone.now stands }
+still_settled old new Unasked it clean stands stays =
     let undone = it.undone clean in
     record { is_open = stands; mode = undone.mode; now = undone.now stands }
 
@@ -62,8 +60,9 @@ pub record Ends {S X : Type 0} (sight : Sight S) (old new : S) (result : Result 
 
 -- ---- behind a call that made ready
 
-module _ {S X : Type 0} (g : Ghosts S) (old mid : SqlShelf S) (x : X)
-    (first : Keeps (sight_over (state g)) old mid (Ok x)) (stands : mid.standing ≡ Open)
+module _ {S M X : Type 0} (refused failed : Type 0) (g : Ghosts S) (old mid : SqlShelf S M) (x : X)
+    (first : Keeps (sight_over refused failed (state g)) old mid (Ok x)) (stands : mid.standing ≡
+    Open)
     (less : LeavesNoMore (state g old.conn) (state g mid.conn)) where
   seen : HasCleanDisk (state g mid.conn) →
       HasCleanDisk (state g mid.conn) × Stands mid.standing (state g mid.conn)
@@ -78,7 +77,7 @@ module _ {S X : Type 0} (g : Ghosts S) (old mid : SqlShelf S) (x : X)
   -- a call that reads, where it answers
   pub answered : {Y Z : Type 0} (new : Held S) (y : Y) (z : Z) →
       Intact (state g mid.conn) (state g new) (Ok y) →
-      Keeps (sight_over (state g)) old (record mid { conn = new }) (Ok z)
+      Keeps (sight_over refused failed (state g)) old (record mid { conn = new }) (Ok z)
   answered new y z kept =
       let before : HasCleanDisk (state g new) → HasCleanDisk (state g mid.conn) =
       clean_before (state g mid.conn) (state g new) kept.quiet in
@@ -103,7 +102,8 @@ module _ {S X : Type 0} (g : Ghosts S) (old mid : SqlShelf S) (x : X)
         tally = first.tally;
         cause = tt;
         stops = λ clean which. elim which [
-          | inl ours ↦ no_more g old (record mid { conn = new }) clean.0 (λ still db may.
+          | inl ours ↦ no_more refused failed g old (record mid { conn = new }) clean.0 (λ still db
+              may.
               less (before still) db
               (kept.stops (desk_seen (owned (before still) ours)) still db may))
           | inr closed ↦ absurd (true≢false (sym closed ∙ first.tally.0))
@@ -111,14 +111,14 @@ module _ {S X : Type 0} (g : Ghosts S) (old mid : SqlShelf S) (x : X)
       }
 
   -- any call, where it gives up
-  pub ended : {Z : Type 0} (tried : Held S) (new : SqlShelf S) (fault : Fault) →
+  pub ended : {Z : Type 0} (tried : Held S) (new : SqlShelf S M) (fault : Fault) →
       IsQuiet (state g mid.conn) (state g tried) →
       (HasCleanDisk (state g tried) → IsOurs (state g mid.conn) →
       KeepsCommit (state g mid.conn) (state g tried)) →
       Settles (state g tried) (state g new.conn) new.standing →
-      GivesUp new.standing mid.faults new.faults fault →
-      Ends {X = Z} (sight_over (state g)) old new (Err fault)
-  ended {Z = Z} tried new fault quiet kept settles tally =
+      GivesUp new.standing mid.faults new.faults fault → IsCaused refused failed fault →
+      Ends {X = Z} (sight_over refused failed (state g)) old new (Err fault)
+  ended {Z = Z} tried new fault quiet kept settles tally cause =
       let before : HasCleanDisk (state g new.conn) → HasCleanDisk (state g mid.conn) =
       λ clean. clean_before (state g mid.conn) (state g tried) quiet
       (clean_before (state g tried) (state g new.conn) settles.quiet clean) in
@@ -148,19 +148,20 @@ module _ {S X : Type 0} (g : Ghosts S) (old mid : SqlShelf S) (x : X)
             (seen (before clean.0));
         tally = tallied Z (is_gone old.standing) (is_gone new.standing) old.faults new.faults
             mid.faults fault first.tally.0 first.tally.2 tally;
-        cause = never_bad (is_gone new.standing) mid.faults new.faults fault tally;
+        cause = cause;
       }
 
   -- a call that reads, where it gives up
-  pub gave_up : {Y Z : Type 0} (tried : Held S) (new : SqlShelf S) (error : Error) (fault : Fault) →
+  pub gave_up : {Y Z : Type 0} (tried : Held S) (new : SqlShelf S M) (error : Error) (fault :
+      Fault) →
       Intact {X = Y} (state g mid.conn) (state g tried) (Err error) →
       Settles (state g tried) (state g new.conn) new.standing →
-      GivesUp new.standing mid.faults new.faults fault →
-      Keeps {X = Z} (sight_over (state g)) old new (Err fault)
-  gave_up {Z = Z} tried new error fault kept settles tally =
-      let end : Ends {X = Z} (sight_over (state g)) old new (Err fault) =
+      GivesUp new.standing mid.faults new.faults fault → IsCaused refused failed fault →
+      Keeps {X = Z} (sight_over refused failed (state g)) old new (Err fault)
+  gave_up {Z = Z} tried new error fault kept settles tally cause =
+      let end : Ends {X = Z} (sight_over refused failed (state g)) old new (Err fault) =
       ended tried new fault kept.quiet (λ clean mine. kept.kept clean (desk_seen mine)) settles
-      tally in
+      tally cause in
       let during : HasCleanDisk (state g new.conn) → HasCleanDisk (state g tried) =
       clean_before (state g tried) (state g new.conn) settles.quiet in
       let before : HasCleanDisk (state g tried) → HasCleanDisk (state g mid.conn) =
@@ -172,7 +173,7 @@ module _ {S X : Type 0} (g : Ghosts S) (old mid : SqlShelf S) (x : X)
         tally = end.tally;
         cause = end.cause;
         stops = λ clean which. elim which [
-          | inl ours ↦ no_more g old new clean.0 (λ still db may.
+          | inl ours ↦ no_more refused failed g old new clean.0 (λ still db may.
               less (before (during still)) db
               (kept.stops (desk_seen (owned (before (during still)) ours)) (during still) db
               (settles.stops still db may)))

@@ -46,11 +46,11 @@ whole_with db trees sound holds same =
 
 -- ---- a shelf
 
-module _ {S : Type 0} (g : Ghosts S) where
+module _ {S M : Type 0} (refused failed : Type 0) (g : Ghosts S) where
   -- what the connection leaves the shelf leaves
-  pub no_more : (old new : SqlShelf S) → HasCleanDisk (state g new.conn) →
+  pub no_more : (old new : SqlShelf S M) → HasCleanDisk (state g new.conn) →
       LeavesNoMore (state g old.conn) (state g new.conn) →
-      StopLeavesNoMore (sight_over (state g)) old new
+      StopLeavesNoMore (sight_over refused failed (state g)) old new
   no_more old new clean less = (
     λ desk db may. desk db (less clean db may),
     λ t left. (left.0, less clean left.0 left.1, left.2),
@@ -69,14 +69,6 @@ module _ {S : Type 0} (g : Ghosts S) (law : LeavesCommit g) where
       whole_with (state g conn).committed db (live ours.settled.is_open).1 ours.holds
       (law conn.store db ours.settled.is_open may)
 
-  pub stop_leaves : (s : SqlShelf S) → IsLive (state g s.conn) → IsOurs (state g s.conn) →
-      StopLeavesTables (sight_over (state g)) s
-  stop_leaves s live ours =
-      let only = open_leaves s.conn live ours in (
-        λ db may. (only db may).0,
-        λ t left. sym left.2 ∙ (only left.0 left.1).1,
-      )
-
   -- what changes leave that are made or fail behind a call that makes ready
   pub written_leaves : (old mid new : Held S) (t : Tables) → IsLive (state g old) →
       IsOurs (state g old) → AreCounted t → IsQuiet (state g mid) (state g new) →
@@ -91,10 +83,20 @@ module _ {S : Type 0} (g : Ghosts S) (law : LeavesCommit g) where
         | inr held ↦ (whole_held db t held counted, inr held.tables)
       ]
 
+module _ {S M : Type 0} (refused failed : Type 0) (g : Ghosts S) (law : LeavesCommit g) where
+  -- and so does a shelf over it
+  pub stop_leaves : (s : SqlShelf S M) → IsLive (state g s.conn) → IsOurs (state g s.conn) →
+      StopLeavesTables (sight_over refused failed (state g)) s
+  stop_leaves s live ours =
+      let only = open_leaves g law s.conn live ours in (
+        λ db may. (only db may).0,
+        λ t left. sym left.2 ∙ (only left.0 left.1).1,
+      )
+
   -- and where the tables are those before with changes made
-  pub changes_leave : (old mid : SqlShelf S) (new : Held S) (customer : List ℕ)
+  pub changes_leave : (old mid : SqlShelf S M) (new : Held S) (customer : List ℕ)
       (changes : List Change) {X Y : Type 0} (ready : Result X Fault) (made : Result Y Error) →
-      IsLive (state g old.conn) → Keeps (sight_over (state g)) old mid ready →
+      IsLive (state g old.conn) → Keeps (sight_over refused failed (state g)) old mid ready →
       is_gone mid.standing ≡ false → mid.standing ≡ Open →
       LeavesNoMore (state g old.conn) (state g mid.conn) →
       KeepsTransaction (state g mid.conn) (state g new) made
@@ -107,17 +109,17 @@ module _ {S : Type 0} (g : Ghosts S) (law : LeavesCommit g) where
       let seen = open_stands mid.standing (state g mid.conn) stands
       (clean_before (state g mid.conn) (state g new) kept.quiet clean) in
       let owned = first.ours seen ours stays in
-      written_leaves old.conn mid.conn new _ live ours
+      written_leaves g law old.conn mid.conn new _ live ours
       (counts_stay customer changes (tables_in (state g old.conn).committed) ours.holds.counted)
       kept.quiet less (subst (λ t. LeavesTables (state g mid.conn) (state g new)
       (write_all customer changes t)) (first.same seen ours stays)
       (kept.stops (at_rest (state g mid.conn) owned) owned.holds.counted)) clean db may
 
   -- an open desk that some call left so leaves what it has committed
-  pub still_leaves : (old new : SqlShelf S) (before after : Tables) →
+  pub still_leaves : (old new : SqlShelf S M) (before after : Tables) →
       LeavesWhole (state g old.conn) (state g new.conn) before after →
       HasCleanDisk (state g new.conn) → IsOurs (state g new.conn) →
-      StopLeavesTables (sight_over (state g)) new
+      StopLeavesTables (sight_over refused failed (state g)) new
   still_leaves old new before after whole clean ours = (
     λ db may. (whole clean db may).0,
     λ t left. sym left.2 ∙ ap tables_in (sym (is_desk_with (state g new.conn).committed left.0

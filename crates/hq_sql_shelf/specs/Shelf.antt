@@ -1,31 +1,24 @@
 -- The shelf over a `sqlite` store: what is seen of it, and what its calls keep of the connection.
-use Rattle.std.specs.Prelude.{◌≡◌, ◌≢◌, ⊤, ℕ, Bool, true, false, Err, IsTrue}
+use Rattle.std.specs.Prelude.{◌≡◌, ⊤, ℕ, Bool, true, false, Err, IsTrue}
 use Rattle.sqlite.specs.declared.error.Error.{Error}
-use Rattle.sqlite.specs.declared.error.Error.TheVariants.{SqliteFailure}
-use Rattle.sqlite.specs.declared.error.ErrorCode.TheVariants.{OutOfMemory}
 use Rattle.sqlite.specs.Held.{Held}
 use Rattle.sqlite.specs.State.{State, HasCleanDisk}
 use Rattle.sqlite.specs.Effect.{Database, IsDatabase}
 use Rattle.sqlite.specs.Tree.{Trees}
 use Rattle.hq_values.specs.declared.failure.Fault.{Fault}
-use Rattle.hq_values.specs.declared.failure.Fault.TheVariants.{WantOfMemory, Disk, BadSchema}
-use Rattle.hq_values.specs.declared.failure.Fault.TheVariants.{Closed}
+use Rattle.hq_values.specs.declared.failure.Fault.TheVariants.{Disk, Closed}
 use Rattle.hq_tables.specs.Shelves.{Sight, IsTallied, one_more}
 use Rattle.hq_tables.specs.Sound.{AreCounted}
 use Rattle.hq_tables.specs.Tables.{no_tables}
 use Rattle.hq_sql.specs.Tables.{IsDesk, tables_in}
+use Rattle.hq_sql_open.specs.Faults.{IsCaused, fault_in}
 use Rattle.hq_sql_open.specs.Found.{desk_with, tables_with}
 use Rattle.hq_sql_open.specs.Opening.{IsUnmade, IsForeign}
 use Rattle.hq_sql_open.specs.Transactions.{IsSettled}
 use Rattle.hq_sql_open.specs.declared.transaction.Standing.{Standing}
-use Rattle.hq_sql_open.specs.declared.transaction.Standing.TheVariants.{InDoubt, Gone, Lost}
+use Rattle.hq_sql_open.specs.declared.transaction.Standing.TheVariants.{InDoubt, Unasked}
+use Rattle.hq_sql_open.specs.declared.transaction.Standing.TheVariants.{Gone, Lost}
 use Rattle.hq_sql_shelf.specs.declared.shelf.SqlShelf.{SqlShelf}
-
--- the fault that an error is told as: the store's want of memory, or any other failure of a
--- statement
-abbrev pub fault_in : Error → Fault
-fault_in (SqliteFailure OutOfMemory) = WantOfMemory
-fault_in _ = Disk
 
 -- the fault that is told once a statement failed with this error and left the connection so
 abbrev pub fault_left : Standing → Error → Fault
@@ -46,12 +39,14 @@ is_gone _ = false
 
 abbrev pub is_doubtful : Standing → Bool
 is_doubtful InDoubt = true
+is_doubtful Unasked = true
 is_doubtful Lost = true
 is_doubtful _ = false
 
 -- a shelf that is in doubt, or was so when its connection was lost, has it open
 abbrev pub Stands : Standing → State → Type 0
 Stands InDoubt s = IsTrue s.is_open
+Stands Unasked s = IsTrue s.is_open
 Stands Lost s = IsTrue s.is_open
 Stands _ s = ⊤
 
@@ -72,15 +67,16 @@ pub record IsOurs (s : State) : Type 0 where
 
 -- What is seen of a shelf, by what is seen of its connection: the tables are what was committed.
 -- Where the connection was lost in doubt, nothing is said of them, nor of what a stop leaves. A
--- stop leaves trees, and the tables are those that they hold as a desk's.
-abbrev pub sight_over : {S : Type 0} → (Held S → State) → Sight (SqlShelf S)
-sight_over seen = record {
+-- stop leaves trees, and the tables are those that they hold as a desk's. 90 is answered only where
+-- memory was refused, and 91 and 93 only where a call of `sqlite` failed.
+abbrev pub sight_over : {S M : Type 0} → Type 0 → Type 0 → (Held S → State) → Sight (SqlShelf S M)
+sight_over refused failed seen = record {
   tables = λ s. tables_in (seen s.conn).committed;
   is_closed = λ s. is_gone s.standing;
   fault_count = λ s. s.faults;
   is_clean = λ s. HasCleanDisk (seen s.conn) × Stands s.standing (seen s.conn);
   is_ours = λ s. IsOurs (seen s.conn);
-  may_answer = λ fault. fault ≢ BadSchema;
+  may_answer = IsCaused refused failed;
   may_leave = λ s t. (trees : Trees) × (seen s.conn).may_leave trees × (tables_with trees ≡ t);
   leaves_desk = λ s. (trees : Trees) → (seen s.conn).may_leave trees → IsWholeDesk trees;
 }

@@ -3,6 +3,7 @@
 use crate::accounts;
 use crate::shelf::SqlShelf;
 use hq_kept::{Action, Class, End, Line, LookupKey, Mark, Message, Notice, Pattern};
+use hq_sql::SqliteMemory;
 use hq_sql_lines::{line_pages, lines, marks};
 use hq_sql_notices::{end_pages, notice_pages, notices};
 use hq_sql_queue::queued;
@@ -10,15 +11,15 @@ use hq_tables::{Account, Change, Shelf};
 use hq_values::{Fault, Items, Label, Name, Serial, Spool};
 use sqlite::Alter;
 
-impl<S: Alter> Shelf for SqlShelf<S> {
+impl<S: Alter, M: SqliteMemory> Shelf for SqlShelf<S, M> {
     ghost use Rattle.sqlite.specs.Held.{state};
     ghost use Rattle.hq_sql_shelf.specs.Shelf.{sight_over};
 
-    ghost sight = { sight_over (state S.Store) };
+    ghost sight = { sight_over M.refused M.failed (state S.Store) };
 
     fn account(&mut self, customer: &Name) -> Result<Account, Fault> {
         self.ready()?;
-        match accounts::account(&mut self.conn, customer) {
+        match accounts::account(self.memory, &mut self.conn, customer) {
             Ok(account) => Ok(account),
             Err(error) => Err(self.give_up(error)),
         }
@@ -26,7 +27,7 @@ impl<S: Alter> Shelf for SqlShelf<S> {
 
     fn message(&mut self, customer: &Name, serial: Serial) -> Result<Option<Message>, Fault> {
         self.ready()?;
-        match queued::message(self.alloc, &mut self.conn, customer, serial) {
+        match queued::message(self.memory, &mut self.conn, customer, serial) {
             Ok(found) => Ok(found),
             Err(error) => Err(self.give_up(error)),
         }
@@ -34,7 +35,7 @@ impl<S: Alter> Shelf for SqlShelf<S> {
 
     fn by_spool(&mut self, customer: &Name, spool: &Spool) -> Result<Option<Message>, Fault> {
         self.ready()?;
-        match queued::by_spool(self.alloc, &mut self.conn, customer, spool) {
+        match queued::by_spool(self.memory, &mut self.conn, customer, spool) {
             Ok(found) => Ok(found),
             Err(error) => Err(self.give_up(error)),
         }
@@ -47,7 +48,7 @@ impl<S: Alter> Shelf for SqlShelf<S> {
         limit: usize,
     ) -> Result<Items<Message>, Fault> {
         self.ready()?;
-        match queued::page(self.alloc, &mut self.conn, customer, after, limit) {
+        match queued::page(self.memory, &mut self.conn, customer, after, limit) {
             Ok(page) => Ok(page),
             Err(error) => Err(self.give_up(error)),
         }
@@ -60,7 +61,7 @@ impl<S: Alter> Shelf for SqlShelf<S> {
         key: &LookupKey,
     ) -> Result<Option<Action>, Fault> {
         self.ready()?;
-        match lines::line(self.alloc, &mut self.conn, customer, class, key) {
+        match lines::line(self.memory, &mut self.conn, customer, class, key) {
             Ok(found) => Ok(found),
             Err(error) => Err(self.give_up(error)),
         }
@@ -73,7 +74,7 @@ impl<S: Alter> Shelf for SqlShelf<S> {
         limit: usize,
     ) -> Result<Items<Line>, Fault> {
         self.ready()?;
-        match line_pages::page(self.alloc, &mut self.conn, customer, after, limit) {
+        match line_pages::page(self.memory, &mut self.conn, customer, after, limit) {
             Ok(page) => Ok(page),
             Err(error) => Err(self.give_up(error)),
         }
@@ -81,7 +82,7 @@ impl<S: Alter> Shelf for SqlShelf<S> {
 
     fn mark(&mut self, customer: &Name, label: &Label) -> Result<Option<Mark>, Fault> {
         self.ready()?;
-        match marks::mark(self.alloc, &mut self.conn, customer, label) {
+        match marks::mark(self.memory, &mut self.conn, customer, label) {
             Ok(found) => Ok(found),
             Err(error) => Err(self.give_up(error)),
         }
@@ -89,7 +90,7 @@ impl<S: Alter> Shelf for SqlShelf<S> {
 
     fn notice(&mut self, customer: &Name, number: u64) -> Result<Option<Notice>, Fault> {
         self.ready()?;
-        match notices::notice(self.alloc, &mut self.conn, customer, number) {
+        match notices::notice(self.memory, &mut self.conn, customer, number) {
             Ok(found) => Ok(found),
             Err(error) => Err(self.give_up(error)),
         }
@@ -102,7 +103,7 @@ impl<S: Alter> Shelf for SqlShelf<S> {
         limit: usize,
     ) -> Result<Items<Notice>, Fault> {
         self.ready()?;
-        match notice_pages::page(self.alloc, &mut self.conn, customer, after, limit) {
+        match notice_pages::page(self.memory, &mut self.conn, customer, after, limit) {
             Ok(page) => Ok(page),
             Err(error) => Err(self.give_up(error)),
         }
@@ -115,7 +116,7 @@ impl<S: Alter> Shelf for SqlShelf<S> {
         limit: usize,
     ) -> Result<Items<End>, Fault> {
         self.ready()?;
-        match end_pages::page(self.alloc, &mut self.conn, customer, before, limit) {
+        match end_pages::page(self.memory, &mut self.conn, customer, before, limit) {
             Ok(page) => Ok(page),
             Err(error) => Err(self.give_up(error)),
         }

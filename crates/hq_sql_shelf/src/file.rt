@@ -8,16 +8,18 @@ ghost use Rattle.hq_sql_open.specs.Transactions.{IsSettled};
 ghost use Rattle.hq_sql_shelf.specs.Shelf.{IsOurs};
 ghost use Rattle.hq_sql_shelf.specs.Opened.{IsOpened};
 
-use crate::{SqlShelf, fault_of, migrate};
+use crate::{SqlShelf, migrate};
+use hq_sql_open::fault_of;
 use hq_tables::Shelf;
 use hq_values::Fault;
 use sqlite::{Connection, File, FileStore};
+use std::alloc::Global;
 use std::fs::{self, OpenOptions};
 use std::io::ErrorKind;
 use std::os::unix::fs::OpenOptionsExt;
 
 /// The shelf over a store in a file.
-pub type FileShelf = SqlShelf<FileStore<File>>;
+pub type FileShelf = SqlShelf<FileStore<File>, Global>;
 
 /// Who may read and write a store that is made: its owner.
 const OWNER_ALONE: u32 = 0o600;

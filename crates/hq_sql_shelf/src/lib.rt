@@ -13,10 +13,13 @@ mod accounts;
 mod calls;
 mod changes;
 mod file;
+mod known;
 mod migrating;
+mod one_message;
 mod shelf;
 mod writing;
 
 pub use file::{FileShelf, migrate_file, open_file};
+pub use hq_sql_open::fault_of;
 pub use migrating::migrate;
-pub use shelf::{SqlShelf, fault_of};
+pub use shelf::SqlShelf;

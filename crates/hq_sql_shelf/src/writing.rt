@@ -11,23 +11,25 @@ ghost use Rattle.hq_sql_shelf.specs.Stops.{LeavesWhole, LeavesOnly};
 
 use crate::changes;
 use crate::shelf::SqlShelf;
+use hq_sql::SqliteMemory;
 use hq_sql_open::transaction::sees_database;
 use hq_tables::Change;
 use hq_values::{Fault, Name};
 use sqlite::Alter;
 
-impl<S: Alter> SqlShelf<S> {
+impl<S: Alter, M: SqliteMemory> SqlShelf<S, M> {
     /// Makes all changes of the customer's rows, in order, or none: what `Shelf::apply` does.
     ///
     /// Wherever in it the process or its machine stops, the disk holds the trees of a desk with the
     /// tables before it or with those after it, and after `Ok` with those after it alone (`stops`,
     /// `durable`). It closes the shelf only where the connection is gone (`gone`).
     pub fn write(&mut self, customer: &Name, changes: &[Change]) -> Result<(), Fault>
-        ensures made { OnClean (sight_over (state S.Store)) self.old self.new
+        ensures made { OnClean (sight_over M.refused M.failed (state S.Store)) self.old self.new
             (OnOk result (tables_in (state S.Store self.new.conn).committed
             ≡ write_all customer.now changes.now
             (tables_in (state S.Store self.old.conn).committed))) }
-        ensures kept { KeepsOnErr (sight_over (state S.Store)) self.old self.new result }
+        ensures kept { KeepsOnErr (sight_over M.refused M.failed (state S.Store)) self.old self.new
+            result }
         ensures gone { HasCleanDisk (state S.Store self.new.conn)
             → is_gone self.old.standing ≡ false → is_gone self.new.standing ≡ true
             → (state S.Store self.new.conn).is_open ≡ false }
@@ -43,7 +45,7 @@ impl<S: Alter> SqlShelf<S> {
     {
         sees_database(&self.conn);
         self.ready()?;
-        match changes::apply(self.alloc, &mut self.conn, customer, changes) {
+        match changes::apply(self.memory, &mut self.conn, customer, changes) {
             Ok(()) => Ok(()),
             Err(error) => Err(self.give_up(error)),
         }

@@ -7,33 +7,47 @@ use sqlite::{Connection, MemStore};
 use std::alloc::Global;
 use std::test::Fail;
 
-/// A row that is no value of its type, and what acme's head, messages, lines, mark and notices are
-/// told as then: 0 is an answer.
-const ROWS: [(&str, [u16; 5]); 7] = [
-    ("", [0; 5]),
+/// A row that is no value of its type, and what acme's head, messages, lines, mark, notices and
+/// ends are told as then: 0 is an answer.
+const ROWS: [(&str, [u16; 6]); 10] = [
+    ("", [0; 6]),
     (
         "INSERT INTO heads VALUES ('acme', -1, 1, 0, 0, 0, 0, 0, 0, 0, 0)",
-        [91, 0, 0, 0, 0],
+        [91, 0, 0, 0, 0, 0],
     ),
     (
         "INSERT INTO messages VALUES ('acme', 1, 'nobody', 's1', 9, 1767225600, 1, 0, 0, 0)",
-        [0, 91, 0, 0, 0],
+        [0, 91, 0, 0, 0, 0],
     ),
     (
         "INSERT INTO lines VALUES ('acme', 'recipient', '@a.example', 'REDIRECT nobody')",
-        [0, 0, 91, 0, 0],
+        [0, 0, 91, 0, 0, 0],
     ),
     (
         "INSERT INTO lines VALUES ('acme', 'sender', 'no pattern', 'OK ')",
-        [0, 0, 91, 0, 0],
+        [0, 0, 91, 0, 0, 0],
     ),
     (
         "INSERT INTO marks VALUES ('acme', 'l', x'00', 1, 0, 0)",
-        [0, 0, 0, 91, 0],
+        [0, 0, 0, 91, 0, 0],
     ),
     (
         "INSERT INTO notices VALUES ('acme', 1, 9, 1, 1767225600, 'ann@a.example', 'a', 'b')",
-        [0, 0, 0, 0, 91],
+        [0, 0, 0, 0, 91, 0],
+    ),
+    (
+        "INSERT INTO messages VALUES ('acme', 1, '', 's1', 9, 1767225600, 1, 0, 0, 0); \
+         INSERT INTO recipients VALUES ('acme', 1, 1, 'nobody', '', '')",
+        [0, 91, 0, 0, 0, 0],
+    ),
+    (
+        "INSERT INTO messages VALUES ('acme', 1, '', 's1', 9, 1767225600, 2, 0, 0, 0); \
+         INSERT INTO holds VALUES ('acme', 1, 'one\nline more')",
+        [0, 91, 0, 0, 0, 0],
+    ),
+    (
+        "INSERT INTO ends VALUES ('acme', 1, 1767225600, 1, '', 'bob@far.example', 9, '', '')",
+        [0, 0, 0, 0, 0, 91],
     ),
 ];
 
@@ -45,7 +59,7 @@ fn told<T: Drop>(answer: Result<T, Fault>) -> u16 {
 }
 
 /// A desk in memory in which this was run.
-fn desk_with(alloc: Global, text: &str) -> Result<SqlShelf<MemStore>, Fail> {
+fn desk_with(alloc: Global, text: &str) -> Result<SqlShelf<MemStore, Global>, Fail> {
     let mut conn = SqlShelf::open_memory(alloc)?.into_connection();
     conn.execute_batch(text)?;
     match SqlShelf::adopt(alloc, conn) {
@@ -54,7 +68,11 @@ fn desk_with(alloc: Global, text: &str) -> Result<SqlShelf<MemStore>, Fail> {
     }
 }
 
-fn told_of(alloc: Global, shelf: &mut SqlShelf<MemStore>, name: &str) -> Result<[u16; 5], Fail> {
+fn told_of(
+    alloc: Global,
+    shelf: &mut SqlShelf<MemStore, Global>,
+    name: &str,
+) -> Result<[u16; 6], Fail> {
     let customer = Name::parse(alloc, name)?;
     let label = Label::parse(alloc, "l")?;
     Ok([
@@ -63,6 +81,7 @@ fn told_of(alloc: Global, shelf: &mut SqlShelf<MemStore>, name: &str) -> Result<
         told(shelf.lines(&customer, None, 9)),
         told(shelf.mark(&customer, &label)),
         told(shelf.notices(&customer, None, 9)),
+        told(shelf.ends(&customer, None, 9)),
     ])
 }
 
@@ -75,7 +94,7 @@ fn a_row_that_is_no_value_is_91(rt: HostRuntime) -> Result<(), Fail> {
         assert_eq!(rt; shelf.faults(), counted, "{text}");
         // and so once more, and others are served
         assert_eq!(rt; told_of(rt.alloc(), &mut shelf, "acme")?, want, "{text}");
-        assert_eq!(rt; told_of(rt.alloc(), &mut shelf, "birch")?, [0; 5], "{text}");
+        assert_eq!(rt; told_of(rt.alloc(), &mut shelf, "birch")?, [0; 6], "{text}");
     }
     Ok(())
 }
@@ -83,7 +102,7 @@ fn a_row_that_is_no_value_is_91(rt: HostRuntime) -> Result<(), Fail> {
 const TIMES: u64 = 400;
 
 /// How often a call that no limit of the store fits is told as 91, and how often as 90.
-fn ask_too_much(shelf: &mut SqlShelf<MemStore>, acme: &Name) -> Result<(u64, u64), Fail> {
+fn ask_too_much(shelf: &mut SqlShelf<MemStore, Global>, acme: &Name) -> Result<(u64, u64), Fail> {
     let (mut faults, mut wants) = (0u64, 0u64);
     for _ in 0..TIMES {
         match shelf.messages(acme, None, usize::MAX) {

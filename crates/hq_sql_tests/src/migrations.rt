@@ -47,7 +47,11 @@ const OTHERS: [(bool, &str, &str, i64); 5] = [
 ];
 
 /// The reason of birch's message at a serial.
-fn reason(alloc: Global, shelf: &mut SqlShelf<MemStore>, serial: u64) -> Result<Text, Fail> {
+fn reason(
+    alloc: Global,
+    shelf: &mut SqlShelf<MemStore, Global>,
+    serial: u64,
+) -> Result<Text, Fail> {
     let birch = Name::parse(alloc, "birch")?;
     let serial = Serial::new(serial).ok_or("no serial")?;
     let message = shelf.message(&birch, serial)?.ok_or("no message")?;
@@ -65,7 +69,7 @@ fn first(alloc: Global) -> Result<Connection<MemStore>, Fail> {
 }
 
 /// The shelf over a store that was migrated.
-fn adopted(alloc: Global, conn: Connection<MemStore>) -> Result<SqlShelf<MemStore>, Fail> {
+fn adopted(alloc: Global, conn: Connection<MemStore>) -> Result<SqlShelf<MemStore, Global>, Fail> {
     match SqlShelf::adopt(alloc, conn) {
         Ok(shelf) => Ok(shelf),
         Err(_) => Err("no desk of version 3")?,

@@ -1,7 +1,7 @@
 use Rattle.std.proofs.Common.{ap, ◌∙◌, subst, sym}
 use Rattle.hq_rows.specs.Listed.{ends_of}
 use Rattle.hq_rows.specs.Lookups.{AreUniqueEnds}
-use Rattle.hq_rows.proofs.Keys.{ends_kept, unique_ends_kept}
+use Rattle.hq_lists.proofs.Keys.{ends_kept, unique_ends_kept}
 use Rattle.hq_lists.proofs.ends.drop_to.Goals as goal
 
 pub returns-clause-table : goal.returns-clause-table

@@ -3,7 +3,7 @@ use Rattle.hq_kept.specs.declared.end.End.{End}
 use Rattle.hq_rows.specs.declared.rows.EndRow.{EndRow}
 use Rattle.hq_rows.specs.Listed.{ends_of}
 use Rattle.hq_rows.specs.Lookups.{AreUniqueEnds}
-use Rattle.hq_rows.proofs.Keys.{end_put, unique_end_put}
+use Rattle.hq_lists.proofs.Keys.{end_put, unique_end_put}
 use Rattle.hq_lists.proofs.ends.put_end.Goals as goal
 
 abbrev row : List ℕ → End → EndRow

@@ -4,7 +4,7 @@ use Rattle.std.specs.FinMap.{retain_keys}
 use Rattle.hq_tables.specs.Tables.{add_rows, left_of}
 use Rattle.hq_rows.specs.Listed.{ends_of}
 use Rattle.hq_rows.specs.Lookups.{AreUniqueEnds}
-use Rattle.hq_rows.proofs.Keys.{ends_earlier, unique_ends_earlier}
+use Rattle.hq_lists.proofs.Keys.{ends_earlier, unique_ends_earlier}
 use Rattle.hq_lists.proofs.ends.put_ends.Goals as goal
 
 pub loop-ended-init : goal.loop-ended-init

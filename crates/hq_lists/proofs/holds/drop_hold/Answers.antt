@@ -1,7 +1,7 @@
 use Rattle.std.proofs.Common.{ap, ◌∙◌}
 use Rattle.hq_rows.specs.Listed.{holds_of}
 use Rattle.hq_tables.specs.Tables.{give_reason}
-use Rattle.hq_rows.proofs.Keys.{hold_drop}
+use Rattle.hq_lists.proofs.Keys.{hold_drop}
 use Rattle.hq_lists.proofs.holds.drop_hold.Goals as goal
 
 pub returns : goal.returns

@@ -2,7 +2,7 @@ use Rattle.std.proofs.Common.{[], option_map, ap, ◌∙◌}
 use Rattle.std.specs.Prelude.{unwrap_or}
 use Rattle.hq_rows.specs.Listed.{hold_value}
 use Rattle.hq_tables.specs.Tables.{reason_of}
-use Rattle.hq_rows.proofs.Keys.{hold_found}
+use Rattle.hq_lists.proofs.Keys.{hold_found}
 use Rattle.hq_lists.proofs.holds.reason_in.Goals as goal
 
 pub returns-in_ok-copy-in-Some : goal.returns-in_ok-copy-in-Some

@@ -1,7 +1,7 @@
 use Rattle.std.proofs.Common.{◌++◌, ◌∷◌, [], List, ℕ, ap, ◌∙◌}
 use Rattle.hq_rows.specs.declared.rows.HoldRow.{HoldRow}
 use Rattle.hq_rows.specs.Listed.{holds_of}
-use Rattle.hq_rows.proofs.Keys.{hold_put}
+use Rattle.hq_lists.proofs.Keys.{hold_put}
 use Rattle.hq_lists.proofs.holds.set_hold.Goals as goal
 
 pub returns : goal.returns

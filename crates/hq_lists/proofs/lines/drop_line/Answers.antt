@@ -1,7 +1,7 @@
 use Rattle.std.proofs.Common.{ap, ◌∙◌, subst, sym}
 use Rattle.hq_rows.specs.Listed.{lines_of}
 use Rattle.hq_rows.specs.Lookups.{AreUniqueLines}
-use Rattle.hq_rows.proofs.Keys.{line_drop, unique_line_drop}
+use Rattle.hq_lists.proofs.Keys.{line_drop, unique_line_drop}
 use Rattle.hq_lists.proofs.lines.drop_line.Goals as goal
 
 pub returns-clause-table : goal.returns-clause-table

@@ -2,7 +2,7 @@ use Rattle.std.proofs.Common.{Some, option_map, ap, ◌∙◌}
 use Rattle.std.specs.List as list
 use Rattle.hq_rows.specs.Listed.{line_row_value}
 use Rattle.hq_rows.specs.Lookups.{is_line}
-use Rattle.hq_rows.proofs.Keys.{line_found}
+use Rattle.hq_lists.proofs.Keys.{line_found}
 use Rattle.hq_lists.proofs.lines.line_in.Goals as goal
 
 pub returns-in_ok-copy-in-Some : goal.returns-in_ok-copy-in-Some

@@ -3,7 +3,7 @@ use Rattle.hq_kept.specs.declared.pattern.Line.{Line}
 use Rattle.hq_rows.specs.declared.rows.LineRow.{LineRow}
 use Rattle.hq_rows.specs.Listed.{lines_of}
 use Rattle.hq_rows.specs.Lookups.{AreUniqueLines}
-use Rattle.hq_rows.proofs.Keys.{line_put, unique_line_put}
+use Rattle.hq_lists.proofs.Keys.{line_put, unique_line_put}
 use Rattle.hq_lists.proofs.lines.put_line.Goals as goal
 
 abbrev row : List ℕ → Line → LineRow

@@ -1,6 +1,6 @@
 use Rattle.std.proofs.Common.{Some, option_map, ap, ◌∙◌}
 use Rattle.hq_rows.specs.Listed.{mark_value}
-use Rattle.hq_rows.proofs.Keys.{mark_found}
+use Rattle.hq_lists.proofs.Keys.{mark_found}
 use Rattle.hq_lists.proofs.marks.mark_in.Goals as goal
 
 pub returns-in_ok-copy-in-Some : goal.returns-in_ok-copy-in-Some

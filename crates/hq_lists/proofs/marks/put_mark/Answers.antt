@@ -2,7 +2,7 @@ use Rattle.std.proofs.Common.{◌++◌, ◌∷◌, [], List, ℕ, ap, ◌∙◌}
 use Rattle.hq_kept.specs.declared.mark.Mark.{Mark}
 use Rattle.hq_rows.specs.declared.rows.MarkRow.{MarkRow}
 use Rattle.hq_rows.specs.Listed.{marks_of}
-use Rattle.hq_rows.proofs.Keys.{mark_put}
+use Rattle.hq_lists.proofs.Keys.{mark_put}
 use Rattle.hq_lists.proofs.marks.put_mark.Goals as goal
 
 pub returns : goal.returns

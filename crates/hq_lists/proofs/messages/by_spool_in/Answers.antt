@@ -2,7 +2,7 @@ use Rattle.std.proofs.Common.{None, ap, sym, ◌∙◌}
 use Rattle.std.specs.Prelude.{slice_get}
 use Rattle.hq_owned.specs.Owned.{given}
 use Rattle.hq_rows.specs.Lookups.{message_at}
-use Rattle.hq_rows.proofs.Serials.{spool_is}
+use Rattle.hq_lists.proofs.Serials.{spool_is}
 use Rattle.hq_lists.proofs.messages.by_spool_in.Goals as goal
 
 pub returns-in-None : goal.returns-in-None

@@ -1,7 +1,7 @@
 use Rattle.std.proofs.Common.{ap, ◌∙◌, subst, sym}
 use Rattle.hq_rows.specs.Listed.{messages_of}
 use Rattle.hq_rows.specs.Lookups.{AreUnique}
-use Rattle.hq_rows.proofs.Keys.{message_drop, unique_drop}
+use Rattle.hq_lists.proofs.Keys.{message_drop, unique_drop}
 use Rattle.hq_lists.proofs.messages.drop_message.Goals as goal
 
 pub returns-clause-table : goal.returns-clause-table

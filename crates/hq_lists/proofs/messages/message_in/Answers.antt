@@ -2,7 +2,7 @@ use Rattle.std.proofs.Common.{option_map, Some, ap, ◌∙◌}
 use Rattle.hq_kept.specs.declared.message.Message.{Message}
 use Rattle.hq_tables.specs.Tables.{Row, message_of, reason_of, pending_of}
 use Rattle.hq_rows.specs.Listed.{message_value, recipients_of, holds_of}
-use Rattle.hq_rows.proofs.Keys.{message_found}
+use Rattle.hq_lists.proofs.Keys.{message_found}
 use Rattle.hq_lists.proofs.DealtRows.{dealt_is}
 use Rattle.hq_lists.proofs.messages.message_in.Goals as goal
 

@@ -1,7 +1,7 @@
 use Rattle.std.proofs.Common.{ap, ◌∙◌, take}
 use Rattle.std.specs.List.{filter_map}
 use Rattle.hq_rows.specs.Lookups.{message_at, serials_after, rows_with}
-use Rattle.hq_rows.proofs.Serials.{page_is}
+use Rattle.hq_lists.proofs.Serials.{page_is}
 use Rattle.hq_lists.proofs.messages.page_in.Goals as goal
 
 pub returns : goal.returns

@@ -1,7 +1,7 @@
 use Rattle.std.proofs.Common.{◌++◌, ◌∷◌, [], ap, ◌∙◌, subst, sym}
 use Rattle.hq_rows.specs.Listed.{messages_of}
 use Rattle.hq_rows.specs.Lookups.{AreUnique, message_row}
-use Rattle.hq_rows.proofs.Keys.{message_put, unique_message}
+use Rattle.hq_lists.proofs.Keys.{message_put, unique_message}
 use Rattle.hq_lists.proofs.messages.put_message.Goals as goal
 
 pub returns-clause-table : goal.returns-clause-table

@@ -1,5 +1,5 @@
 use Rattle.std.proofs.Common.{IsPermutation, subst}
-use Rattle.hq_rows.proofs.Serials.{spools_are}
+use Rattle.hq_lists.proofs.Serials.{spools_are}
 use Rattle.hq_lists.proofs.messages.sorted_having.Goals as goal
 
 pub returns : goal.returns

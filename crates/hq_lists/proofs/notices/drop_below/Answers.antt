@@ -1,7 +1,7 @@
 use Rattle.std.proofs.Common.{ap, ◌∙◌, subst, sym}
 use Rattle.hq_rows.specs.Listed.{notices_of}
 use Rattle.hq_rows.specs.Lookups.{AreUniqueNotices}
-use Rattle.hq_rows.proofs.Keys.{notices_kept, unique_notices_kept}
+use Rattle.hq_lists.proofs.Keys.{notices_kept, unique_notices_kept}
 use Rattle.hq_lists.proofs.notices.drop_below.Goals as goal
 
 pub returns-clause-table : goal.returns-clause-table

@@ -1,7 +1,7 @@
 use Rattle.std.proofs.Common.{Some, option_map, ap, ◌∙◌}
 use Rattle.hq_kept.specs.declared.notice.Notice.{Notice}
 use Rattle.hq_rows.specs.declared.rows.NoticeRow.{NoticeRow}
-use Rattle.hq_rows.proofs.Keys.{notice_found}
+use Rattle.hq_rows.proofs.Notices.{notice_found}
 use Rattle.hq_lists.proofs.notices.notice_in.Goals as goal
 
 pub returns-in_ok-copy-in-Some : goal.returns-in_ok-copy-in-Some

@@ -3,7 +3,7 @@ use Rattle.hq_kept.specs.declared.notice.Notice.{Notice}
 use Rattle.hq_rows.specs.declared.rows.NoticeRow.{NoticeRow}
 use Rattle.hq_rows.specs.Listed.{notices_of}
 use Rattle.hq_rows.specs.Lookups.{AreUniqueNotices}
-use Rattle.hq_rows.proofs.Keys.{notice_put, unique_notice_put}
+use Rattle.hq_lists.proofs.Keys.{notice_put, unique_notice_put}
 use Rattle.hq_lists.proofs.notices.put_notice.Goals as goal
 
 abbrev row : List ℕ → Notice → NoticeRow

@@ -12,7 +12,7 @@ returns-in_err-execute-clause-kept g c = write_failed _ _ head_insert_text _ _ h
 pub returns-clause-made : goal.returns-clause-made
 returns-clause-made g c clean desk free =
     let bound = c.head-params.ensures c.args.account.now c.in_ok-numbers.ensures in
-    head_inserted (state g.S.Store c.args.conn.now) (state g.S.Store c.execute.new.self)
+    head_inserted (state g.S.Store c.args.conn.now) (state g.S.Store c.execute.new.conn)
     (record { customer = c.args.customer.now; account = c.args.account.now }) _ desk free
     (rw bound at (c.in_ok-execute.ensures.runs clean))
 

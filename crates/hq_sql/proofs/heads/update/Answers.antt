@@ -12,7 +12,7 @@ returns-in_err-count-clause-kept g c = write_failed _ _ head_update_text _ _ hea
 pub returns-clause-made : goal.returns-clause-made
 returns-clause-made g c clean desk =
     let bound = c.head-params.ensures c.args.account.now c.in_ok-numbers.ensures in
-    head_updated (state g.S.Store c.args.conn.now) (state g.S.Store c.execute.new.self)
+    head_updated (state g.S.Store c.args.conn.now) (state g.S.Store c.execute.new.conn)
     (record { customer = c.args.customer.now; account = c.args.account.now }) _ desk
     (rw bound at (c.in_ok-count.ensures.runs clean))
 

@@ -1,4 +1,4 @@
-use Rattle.std.proofs.Common.{◌∙◌, rules}
+use Rattle.std.proofs.Common.{◌∙◌, rules, sym}
 use Rattle.sqlite.specs.State.{HasCleanDisk}
 use Rattle.sqlite.specs.Values.{bound}
 use Rattle.sqlite.specs.Held.{state}
@@ -13,29 +13,28 @@ returns-in_err-rows-clause-kept g c query =
     query_failed _ _ c.args.sql.now (bound c.args.params.now) query.plain refused.survives _ _
     c.from_residual.ensures.0 refused.err
 
-pub returns-in_default-clause-found : goal.returns-in_default-clause-found
-returns-in_default-clause-found g c query clean desk =
-    let moved = c.next.follows.holds-at-none in
-    let now = c.next.follows.lender-at-none.conn.now in
+pub returns-in-None-clause-found : goal.returns-in-None-clause-found
+returns-in-None-clause-found g c query clean desk =
+    let now = c.advance.new.rows.conn.now in
     let late : HasCleanDisk (state g.S.Store now) = search rules in
     let all : TakesAll g.T.Taker.takes c.args.sql.now (bound c.args.params.now)
     (state g.S.Store c.args.conn.now) (state g.S.Store now) c.args.taker c.rows.taker =
     all_taken g.S.Store g.T.Taker.takes c.args.sql.now (bound c.args.params.now)
     (state g.S.Store c.args.conn.now) c.rows.rows.conn.now c.args.taker c.rows.taker
-    c.rows.invariant.walks now moved.survives
-    (λ clean. rw (c.in_ok-row.was, c.in_default.is) at (moved.ok clean)) query late desk in
+    c.rows.invariant.walks now c.in_ok-advance.ensures.survives
+    (λ clean. rw (sym (rw c.in-None.is at c.get.ensures)) at
+    (c.in_ok-advance.ensures.ok clean)) query late desk in
     search rules
 
 pub rows-preserved : goal.rows-preserved
-rows-preserved g c =
-    let moved = c.next.follows.holds-at-none in
-    record {
-      same_reference = moved.same_reference ∙ c.rows.invariant.same_reference;
-      walks =
-          went_on g.S.Store g.T.Taker.takes c.args.sql.now (bound c.args.params.now)
-          (state g.S.Store c.args.conn.now) c.rows.rows.conn.now c.args.taker c.rows.taker
-          c.rows.invariant.walks c.next.follows.lender-at-none.conn.now moved.survives
-          c.in-Some.row.now c.take.new.self (λ clean. rw (c.in_ok-row.was, c.in-Some.is) at
-          (moved.ok clean)) (λ clean. rw c.in_ok-row.was at (moved.same clean))
-          c.in_ok-take.ensures;
-    }
+rows-preserved g c = record {
+  same_reference = c.in_ok-advance.ensures.same_reference ∙ c.rows.invariant.same_reference;
+  walks =
+      went_on g.S.Store g.T.Taker.takes c.args.sql.now (bound c.args.params.now)
+      (state g.S.Store c.args.conn.now) c.rows.rows.conn.now c.args.taker c.rows.taker
+      c.rows.invariant.walks c.advance.new.rows.conn.now c.in_ok-advance.ensures.survives
+      c.in-Some.row.now c.take.new.self
+      (λ clean. rw (sym (rw c.in-Some.is at c.get.ensures)) at
+      (c.in_ok-advance.ensures.ok clean))
+      (λ clean. c.in_ok-advance.ensures.same clean) c.in_ok-take-in-Some.ensures.took;
+}

@@ -1,3 +1,4 @@
+use Rattle.std.specs.Global.{Global}
 use Rattle.std.specs.Prelude.{⊤}
 use Rattle.std.proofs.Common.{◌≡◌, ℕ, false, List, map, sym, ap, ◌∙◌, subst, inl, inr}
 use Rattle.sqlite.specs.Held.{Held, state}
@@ -56,10 +57,12 @@ returns-clause-passed g c clean sure keeps =
     let old = c.new-desk.result in
     let new = c.run.new.desk in
     let shelf = c.into_shelf-shelf.ensures in
-    let conn = c.into_connection.ensures ∙ ap (λ (s : SqlShelf g.row.S.Denot). s.conn) shelf in
+    let conn = c.into_connection.ensures
+    ∙ ap (λ (s : SqlShelf g.row.S.Denot Global). s.conn) shelf in
     let end_clean = subst (λ (x : Held g.row.S.Denot). HasCleanDisk (state g.S.Store x)) conn
     clean in
-    let not_doubtful = subst (λ (s : SqlShelf g.row.S.Denot). is_doubtful s.standing ≡ false) shelf
+    let not_doubtful = subst
+    (λ (s : SqlShelf g.row.S.Denot Global). is_doubtful s.standing ≡ false) shelf
     (sym c.is_in_doubt-in_doubt.ensures ∙ sure) in
     let here = subst (Taken g.S.Store before) (sym c.new-desk.ensures.shelf) (taken g.S.Store
     (state g.S.Store c.args.conn) (state g.S.Store c.in_ok-conn.conn) c.in-Ok.shelf
@@ -73,8 +76,8 @@ returns-clause-passed g c clean sure keeps =
     let passed : Passes (host_of old) (shelf_of new).conn = elim c.match-run.branch [
       | in-Ok-run w ↦ asked_passed g.S.Store d before keeps old new here c.args.exchanges.now
           replies
-          (subst (λ (r : List Reply). RunsSo (with_refusals ⊤ (on (sight_over (state g.S.Store))))
-          d old
+          (subst (λ (r : List Reply). RunsSo (with_refusals ⊤
+          (on (sight_over ⊤ ⊤ (state g.S.Store)))) d old
           (map (ask_of d) c.args.exchanges.now) r new) (sym (ap (λ v. v.items) w.replies-is))
           w.in-Ok-run.ensures.served) end_clean not_doubtful
       | in-Err-run w ↦ unasked_passed g.S.Store d before keeps old new here c.args.exchanges.now

@@ -1,3 +1,4 @@
+use Rattle.std.specs.Prelude.{⊤}
 use Rattle.std.proofs.Common.{Ok, sym, subst}
 use Rattle.sqlite.specs.Held.{state}
 use Rattle.hq_sql_shelf.specs.Shelf.{sight_over}
@@ -8,7 +9,7 @@ use Rattle.hq_sql_admin.proofs.rounds.round_opened.Goals as goal
 
 pub returns-in-Ok : goal.returns-in-Ok
 returns-in-Ok g c =
-    let sight = sight_over (state g.S.Store) in
+    let sight = sight_over ⊤ ⊤ (state g.S.Store) in
     subst (λ o. RoundOpened sight o c.args.asked (Ok c.in-Ok.told)) (sym c.in_ok-opened.was) (
       c.new-desk.result,
       c.call_each.new.desk,

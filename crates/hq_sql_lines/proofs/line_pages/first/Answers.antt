@@ -19,7 +19,7 @@ returns-clause-found g c clean desk =
     in
     c.from_vec.ensures ∙ pushed_all (λ (it : TakenLines). it.lines.items) page_line all.rows _
     c.in_ok-taken.taken all.taken
-    ∙ ap (λ l. l ++ page_lines all.rows) c.new-lines.ensures.items
+    ∙ ap (λ l. l ++ page_lines all.rows) c.none-lines.ensures.items
     ∙ first_shown (state g.S.Store c.args.conn.now) (state g.S.Store c.walk.new.conn)
     c.args.customer.now c.args.limit all.rows desk all.shown
 

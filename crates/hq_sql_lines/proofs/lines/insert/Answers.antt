@@ -17,7 +17,7 @@ returns-clause-made g c clean desk free =
     let bound = c.line-params.ensures ∙ (λ i. Text c.args.customer.now
     ∷ Text (class_name (c.class.ensures i)) ∷ Text (c.as_str.ensures i)
     ∷ Text ((c.as_str-2.ensures.value ∙ c.in_ok-action.ensures) i) ∷ []) in
-    line_inserted (state g.S.Store c.args.conn.now) (state g.S.Store c.execute.new.self)
+    line_inserted (state g.S.Store c.args.conn.now) (state g.S.Store c.execute.new.conn)
     (line_row c.args.customer.now c.args.line.now) _ desk free
     (rw bound at (c.in_ok-execute.ensures.runs clean))
 

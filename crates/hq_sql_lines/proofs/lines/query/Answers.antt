@@ -11,7 +11,7 @@ returns-in_err-rows-clause-kept g c = query_failed _ _ line_read_text _ line_rea
 pub returns-clause-found : goal.returns-clause-found
 returns-clause-found g c clean desk =
     let bound = c.line_key-params.ensures in
-    line_got (state g.S.Store c.args.conn.now) (state g.S.Store c.query_all.new.self)
+    line_got (state g.S.Store c.args.conn.now) (state g.S.Store c.query_all.new.conn)
     (c.args.customer.now, (c.args.class, c.args.key.now)) c.in_ok-rows.rows.items desk
     (rw bound at (c.in_ok-rows.ensures.ok clean))
 

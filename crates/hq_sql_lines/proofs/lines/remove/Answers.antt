@@ -14,7 +14,7 @@ pub returns-clause-made : goal.returns-clause-made
 returns-clause-made g c clean desk =
     let bound = c.line_key-params.ensures ∙
     (λ i. line_key_columns (c.args.customer.now, (c.class.ensures i, c.as_str.ensures i))) in
-    line_deleted (state g.S.Store c.args.conn.now) (state g.S.Store c.execute.new.self)
+    line_deleted (state g.S.Store c.args.conn.now) (state g.S.Store c.execute.new.conn)
     (c.args.customer.now, c.args.pattern.now) _ desk
     (rw bound at (c.in_ok-execute.ensures.runs clean))
 

@@ -13,7 +13,7 @@ returns-in_err-execute-clause-kept g c = write_failed _ _ mark_insert_text _ _ m
 pub returns-clause-made : goal.returns-clause-made
 returns-clause-made g c clean desk free =
     let bound = c.mark-params.ensures c.in_ok-numbers.ensures in
-    mark_inserted (state g.S.Store c.args.conn.now) (state g.S.Store c.execute.new.self)
+    mark_inserted (state g.S.Store c.args.conn.now) (state g.S.Store c.execute.new.conn)
     (mark_row c.args.customer.now c.args.mark.now) _ desk free
     (rw bound at (c.in_ok-execute.ensures.runs clean))
 

@@ -11,7 +11,7 @@ returns-in_err-execute-clause-kept g c = write_failed _ _ mark_delete_text _ _ m
 
 pub returns-clause-made : goal.returns-clause-made
 returns-clause-made g c clean desk =
-    mark_deleted (state g.S.Store c.args.conn.now) (state g.S.Store c.execute.new.self)
+    mark_deleted (state g.S.Store c.args.conn.now) (state g.S.Store c.execute.new.conn)
     (c.args.customer.now, c.args.label.now) _ desk
     (rw c.mark_key-params.ensures at (c.in_ok-execute.ensures.runs clean))
 

@@ -12,7 +12,7 @@ returns-in_err-execute-clause-kept g c = write_failed _ _ hold_insert_text _ _ h
 
 pub returns-clause-made : goal.returns-clause-made
 returns-clause-made g c clean desk free =
-    hold_inserted (state g.S.Store c.args.conn.now) (state g.S.Store c.execute.new.self)
+    hold_inserted (state g.S.Store c.args.conn.now) (state g.S.Store c.execute.new.conn)
     (hold_row c.args.customer.now c.args.key c.args.reason.now) _ desk free
     (rw c.hold-params.ensures at (c.in_ok-execute.ensures.runs clean))
 

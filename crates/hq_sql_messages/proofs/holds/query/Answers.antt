@@ -10,7 +10,7 @@ returns-in_err-rows-clause-kept g c = query_failed _ _ hold_read_text _ hold_rea
 
 pub returns-clause-found : goal.returns-clause-found
 returns-clause-found g c clean desk =
-    hold_got (state g.S.Store c.args.conn.now) (state g.S.Store c.query_all.new.self)
+    hold_got (state g.S.Store c.args.conn.now) (state g.S.Store c.query_all.new.conn)
     (c.args.customer.now, c.args.key) c.in_ok-rows.rows.items desk
     (rw c.message_key-params.ensures at (c.in_ok-rows.ensures.ok clean))
 

@@ -11,7 +11,7 @@ returns-in_err-execute-clause-kept g c = write_failed _ _ hold_delete_text _ _ h
 
 pub returns-clause-made : goal.returns-clause-made
 returns-clause-made g c clean desk =
-    hold_deleted (state g.S.Store c.args.conn.now) (state g.S.Store c.execute.new.self)
+    hold_deleted (state g.S.Store c.args.conn.now) (state g.S.Store c.execute.new.conn)
     (c.args.customer.now, c.args.key) _ desk
     (rw c.message_key-params.ensures at (c.in_ok-execute.ensures.runs clean))
 

@@ -12,7 +12,7 @@ returns-in_err-execute-clause-kept g c = write_failed _ _ message_insert_text _ 
 
 pub returns-clause-made : goal.returns-clause-made
 returns-clause-made g c clean desk free =
-    message_inserted (state g.S.Store c.args.conn.now) (state g.S.Store c.execute.new.self)
+    message_inserted (state g.S.Store c.args.conn.now) (state g.S.Store c.execute.new.conn)
     (message_row c.args.customer.now c.args.message.now) c.message-params.ensures.back _ desk
     free (rw c.message-params.ensures.columns at (c.in_ok-execute.ensures.runs clean))
 

@@ -20,7 +20,7 @@ returns-clause-found g c clean desk =
     let all = rw (c.page-params.ensures c.args.limit c.in_ok-most.ensures) at
     (c.in_ok-taken.ensures.found (record { plain = message_page_known.plain }) clean desk) in
     pushed_all (λ (it : TakenMessages). it.page.items) bare all.rows _ c.in_ok-taken.taken all.taken
-    ∙ ap (λ l. l ++ map bare all.rows) c.new-page.ensures.items
+    ∙ ap (λ l. l ++ map bare all.rows) c.none-page.ensures.items
     ∙ page_bare c.args.after c.args.limit c.args.customer.now (tables_in old.now) all.rows
     (page_shown old (state g.S.Store c.walk.new.conn) c.args.customer.now c.args.after
     c.args.limit all.rows desk all.shown)

@@ -10,7 +10,7 @@ returns-in_err-rows-clause-kept g c = query_failed _ _ spool_read_text _ spool_r
 
 pub returns-clause-found : goal.returns-clause-found
 returns-clause-found g c clean desk =
-    spool_shown (state g.S.Store c.args.conn.now) (state g.S.Store c.query_all.new.self)
+    spool_shown (state g.S.Store c.args.conn.now) (state g.S.Store c.query_all.new.conn)
     c.args.customer.now c.args.spool.now c.in_ok-rows.rows.items desk
     (rw c.spool-params.ensures at (c.in_ok-rows.ensures.ok clean))
 

@@ -11,7 +11,7 @@ returns-in_err-execute-clause-kept g c = write_failed _ _ message_delete_text _ 
 
 pub returns-clause-made : goal.returns-clause-made
 returns-clause-made g c clean desk =
-    message_deleted (state g.S.Store c.args.conn.now) (state g.S.Store c.execute.new.self)
+    message_deleted (state g.S.Store c.args.conn.now) (state g.S.Store c.execute.new.conn)
     (c.args.customer.now, c.args.serial) _ desk
     (rw c.message_key-params.ensures at (c.in_ok-execute.ensures.runs clean))
 

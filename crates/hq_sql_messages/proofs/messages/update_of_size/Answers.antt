@@ -12,7 +12,7 @@ returns-in_err-changed-clause-kept g c = write_failed _ _ sized_update_text _ _ 
 
 pub returns-clause-made : goal.returns-clause-made
 returns-clause-made g c clean desk =
-    sized_updated (state g.S.Store c.args.conn.now) (state g.S.Store c.execute.new.self)
+    sized_updated (state g.S.Store c.args.conn.now) (state g.S.Store c.execute.new.conn)
     (message_row c.args.customer.now c.args.message.now) c.message-params.ensures.back _ desk
     (rw c.message-params.ensures.columns at (c.in_ok-changed.ensures.runs clean))
 

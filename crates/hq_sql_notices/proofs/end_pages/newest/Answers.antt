@@ -19,7 +19,7 @@ returns-clause-found g c clean desk =
     at (c.in_ok-taken.ensures.found (record { plain = newest_known.plain }) clean desk) in
     c.from_vec.ensures ∙ pushed_all (λ (it : TakenEnds). it.ends.items) end_in all.rows _
     c.in_ok-taken.taken all.taken
-    ∙ ap (λ l. l ++ ends_in all.rows) c.new-ends.ensures.items
+    ∙ ap (λ l. l ++ ends_in all.rows) c.none-ends.ensures.items
     ∙ newest_shown (state g.S.Store c.args.conn.now) (state g.S.Store c.walk.new.conn)
     c.args.customer.now c.args.limit all.rows desk all.shown
 

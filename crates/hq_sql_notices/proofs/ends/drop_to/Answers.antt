@@ -11,7 +11,7 @@ returns-in_err-execute-clause-kept g c = write_failed _ _ to_text _ _ to_known r
 
 pub returns-clause-made : goal.returns-clause-made
 returns-clause-made g c clean desk =
-    to_deleted (state g.S.Store c.args.conn.now) (state g.S.Store c.execute.new.self)
+    to_deleted (state g.S.Store c.args.conn.now) (state g.S.Store c.execute.new.conn)
     (c.args.customer.now, c.args.number) _ desk
     (rw (c.key-params.ensures c.args.number c.in_ok-column.ensures) at
     (c.in_ok-execute.ensures.runs clean))

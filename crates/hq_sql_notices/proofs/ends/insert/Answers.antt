@@ -13,7 +13,7 @@ returns-in_err-execute-clause-kept g c = write_failed _ _ end_insert_text _ _ en
 pub returns-clause-made : goal.returns-clause-made
 returns-clause-made g c clean desk free =
     let bound = c.end-params.ensures.columns c.args.number c.args.at c.in_ok-numbers.ensures in
-    end_inserted (state g.S.Store c.args.conn.now) (state g.S.Store c.execute.new.self)
+    end_inserted (state g.S.Store c.args.conn.now) (state g.S.Store c.execute.new.conn)
     (end_row c.args.customer.now (end_at c.args.number c.args.at c.args.ended.now)) _
     c.end-params.ensures.back desk free
     (rw bound at (c.in_ok-execute.ensures.runs clean))

@@ -13,7 +13,7 @@ returns-in_err-execute-clause-kept g c = write_failed _ _ notice_insert_text _ _
 pub returns-clause-made : goal.returns-clause-made
 returns-clause-made g c clean desk free =
     let bound = c.notice-params.ensures c.in_ok-numbers.ensures in
-    notice_inserted (state g.S.Store c.args.conn.now) (state g.S.Store c.execute.new.self)
+    notice_inserted (state g.S.Store c.args.conn.now) (state g.S.Store c.execute.new.conn)
     (notice_row c.args.customer.now c.args.notice.now) _ desk free
     (rw bound at (c.in_ok-execute.ensures.runs clean))
 

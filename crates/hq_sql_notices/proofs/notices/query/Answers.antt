@@ -11,7 +11,7 @@ returns-in_err-rows-clause-kept g c = query_failed _ _ notice_read_text _ notice
 
 pub returns-clause-found : goal.returns-clause-found
 returns-clause-found g c clean desk =
-    notice_got (state g.S.Store c.args.conn.now) (state g.S.Store c.query_all.new.self)
+    notice_got (state g.S.Store c.args.conn.now) (state g.S.Store c.query_all.new.conn)
     (c.args.customer.now, c.args.number) c.in_ok-rows.rows.items desk
     (rw (c.key-params.ensures c.args.number c.in_ok-column.ensures) at
     (c.in_ok-rows.ensures.ok clean))

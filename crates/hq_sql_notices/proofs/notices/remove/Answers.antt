@@ -11,7 +11,7 @@ returns-in_err-execute-clause-kept g c = write_failed _ _ notice_delete_text _ _
 
 pub returns-clause-made : goal.returns-clause-made
 returns-clause-made g c clean desk =
-    notice_deleted (state g.S.Store c.args.conn.now) (state g.S.Store c.execute.new.self)
+    notice_deleted (state g.S.Store c.args.conn.now) (state g.S.Store c.execute.new.conn)
     (c.args.customer.now, c.args.number) _ desk
     (rw (c.key-params.ensures c.args.number c.in_ok-column.ensures) at
     (c.in_ok-execute.ensures.runs clean))

@@ -10,7 +10,7 @@ returns-in_err-execute-clause-kept g c s table it has within =
 
 pub returns-clause-made : goal.returns-clause-made
 returns-clause-made g c s table it has clean =
-    table_made (state g.S.Store c.args.conn.now) (state g.S.Store c.execute.new.self) s
+    table_made (state g.S.Store c.args.conn.now) (state g.S.Store c.execute.new.conn) s
     c.args.text.now table it has _ (c.in_ok-execute.ensures.runs clean)
 
 pub returns-clause-kept : goal.returns-clause-kept

@@ -12,13 +12,13 @@ returns-in_err-count-clause-kept g c has within =
 pub returns-clause-made : goal.returns-clause-made
 returns-clause-made g c it clean =
     let bound = c.bind-params.ensures in
-    fills (state g.S.Store c.args.conn.now) (state g.S.Store c.execute.new.self) c.args.reason.now _
+    fills (state g.S.Store c.args.conn.now) (state g.S.Store c.execute.new.conn) c.args.reason.now _
     it (rw bound at (c.in_ok-count.ensures.runs clean))
 
 pub returns-clause-goes : goal.returns-clause-goes
 returns-clause-goes g c has clean =
     let bound = c.bind-params.ensures in
-    filled_goes (state g.S.Store c.args.conn.now) (state g.S.Store c.execute.new.self)
+    filled_goes (state g.S.Store c.args.conn.now) (state g.S.Store c.execute.new.conn)
     c.args.reason.now _ has (rw bound at (c.in_ok-count.ensures.runs clean))
 
 pub returns-clause-kept : goal.returns-clause-kept

@@ -12,7 +12,7 @@ returns-in_err-execute-clause-kept g c has within =
 
 pub returns-clause-made : goal.returns-clause-made
 returns-clause-made g c has clean =
-    table_made (state g.S.Store c.args.conn.now) (state g.S.Store c.execute.new.self) second_schema
+    table_made (state g.S.Store c.args.conn.now) (state g.S.Store c.execute.new.conn) second_schema
     ends_text ends makes_ends has _ (c.in_ok-execute.ensures.runs clean)
 
 pub returns-clause-kept : goal.returns-clause-kept

@@ -10,7 +10,7 @@ returns-in_err-execute-clause-kept g c has within =
 
 pub returns-clause-made : goal.returns-clause-made
 returns-clause-made g c version has it clean =
-    stamps (state g.S.Store c.args.conn.now) (state g.S.Store c.execute.new.self) version _ has it
+    stamps (state g.S.Store c.args.conn.now) (state g.S.Store c.execute.new.conn) version _ has it
     (c.in_ok-execute.ensures.runs clean)
 
 pub returns-clause-kept : goal.returns-clause-kept

@@ -10,7 +10,7 @@ returns-in_err-execute-clause-kept g c has within =
 
 pub returns-clause-made : goal.returns-clause-made
 returns-clause-made g c has empty clean =
-    stamped (state g.S.Store c.args.conn.now) (state g.S.Store c.execute.new.self) _ has empty
+    stamped (state g.S.Store c.args.conn.now) (state g.S.Store c.execute.new.conn) _ has empty
     (c.in_ok-execute.ensures.runs clean)
 
 pub returns-clause-kept : goal.returns-clause-kept

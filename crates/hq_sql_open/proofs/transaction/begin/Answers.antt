@@ -10,7 +10,7 @@ returns-in_err-execute-clause-kept g c = begin_keeps _ _ _ c.in_err-execute.ensu
 
 pub returns-clause-begun : goal.returns-clause-begun
 returns-clause-begun g c clean =
-    begun (state g.S.Store c.args.conn.now) (state g.S.Store c.execute.new.self) _
+    begun (state g.S.Store c.args.conn.now) (state g.S.Store c.execute.new.conn) _
     (c.in_ok-execute.ensures.runs clean)
 
 pub returns-clause-kept : goal.returns-clause-kept

@@ -10,7 +10,7 @@ returns-in_err-execute-clause-kept g c = commit_keeps _ _ _ c.in_err-execute.ens
 
 pub returns-clause-done : goal.returns-clause-done
 returns-clause-done g c clean =
-    done (state g.S.Store c.args.conn.now) (state g.S.Store c.execute.new.self) _
+    done (state g.S.Store c.args.conn.now) (state g.S.Store c.execute.new.conn) _
     (c.in_ok-execute.ensures.runs clean)
 
 pub returns-clause-kept : goal.returns-clause-kept

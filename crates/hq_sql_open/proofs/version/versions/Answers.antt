@@ -11,7 +11,7 @@ returns-in_err-rows-clause-kept g c = version_keeps _ _ _ c.in_err-rows.ensures.
 
 pub returns-clause-found : goal.returns-clause-found
 returns-clause-found g c clean has =
-    version_shows (state g.S.Store c.args.conn.now) (state g.S.Store c.query_all.new.self)
+    version_shows (state g.S.Store c.args.conn.now) (state g.S.Store c.query_all.new.conn)
     c.in_ok-rows.rows.items has (c.in_ok-rows.ensures.ok clean)
 
 pub returns-clause-kept : goal.returns-clause-kept

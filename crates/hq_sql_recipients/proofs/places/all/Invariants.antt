@@ -4,5 +4,5 @@ use Rattle.hq_sql.specs.Rows.{recipient_shown}
 use Rattle.hq_sql_recipients.proofs.places.all.Given as goal
 
 abbrev pub invariant-loop-row : goal.invariant-loop-row
-invariant-loop-row l = l.all.items ≡ map (λ r. recipient_value (recipient_shown r))
+invariant-loop-row g l = l.all.items ≡ map (λ r. recipient_value (recipient_shown r))
     (take l.row-index l.rows)

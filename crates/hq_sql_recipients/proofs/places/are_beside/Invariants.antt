@@ -5,5 +5,5 @@ use Rattle.hq_sql_recipients.specs.Places.{is_far}
 use Rattle.hq_sql_recipients.proofs.places.are_beside.Given as goal
 
 abbrev pub invariant-loop-row : goal.invariant-loop-row
-invariant-loop-row l = list_any (λ r. is_far l.count (recipient_shown r).place)
+invariant-loop-row g l = list_any (λ r. is_far l.count (recipient_shown r).place)
     (take l.row-index l.rows) ≡ false

@@ -12,7 +12,7 @@ returns-in_err-execute-clause-kept g c = write_failed _ _ beside_text _ _ beside
 pub returns-clause-made : goal.returns-clause-made
 returns-clause-made g c clean desk =
     let bound = c.range-params.ensures in
-    beside_dropped (state g.S.Store c.args.conn.now) (state g.S.Store c.execute.new.self)
+    beside_dropped (state g.S.Store c.args.conn.now) (state g.S.Store c.execute.new.conn)
     c.args.customer.now c.args.serial c.args.count _ desk
     (rw bound at (c.in_ok-execute.ensures.runs clean))
 

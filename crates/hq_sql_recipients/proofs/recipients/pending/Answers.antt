@@ -1,5 +1,4 @@
 use Rattle.std.proofs.Common.{map, ap, ◌∙◌}
-use Rattle.std.proofs.lemmas.Result.{IfOk-weaker}
 use Rattle.hq_rows.specs.Listed.{recipient_value}
 use Rattle.hq_sql.specs.Rows.{recipient_shown}
 use Rattle.hq_sql_recipients.proofs.OnRecipients.{pending_shown}
@@ -7,7 +6,7 @@ use Rattle.hq_sql_recipients.proofs.recipients.pending.Goals as goal
 
 pub returns-clause-found : goal.returns-clause-found
 returns-clause-found g c clean desk =
-    IfOk-weaker c.all.result _ _ (λ all h. h
+    c.in_ok-all.ensures
     ∙ ap (map (λ r. recipient_value (recipient_shown r))) c.as_slice.ensures.value
     ∙ pending_shown c.args.customer.now c.args.serial _ c.in_ok-rows.rows.items
-    (c.in_ok-rows.ensures.found clean desk)) c.all.ensures
+    (c.in_ok-rows.ensures.found clean desk)

@@ -11,7 +11,7 @@ returns-in_err-rows-clause-kept g c =
 
 pub returns-clause-found : goal.returns-clause-found
 returns-clause-found g c clean desk =
-    recipients_shown (state g.S.Store c.args.conn.now) (state g.S.Store c.query_all.new.self)
+    recipients_shown (state g.S.Store c.args.conn.now) (state g.S.Store c.query_all.new.conn)
     c.args.customer.now c.args.serial c.in_ok-rows.rows.items desk
     (rw c.message_key-params.ensures at (c.in_ok-rows.ensures.ok clean))
 

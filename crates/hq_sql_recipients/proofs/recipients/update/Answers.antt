@@ -13,7 +13,7 @@ returns-in_err-count-clause-kept g c = write_failed _ _ recipient_update_text _ 
 pub returns-clause-made : goal.returns-clause-made
 returns-clause-made g c clean desk =
     let bound = c.columns-params.ensures.columns in
-    recipient_updated (state g.S.Store c.args.conn.now) (state g.S.Store c.execute.new.self)
+    recipient_updated (state g.S.Store c.args.conn.now) (state g.S.Store c.execute.new.conn)
     (recipient_row c.args.customer.now c.args.serial c.args.place c.args.recipient.now) _ desk
     c.columns-params.ensures.back (rw bound at (c.in_ok-count.ensures.runs clean))
 

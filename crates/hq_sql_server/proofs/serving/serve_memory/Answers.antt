@@ -3,5 +3,5 @@ use Rattle.hq_sql_server.proofs.serving.serve_memory.Goals as goal
 
 pub returns : goal.returns
 returns g c = memory_ends c.args.settings c.args.given.now.count c.open_memory-opened.result _ _
-    c.serve_over.result c.open_memory-opened.ensures.ours c.open_memory-opened.ensures.empty
-    c.serve_over.ensures
+    c.serve_opened.result c.open_memory-opened.ensures.ours c.open_memory-opened.ensures.empty
+    c.serve_opened.ensures

@@ -18,6 +18,7 @@ returns-in-Ok-true-clause-opened g c clean settled =
 
 pub returns-in-Ok-true-clause-rests : goal.returns-in-Ok-true-clause-rests
 returns-in-Ok-true-clause-rests g c clean =
-    stop_leaves g.S.Store g.met.S.Store.settled c.over.result (subst
+    stop_leaves g.M.Memory.refused g.M.SqliteMemory.failed g.S.Store g.met.S.Store.settled
+    c.over.result (subst
     (λ x. IsLive (state g.S.Store x)) (sym (ap (λ s. s.conn) c.over.ensures))
     c.sees_database.ensures)

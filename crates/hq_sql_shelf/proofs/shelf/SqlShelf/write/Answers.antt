@@ -20,7 +20,8 @@ use Rattle.hq_sql_shelf.proofs.shelf.SqlShelf.write.Goals as goal
 pub returns-in-Ok-clause-stops : goal.returns-in-Ok-clause-stops
 returns-in-Ok-clause-stops g c =
     let first = c.in_ok-ready.ensures.kept in
-    changes_leave g.S.Store g.met.S.Store.settled c.args.self.now c.ready.new.self c.apply.new.conn
+    changes_leave g.M.Memory.refused g.M.SqliteMemory.failed g.S.Store g.met.S.Store.settled
+    c.args.self.now c.ready.new.self c.apply.new.conn
     c.args.customer.now c.args.changes.now _ _ c.sees_database.ensures first first.tally.1
     c.in_ok-ready.ensures.open c.in_ok-ready.ensures.stops c.in-Ok.ensures.kept
 
@@ -46,8 +47,10 @@ made_after g c clean ours =
 
 left_after : (g : Over) (c : goal.In-Ok g) → HasCleanDisk (state g.S.Store c.apply.new.conn) →
     IsOurs (state g.S.Store c.args.self.now.conn) → StopLeavesTables
-    (sight_over (state g.S.Store)) (record c.ready.new.self { conn = c.apply.new.conn })
-left_after g c clean ours = still_leaves g.S.Store g.met.S.Store.settled c.args.self.now
+    (sight_over g.M.Memory.refused g.M.SqliteMemory.failed (state g.S.Store)) (record
+    c.ready.new.self { conn = c.apply.new.conn })
+left_after g c clean ours = still_leaves g.M.Memory.refused g.M.SqliteMemory.failed g.S.Store
+    g.met.S.Store.settled c.args.self.now
     (record c.ready.new.self { conn = c.apply.new.conn }) _ _
     (returns-in-Ok-clause-stops g c ours) clean (made_after g c clean ours).0
 
@@ -79,7 +82,8 @@ pub returns-in-Err-clause-stops : goal.returns-in-Err-clause-stops
 returns-in-Err-clause-stops g c ours clean db may =
     let first = c.in_ok-ready.ensures.kept in
     let settles = c.give_up.ensures.kept in
-    changes_leave g.S.Store g.met.S.Store.settled c.args.self.now c.ready.new.self c.apply.new.conn
+    changes_leave g.M.Memory.refused g.M.SqliteMemory.failed g.S.Store g.met.S.Store.settled
+    c.args.self.now c.ready.new.self c.apply.new.conn
     c.args.customer.now c.args.changes.now _ _ c.sees_database.ensures first first.tally.1
     c.in_ok-ready.ensures.open c.in_ok-ready.ensures.stops c.in-Err.ensures.kept ours
     (clean_before (state g.S.Store c.apply.new.conn) (state g.S.Store c.give_up.new.self.conn)
@@ -89,17 +93,20 @@ pub returns-in-Err-clause-kept : goal.returns-in-Err-clause-kept
 returns-in-Err-clause-kept g c =
     let first = c.in_ok-ready.ensures.kept in
     let mid = state g.S.Store c.ready.new.self.conn in
-    let end = ended g.S.Store c.args.self.now c.ready.new.self _ first c.in_ok-ready.ensures.open
+    let end = ended g.M.Memory.refused g.M.SqliteMemory.failed g.S.Store c.args.self.now
+    c.ready.new.self _ first c.in_ok-ready.ensures.open
     c.in_ok-ready.ensures.stops {Z = ⊤} c.apply.new.conn c.give_up.new.self c.give_up.result
     c.in-Err.ensures.kept.quiet (λ clean mine. c.in-Err.ensures.kept.kept clean (at_rest mid mine))
-    c.give_up.ensures.kept c.give_up.ensures.tally in
+    c.give_up.ensures.kept c.give_up.ensures.tally
+    (c.give_up.ensures.cause c.in-Err.ensures.cause) in
     record {
       none = end.same;
       ours = end.ours;
       quiet = end.quiet;
       tally = end.tally;
       cause = end.cause;
-      rests = λ clean ours opened desk. still_leaves g.S.Store g.met.S.Store.settled
+      rests = λ clean ours opened desk. still_leaves g.M.Memory.refused g.M.SqliteMemory.failed
+          g.S.Store g.met.S.Store.settled
           c.args.self.now c.give_up.new.self _ _ (returns-in-Err-clause-stops g c ours) clean.0
           (end.ours clean ours opened);
       shut = λ clean closed. absurd (true≢false (sym closed ∙ first.tally.0));

@@ -7,7 +7,7 @@ use Rattle.hq_sql.specs.Tables.{tables_in}
 use Rattle.hq_sql_messages.specs.Messages.{with_row}
 use Rattle.hq_keyed.proofs.Left.{clean_before}
 use Rattle.hq_sql_shelf.proofs.Steps.{made_after, desk_after}
-use Rattle.hq_sql_shelf.proofs.changes.put_uncounted_row.Goals as goal
+use Rattle.hq_sql_shelf.proofs.one_message.put_uncounted_row.Goals as goal
 
 no_row : (o : Option Row) → None ≡ option_map (λ (r : Row). r.size) o → o ≡ None
 no_row None e = refl

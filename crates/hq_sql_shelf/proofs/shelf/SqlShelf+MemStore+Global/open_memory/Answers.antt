@@ -4,7 +4,7 @@ use Rattle.sqlite.specs.Steps.{over_memory}
 use Rattle.sqlite.proofs.Callers.{memory_is_clean}
 use Rattle.std.proofs.Common.{inl}
 use Rattle.hq_sql_open.specs.Transactions.{IsSettled}
-use Rattle.hq_sql_shelf.proofs.shelf.SqlShelf+MemStore.open_memory.Goals as goal
+use Rattle.hq_sql_shelf.proofs.shelf.SqlShelf+MemStore+Global.open_memory.Goals as goal
 
 settled : (s : State) → Opens s → IsSettled s
 settled s fresh = record { is_open = fresh.is_open; mode = fresh.autocommit; now = fresh.clean }
