@@ -1,4 +1,4 @@
-"""The files of /etc/hq that say who is a customer, for hq-customers and hq-ask: read, tried, and written all or none.
+"""The files of /etc/hq that say who is a customer, for the scripts beside it: read, tried, and written all or none.
 
 `NAME.csv` of each desk is the directory that it serves, and `senders.csv` has the logins and domains of the
 worker. Made of these are the worker's copy of the directories, which has no key (`relay.csv`), and the maps

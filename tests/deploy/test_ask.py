@@ -17,6 +17,8 @@ Queue ID          Size Arrival                         Sender/Recipient
     bob@far.example
 -- 2 queued, 1800 bytes, 0 on hold
 """
+# A user that owns nothing.
+NOBODY = 65534
 NOTHING = "accepted 0, pending 0, delivered 0, failed 0, deleted 0, expired 0"
 
 
@@ -35,6 +37,18 @@ class Asking:
                  "--store", self.folder / "north.db"]
         told = subprocess.run(words, input="".join(f"{it}\n" for it in lines), capture_output=True, text=True, timeout=LONGEST)
         expect(told.stdout.count('"verdict":"queued"') == len(bodies), "a submission got", told)
+
+    def watch_users(self):
+        """Has each later run of `hq` write down its user."""
+        (self.folder / "users").touch()
+        (self.folder / "users").chmod(0o666)
+        program = (self.bin / "hq").resolve()
+        (self.bin / "hq").unlink()
+        (self.bin / "hq").write_text(f'#!/bin/sh\nid -u >>{self.folder}/users\nexec {program} "$@"\n')
+        (self.bin / "hq").chmod(0o755)
+
+    def users(self):
+        return set((self.folder / "users").read_text().split())
 
     def run(self, *given):
         words = [DEPLOY / "hq-ask", "--folder", self.folder, "--store", self.folder, *given]
@@ -91,11 +105,17 @@ def test_over_a_desk_that_runs(asking, desk):
 
 
 def test_over_its_store(asking, desk):
-    """The same over the store of a desk that was stopped; its files stay those of their owner."""
+    """The same over the store of a desk that was stopped, by the store's owner; its files stay the owner's."""
     desk.stop()
+    asking.watch_users()
+    owner = os.getuid() or NOBODY
+    if not os.getuid():
+        for it in (asking.folder, *asking.folder.glob("north.db*")):
+            os.chown(it, owner, owner)
     moved(asking)
+    expect(asking.users() == {str(owner)}, "hq was run by", asking.users())
     for it in asking.folder.glob("north.db*"):
-        expect(stat.S_IMODE(it.stat().st_mode) == 0o600 and it.stat().st_uid == (asking.folder / "north.db").stat().st_uid, it)
+        expect((stat.S_IMODE(it.stat().st_mode), it.stat().st_uid) == (0o600, owner), it)
     desk.start()
     expect("0000000002" in asking.done("queue", "acme"), "the desk does not have what was done")
 
