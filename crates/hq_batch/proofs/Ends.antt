@@ -7,15 +7,16 @@ use Rattle.hq_lines.proofs.Steps.{ends_as}
 use Rattle.hq_batch.specs.Runs.{RunEnds}
 use Rattle.hq_settings.specs.declared.trouble.Trouble.{Trouble}
 
-module _ (done other : List (Option LineRequest) → List (List ℕ) → Type 0) (untouched : Type 0)
+module _ (done other : List (Option LineRequest) → List (List ℕ) → Type 0)
     (so : (asked : List (Option LineRequest)) (replies : List (List ℕ)) → done asked replies →
-    other asked replies) (old new : Streams) where
+    other asked replies) (untouched less : Type 0) (as_well : untouched → less)
+    (old new : Streams) where
   pub run_ends_as : (result : Result ⊤ Trouble) → RunEnds done untouched old new result →
-      RunEnds other untouched old new result
+      RunEnds other less old new result
   run_ends_as (Ok x) p = ends_as done other so (λ (x : ⊥). x) old new (Ok tt) p
   run_ends_as (Err trouble) p = (
     p.0,
     p.1,
-    ends_as done other so (λ (x : untouched). x) old new
+    ends_as done other so as_well old new
         (Err p.0) p.2,
   )

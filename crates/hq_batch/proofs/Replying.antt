@@ -24,9 +24,9 @@ module _ {D : Type 0} (sight : DeskSight D) where
   Turns d old asked lines new = (rs : List SeenReply) × (lines ≡ map reply_line rs)
       × InTurn (Exchanged sight d) old (map (ask_in d) asked) rs new
 
-module _ {D L : Type 0} (sight : DeskSight D) (is_losing : L → Bool)
+module _ {D L M : Type 0} (sight : DeskSight D) (is_losing : L → Bool)
     (contents : L → Option (List ℕ)) where
-  turns : (old new : Front D L) (asked : List (Option LineRequest)) (lines : List (List ℕ)) →
+  turns : (old new : Front D L M) (asked : List (Option LineRequest)) (lines : List (List ℕ)) →
       InTurn (LineStep sight is_losing contents) old asked lines new →
       Turns sight old.directory.now old.desk.now asked lines new.desk.now
   turns old new [] [] p = ([], refl, ap (λ f. f.desk.now) p)
@@ -39,7 +39,8 @@ module _ {D L : Type 0} (sight : DeskSight D) (is_losing : L → Bool)
       (p.1.reply ∷ rest.0, (λ i. p.1.line_is i ∷ rest.1 i), (p.0.desk.now, p.1.done, later))
 
   -- they are served together
-  pub replied : (old new : Front D L) (asked : List (Option LineRequest)) (lines : List (List ℕ)) →
+  pub replied : (old new : Front D L M) (asked : List (Option LineRequest))
+      (lines : List (List ℕ)) →
       InTurn (LineStep sight is_losing contents) old asked lines new →
       Replied sight old.directory.now old.desk.now asked lines new.desk.now
   replied old new asked lines p =
@@ -50,7 +51,7 @@ module _ {D L : Type 0} (sight : DeskSight D) (is_losing : L → Bool)
             (map (ask_in old.directory.now) asked) all.0 all.2,
       )
 
-  same_desk : (old new : Front D L) (asked : List (Option LineRequest)) (lines : List (List ℕ)) →
+  same_desk : (old new : Front D L M) (asked : List (Option LineRequest)) (lines : List (List ℕ)) →
       InTurn (LineStep sight is_losing contents) old asked lines new →
       new.desk.ghost_name ≡ old.desk.ghost_name
   same_desk old new [] [] p = ap (λ f. f.desk.ghost_name) p
@@ -59,7 +60,7 @@ module _ {D L : Type 0} (sight : DeskSight D) (is_losing : L → Bool)
   same_desk old new (q ∷ asked) (line ∷ lines) p = same_desk p.0 new asked lines p.2 ∙ p.1.same_desk
 
   -- however the loop ends, the desk is the one that was lent
-  pub lent_desk : {X : Type 0} (old new : Front D L) → (X → new ≡ old) →
+  pub lent_desk : {X : Type 0} (old new : Front D L M) → (X → new ≡ old) →
       (start end : Streams) (result : Result ⊤ EngineFault) →
       InputEnds (λ asked lines. InTurn (LineStep sight is_losing contents) old asked lines new) X
       start end result →

@@ -14,14 +14,15 @@ use Rattle.hq_settings.specs.Troubles.{trouble_of}
 use Rattle.hq_settings.specs.declared.trouble.Trouble.{Trouble}
 
 -- What lines ask for is replied to as a batch of the customers of these settings, with a desk over
--- this shelf.
-pub record ServesOver {S : Type 0} (sight : Sight S) (settings : Settings) (shelf : S)
+-- this shelf, by a memory that may have refused.
+pub record ServesOver {S : Type 0} (refused : Type 0) (sight : Sight S) (settings : Settings)
+    (shelf : S)
     (asked : List (Option LineRequest)) (lines : List (List ℕ)) : Type 0 where
   pub old : Desk S
   pub host_is : host_of old ≡ settings.host
   pub shelf_is : shelf_of old ≡ shelf
   pub new : Desk S
-  pub replied : Replied (with_refusals ⊤ (on sight)) settings.directory old asked lines new
+  pub replied : Replied (with_refusals refused (on sight)) settings.directory old asked lines new
 
 -- how a run ends: as a batch does, with a fault of it told
 abbrev pub RunEnds : (List (Option LineRequest) → List (List ℕ) → Type 0) → Type 0 → Streams →

@@ -79,9 +79,9 @@ pub record IsLineLogged {D : Type 0} (d : Directory) (request : Option LineReque
 
 -- The step of a line, and its reply as it is written; the directory stays, and so does the desk
 -- that is lent.
-pub record LineStep {D L : Type 0} (sight : DeskSight D) (is_losing : L → Bool)
-    (contents : L → Option (List ℕ)) (old : Front D L) (request : Option LineRequest)
-    (line : List ℕ) (new : Front D L) : Type 0 where
+pub record LineStep {D L M : Type 0} (sight : DeskSight D) (is_losing : L → Bool)
+    (contents : L → Option (List ℕ)) (old : Front D L M) (request : Option LineRequest)
+    (line : List ℕ) (new : Front D L M) : Type 0 where
   pub directory : new.directory ≡ old.directory
   pub same_desk : new.desk.ghost_name ≡ old.desk.ghost_name
   pub reply : SeenReply

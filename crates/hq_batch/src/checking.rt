@@ -1,72 +1,24 @@
 //! What is read and checked, and what is told of it.
 
-ghost use Rattle.std.specs.Prelude.{◌≡◌, ℕ, ⊤, List, None, IfOk, IsTrue, option_map};
-ghost use Rattle.hq_values.specs.Readers.{Reads, seen_by};
+ghost use Rattle.std.specs.Prelude.{◌≡◌, ℕ, ⊤, List, IfOk, IsTrue, option_map};
+ghost use Rattle.hq_values.specs.Readers.{seen_by};
 ghost use Rattle.hq_kept.specs.Customers.{are_customers};
 ghost use Rattle.hq_import.specs.Directories.{directory_in};
 ghost use Rattle.hq_import.specs.Refused.{ReadsDirectory};
 ghost use Rattle.hq_settings.specs.Seen.{relay_seen};
 ghost use Rattle.hq_words.specs.Asked.{check_of};
-ghost use Rattle.hq_batch.specs.Checks.{HasRelay, CheckEnds, Checks, FileEnds, IsCountTold};
-ghost use Rattle.hq_batch.specs.Checks.{count_of, count_in};
+ghost use Rattle.hq_batch.specs.Checks.{CheckEnds, Checks, FileEnds, IsCountTold};
 
 use crate::print;
 use hq_import::{DirectoryFail, DirectoryRefusal, read_directory};
 use hq_kept::Customer;
 use hq_rules::Rendered;
-use hq_settings::{Relay, Settings, Trouble, file_of, relay_of};
-use hq_values::{Fail, Fault, Host};
+use hq_settings::{Relay, Trouble, count_in, file_of, relay_given};
+use hq_values::Fault;
 use hq_words::Check;
 use std::alloc::Global;
 use std::fmt::Write as WriteText;
 use std::io::Write;
-
-/// No relay, where its name is good.
-fn name_alone(alloc: Global, host: &str) -> Result<Option<Relay>, Trouble>
-    ensures { HasRelay host.now None (seen_by (option_map relay_seen) result) }
-{
-    let _name = Host::parse(alloc, host)?;
-    Ok(None)
-}
-
-/// The relay of a start; or none where no key is given, and the name is good.
-fn relay_given(rt: &HostRuntime, given: &Check) -> Result<Option<Relay>, Trouble>
-    ensures { HasRelay (check_of given.now).host (check_of given.now).relay_key
-        (seen_by (option_map relay_seen) result) }
-{
-    match given.relay_key {
-        Some(key) => Ok(Some(relay_of(rt, given.host, key)?)),
-        None => name_alone(rt.alloc(), given.host),
-    }
-}
-
-/// How many of these customers a start would serve.
-fn count_of(alloc: Global, relay: Option<Relay>, customers: Vec<Customer>) -> Result<usize, Fail>
-    requires { IsTrue (are_customers customers.items) }
-    ensures { Reads result (count_of (option_map relay_seen relay) customers.items) }
-{
-    match relay {
-        Some(relay) => {
-            let settings = Settings::with_customers(alloc, relay, customers)?;
-            Ok(settings.directory.customers().len())
-        }
-        None => Ok(customers.len()),
-    }
-}
-
-/// How many customers of a directory a start would serve.
-fn count_in(
-    alloc: Global,
-    relay: Option<Relay>,
-    read: Result<Vec<Customer>, DirectoryFail>,
-) -> Result<usize, Fail>
-    requires { IfOk read (λ customers. IsTrue (are_customers customers.items)) }
-    ensures { (file : List ℕ) → ReadsDirectory ⊤ (seen_by (λ v. v.items) read) (directory_in file)
-        → Reads result (count_in (option_map relay_seen relay) file) }
-{
-    let customers = read?;
-    count_of(alloc, relay, customers)
-}
 
 /// That many, on a line.
 #[tactic(auto, unfolding(crate::specs::Checks::count_line))]

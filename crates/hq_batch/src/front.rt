@@ -1,39 +1,43 @@
 //! The desk as what answers the lines of a batch.
 
 ghost use Rattle.hq_wire.specs.Exchanges.{with_refusals};
-ghost use Rattle.std.specs.Prelude.{◌≡◌, Some, IfOk, string_bytes, option_map, ⊤};
+ghost use Rattle.std.specs.Prelude.{◌≡◌, Some, string_bytes, option_map};
+ghost use Rattle.hq_memory.specs.Making.{MadeIn};
 ghost use Rattle.hq_lines.specs.Fields.{request_in, line_request};
 ghost use Rattle.hq_batch.specs.Steps.{IsOfLine, IsLineToLog, LineStep, SendsLine};
 
 use crate::writing::write_reply;
+use hq_bodies::JsonMemory;
 use hq_lines::{Answers, RequestLine, read_line};
 use hq_log::{Answered, Log};
+use hq_memory::Memory;
 use hq_rules::Acts;
 use hq_values::{Fault, Moment, Refusal};
 use hq_wire::{Directory, Exchange, Reply, exchange, fault_reply, refusal_reply};
-use std::alloc::{AllocError, Global};
+use std::alloc::AllocError;
 use std::io::{self, Write};
 
 /// A key of its own.
-fn own_key(alloc: Global, key: Option<&str>) -> Result<Option<String>, AllocError>
-    ensures { IfOk result (λ own. option_map string_bytes own ≡ option_map (λ k. k.now) key.entry) }
+fn own_key<M: Memory>(memory: M, key: Option<&str>) -> Result<Option<String>, AllocError>
+    ensures { MadeIn M.refused result (λ own. option_map string_bytes own
+        ≡ option_map (λ k. k.now) key.entry) }
 {
     match key {
         None => Ok(None),
-        Some(key) => Ok(Some(String::from_str(alloc, key)?)),
+        Some(key) => Ok(Some(memory.text(key)?)),
     }
 }
 
 /// The exchange that a line asks for.
-fn exchange_of(alloc: Global, line: &RequestLine<'_>) -> Result<Exchange, AllocError>
-    ensures { IfOk result (λ asked. IsOfLine asked (line_request line.now)) }
+fn exchange_of<M: Memory>(memory: M, line: &RequestLine<'_>) -> Result<Exchange, AllocError>
+    ensures { MadeIn M.refused result (λ asked. IsOfLine asked (line_request line.now)) }
 {
     Ok(Exchange {
         at: line.at,
-        method: String::from_str(alloc, line.method)?,
-        path: String::from_str(alloc, line.path)?,
-        key: own_key(alloc, line.key)?,
-        body: Vec::from_slice(alloc, line.body)?,
+        method: memory.text(line.method)?,
+        path: memory.text(line.path)?,
+        key: own_key(memory, line.key)?,
+        body: memory.bytes(line.body)?,
     })
 }
 
@@ -59,19 +63,18 @@ impl Replied<'_> {
 }
 
 /// Replies to a line that can be read.
-fn request_reply<'d, D: Acts>(
-    alloc: Global,
+fn request_reply<'d, D: Acts, M: JsonMemory>(
+    memory: M,
     desk: &mut D,
     directory: &'d Directory,
     line: &RequestLine<'_>,
 ) -> Replied<'d>
-    ensures { SendsLine (with_refusals ⊤ D.sight) directory.now desk.old (Some (line_request
-        line.now)) result
-        desk.new }
+    ensures { SendsLine (with_refusals M.refused D.sight) directory.now desk.old
+        (Some (line_request line.now)) result desk.new }
 {
-    match exchange_of(alloc, line) {
+    match exchange_of(memory, line) {
         Ok(asked) => {
-            let reply = exchange(alloc, desk, directory, &asked);
+            let reply = exchange(memory, desk, directory, &asked);
             Replied {
                 at: Some(line.at),
                 asked: Some(asked),
@@ -87,40 +90,41 @@ fn request_reply<'d, D: Acts>(
 }
 
 /// Replies to a line.
-fn line_reply<'d, D: Acts>(
-    alloc: Global,
+fn line_reply<'d, D: Acts, M: JsonMemory>(
+    memory: M,
     desk: &mut D,
     directory: &'d Directory,
     line: &[u8],
 ) -> Replied<'d>
-    ensures { SendsLine (with_refusals ⊤ D.sight) directory.now desk.old (request_in line.now)
-        result desk.new }
+    ensures { SendsLine (with_refusals M.refused D.sight) directory.now desk.old
+        (request_in line.now) result desk.new }
 {
     match read_line(line) {
-        Some(line) => request_reply(alloc, desk, directory, &line),
+        Some(line) => request_reply(memory, desk, directory, &line),
         None => Replied {
             at: None,
             asked: None,
-            reply: refusal_reply(alloc, None, Refusal::BadRequest),
+            reply: refusal_reply(memory, None, Refusal::BadRequest),
         },
     }
 }
 
-/// The desk with the directory of its customers, and a log.
+/// The desk with the directory of its customers, a log, and the memory that requests and replies
+/// take.
 #[derive(Drop)]
-pub struct Front<'d, 'l, D, L> {
-    pub alloc: Global,
+pub struct Front<'d, 'l, 'm, D, L, M> {
+    pub memory: &'m M,
     pub desk: &'d mut D,
     pub directory: &'d Directory,
     pub log: &'l mut L,
 }
 
-impl<D: Acts, L: Log> Answers for Front<'_, '_, D, L> {
-    ghost steps = { LineStep (with_refusals ⊤ D.sight) L.is_losing L.contents };
+impl<D: Acts, L: Log, M: JsonMemory> Answers for Front<'_, '_, '_, D, L, M> {
+    ghost steps = { LineStep (with_refusals M.refused D.sight) L.is_losing L.contents };
 
     fn answer<W: Write>(&mut self, line: &[u8], writer: &mut W) -> io::Result<()> {
         self.log.begin();
-        let replied = line_reply(self.alloc, self.desk, self.directory, line);
+        let replied = line_reply(*self.memory, self.desk, self.directory, line);
         self.log.replied(&replied.answered());
         write_reply(&replied.reply, writer)
     }

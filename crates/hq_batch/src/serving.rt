@@ -1,36 +1,34 @@
 //! A batch with the desk.
 
 ghost use Rattle.hq_wire.specs.Exchanges.{with_refusals};
-ghost use Rattle.std.specs.Prelude.{◌≡◌, ⊤};
+ghost use Rattle.std.specs.Prelude.{◌≡◌};
 ghost use Rattle.hq_lines.specs.Ends.{InputEnds};
 ghost use Rattle.hq_batch.specs.Batches.{Replied};
 
 use crate::front::Front;
+use hq_bodies::JsonMemory;
 use hq_lines::answer_lines;
 use hq_log::Log;
 use hq_rules::Acts;
 use hq_values::EngineFault;
 use hq_wire::Directory;
-use std::alloc::Global;
 use std::io::{Read, Write};
 
 /// Replies to the lines of an input with the desk that is lent to the front.
-fn serve_front<R: Read, W: Write, D: Acts + Drop, L: Log>(
-    alloc: Global,
+fn serve_front<R: Read, W: Write, D: Acts + Drop, L: Log, M: JsonMemory>(
     reader: &mut R,
     writer: &mut W,
-    front: &mut Front<'_, '_, D, L>,
+    front: &mut Front<'_, '_, '_, D, L, M>,
 ) -> Result<(), EngineFault>
     ensures same_reference { front.new.desk.ghost_name ≡ front.old.desk.ghost_name }
-    ensures ended { InputEnds (λ asked lines. Replied (with_refusals ⊤ D.sight)
-        front.old.directory.now
-        front.old.desk.now asked lines front.new.desk.now)
-        ((reader.new ≡ reader.old) × (writer.new ≡ writer.old)
+    ensures ended { InputEnds (λ asked lines. Replied (with_refusals M.refused D.sight)
+        front.old.directory.now front.old.desk.now asked lines front.new.desk.now)
+        (M.refused × (reader.new ≡ reader.old) × (writer.new ≡ writer.old)
         × (front.new.desk.now ≡ front.old.desk.now))
         (record { input = R.remaining reader.old; output = W.contents writer.old })
         (record { input = R.remaining reader.new; output = W.contents writer.new }) result }
 {
-    answer_lines(alloc, reader, writer, front)
+    answer_lines(*front.memory, reader, writer, front)
 }
 
 /// Replies to the lines of an input in order, one line `STATUS BODY` each.
@@ -46,32 +44,35 @@ fn serve_front<R: Read, W: Write, D: Acts + Drop, L: Log>(
 /// calls alone, whatever other lines come between. A call that is replied to with 503 does not
 /// count.
 ///
-/// Each reply is told in the log, which changes nothing of this.
+/// 90 `WantOfMemory` is told only where `memory` refused a request, or where the store may answer
+/// it. Each reply is told in the log, which changes nothing of this.
 ///
-/// Room for a line is taken before the first read; where it is refused, nothing is read. At most
-/// 67,108,864 reads are made, an interrupted one counted. After a fault of reading the whole lines
-/// before it are replied to. After a fault of writing the exchanges of the first lines are done, up
-/// to that whose reply could not be written, and no other; the replies before went out whole, and
-/// of this one a beginning.
-pub fn batch<R: Read, W: Write, D: Acts + Drop, L: Log>(
-    alloc: Global,
+/// Room for a line is taken before the first read. The batch ends in want of memory only where
+/// `memory` refused a request; then nothing is read, written or done. At most 67,108,864 reads are
+/// made, an interrupted one counted. After a fault of reading the whole lines before it are replied
+/// to. After a fault of writing the exchanges of the first lines are done, up to that whose reply
+/// could not be written, and no other; the replies before went out whole, and of this one a
+/// beginning.
+pub fn batch<R: Read, W: Write, D: Acts + Drop, L: Log, M: JsonMemory>(
+    memory: M,
     reader: &mut R,
     writer: &mut W,
     desk: &mut D,
     directory: &Directory,
     log: &mut L,
 ) -> Result<(), EngineFault>
-    ensures { InputEnds (λ asked lines. Replied (with_refusals ⊤ D.sight) directory.now desk.old
-        asked lines desk.new)
-        ((reader.new ≡ reader.old) × (writer.new ≡ writer.old) × (desk.new ≡ desk.old))
+    ensures { InputEnds (λ asked lines. Replied (with_refusals M.refused D.sight) directory.now
+        desk.old asked lines desk.new)
+        (M.refused × (reader.new ≡ reader.old) × (writer.new ≡ writer.old)
+        × (desk.new ≡ desk.old))
         (record { input = R.remaining reader.old; output = W.contents writer.old })
         (record { input = R.remaining reader.new; output = W.contents writer.new }) result }
 {
     let mut front = Front {
-        alloc,
+        memory: &memory,
         desk,
         directory,
         log,
     };
-    serve_front(alloc, reader, writer, &mut front)
+    serve_front(reader, writer, &mut front)
 }

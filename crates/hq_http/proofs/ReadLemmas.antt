@@ -28,13 +28,13 @@ module _ {R : Type 0} (remaining : R → Option (List ℕ)) (first old new : Rea
   }
 
   -- what one read more makes of the request
-  pub more_of : (s : Stage) (turn : Turn) → IsUnderWay remaining first old s
+  pub more_of : (no_memory : Type 0) (s : Stage) (turn : Turn) → IsUnderWay remaining first old s
       → MakesOneRead remaining old new → new.over ≡ false → 0 < length (last_given new)
-      → TurnIs (remaining first.reader.now) (remaining new.reader.now) turn
-      → MoreIs remaining first new turn
-  more_of s (Again stage) g read goes some is =
+      → TurnIs no_memory (remaining first.reader.now) (remaining new.reader.now) turn
+      → MoreIs no_memory remaining first new turn
+  more_of no_memory s (Again stage) g read goes some is =
       (is, omega (arith, read.counted, g.1), goes ∙ sym read.before ∙ g.2)
-  more_of s (Done told) g read goes some is = (is, stops s g read, λ no_room. some)
+  more_of no_memory s (Done told) g read goes some is = (is, stops s g read, λ no_room. some)
 
   -- a read that gave nothing leaves the stage
   still : (s : Stage) → IsUnderWay remaining first old s → MakesOneRead remaining old new

@@ -133,13 +133,12 @@ received_end a m b s x g c e r =
       whole = whole_end a b (g.0 ++ []) x read e (subst (λ xs. RequestOf xs x) (sym same) r);
     }
 
-pub ended : (a m b : Option (List ℕ)) (s : Stage) (i : Input) (g : IsAtStage a m s)
-    → Consumes m b [] →
-    IsAtEnd b → EndIs g.0 i → InputIs a b i
-ended a m b s input.Nothing g c e r = received_end a m b s nothing g c e r
-ended a m b s (input.Refused refusal) g c e r = received_end a m b s (refused refusal) g c e r
-ended a m b s (input.Request message) g c e r = absurd r
-ended a m b s input.NoRoom g c e r = absurd r
+pub ended : (no_memory : Type 0) (a m b : Option (List ℕ)) (s : Stage) (i : Input)
+    (g : IsAtStage a m s) → Consumes m b [] → IsAtEnd b → EndIs g.0 i → InputIs no_memory a b i
+ended no_memory a m b s input.Nothing g c e r = received_end a m b s nothing g c e r
+ended no_memory a m b s (input.Refused why) g c e r = received_end a m b s (refused why) g c e r
+ended no_memory a m b s (input.Request message) g c e r = absurd r
+ended no_memory a m b s input.NoRoom g c e r = absurd r
 
 pub going_kept : (a m b : Option (List ℕ)) (s : Stage) → IsAtStage a m s → Keeps m b
     → IsAtStage a b s

@@ -64,12 +64,13 @@ abbrev pub IsAtStage : Option (List ℕ) → Option (List ℕ) → Stage → Typ
 IsAtStage read_old read_new stage = (bytes : List ℕ) × Consumes read_old read_new bytes
     × StageIs bytes stage
 
--- what was read, or that there was no room for it
-abbrev pub InputIs : Option (List ℕ) → Option (List ℕ) → Input → Type 0
-InputIs read_old read_new input.Nothing = Received read_old read_new nothing
-InputIs read_old read_new (input.Refused refusal) = Received read_old read_new (refused refusal)
-InputIs read_old read_new (input.Request m) = Received read_old read_new (request (request_seen m))
-InputIs read_old read_new input.NoRoom = HasNoRoom read_old read_new
+-- what was read; or that there was no room for it, since memory refused some
+abbrev pub InputIs : Type 0 → Option (List ℕ) → Option (List ℕ) → Input → Type 0
+InputIs no_memory read_old read_new input.Nothing = Received read_old read_new nothing
+InputIs no_memory read_old read_new (input.Refused why) = Received read_old read_new (refused why)
+InputIs no_memory read_old read_new (input.Request m) = Received read_old read_new
+    (request (request_seen m))
+InputIs no_memory read_old read_new input.NoRoom = HasNoRoom read_old read_new × no_memory
 
 -- Bytes were read, and more had to be: no head has ended in them, or the body of one is not whole.
 abbrev pub StaysOpen : Option (List ℕ) → Option (List ℕ) → Type 0
@@ -81,9 +82,9 @@ LeavesOpen read_old read_new why = ((why ≡ fault.Read) ⊎ (why ≡ fault.TooM
     × StaysOpen read_old read_new
 
 -- a read, and what it makes of the request
-abbrev pub TurnIs : Option (List ℕ) → Option (List ℕ) → Turn → Type 0
-TurnIs read_old read_new (Again stage) = IsAtStage read_old read_new stage
-TurnIs read_old read_new (Done told) = InputIs read_old read_new told
+abbrev pub TurnIs : Type 0 → Option (List ℕ) → Option (List ℕ) → Turn → Type 0
+TurnIs no_memory read_old read_new (Again stage) = IsAtStage read_old read_new stage
+TurnIs no_memory read_old read_new (Done told) = InputIs no_memory read_old read_new told
 
 -- what bytes that do not go on ask for
 abbrev pub EndIs : List ℕ → Input → Type 0

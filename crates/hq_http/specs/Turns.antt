@@ -17,9 +17,10 @@ IsUnderWay remaining first now stage =
     × (now.left ≤ first.left) × (now.over ≡ first.over)
 
 -- one read more, and what it makes of the request
-abbrev pub MoreIs : {R : Type 0} → (R → Option (List ℕ)) → Reads R → Reads R → Turn → Type 0
-MoreIs remaining first new (Again stage) = IsUnderWay remaining first new stage
-MoreIs remaining first new (Done told) =
-    InputIs (remaining first.reader.now) (remaining new.reader.now) told
+abbrev pub MoreIs : {R : Type 0} → Type 0 → (R → Option (List ℕ)) → Reads R → Reads R → Turn →
+    Type 0
+MoreIs no_memory remaining first new (Again stage) = IsUnderWay remaining first new stage
+MoreIs no_memory remaining first new (Done told) =
+    InputIs no_memory (remaining first.reader.now) (remaining new.reader.now) told
     × StopsAtLast remaining first new
     × (told ≡ NoRoom → 0 < length (last_given new))

@@ -1,10 +1,12 @@
 //! The bytes of a head that is begun.
 
-ghost use Rattle.std.specs.Prelude.{◌≡◌, ◌++◌, [], IfOk};
+ghost use Rattle.std.specs.Prelude.{◌≡◌, ◌++◌, []};
+ghost use Rattle.hq_memory.specs.Making.{MadeIn};
 ghost use Rattle.hq_http.specs.Ends as ends;
 
 use crate::ends::{HeadPlace, place_behind};
-use std::alloc::{AllocError, Global};
+use hq_memory::Memory;
+use std::alloc::AllocError;
 
 /// The bytes so far, and where in a head they stop.
 #[derive(Drop)]
@@ -18,21 +20,22 @@ pub(crate) struct Begun {
 
 impl Begun {
     /// No bytes.
-    pub fn new(alloc: Global) -> Begun
+    pub fn new<M: Memory>(memory: M) -> Begun
         ensures { result.bytes.items ≡ [] }
     {
         Begun {
-            bytes: Vec::new(alloc),
+            bytes: memory.none(),
             place: HeadPlace::Before,
         }
     }
 
     /// With more bytes.
-    pub fn more(self, chunk: &[u8]) -> Result<Begun, AllocError>
-        ensures { IfOk result (λ begun. begun.bytes.items ≡ self.bytes.items ++ chunk.now) }
+    pub fn more<M: Memory>(self, memory: M, chunk: &[u8]) -> Result<Begun, AllocError>
+        ensures { MadeIn M.refused result (λ begun. begun.bytes.items
+            ≡ self.bytes.items ++ chunk.now) }
     {
         let mut bytes = self.bytes;
-        bytes.extend_from_slice(chunk)?;
+        memory.extend(&mut bytes, chunk)?;
         let place = place_behind(self.place, chunk);
         Ok(Begun { bytes, place })
     }

@@ -10,8 +10,8 @@ ghost use Rattle.hq_http.specs.declared.reads.Reads.{Reads};
 use crate::begun::Begun;
 use crate::reads::{ReadResult, Reads};
 use crate::stages::{Request, Stage, Step, advance};
+use hq_memory::Memory;
 use hq_values::{EngineFault, Refusal};
-use std::alloc::Global;
 use std::io::Read;
 
 /// What a connection asks for.
@@ -21,7 +21,7 @@ pub enum Input {
     Nothing,
     /// It is refused.
     Refused(Refusal),
-    /// There was no room for it.
+    /// There was no room for it: memory was refused.
     NoRoom,
     /// A whole request.
     Request(Request),
@@ -48,13 +48,13 @@ fn at_end(stage: &Stage) -> Input
 }
 
 /// What some more bytes make.
-fn take_chunk(alloc: Global, stage: Stage, chunk: &[u8]) -> Turn
+fn take_chunk<M: Memory>(memory: M, stage: Stage, chunk: &[u8]) -> Turn
     requires { 0 < length chunk.now }
     ensures { (read_old read_mid read_new : Option (List ℕ)) → IsAtStage read_old read_mid stage
         → Consumes read_mid read_new chunk.now → length chunk.now ≤ 4096
-        → TurnIs read_old read_new result }
+        → TurnIs M.refused read_old read_new result }
 {
-    match advance(alloc, stage, chunk) {
+    match advance(memory, stage, chunk) {
         Ok(Step::Open(stage)) => Turn::Again(stage),
         Ok(Step::Refused(refusal)) => Turn::Done(Input::Refused(refusal)),
         Ok(Step::Whole(whole)) => Turn::Done(Input::Request(whole)),
@@ -63,20 +63,20 @@ fn take_chunk(alloc: Global, stage: Stage, chunk: &[u8]) -> Turn
 }
 
 /// One read, and what it makes of the request.
-fn read_more<R: Read>(
-    alloc: Global,
+fn read_more<R: Read, M: Memory>(
+    memory: M,
     reads: &mut Reads<'_, R>,
     stage: Stage,
 ) -> Result<Turn, EngineFault>
     ensures same_reference { reads.new.reader.ghost_name ≡ reads.old.reader.ghost_name }
     ensures turn { (first : Reads R) → IsUnderWay R.remaining first reads.old stage
-        → IfOk result (MoreIs R.remaining first reads.new) }
+        → IfOk result (MoreIs M.refused R.remaining first reads.new) }
     ensures fault { (first : Reads R) → IsUnderWay R.remaining first reads.old stage
         → IfErr result (FailsOpen R.remaining first reads.new) }
     ensures counted { OnOk result (reads.new.left < reads.old.left) }
 {
     match reads.read() {
-        Ok(ReadResult::Bytes) => Ok(take_chunk(alloc, stage, reads.given())),
+        Ok(ReadResult::Bytes) => Ok(take_chunk(memory, stage, reads.given())),
         Ok(ReadResult::Interruption) => Ok(Turn::Again(stage)),
         Ok(ReadResult::End) => Ok(Turn::Done(at_end(&stage))),
         Err(fault) => Err(fault),
@@ -95,17 +95,22 @@ fn read_more<R: Read>(
 /// told by a head with no other fault, as 6 `BodyTooLong`. An error is a read that failed or one
 /// too many: up to it no head had ended, or the body of one was not whole. Bytes that can be no
 /// head are refused where an empty line ends them, and not before.
-pub fn read_request<R: Read>(alloc: Global, reads: &mut Reads<'_, R>) -> Result<Input, EngineFault>
+///
+/// `NoRoom` is told only where the memory refused a request.
+pub fn read_request<R: Read, M: Memory>(
+    memory: M,
+    reads: &mut Reads<'_, R>,
+) -> Result<Input, EngineFault>
     ensures same_reference { reads.new.reader.ghost_name ≡ reads.old.reader.ghost_name }
-    ensures told { IfOk result (InputIs (R.remaining reads.old.reader.now)
+    ensures told { IfOk result (InputIs M.refused (R.remaining reads.old.reader.now)
         (R.remaining reads.new.reader.now)) }
     ensures last { OnOk result (StopsAtLast R.remaining reads.old reads.new) }
     ensures room { IfOk result (λ input. input ≡ Input.NoRoom → 0 < length (last_given reads.new)) }
     ensures fault { IfErr result (FailsOpen R.remaining reads.old reads.new) }
 {
-    let mut stage = Stage::Head(Begun::new(alloc));
+    let mut stage = Stage::Head(Begun::new(memory));
     loop {
-        match read_more(alloc, reads, stage) {
+        match read_more(memory, reads, stage) {
             Ok(Turn::Again(next)) => stage = next,
             Ok(Turn::Done(input)) => return Ok(input),
             Err(fault) => return Err(fault),

@@ -1,15 +1,17 @@
 //! How far a request has come, from chunk to chunk.
 
-ghost use Rattle.std.specs.Prelude.{◌≡◌, ◌≢◌, ◌<◌, ◌++◌, [], length, List, ℕ, IfOk, option_map};
+ghost use Rattle.std.specs.Prelude.{◌≡◌, ◌≢◌, ◌<◌, ◌++◌, [], length, List, ℕ, option_map};
 ghost use Rattle.std.specs.Prelude.{string_bytes};
+ghost use Rattle.hq_memory.specs.Making.{MadeIn};
 ghost use Rattle.hq_http.specs.Ends.{HasEnd};
 ghost use Rattle.hq_http.specs.Stages.{BodyBegun, StageIs, StepIs, IsOf};
 
 use crate::begun::Begun;
 use crate::ends::HeadPlace;
 use crate::head::{HEAD_BYTES, ParsedHead, WholeHead, head_of};
+use hq_memory::Memory;
 use hq_values::Refusal;
-use std::alloc::{AllocError, Global};
+use std::alloc::AllocError;
 
 /// A request as it came.
 #[derive(Drop)]
@@ -57,48 +59,52 @@ fn with_body(request: Request, length: u64) -> Step
 }
 
 /// A key of its own.
-fn own_key(alloc: Global, key: Option<&str>) -> Result<Option<String>, AllocError>
-    ensures { IfOk result (λ own. option_map string_bytes own
+fn own_key<M: Memory>(memory: M, key: Option<&str>) -> Result<Option<String>, AllocError>
+    ensures { MadeIn M.refused result (λ own. option_map string_bytes own
         ≡ option_map (λ k. k.now) key.entry) }
 {
     match key {
         None => Ok(None),
-        Some(key) => Ok(Some(String::from_str(alloc, key)?)),
+        Some(key) => Ok(Some(memory.text(key)?)),
     }
 }
 
 /// The request of a head, with the first bytes of its body.
-fn request_of(alloc: Global, head: &WholeHead<'_>, rest: &[u8]) -> Result<Request, AllocError>
-    ensures { IfOk result (λ request. IsOf request head.now rest.now) }
+fn request_of<M: Memory>(
+    memory: M,
+    head: &WholeHead<'_>,
+    rest: &[u8],
+) -> Result<Request, AllocError>
+    ensures { MadeIn M.refused result (λ request. IsOf request head.now rest.now) }
 {
     Ok(Request {
-        method: String::from_str(alloc, head.method)?,
-        path: String::from_str(alloc, head.path)?,
-        key: own_key(alloc, head.key)?,
-        body: Vec::from_slice(alloc, rest)?,
+        method: memory.text(head.method)?,
+        path: memory.text(head.path)?,
+        key: own_key(memory, head.key)?,
+        body: memory.bytes(rest)?,
     })
 }
 
 /// What bytes with the end of a head make.
-fn behind_end(alloc: Global, held: &[u8]) -> Result<Step, AllocError>
+fn behind_end<M: Memory>(memory: M, held: &[u8]) -> Result<Step, AllocError>
     requires { HasEnd held.now }
-    ensures { IfOk result (StepIs held.now) }
+    ensures { MadeIn M.refused result (StepIs held.now) }
 {
     match head_of(held) {
         ParsedHead::Refused(refusal) => Ok(Step::Refused(refusal)),
         ParsedHead::Whole(head) => {
-            let request = request_of(alloc, &head, &held[head.start..])?;
+            let request = request_of(memory, &head, &held[head.start..])?;
             Ok(with_body(request, head.length))
         }
     }
 }
 
 /// What bytes make, where there was no end of a head.
-fn behind_begun(alloc: Global, begun: Begun) -> Result<Step, AllocError>
-    ensures { begun.bytes.items ≢ [] → IfOk result (StepIs begun.bytes.items) }
+fn behind_begun<M: Memory>(memory: M, begun: Begun) -> Result<Step, AllocError>
+    ensures { begun.bytes.items ≢ [] → MadeIn M.refused result (StepIs begun.bytes.items) }
 {
     if begun.place == HeadPlace::Ended {
-        return behind_end(alloc, begun.bytes.as_slice());
+        return behind_end(memory, begun.bytes.as_slice());
     }
     if begun.bytes.len() >= HEAD_BYTES {
         return Ok(Step::Refused(Refusal::BadRequest));
@@ -107,23 +113,28 @@ fn behind_begun(alloc: Global, begun: Begun) -> Result<Step, AllocError>
 }
 
 /// More bytes of a body.
-fn more_of_body(request: Request, length: u64, chunk: &[u8]) -> Result<Step, AllocError>
+fn more_of_body<M: Memory>(
+    memory: M,
+    request: Request,
+    length: u64,
+    chunk: &[u8],
+) -> Result<Step, AllocError>
     ensures { (bytes : List ℕ) → StageIs bytes (Stage.Body request length)
-        → IfOk result (StepIs (bytes ++ chunk.now)) }
+        → MadeIn M.refused result (StepIs (bytes ++ chunk.now)) }
 {
     let mut request = request;
-    request.body.extend_from_slice(chunk)?;
+    memory.extend(&mut request.body, chunk)?;
     Ok(with_body(request, length))
 }
 
 /// What more bytes make of a request. At want of memory what was read is lost.
-pub(crate) fn advance(alloc: Global, stage: Stage, chunk: &[u8]) -> Result<Step, AllocError>
+pub(crate) fn advance<M: Memory>(memory: M, stage: Stage, chunk: &[u8]) -> Result<Step, AllocError>
     requires { 0 < length chunk.now }
     ensures { (bytes : List ℕ) → StageIs bytes stage
-        → IfOk result (StepIs (bytes ++ chunk.now)) }
+        → MadeIn M.refused result (StepIs (bytes ++ chunk.now)) }
 {
     match stage {
-        Stage::Head(begun) => behind_begun(alloc, begun.more(chunk)?),
-        Stage::Body(request, length) => more_of_body(request, length, chunk),
+        Stage::Head(begun) => behind_begun(memory, begun.more(memory, chunk)?),
+        Stage::Body(request, length) => more_of_body(memory, request, length, chunk),
     }
 }

@@ -13,8 +13,8 @@ ghost use Rattle.hq_lines.specs.Progress.{Progress, Cut, Going};
 ghost use Rattle.hq_lines.specs.Written.{GoesOut};
 
 use crate::buffer::LineBuffer;
+use hq_memory::Memory;
 use hq_values::EngineFault;
-use std::alloc::Global;
 use std::io::{self, ErrorKind, Read, Write};
 
 /// The most reads of a batch, 2^26. An interrupted read counts.
@@ -37,19 +37,21 @@ pub trait Answers {
             × GoesOut (W.contents writer.old) (W.contents writer.new) reply result };
 }
 
-/// Answers the lines of an input in order. Room for a line is taken before the first read.
-pub fn answer_lines<R: Read, W: Write, A: Answers>(
-    alloc: Global,
+/// Answers the lines of an input in order. Room for a line is taken before the first read. The
+/// batch ends in want of memory only where the memory refused a request; then nothing is touched.
+pub fn answer_lines<R: Read, W: Write, A: Answers, M: Memory>(
+    memory: M,
     reader: &mut R,
     writer: &mut W,
     answers: &mut A,
 ) -> Result<(), EngineFault>
     ensures { InputEnds (λ asked replies. InTurn A.steps answers.old asked replies answers.new)
-        ((reader.new ≡ reader.old) × (writer.new ≡ writer.old) × (answers.new ≡ answers.old))
+        (M.refused × (reader.new ≡ reader.old) × (writer.new ≡ writer.old)
+        × (answers.new ≡ answers.old))
         (record { input = R.remaining reader.old; output = W.contents writer.old })
         (record { input = R.remaining reader.new; output = W.contents writer.new }) result }
 {
-    let Ok(mut line) = LineBuffer::new(alloc) else {
+    let Ok(mut line) = LineBuffer::new(memory) else {
         return Err(EngineFault::WantOfMemory);
     };
     answer_reads(MOST_READS, &mut line, reader, writer, answers)

@@ -1,12 +1,14 @@
 //! Room for one line, taken once. Of a line that is too long only so much is kept as shows that it
 //! is.
 
-ghost use Rattle.std.specs.Prelude.{◌≡◌, ◌≤◌, ◌++◌, ◌∷◌, [], IfOk, length, nat_lt, vec_capacity};
+ghost use Rattle.std.specs.Prelude.{◌≡◌, ◌≤◌, ◌++◌, ◌∷◌, [], length, nat_lt, vec_capacity};
 ghost use Rattle.std.specs.Prelude.{if◌then◌else◌};
+ghost use Rattle.hq_memory.specs.Making.{MadeIn};
 ghost use Rattle.hq_lines.specs.Lines.{without_return};
 
 use crate::fields::MOST_LINE_BYTES;
-use std::alloc::{AllocError, Global};
+use hq_memory::Memory;
+use std::alloc::AllocError;
 
 /// The bytes that are kept of a line: one more than a line may have.
 const ROOM_BYTES: usize = MOST_LINE_BYTES + 1;
@@ -20,10 +22,10 @@ pub struct LineBuffer {
 
 impl LineBuffer {
     /// An empty line, with room for the longest.
-    pub fn new(alloc: Global) -> Result<LineBuffer, AllocError>
-        ensures { IfOk result (λ line. line.bytes.items ≡ []) }
+    pub fn new<M: Memory>(memory: M) -> Result<LineBuffer, AllocError>
+        ensures { MadeIn M.refused result (λ line. line.bytes.items ≡ []) }
     {
-        let bytes = Vec::with_capacity(alloc, ROOM_BYTES)?;
+        let bytes = memory.room(ROOM_BYTES)?;
         Ok(LineBuffer { bytes })
     }
 

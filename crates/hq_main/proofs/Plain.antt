@@ -37,7 +37,7 @@ plain = record {
 pub serves : (set : Settings) → settings_seen set ≡ settings → (shelf : ListRows) →
     tables_of shelf ≡ no_tables
     → (asked : List (Option LineRequest)) (lines : List (List ℕ)) →
-    ServesOver plain set shelf asked lines → ServesBuiltin asked lines
+    ServesOver ⊤ plain set shelf asked lines → ServesBuiltin asked lines
 serves set builtin shelf none asked lines it =
     let d = set.directory in
     let old = it.old in

@@ -7,7 +7,7 @@ ghost use Rattle.std.specs.BTreeSet.{IsEmpty, contains, Updates};
 ghost use Rattle.std.specs.Char.{to_ascii_lowercase};
 ghost use Rattle.hq_memory.specs.Making.{MadeIn};
 
-use std::alloc::{AllocError, Global};
+use std::alloc::{AllocError, Allocator, Global};
 use std::collections::BTreeSet;
 use std::fmt::Display;
 
@@ -75,6 +75,10 @@ pub trait Memory: Copy + Drop {
             ≡ (if is_ok result then to.old.items ++ more.now else to.old.items) }
         ensures cause { OnErr result refused };
 
+    /// Bytes of its own.
+    fn bytes(self, of: &[u8]) -> Result<Vec<u8>, AllocError>
+        ensures items { MadeIn refused result (λ bytes. bytes.items ≡ of.now) };
+
     /// A set with nothing in it, without taking memory.
     fn no_values<T: Ord>(self) -> BTreeSet<T>
         ensures empty { IsEmpty result };
@@ -84,6 +88,27 @@ pub trait Memory: Copy + Drop {
         ensures is_new { MadeIn refused result (λ is_new. is_new ≡ not (contains T.cmp to.old
             value)) }
         ensures values { OnOk result (Updates T.cmp to.old to.new value true) };
+}
+
+/// An allocator that may refuse room for a list of its own.
+pub trait ListRoom: Allocator {
+    /// It refused room.
+    ghost no_room: { Type 0 };
+
+    /// An empty list with room for so many values.
+    fn list<T>(self, most: usize) -> Result<Vec<T, Self>, AllocError>
+        ensures items { MadeIn no_room result (λ values. values.items ≡ []) }
+        ensures room { IfOk result (λ values. (vec_len values ≡ 0)
+            × (most ≤ vec_capacity values)) };
+}
+
+/// Any allocator, of which nothing is said.
+impl<A: Allocator> ListRoom for A {
+    ghost no_room = { ⊤ };
+
+    fn list<T>(self, most: usize) -> Result<Vec<T, A>, AllocError> {
+        Vec::with_capacity(self, most)
+    }
 }
 
 /// The memory of the machine, of which nothing is said.
@@ -135,6 +160,10 @@ impl Memory for Global {
 
     fn extend(self, to: &mut Vec<u8>, more: &[u8]) -> Result<(), AllocError> {
         to.extend_from_slice(more)
+    }
+
+    fn bytes(self, of: &[u8]) -> Result<Vec<u8>, AllocError> {
+        Vec::from_slice(self, of)
     }
 
     fn no_values<T: Ord>(self) -> BTreeSet<T> {

@@ -1,16 +1,16 @@
 //! The directory: the relay's key, the customers with their keys, and whom an exchange is for.
 
-ghost use Rattle.std.specs.Prelude.{◌≡◌, ◌⊎◌, ◌≤◌, ◌^◌, IsTrue, IfOk, MatchResult, option_map};
+ghost use Rattle.std.specs.Prelude.{◌≡◌, ◌⊎◌, ◌<◌, ◌≤◌, ◌^◌, IsTrue, IfOk, MatchResult, option_map};
 ghost use Rattle.std.specs.Prelude.{length, true, false};
 ghost use Rattle.std.specs.List.{find, list_any};
 ghost use Rattle.hq_values.specs.Refusals.{no_memory_fail, refused};
 ghost use Rattle.hq_requests.specs.Customers.{are_customers, names_apart, keys_apart, has_key};
 ghost use Rattle.hq_requests.specs.Customers.{has_name};
 
+use crate::routes::RouteMemory;
 use crate::{Methods, Role, Routes};
 use hq_kept::{Customer, Entry};
 use hq_values::{Fail, Fault, Items, Key, Refusal};
-use std::alloc::Global;
 
 /// Whether a customer shows this key.
 fn has_key(customer: &Customer, key: &str) -> bool
@@ -101,14 +101,22 @@ impl Directory {
     ghost use Rattle.hq_values.specs.Readers.{seen_by};
 
     /// A directory of customers whose names and keys are pairwise different. Refused as 57
-    /// `BadRelayKey` exactly where the relay's key is a customer's.
-    pub fn new(alloc: Global, relay: Key, customers: Vec<Customer>) -> Result<Directory, Fail>
+    /// `BadRelayKey` exactly where the relay's key is a customer's. Else it may end in 90
+    /// `WantOfMemory`: only where the memory refused a request, or where there are more than 2^54
+    /// customers, which no memory holds.
+    pub fn new<M: RouteMemory>(
+        memory: M,
+        relay: Key,
+        customers: Vec<Customer>,
+    ) -> Result<Directory, Fail>
         requires { IsTrue (are_customers customers.items) }
         ensures { MatchResult result
             (λ d. (relay_of d ≡ relay) × (customers_of d ≡ customers.items)
             × (list_any (has_key relay) customers.items ≡ false))
             (λ e. ((e ≡ refused Refusal.BadRelayKey)
-            × (list_any (has_key relay) customers.items ≡ true)) ⊎ (e ≡ no_memory_fail)) }
+            × (list_any (has_key relay) customers.items ≡ true)) ⊎ ((e ≡ no_memory_fail)
+            × (list_any (has_key relay) customers.items ≡ false)
+            × (M.refused ⊎ (2 ^ 54 < length customers.items)))) }
     {
         if is_taken(customers.as_slice(), relay.as_str()) {
             return Err(Fail::Refused(Refusal::BadRelayKey));
@@ -116,7 +124,7 @@ impl Directory {
         if customers.len() > MOST_CUSTOMERS {
             return Err(Fail::Fault(Fault::WantOfMemory));
         }
-        let Ok(routes) = Routes::new(alloc) else {
+        let Ok(routes) = Routes::new(memory) else {
             return Err(Fail::Fault(Fault::WantOfMemory));
         };
         Ok(Directory {

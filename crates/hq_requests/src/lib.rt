@@ -18,5 +18,5 @@ pub use exchanges::Exchange;
 pub use named::customer_named;
 pub use reply::{Body, Reply};
 pub use request::{Asking, call_of};
-pub use routes::{Routes, last_segment};
+pub use routes::{RouteMemory, Routes, last_segment};
 pub use table::{Methods, Role, Route};

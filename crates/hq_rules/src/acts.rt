@@ -27,8 +27,8 @@ pub trait Acts {
     /// process or its machine stops, an opening finds the tables before it or those of the shared
     /// step.
     ///
-    /// It ends in 90 only where this memory refused a request, or where the store may; as long as
-    /// the answers to the call are some that the rendering is for.
+    /// Where the rendering is for every answer to the call, it ends in 90 only where this memory
+    /// refused a request, or where the store may.
     fn act<R: Render, M: CsvMemory>(
         &mut self,
         memory: M,

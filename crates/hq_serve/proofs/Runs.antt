@@ -119,7 +119,7 @@ module _ {D : Type 0} (sight : DeskSight D) (d : Directory) where
         one_each = at_most_one at asked;
         served = p.1;
       }
-  by_answer at a b old new reply (asked, inr p) = nothing_done 1 old new p.3
+  by_answer at a b old new reply (asked, inr p) = nothing_done 1 old new p.4
 
   -- however a connection ends
   pub by_end : (at : ℕ) (start end : Streams) (quiet : Type 0) (old new : D)

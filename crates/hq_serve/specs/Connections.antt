@@ -35,13 +35,14 @@ IsWritten old new None = Keeps old new
 IsWritten old new (Some r) = Appends old new (response_of r)
 
 -- What was read asks for this, and was served as its exchange is, or as none; or there was no room
--- for it, so that it asks for nothing, which is told, and nothing was done.
+-- for it, so that it asks for nothing, which is told where want of memory may be, and nothing was
+-- done.
 abbrev pub AnsweredAs : {D : Type 0} → DeskSight D → Directory → ℕ → Option (List ℕ) →
     Option (List ℕ) → D → Wanted → Option SeenReply → D → Type 0
 AnsweredAs sight d at read_old read_new old asked reply new =
     (Received read_old read_new asked
     × Served sight d old (asks d at asked) (option_to_list reply) new)
-    ⊎ (HasNoRoom read_old read_new × (asked ≡ nothing)
+    ⊎ (HasNoRoom read_old read_new × sight.store.may_answer no_memory × (asked ≡ nothing)
     × (reply ≡ Some (reply_of_fault no_memory)) × (new ≡ old))
 
 -- whatever it asks for

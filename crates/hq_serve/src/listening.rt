@@ -1,6 +1,5 @@
 //! The connections of a listening socket.
 
-ghost use Rattle.std.specs.Prelude.{⊤};
 ghost use Rattle.hq_wire.specs.Exchanges.{with_refusals};
 ghost use Rattle.hq_serve.specs.Listening.{connections_left, DoesSome, ServesComing};
 
@@ -8,6 +7,7 @@ use crate::connections::Connections;
 use crate::due::{Due, Until, linger};
 use crate::serving::serve_one;
 use crate::sockets::Stream;
+use hq_bodies::JsonMemory;
 use hq_log::Log;
 use hq_rules::Acts;
 use hq_values::{EngineFault, Moment};
@@ -48,8 +48,8 @@ fn moment_now<C: Clock>(clock: &C) -> Option<Moment> {
 }
 
 /// Serves one connection, by whatever reads and writes it.
-fn serve_between<R: Read, W: Write, D: Acts, L: Log>(
-    alloc: Global,
+fn serve_between<R: Read, W: Write, D: Acts, L: Log, M: JsonMemory>(
+    memory: M,
     reader: &mut R,
     writer: &mut W,
     desk: &mut D,
@@ -57,15 +57,16 @@ fn serve_between<R: Read, W: Write, D: Acts, L: Log>(
     at: Moment,
     log: &mut L,
 ) -> Result<(), EngineFault>
-    ensures { DoesSome (with_refusals ⊤ D.sight) directory.now 1 desk.old desk.new }
+    ensures { DoesSome (with_refusals M.refused D.sight) directory.now 1 desk.old desk.new }
 {
-    serve_one(alloc, reader, writer, desk, directory, at, log)
+    serve_one(memory, reader, writer, desk, directory, at, log)
 }
 
 /// Serves one connection, and gathers its response, so that it leaves in few segments; where there
 /// is no memory to gather it, it leaves as it is written.
-fn serve_gathered<R: Read, W: Write + Drop, D: Acts, L: Log>(
+fn serve_gathered<R: Read, W: Write + Drop, D: Acts, L: Log, M: JsonMemory>(
     alloc: Global,
+    memory: M,
     reader: &mut R,
     writer: &mut W,
     desk: &mut D,
@@ -73,17 +74,18 @@ fn serve_gathered<R: Read, W: Write + Drop, D: Acts, L: Log>(
     at: Moment,
     log: &mut L,
 ) -> Result<(), EngineFault>
-    ensures { DoesSome (with_refusals ⊤ D.sight) directory.now 1 desk.old desk.new }
+    ensures { DoesSome (with_refusals M.refused D.sight) directory.now 1 desk.old desk.new }
 {
     if let Ok(mut gathered) = BufWriter::new(alloc, &mut *writer) {
-        return serve_between(alloc, reader, &mut gathered, desk, directory, at, log);
+        return serve_between(memory, reader, &mut gathered, desk, directory, at, log);
     }
-    serve_between(alloc, reader, writer, desk, directory, at, log)
+    serve_between(memory, reader, writer, desk, directory, at, log)
 }
 
 /// Serves one connection within its limits, and where that ends well, lets the client end its side.
-fn serve_stream<C: Clock + AllocGlobal, D: Acts, L: Log>(
+fn serve_stream<C: Clock + AllocGlobal, D: Acts, L: Log, M: JsonMemory>(
     rt: &C,
+    memory: M,
     stream: &Stream,
     limits: Limits,
     desk: &mut D,
@@ -91,7 +93,7 @@ fn serve_stream<C: Clock + AllocGlobal, D: Acts, L: Log>(
     at: Moment,
     log: &mut L,
 ) -> Result<(), EngineFault>
-    ensures { DoesSome (with_refusals ⊤ D.sight) directory.now 1 desk.old desk.new }
+    ensures { DoesSome (with_refusals M.refused D.sight) directory.now 1 desk.old desk.new }
 {
     let until = Until::After(limits.request);
     let mut reader = Due {
@@ -108,6 +110,7 @@ fn serve_stream<C: Clock + AllocGlobal, D: Acts, L: Log>(
     };
     serve_gathered(
         rt.alloc(),
+        memory,
         &mut reader,
         &mut writer,
         desk,
@@ -138,14 +141,15 @@ fn tell<E: Write>(errors: &mut E, served: Result<(), EngineFault>) {
 /// it, are those that it would have alone. A connection that ends in a fault, or takes longer than
 /// the limits allow, is told in a line, `hq: input` while its request is read and `hq: output`
 /// while its response is written, and the next is served. What is replied to is told in the log,
-/// which changes nothing of this.
+/// which changes nothing of this. Requests and replies take their room from `memory`.
 ///
 /// When a response is written, what its client still sends is read and thrown away, until the
 /// client ends its side, for a second at most: a connection closed before that would be reset, and
 /// its response lost. So one connection takes at most twice `limits.request`, and a second, beside
 /// what its exchange takes.
-pub fn serve_on<C: Clock + AllocGlobal, D: Acts, E: Write, L: Log>(
+pub fn serve_on<C: Clock + AllocGlobal, D: Acts, E: Write, L: Log, M: JsonMemory>(
     rt: &C,
+    memory: M,
     connections: &mut Connections,
     limits: Limits,
     desk: &mut D,
@@ -153,9 +157,9 @@ pub fn serve_on<C: Clock + AllocGlobal, D: Acts, E: Write, L: Log>(
     errors: &mut E,
     log: &mut L,
 ) -> ServiceEnd
-    ensures { ServesComing (with_refusals ⊤ D.sight) directory.now (connections_left
-        connections.old)
-        (connections_left connections.new) result desk.old desk.new }
+    ensures { ServesComing (with_refusals M.refused D.sight) directory.now
+        (connections_left connections.old) (connections_left connections.new) result desk.old
+        desk.new }
 {
     loop {
         let stream = match connections.accept() {
@@ -166,7 +170,7 @@ pub fn serve_on<C: Clock + AllocGlobal, D: Acts, E: Write, L: Log>(
         let Some(at) = moment_now(rt) else {
             return ServiceEnd::Clock;
         };
-        let served = serve_stream(rt, &stream, limits, desk, directory, at, log);
+        let served = serve_stream(rt, memory, &stream, limits, desk, directory, at, log);
         tell(errors, served);
     }
 }

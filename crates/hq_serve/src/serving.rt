@@ -1,7 +1,7 @@
 //! One connection with the desk.
 
 ghost use Rattle.hq_wire.specs.Exchanges.{with_refusals};
-ghost use Rattle.std.specs.Prelude.{◌≡◌, false, List, ℕ, Option, IfOk, IfErr, ⊤};
+ghost use Rattle.std.specs.Prelude.{◌≡◌, false, List, ℕ, Option, IfOk, IfErr};
 ghost use Rattle.hq_http.specs.Stages.{request_seen, InputIs, LeavesOpen};
 ghost use Rattle.hq_lines.specs.Written.{GoesOut};
 ghost use Rattle.hq_wire.specs.Replies.{seen};
@@ -9,20 +9,22 @@ ghost use Rattle.hq_serve.specs.Connections.{response_of, ConnectionEnds};
 ghost use Rattle.hq_serve.specs.Logged.{LogEnds};
 ghost use Rattle.hq_serve.specs.Steps.{IsOfRequest, IsToLog, Sends};
 
+use hq_bodies::JsonMemory;
 use hq_http::{Input, Reads, Request, read_request, write_response};
 use hq_log::{Answered, Log};
+use hq_memory::Memory;
 use hq_rules::Acts;
 use hq_values::{EngineFault, Fault, Moment};
 use hq_wire::{Directory, Exchange, Reply, exchange, fault_reply, refusal_reply};
-use std::alloc::Global;
 use std::io::{self, Read, Write};
 
 /// Reads what a connection asks for, with 300,000 reads at most.
-fn read_input<R: Read>(alloc: Global, reader: &mut R) -> Result<Input, EngineFault>
-    ensures told { IfOk result (InputIs (R.remaining reader.old) (R.remaining reader.new)) }
+fn read_input<R: Read, M: Memory>(memory: M, reader: &mut R) -> Result<Input, EngineFault>
+    ensures told { IfOk result (InputIs M.refused (R.remaining reader.old)
+        (R.remaining reader.new)) }
     ensures fault { IfErr result (LeavesOpen (R.remaining reader.old) (R.remaining reader.new)) }
 {
-    read_request(alloc, &mut Reads::new(reader))
+    read_request(memory, &mut Reads::new(reader))
 }
 
 /// The exchange that a request asks for at a moment.
@@ -59,22 +61,22 @@ impl RequestReplied<'_> {
 }
 
 /// Replies to what a connection asks for; to nothing there is no reply.
-fn reply_to<'d, D: Acts>(
-    alloc: Global,
+fn reply_to<'d, D: Acts, M: JsonMemory>(
+    memory: M,
     desk: &mut D,
     directory: &'d Directory,
     at: Moment,
     input: Input,
 ) -> Option<RequestReplied<'d>>
-    ensures { (read_old read_new : Option (List ℕ)) → InputIs read_old read_new input
-        → Sends (with_refusals ⊤ D.sight) directory.now at read_old read_new desk.old result
+    ensures { (read_old read_new : Option (List ℕ)) → InputIs M.refused read_old read_new input
+        → Sends (with_refusals M.refused D.sight) directory.now at read_old read_new desk.old result
         desk.new }
 {
     match input {
         Input::Nothing => None,
         Input::Refused(refusal) => Some(RequestReplied {
             asked: None,
-            reply: refusal_reply(alloc, None, refusal),
+            reply: refusal_reply(memory, None, refusal),
         }),
         Input::NoRoom => Some(RequestReplied {
             asked: None,
@@ -82,7 +84,7 @@ fn reply_to<'d, D: Acts>(
         }),
         Input::Request(request) => {
             let asked = exchange_of(request, at);
-            let reply = exchange(alloc, desk, directory, &asked);
+            let reply = exchange(memory, desk, directory, &asked);
             Some(RequestReplied {
                 asked: Some(asked),
                 reply,
@@ -105,7 +107,8 @@ fn write_reply<W: Write>(writer: &mut W, reply: &Reply<'_>) -> io::Result<()>
 /// What is read asks for what the whole input asks for, however its bytes are cut (`hq_http`). A
 /// refusal is told, or 503 with 90 `WantOfMemory` in its place, and changes nothing; a request is
 /// replied to as its exchange is. Where there is no room for the request, 503 with 90 is told, and
-/// nothing was done.
+/// nothing was done. 90 is told only where `memory` refused a request, or where the store may
+/// answer it.
 ///
 /// To every customer the reply to its call, and what is kept of it afterwards, are those of the
 /// machine of one customer, started from its own state and given its share of the calls alone; a
@@ -117,8 +120,8 @@ fn write_reply<W: Write>(writer: &mut W, reply: &Reply<'_>) -> io::Result<()>
 /// An error is `Read` or `TooManyReads`: no head had ended, or the body of one was not whole, and
 /// nothing was done and nothing written; or `Write`: what was asked was done, and a beginning of
 /// its response went out. At most 300,000 reads are made, an interrupted one counted.
-pub fn serve_one<R: Read, W: Write, D: Acts, L: Log>(
-    alloc: Global,
+pub fn serve_one<R: Read, W: Write, D: Acts, L: Log, M: JsonMemory>(
+    memory: M,
     reader: &mut R,
     writer: &mut W,
     desk: &mut D,
@@ -126,22 +129,22 @@ pub fn serve_one<R: Read, W: Write, D: Acts, L: Log>(
     at: Moment,
     log: &mut L,
 ) -> Result<(), EngineFault>
-    ensures ends { ConnectionEnds (with_refusals ⊤ D.sight) directory.now at
+    ensures ends { ConnectionEnds (with_refusals M.refused D.sight) directory.now at
         (record { input = R.remaining reader.old; output = W.contents writer.old })
         (record { input = R.remaining reader.new; output = W.contents writer.new })
         (writer.new ≡ writer.old) desk.old desk.new result }
-    ensures logged { L.is_losing log.new ≡ false → LogEnds (with_refusals ⊤ D.sight) directory.now
-        at
+    ensures logged { L.is_losing log.new ≡ false → LogEnds (with_refusals M.refused D.sight)
+        directory.now at
         (record { input = R.remaining reader.old; output = W.contents writer.old })
         (record { input = R.remaining reader.new; output = W.contents writer.new })
         desk.old desk.new (L.is_losing log.old) (L.contents log.old) (L.contents log.new) result }
 {
-    let input = match read_input(alloc, reader) {
+    let input = match read_input(memory, reader) {
         Ok(input) => input,
         Err(fault) => return Err(fault),
     };
     log.begin();
-    match reply_to(alloc, desk, directory, at, input) {
+    match reply_to(memory, desk, directory, at, input) {
         None => Ok(()),
         Some(replied) => {
             log.replied(&replied.answered(at));

@@ -4,3 +4,4 @@ pub mod Settings
 pub mod SettingUp
 pub mod Steps
 pub mod Builtin
+pub mod Checked

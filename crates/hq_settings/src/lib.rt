@@ -1,6 +1,6 @@
 //! The settings of a desk: the relay's name and key, and the directory of customers. They come from
-//! texts and the bytes of files, which words name; each is checked in the written order. Without
-//! words there are built-in ones.
+//! texts and the bytes of files, which words name; each is checked in the written order, for a
+//! start or for a check alone. Without words there are built-in ones.
 //!
 //! `Trouble` says why a program did not do what its words asked for.
 //!
@@ -12,6 +12,7 @@
 #![tactic(auto)]
 
 mod builtin;
+mod checking;
 mod files;
 mod relay;
 mod relay_words;
@@ -24,6 +25,7 @@ mod trouble;
 mod words_tests;
 
 pub use builtin::settings as builtin_settings;
+pub use checking::{count_in, relay_given};
 pub use files::{customers_of, file_of};
 pub use relay::Relay;
 pub use relay_words::relay_of;

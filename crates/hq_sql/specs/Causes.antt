@@ -5,7 +5,7 @@ use Rattle.sqlite.specs.declared.error.Error.{Error}
 use Rattle.sqlite.specs.declared.error.Error.TheVariants.{SqliteFailure}
 use Rattle.sqlite.specs.declared.error.ErrorCode.TheVariants.{OutOfMemory}
 
--- want of memory, since memory was refused; any other error, since a call of `sqlite` failed
+-- want of memory, since memory was refused; any other error, since the store failed
 abbrev pub HasCause : Type 0 → Type 0 → Error → Type 0
 HasCause refused failed (SqliteFailure OutOfMemory) = refused
 HasCause refused failed _ = failed

@@ -1,4 +1,5 @@
--- Values that the desk does not write: a row that holds one is not of the desk.
+-- Values that the desk does not write. Where a row holds one, or a statement is to take one, the
+-- store failed (`SqliteMemory`).
 -- Inner: it serves proofs alone, and no promise rests on it.
 use Rattle.std.specs.Prelude.{◌≡◌, ◌≢◌, ℕ, ◌<◌, ◌≤◌, ◌^◌, List, [], None, Ok, IsErr}
 use Rattle.hq_values.specs.Addresses.{address_in}

@@ -22,8 +22,8 @@ use std::alloc::Global;
 /// Memory that also makes the calls of `sqlite`. Code that takes any of it knows why one of them
 /// ended in an error only by what these calls say, so its own errors have that cause.
 pub trait SqliteMemory: Memory {
-    /// A call of `sqlite` ended in an error that is no want of memory; or a row held a value, or a
-    /// statement was to take one, that the desk does not write.
+    /// The store failed: a call of `sqlite` ended in an error that is no want of memory; or a row
+    /// held a value, or a statement was to take one, that the desk does not write.
     ghost failed: { Type 0 };
 
     /// A statement that is no query, and how many rows it changed.

@@ -2,7 +2,7 @@
 
 use hq_kept::Class;
 
-/// What the text of a column is written as, by the readers of `hq_values` and `hq_kept`.
+/// The form of a column's text, as a reader of `hq_values` or `hq_kept` takes it.
 #[derive(Clone, Copy, Debug, PartialEq, Eq)]
 pub enum Form {
     /// A mail address.
@@ -15,7 +15,7 @@ pub enum Form {
     Label,
     /// A text of one line.
     Text,
-    /// A status code of RFC 3463.
+    /// A status code of RFC 3463, or nothing for none.
     Status,
     /// The name of a class of access tables.
     Class,
@@ -23,7 +23,7 @@ pub enum Form {
     Pattern(Class),
 }
 
-/// The numbers that may stand in a column, or be counted.
+/// The numbers that a column may hold, or a count reach.
 #[derive(Clone, Copy, Debug, PartialEq, Eq)]
 pub enum Limits {
     /// Those that a column takes: below 2^63.

@@ -39,7 +39,8 @@ pub fn open_desk_leaves_its_tables<S: Alter>(conn: &Connection<S>)
 }
 
 /// Over `sqlite` each fault has its cause. 90 is answered only where memory was refused, that of
-/// the call or that of the shelf. 91 and 93 are answered only where a call of `sqlite` failed.
+/// the call or that of the shelf. 91 and 93 are answered only where the store failed: a call of
+/// `sqlite` ended in an error, or a value is none that the desk writes.
 ///
 /// So no fault is answered where none of that was. Then `hq_across::laws::all_is_answered` says
 /// that every call is answered as its definition has it.

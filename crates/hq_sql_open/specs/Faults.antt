@@ -11,7 +11,7 @@ abbrev pub fault_in : Error → Fault
 fault_in (SqliteFailure OutOfMemory) = WantOfMemory
 fault_in _ = Disk
 
--- memory was refused, or a call of `sqlite` failed
+-- memory was refused, or the store failed
 abbrev pub IsCaused : Type 0 → Type 0 → Fault → Type 0
 IsCaused refused failed WantOfMemory = refused
 IsCaused refused failed BadSchema = ⊥

@@ -26,7 +26,7 @@ abbrev pub unasked_for : Fault → Standing
 unasked_for WantOfMemory = InDoubt
 unasked_for _ = Unasked
 
--- why a connection is gone, or could not be asked: memory was refused, or a call of `sqlite` failed
+-- why a connection is gone, or could not be asked: memory was refused, or the store failed
 abbrev pub HasReason : Type 0 → Type 0 → Standing → Type 0
 HasReason refused failed Open = ⊤
 HasReason refused failed InDoubt = refused

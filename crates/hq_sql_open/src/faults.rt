@@ -6,7 +6,7 @@ ghost use Rattle.hq_sql_open.specs.Faults.{fault_in};
 use hq_values::Fault;
 use sqlite::{Error, ErrorCode};
 
-/// The fault that an error is told as: 90 for want of memory, 91 for any other.
+/// The fault of an error: 90 `WantOfMemory` for want of memory, 91 `Disk` for any other.
 pub fn fault_of(error: Error) -> Fault
     ensures { result ≡ fault_in error }
 {

@@ -78,7 +78,7 @@ serves : (settings : Settings) (shelf : SqlShelf MemStore Global)
     → IsOurs (state over_memory shelf.conn) →
     tables_in (state over_memory shelf.conn).committed ≡ no_tables
     → (asked : List (Option LineRequest)) (lines : List (List ℕ)) →
-    ServesOver memory settings shelf asked lines → ServesFromEmpty settings asked lines
+    ServesOver ⊤ memory settings shelf asked lines → ServesFromEmpty settings asked lines
 serves settings shelf ours none asked lines it = record {
   shelf = shelf;
   over = it;
@@ -93,6 +93,7 @@ pub memory_ends : (settings : Settings) (opened : Result (SqlShelf MemStore Glob
     → OpenedEnds memory settings opened untouched old new result →
     MemoryEnds settings untouched old new result
 memory_ends settings (Ok shelf) untouched old new result ours none p =
-    inl (run_ends_as (ServesOver memory settings shelf) (ServesFromEmpty settings) untouched
-    (serves settings shelf ours none) old new result p)
+    inl (run_ends_as (ServesOver ⊤ memory settings shelf) (ServesFromEmpty settings)
+    (serves settings shelf ours none) untouched untouched (λ (same : untouched). same) old new
+    result p)
 memory_ends settings (Err fault) untouched old new result ours none p = inr (fault, p)

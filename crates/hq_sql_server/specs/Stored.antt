@@ -33,7 +33,7 @@ IsUnopened untouched fault result = untouched × (result ≡ Err (OfDesk (AsFaul
 abbrev pub OpenedEnds : {S : Type 0} → Sight S → Settings → Result S Fault → Type 0 → Streams →
     Streams → Result ⊤ Trouble → Type 0
 OpenedEnds sight settings opened untouched old new result = OverOpened
-    (λ shelf. RunEnds (ServesOver sight settings shelf) untouched old new result)
+    (λ shelf. RunEnds (ServesOver ⊤ sight settings shelf) untouched old new result)
     (λ fault. IsUnopened untouched fault result) opened
 
 -- ---- in memory
@@ -57,7 +57,7 @@ pub record FromEmpty (settings : Settings) (asks : List Ask) (replies : List See
 pub record ServesFromEmpty (settings : Settings) (asked : List (Option LineRequest))
     (lines : List (List ℕ)) : Type 0 where
   pub shelf : SqlShelf MemStore Global
-  pub over : ServesOver memory settings shelf asked lines
+  pub over : ServesOver ⊤ memory settings shelf asked lines
   pub from_empty : FromEmpty settings (map (ask_in settings.directory) asked) over.replied.0
       over.new
 

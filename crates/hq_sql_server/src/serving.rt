@@ -52,6 +52,7 @@ fn serve_over<S: Shelf + Drop, W: Write, E: Write>(
     let mut log = log_of(rt, given.log);
     ended(serve_on(
         rt,
+        rt.alloc(),
         &mut connections,
         limits(given),
         &mut desk,

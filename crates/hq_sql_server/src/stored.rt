@@ -30,7 +30,8 @@ fn run_opened<S: Alter + Drop, R: Read, W: Write, L: Log>(
         (record { input = R.remaining input.old; output = W.contents output.old })
         (record { input = R.remaining input.new; output = W.contents output.new }) result }
 {
-    run_batch(rt.alloc(), opened?, settings, input, output, log)
+    let shelf = opened?;
+    run_batch(rt.alloc(), shelf, settings, input, output, log)
 }
 
 /// Serves the customers from an empty desk, whose store stands in memory.

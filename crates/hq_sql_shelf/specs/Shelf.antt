@@ -68,7 +68,7 @@ pub record IsOurs (s : State) : Type 0 where
 -- What is seen of a shelf, by what is seen of its connection: the tables are what was committed.
 -- Where the connection was lost in doubt, nothing is said of them, nor of what a stop leaves. A
 -- stop leaves trees, and the tables are those that they hold as a desk's. 90 is answered only where
--- memory was refused, and 91 and 93 only where a call of `sqlite` failed.
+-- memory was refused, and 91 and 93 only where the store failed.
 abbrev pub sight_over : {S M : Type 0} → Type 0 → Type 0 → (Held S → State) → Sight (SqlShelf S M)
 sight_over refused failed seen = record {
   tables = λ s. tables_in (seen s.conn).committed;

@@ -8,7 +8,7 @@ use hq_sql_open::transaction::Standing;
 use std::marker::Model;
 
 /// What is known of a connection. It is gone, or could not be asked, only for a reason: memory was
-/// refused, or a call of `sqlite` failed, in this call or in an earlier one.
+/// refused, or the store failed, in this call or in an earlier one.
 #[derive(Drop)]
 pub(crate) struct Known<M: SqliteMemory> {
     memory: M,

@@ -18,8 +18,8 @@ use hq_sql_recipients::recipients;
 use hq_values::{Name, Serial};
 use sqlite::{Alter, Connection, Error};
 
-/// Puts the row of a message that has another size or none, and counts it. Where none is there, it
-/// is added at once.
+/// Puts the row of a message, and counts it. The message has no row yet, or one of another size;
+/// where it has none, one statement adds it.
 fn put_recounted_row<S: Alter, M: SqliteMemory>(
     memory: M,
     conn: &mut Connection<S>,
@@ -38,7 +38,8 @@ fn put_recounted_row<S: Alter, M: SqliteMemory>(
     }
 }
 
-/// Puts the row of a message, and counts it. Where one of its size is there, it is set and no more.
+/// Puts the row of a message, and counts it. Where it has a row of this size, one statement sets
+/// that.
 fn put_row<S: Alter, M: SqliteMemory>(
     memory: M,
     conn: &mut Connection<S>,
@@ -80,8 +81,8 @@ pub(crate) fn put_message<S: Alter, M: SqliteMemory>(
     Ok(())
 }
 
-/// Puts the row of a message, and counts nothing; the size that it had is told. A new one is added
-/// at once.
+/// Puts the row of a message, counts nothing, and tells the size that it had. Where it has no row,
+/// one statement adds it.
 fn put_uncounted_row<S: Alter, M: SqliteMemory>(
     memory: M,
     conn: &mut Connection<S>,
@@ -101,7 +102,7 @@ fn put_uncounted_row<S: Alter, M: SqliteMemory>(
     Ok(Some(before))
 }
 
-/// Puts all rows of a message, and counts nothing; the size that it had is told.
+/// Puts all rows of a message, counts nothing, and tells the size that it had.
 pub(crate) fn put_uncounted<S: Alter, M: SqliteMemory>(
     memory: M,
     conn: &mut Connection<S>,

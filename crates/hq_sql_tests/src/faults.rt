@@ -7,8 +7,8 @@ use sqlite::{Connection, MemStore};
 use std::alloc::Global;
 use std::test::Fail;
 
-/// A row that is no value of its type, and what acme's head, messages, lines, mark, notices and
-/// ends are told as then: 0 is an answer.
+/// A row that holds no value of the desk, and the number that each of six readings of acme ends in
+/// then, 0 for an answer: its head, messages, lines, mark, notices and ends.
 const ROWS: [(&str, [u16; 6]); 10] = [
     ("", [0; 6]),
     (

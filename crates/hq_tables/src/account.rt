@@ -1,6 +1,6 @@
 //! What a head row keeps of a customer.
 
-ghost use Rattle.std.specs.Prelude.{◌≡◌, IfSome};
+ghost use Rattle.std.specs.Prelude.{◌≡◌, ◌≤◌, ◌⊎◌, ◌+◌, ◌^◌, MatchOption};
 ghost use Rattle.hq_tables.specs.Tables.{opening_account, recounted, with_message, without_message};
 ghost use Rattle.hq_tables.specs.Tables.{with_line, without_line};
 
@@ -40,10 +40,12 @@ impl Account {
         }
     }
 
-    /// With one message more, of this size in bytes; nothing for a count above 64 bits, which no
-    /// sound table has.
+    /// With one message more, of this size in bytes; nothing exactly where a count would have more
+    /// than 64 bits, as none of a sound table has.
     pub fn with_message(self, size: u32) -> Option<Account>
-        ensures { IfSome result (λ more. more ≡ recounted (with_message size) self) }
+        ensures { MatchOption result
+            ((2 ^ 64 ≤ self.counts.messages + 1) ⊎ (2 ^ 64 ≤ self.counts.bytes + size))
+            (λ more. more ≡ recounted (with_message size) self) }
     {
         let messages = self.counts.messages.checked_add(1)?;
         let bytes = self.counts.bytes.checked_add(u64::from(size))?;
@@ -69,9 +71,11 @@ impl Account {
         Account { counts, ..self }
     }
 
-    /// With one line more; nothing for a count above 64 bits, which no sound table has.
+    /// With one line more; nothing exactly where their count would have more than 64 bits, as none
+    /// of a sound table has.
     pub fn with_line(self) -> Option<Account>
-        ensures { IfSome result (λ more. more ≡ recounted with_line self) }
+        ensures { MatchOption result (2 ^ 64 ≤ self.counts.lines + 1)
+            (λ more. more ≡ recounted with_line self) }
     {
         let lines = self.counts.lines.checked_add(1)?;
         let counts = Counts {

@@ -7,9 +7,10 @@ ghost use Rattle.hq_wire.specs.Runs.{RunsSo};
 
 use crate::answering::exchange;
 use hq_bodies::JsonMemory;
+use hq_memory::ListRoom;
 use hq_requests::{Directory, Exchange, Reply};
 use hq_rules::Acts;
-use std::alloc::{AllocError, Allocator};
+use std::alloc::AllocError;
 
 /// Replies to exchanges in order, one reply each.
 ///
@@ -19,8 +20,9 @@ use std::alloc::{AllocError, Allocator};
 /// 90 is told only where `memory` refused a request, or where the store may answer it. Each reply
 /// carries the customer of its exchange.
 ///
-/// Room for all replies is taken first from `room`; where it is refused, nothing was done.
-pub fn run<'d, D: Acts, M: JsonMemory, A: Allocator>(
+/// Room for all replies is taken first from `room`. The run ends in an error only where `room`
+/// refused a request; then nothing was done.
+pub fn run<'d, D: Acts, M: JsonMemory, A: ListRoom>(
     memory: M,
     room: A,
     desk: &mut D,
@@ -31,9 +33,9 @@ pub fn run<'d, D: Acts, M: JsonMemory, A: Allocator>(
         directory.now desk.old (map (ask_of directory.now) exchanges.now) replies.items desk.new) }
     ensures customers { IfOk result (λ replies. map customer_told replies.items
         ≡ map (customer_of_exchange directory.now) exchanges.now) }
-    ensures none { OnErr result (desk.new ≡ desk.old) }
+    ensures none { OnErr result ((desk.new ≡ desk.old) × A.no_room) }
 {
-    let mut replies = Vec::with_capacity(room, exchanges.len())?;
+    let mut replies = room.list(exchanges.len())?;
     for item in exchanges {
         let reply = exchange(memory, desk, directory, item);
         replies.push_reserved(reply);

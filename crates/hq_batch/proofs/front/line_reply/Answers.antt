@@ -1,4 +1,3 @@
-use Rattle.std.specs.Prelude.{⊤}
 use Rattle.hq_wire.specs.Exchanges.{with_refusals}
 use Rattle.std.proofs.Common.{None, inl, refl, subst}
 use Rattle.hq_values.specs.declared.failure.Refusal.TheVariants.{BadRequest}
@@ -9,7 +8,7 @@ use Rattle.hq_batch.proofs.front.line_reply.Goals as goal
 
 pub returns-in-None : goal.returns-in-None
 returns-in-None g c =
-    let sight = (with_refusals ⊤ g.D.Acts.sight) in
+    let sight = (with_refusals g.M.Memory.refused g.D.Acts.sight) in
     let d = c.args.directory.now in
     let desk = c.args.desk.now in
     let r = seen c.refusal_reply.result in
@@ -22,7 +21,7 @@ returns-in-None g c =
       told = r;
       sent = (refl, refl);
       done = refused sight d desk 0 BadRequest r
-          (refused_so ⊤ g.D.Acts.sight _ r c.refusal_reply.ensures.told)
+          (refused_so g.M.Memory.refused g.D.Acts.sight _ r c.refusal_reply.ensures.told)
           c.refusal_reply.ensures.store;
       moment = refl;
       holds = inl refl;

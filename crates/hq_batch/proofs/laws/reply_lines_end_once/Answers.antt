@@ -1,4 +1,3 @@
-use Rattle.std.specs.Prelude.{⊤}
 use Rattle.hq_rules.specs.Desks.{or_memory}
 use Rattle.std.proofs.Common.{◌≡◌, ◌+◌, ◌/◌, ◌%◌, ◌∷◌, ◌++◌, ℕ, true, refl, arith}
 use Rattle.std.specs.Cmp.Derive.{both_true}
@@ -17,8 +16,8 @@ digits_one_line n = both_true (above (48 + n / 100 % 10) (omega arith))
 pub returns : goal.returns
 returns g c = λ host d a r t t' names replied.
     let body : is_one_line r.body ≡ true =
-    reply_one_line (or_memory ⊤ g.D.Acts.sight.store).may_answer host d t t' a.at names a.called r
-    replied in (
+    reply_one_line (or_memory g.M.Memory.refused g.D.Acts.sight.store).may_answer host d t t' a.at
+    names a.called r replied in (
       three_digits r.status ++ 32 ∷ r.body,
       refl,
       both_one_line (three_digits r.status) (32 ∷ r.body) (digits_one_line r.status) body,

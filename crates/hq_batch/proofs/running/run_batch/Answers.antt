@@ -1,6 +1,5 @@
 use Rattle.std.proofs.Common.{◌≡◌, Err, refl}
 use Rattle.std.proofs.lemmas.Result.{err_from_is_err_and}
-use Rattle.std.specs.Prelude.{⊤}
 use Rattle.hq_wire.specs.Exchanges.{with_refusals}
 use Rattle.hq_desk.specs.Desks.{on}
 use Rattle.hq_lines.proofs.Steps.{ends_as}
@@ -11,17 +10,19 @@ use Rattle.hq_batch.proofs.running.run_batch.Goals as goal
 pub returns-in_err-batch : goal.returns-in_err-batch
 returns-in_err-batch g c =
     let told = err_from_is_err_and c.from_residual.result c.from_residual.ensures.1 in
+    let sight = with_refusals g.M.Memory.refused (on g.S.Shelf.sight) in
     let d = c.args.settings.directory in
     let old = c.new-desk.result in
     let new = c.batch.new.desk in
-    let less : (c.batch.new.reader ≡ c.args.input.now) × (c.batch.new.writer ≡ c.args.output.now)
-    × (new ≡ old) → (c.batch.new.reader ≡ c.args.input.now)
-    × (c.batch.new.writer ≡ c.args.output.now) = λ same. (same.0, same.1) in
+    let less : g.M.Memory.refused × (c.batch.new.reader ≡ c.args.input.now)
+    × (c.batch.new.writer ≡ c.args.output.now) × (new ≡ old)
+    → g.M.Memory.refused × (c.batch.new.reader ≡ c.args.input.now)
+    × (c.batch.new.writer ≡ c.args.output.now) = λ same. (same.0, same.1, same.2) in
     rw (told.1, told.2) (
       c.in_err-batch.field-0.0,
       refl,
-      ends_as (λ asked lines. Replied (with_refusals ⊤ (on g.S.Shelf.sight)) d old asked lines new)
-          (ServesOver g.S.Shelf.sight c.args.settings c.args.shelf)
+      ends_as (λ asked lines. Replied sight d old asked lines new)
+          (ServesOver g.M.Memory.refused g.S.Shelf.sight c.args.settings c.args.shelf)
           (λ asked lines p. record {
             old = old;
             host_is = c.new-desk.ensures.host;

@@ -1,4 +1,3 @@
-use Rattle.std.specs.Prelude.{⊤}
 use Rattle.hq_wire.specs.Exchanges.{with_refusals}
 use Rattle.std.proofs.Common.{ap}
 use Rattle.hq_lines.proofs.Steps.{ends_as}
@@ -7,14 +6,15 @@ use Rattle.hq_batch.proofs.serving.serve_front.Goals as goal
 
 pub returns-clause-same_reference : goal.returns-clause-same_reference
 returns-clause-same_reference g c =
-    lent_desk (with_refusals ⊤ g.D.Acts.sight) g.L.Log.is_losing g.L.Log.contents c.args.front.now
-    c.answer_lines.new.answers (λ same. same.2) _ _
+    let sight = with_refusals g.M.Memory.refused g.D.Acts.sight in
+    lent_desk sight g.L.Log.is_losing g.L.Log.contents c.args.front.now
+    c.answer_lines.new.answers (λ same. same.3) _ _
     c.answer_lines.result c.answer_lines.ensures
 
 pub returns-clause-ended : goal.returns-clause-ended
 returns-clause-ended g c =
-    ends_as _ _ (replied (with_refusals ⊤ g.D.Acts.sight) g.L.Log.is_losing g.L.Log.contents
-    c.args.front.now
+    let sight = with_refusals g.M.Memory.refused g.D.Acts.sight in
+    ends_as _ _ (replied sight g.L.Log.is_losing g.L.Log.contents c.args.front.now
     c.answer_lines.new.answers)
-    (λ same. (same.0, same.1, ap (λ f. f.desk.now) same.2)) _ _ c.answer_lines.result
+    (λ same. (same.0, same.1, same.2, ap (λ f. f.desk.now) same.3)) _ _ c.answer_lines.result
     c.answer_lines.ensures

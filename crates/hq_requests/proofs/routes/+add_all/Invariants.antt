@@ -2,4 +2,4 @@ use Rattle.std.proofs.Common.{length}
 use Rattle.hq_requests.proofs.routes.+add_all.Given as goal
 
 abbrev pub decreases-add_all : goal.decreases-add_all
-decreases-add_all l = length l.paths.now
+decreases-add_all g l = length l.paths.now

@@ -1,4 +1,3 @@
-use Rattle.std.specs.Prelude.{⊤}
 use Rattle.hq_wire.specs.Exchanges.{with_refusals}
 use Rattle.std.proofs.Common.{◌≡◌}
 use Rattle.hq_serve.proofs.Runs.{by_end}
@@ -6,7 +5,7 @@ use Rattle.hq_serve.proofs.listening.serve_between.Goals as goal
 
 pub returns : goal.returns
 returns g c =
-    by_end (with_refusals ⊤ g.D.Acts.sight) c.args.directory.now c.args.at
+    by_end (with_refusals g.M.Memory.refused g.D.Acts.sight) c.args.directory.now c.args.at
     (record {
       input = g.R.Read.remaining c.args.reader.now;
       output = g.W.Write.contents c.args.writer.now;

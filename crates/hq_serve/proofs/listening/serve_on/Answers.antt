@@ -1,4 +1,3 @@
-use Rattle.std.specs.Prelude.{⊤}
 use Rattle.hq_wire.specs.Exchanges.{with_refusals}
 use Rattle.std.proofs.Common.{ap}
 use Rattle.hq_serve.specs.Listening.{connections_left}
@@ -7,15 +6,14 @@ use Rattle.hq_serve.proofs.listening.serve_on.Goals as goal
 
 pub loop-stream-init : goal.loop-stream-init
 loop-stream-init g c =
-    none_came (with_refusals ⊤ g.D.Acts.sight) c.args.directory.now (connections_left
-    c.args.connections.now)
-    c.args.desk.now
+    let sight = with_refusals g.M.Memory.refused g.D.Acts.sight in
+    none_came sight c.args.directory.now (connections_left c.args.connections.now) c.args.desk.now
 
 pub returns-in_default : goal.returns-in_default
 returns-in_default g c =
     let came = rw c.in-Ok-Some.field-0-is at c.in-Ok-Some.ensures in
-    one_unserved (with_refusals ⊤ g.D.Acts.sight) c.args.directory.now (connections_left
-    c.args.connections.now)
+    let sight = with_refusals g.M.Memory.refused g.D.Acts.sight in
+    one_unserved sight c.args.directory.now (connections_left c.args.connections.now)
     (connections_left c.loop-stream.connections) (connections_left c.accept.new.self)
     c.args.desk.now
     c.loop-stream.desk c.loop-stream.invariant came.0 (ap connections_left came.1)
@@ -23,8 +21,8 @@ returns-in_default g c =
 pub loop-stream-preserved : goal.loop-stream-preserved
 loop-stream-preserved g c =
     let came = rw c.in-Ok-Some.field-0-is at c.in-Ok-Some.ensures in
-    one_more (with_refusals ⊤ g.D.Acts.sight) c.args.directory.now (connections_left
-    c.args.connections.now)
+    let sight = with_refusals g.M.Memory.refused g.D.Acts.sight in
+    one_more sight c.args.directory.now (connections_left c.args.connections.now)
     (connections_left c.loop-stream.connections) (connections_left c.accept.new.self)
     c.args.desk.now
     c.loop-stream.desk c.serve_stream-served.new.desk c.loop-stream.invariant came.0
@@ -33,8 +31,8 @@ loop-stream-preserved g c =
 pub loop-stream-preserved-in-Some : goal.loop-stream-preserved-in-Some
 loop-stream-preserved-in-Some g c =
     let came = rw c.in-Ok-Some.field-0-is at c.in-Ok-Some.ensures in
-    one_more (with_refusals ⊤ g.D.Acts.sight) c.args.directory.now (connections_left
-    c.args.connections.now)
+    let sight = with_refusals g.M.Memory.refused g.D.Acts.sight in
+    one_more sight c.args.directory.now (connections_left c.args.connections.now)
     (connections_left c.loop-stream.connections) (connections_left c.accept.new.self)
     c.args.desk.now
     c.loop-stream.desk c.serve_stream-served.new.desk c.loop-stream.invariant came.0

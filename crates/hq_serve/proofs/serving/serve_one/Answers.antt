@@ -1,4 +1,3 @@
-use Rattle.std.specs.Prelude.{⊤}
 use Rattle.hq_wire.specs.Exchanges.{with_refusals}
 use Rattle.std.proofs.Common.{inr}
 use Rattle.std.proofs.KnownBytes.{Keeps-refl}
@@ -22,16 +21,18 @@ returns-in-Ok-write_reply-clause-ends g c =
 
 pub returns-clause-ends : goal.returns-clause-ends
 returns-clause-ends g c =
+    let sight = with_refusals g.M.Memory.refused g.D.Acts.sight in
     let so = c.in-Some.ensures _ _ c.in-Ok.ensures.told in
-    broken_off (with_refusals ⊤ g.D.Acts.sight) c.args.directory.now c.args.at _ _ c.args.desk.now
-    c.reply_to.new.desk _ _ c.in-Some.replied.reply so.reply so.sent (so.asked, so.answered)
-    c.in-Err-write_reply.ensures
+    let reply = c.in-Some.replied.reply in
+    broken_off sight c.args.directory.now c.args.at _ _ c.args.desk.now c.reply_to.new.desk _ _
+    reply so.reply so.sent (so.asked, so.answered) c.in-Err-write_reply.ensures
 
 pub returns-in-Ok-write_reply-clause-logged : goal.returns-in-Ok-write_reply-clause-logged
 returns-in-Ok-write_reply-clause-logged g c = λ keeps.
+    let sight = with_refusals g.M.Memory.refused g.D.Acts.sight in
     let so = c.in-Some.ensures _ _ c.in-Ok.ensures.told in
-    let line = logged_as (with_refusals ⊤ g.D.Acts.sight) c.args.directory.now c.args.at _ _
-    c.args.desk.now
+    let line = logged_as sight c.args.directory.now
+    c.args.at _ _ c.args.desk.now
     c.reply_to.new.desk _ _ _ so.asked c.in-Some.replied c.answered.result so.reply _ _ so.sent
     so.answered so.holds so.customer c.answered.ensures c.begin.ensures.losing
     c.begin.ensures.contents (c.replied.ensures keeps) in
@@ -43,9 +44,10 @@ returns-in-Ok-write_reply-clause-logged g c = λ keeps.
 
 pub returns-clause-logged : goal.returns-clause-logged
 returns-clause-logged g c = λ keeps.
+    let sight = with_refusals g.M.Memory.refused g.D.Acts.sight in
     let so = c.in-Some.ensures _ _ c.in-Ok.ensures.told in
-    let line = logged_as (with_refusals ⊤ g.D.Acts.sight) c.args.directory.now c.args.at _ _
-    c.args.desk.now
+    let line = logged_as sight c.args.directory.now
+    c.args.at _ _ c.args.desk.now
     c.reply_to.new.desk _ _ _ so.asked c.in-Some.replied c.answered.result so.reply _ _ so.sent
     so.answered so.holds so.customer c.answered.ensures c.begin.ensures.losing
     c.begin.ensures.contents (c.replied.ensures keeps) in (

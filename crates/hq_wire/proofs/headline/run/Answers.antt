@@ -14,8 +14,8 @@ pub loop-item-init : goal.loop-item-init
 loop-item-init g c = record {
   each = ([], subst (λ rs. AllZip IsSent rs []) (sym c.in_ok-replies.ensures.items) tt, refl);
   customers = ap (map customer_told) c.in_ok-replies.ensures.items;
-  count = c.in_ok-replies.ensures.len;
-  room = c.in_ok-replies.ensures.capacity;
+  count = c.in_ok-replies.ensures.room.0;
+  room = c.in_ok-replies.ensures.room.1;
 }
 
 pub loop-item-preserved : goal.loop-item-preserved

@@ -1,4 +1,3 @@
-use Rattle.std.specs.Prelude.{⊤}
 use Rattle.hq_wire.specs.Exchanges.{with_refusals}
 use Rattle.std.proofs.Common.{◌≡◌, ◌∷◌, ◌++◌, [], refl, sym}
 use Rattle.hq_wire.specs.Replies.{seen}
@@ -10,6 +9,7 @@ pub returns : goal.returns
 returns g c =
     let line = reply_line (seen c.line_reply-replied.result.reply) in
     let so = c.line_reply-replied.ensures in
+    let sight = with_refusals g.M.Memory.refused g.D.Acts.sight in
     let same : line ≡ reply_line so.told = sym (λ i. three_digits (so.sent.0 i) ++ 32 ∷ so.sent.1 i
     ++ 10 ∷ []) in (
       line,
@@ -19,7 +19,7 @@ returns g c =
         reply = so.told;
         line_is = same;
         done = so.done;
-        logged = λ keeps. logged_as (with_refusals ⊤ g.D.Acts.sight) _ _ _ _ _ _ _ _ _
+        logged = λ keeps. logged_as sight _ _ _ _ _ _ _ _ _
             c.answered.result
             c.line_reply-replied.result c.begin.ensures.losing c.begin.ensures.contents
             c.answered.ensures so (c.replied.ensures keeps);

@@ -7,13 +7,16 @@ use Rattle.hq_requests.proofs.Entered.{rows_are, can_add_paths}
 use Rattle.hq_requests.proofs.routes.Routes.new.Goals as goal
 
 pub invariant_of-result : goal.invariant_of-result
-invariant_of-result c = record {
-  whole = ap (rename (λ e. e.value)) (c.in_ok-add_all.ensures.added
-      ∙ ap (added_all (map (λ e. (e.0.now, e.1)) TABLE)) c.new-router.ensures) ∙ rows_are;
-}
+invariant_of-result g c =
+    let empty = c.no_paths-router.ensures.empty in
+    record {
+      whole = ap (rename (λ e. e.value)) (c.in_ok-add_all.ensures.added
+          ∙ ap (added_all (map (λ e. (e.0.now, e.1)) TABLE)) empty) ∙ rows_are;
+    }
 
 pub returns-in_err-add_all : goal.returns-in_err-add_all
-returns-in_err-add_all c =
+returns-in_err-add_all g c =
     let q = err_from_is_err_and c.from_residual.result c.from_residual.ensures.1 in
+    let empty = c.no_paths-router.ensures.empty in
     rw (q.1, q.2) (c.in_err-add_all.ensures.fault (ap
-    (can_add_all (map (λ e. (e.0.now, e.1)) TABLE)) c.new-router.ensures ∙ can_add_paths))
+    (can_add_all (map (λ e. (e.0.now, e.1)) TABLE)) empty ∙ can_add_paths))

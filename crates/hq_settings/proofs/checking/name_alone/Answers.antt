@@ -1,7 +1,7 @@
 use Rattle.std.proofs.Common.{rules, Ok, Err}
 use Rattle.hq_settings.specs.declared.trouble.Trouble.TheVariants.{Desk}
 use Rattle.hq_settings.proofs.Failing.{failed}
-use Rattle.hq_batch.proofs.checking.name_alone.Goals as goal
+use Rattle.hq_settings.proofs.checking.name_alone.Goals as goal
 
 pub returns-in_err-_name : goal.returns-in_err-_name
 returns-in_err-_name c = (
