@@ -3,6 +3,7 @@
 use Rattle.std.proofs.Common.{◌≡◌, ◌⊎◌, inl, inr, ℕ, ℤ, Bool, true, false, cond, List, [], ◌∷◌, map}
 use Rattle.std.proofs.Common.{filter, find, take, drop, length, ◌/◌, slice_get, option_map, not}
 use Rattle.std.proofs.Common.{Option, Some, None, Ok, refl, sym, ap, ◌∙◌, subst}
+use Rattle.std.specs.Prelude.{is_some}
 use Rattle.std.specs.List.{list_all}
 use Rattle.std.specs.declared.cmp.Ordering.{Ordering}
 use Rattle.std.specs.Ordering.{eq_by_cmp}
@@ -285,7 +286,8 @@ module _ {X K V : Type 0} (schema : Schema) (p : Place schema) (k : Kind X K V) 
           k.encode (x.0, f x.1))
           → Executes text params old new (Ok count)
           → ((count ≡ 0) × ((get (map_in rows) q ≡ None) × Left (map_in rows)))
-          ⊎ ((count ≡ 1) × Left (insert (map_in rows) q v))
+          ⊎ ((count ≡ 1) × ((is_some (get (map_in rows) q) ≡ true)
+          × Left (insert (map_in rows) q v)))
       sets text terms project known params count q f v keeps value back tests ids set h =
           let w = runs_as text params old new schema has _ known.is known.plain count h in
           let is : ℤ × X → Bool = λ x. eq_by_cmp k.order q (k.key x.1) in
@@ -307,8 +309,11 @@ module _ {X K V : Type 0} (schema : Schema) (p : Place schema) (k : Kind X K V) 
             | inl none ↦ inl (done.1 ∙ none.0, (none.1.0, left _ (ap map_in none.1.1)))
             | inr some ↦ inr (
               done.1 ∙ some.0,
-              left _ (some.1.2
-                  ∙ ap (insert (map_in rows) q) (value some.1.0)),
+              (
+                ap is_some some.1.1,
+                left _ (some.1.2
+                    ∙ ap (insert (map_in rows) q) (value some.1.0)),
+              ),
             )
           ]
 

@@ -1,7 +1,7 @@
 -- What statements keep, whichever they are: from what the library says of a query and of a command.
 use Rattle.std.proofs.Common.{◌≡◌, ◌⊎◌, inl, inr, ℕ, true, false, true≢false, not, List, Option}
 use Rattle.std.proofs.Common.{None, Result, Ok, Err, IsErr, IsTrue, sym, ap, ◌∙◌, subst}
-use Rattle.std.specs.Prelude.{nat_eq}
+use Rattle.std.specs.Prelude.{nat_eq, is_some}
 use Rattle.sqlite.specs.Order.{Row}
 use Rattle.sqlite.specs.declared.error.Error.{Error}
 use Rattle.sqlite.specs.Command.{Command}
@@ -94,15 +94,18 @@ one_there : (count : ℕ) → count ≡ 1 → not (nat_eq count 0) ≡ false →
 one_there count one absent = true≢false (sym (ap (λ n. not (nat_eq n 0)) one) ∙ absent)
 
 pub told_there : {V : Type 0} {count : ℕ} {old new : State} {before : Option V} {t after : Tables}
-    → ((count ≡ 0) × ((before ≡ None) × Leaves old new t)) ⊎ ((count ≡ 1) × Leaves old new after) →
+    → ((count ≡ 0) × ((before ≡ None) × Leaves old new t))
+    ⊎ ((count ≡ 1) × ((is_some before ≡ true) × Leaves old new after)) →
     Updated (not (nat_eq count 0)) old new before t after
 told_there {count = count} (inl h) = record {
   made = λ there. absurd (none_there count h.0 there);
   untouched = λ absent. h.1.1;
   free = λ absent. h.1.0;
+  taken = λ there. absurd (none_there count h.0 there);
 }
 told_there {count = count} (inr h) = record {
-  made = λ there. h.1;
+  made = λ there. h.1.1;
   untouched = λ absent. absurd (one_there count h.0 absent);
   free = λ absent. absurd (one_there count h.0 absent);
+  taken = λ there. h.1.0;
 }

@@ -212,7 +212,7 @@ module _ {X K V : Type 0} (t : DeskTable X K V) (old new : State) (desk : IsDesk
       elim (placed.sets desk_schema t.place t.kind old new desk.schema_is (t.stored old.now desk)
       text terms project known params count q f v keeps value back tests ids set h) [
         | inl none ↦ told_there (inl (none.0, (none.1.0, left t old new _ desk none.1.1)))
-        | inr some ↦ told_there (inr (some.0, left t old new _ desk some.1))
+        | inr some ↦ told_there (inr (some.0, (some.1.0, left t old new _ desk some.1.1)))
       ]
 
 -- the row at a key is dropped, and then one is put

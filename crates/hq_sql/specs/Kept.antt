@@ -2,7 +2,7 @@
 -- before and after.
 -- Inner: it serves proofs alone, and no promise rests on it.
 use Rattle.std.specs.Prelude.{◌≡◌, Bool, true, false, Option, None, Result, IfOk, OnOk, OnErr}
-use Rattle.std.specs.Prelude.{IsTrue}
+use Rattle.std.specs.Prelude.{IsTrue, is_some}
 use Rattle.sqlite.specs.declared.error.Error.{Error}
 use Rattle.sqlite.specs.State.{State, HasCleanDisk, IsUnchanged, KeepsCommit}
 use Rattle.hq_keyed.specs.Left.{IsQuiet, LeavesNoMore}
@@ -37,6 +37,7 @@ pub record Updated {V : Type 0} (there : Bool) (old new : State) (before : Optio
   pub made : there ≡ true → Leaves old new after
   pub untouched : there ≡ false → Leaves old new t
   pub free : there ≡ false → before ≡ None
+  pub taken : there ≡ true → is_some before ≡ true
 
 -- An UPDATE by key tells whether a row stands there, and leaves `f` of the tables before where one
 -- does.

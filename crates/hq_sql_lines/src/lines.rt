@@ -140,22 +140,26 @@ fn insert<S: Alter, M: SqliteMemory>(
     Ok(())
 }
 
-/// Sets the line of its pattern, in the row that is there or a new one.
+/// Sets the line of its pattern, in the row that is there or a new one, and tells whether the
+/// pattern had a line before.
 pub fn put<S: Alter, M: SqliteMemory>(
     memory: M,
     conn: &mut Connection<S>,
     customer: &Name,
     line: &Line,
-) -> Result<(), Error>
+) -> Result<bool, Error>
     ensures made { Writes (state S.Store conn.old) (state S.Store conn.new) result
         (tables_with_line (line_row customer.now line.now)) }
+    ensures told { Yields (state S.Store conn.old) (state S.Store conn.new) result
+        (λ t. is_some (get t.lines (customer.now, line.now.pattern))) }
     ensures kept { KeepsCommitted (state S.Store conn.old) (state S.Store conn.new) }
     ensures cause { IfErr result (HasCause M.refused M.failed) }
 {
-    if !update(memory, conn, customer, line)? {
-        insert(memory, conn, customer, line)?;
+    if update(memory, conn, customer, line)? {
+        return Ok(true);
     }
-    Ok(())
+    insert(memory, conn, customer, line)?;
+    Ok(false)
 }
 
 /// Drops the line of a pattern; nothing where there is none.

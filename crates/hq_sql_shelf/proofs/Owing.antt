@@ -2,26 +2,30 @@
 -- change.
 use Rattle.std.proofs.Common.{◌≡◌, ℕ, List, ◌∷◌, Bool, nat_eq, true, false, cond, sym, refl, ap}
 use Rattle.std.proofs.Common.{◌∙◌, Some, None, Option}
-use Rattle.std.specs.Prelude.{option_map}
+use Rattle.std.specs.Prelude.{option_map, is_some}
 use Rattle.std.specs.Cmp.Lexicographic.{nat_list_cmp_total}
 use Rattle.std.specs.FinMap.{get, insert, get-insert}
 use Rattle.hq_kept.specs.declared.account.Counts.{Counts}
 use Rattle.hq_kept.specs.declared.account.Head.{Head}
+use Rattle.hq_kept.specs.declared.action.Action.{Action}
 use Rattle.hq_kept.specs.declared.message.Message.{Message}
+use Rattle.hq_kept.specs.declared.pattern.Line.{Line}
 use Rattle.hq_tables.specs.declared.account.Account.{Account}
 use Rattle.hq_tables.specs.declared.change.Change.{Change}
 use Rattle.hq_tables.specs.declared.change.Change.TheVariants.{PutHead, PutMessage, DropMessage}
+use Rattle.hq_tables.specs.declared.change.Change.TheVariants.{PutLine}
 use Rattle.hq_tables.specs.Tables.{Tables, Row, account, recounted, headed, counted, with_message}
-use Rattle.hq_tables.specs.Tables.{without_message, uncounted_message, write}
+use Rattle.hq_tables.specs.Tables.{without_message, with_line, uncounted_message, write}
 use Rattle.hq_isolation.proofs.Accounts.{Heads, or_opening, is_headed, is_counted, at_size}
+use Rattle.hq_isolation.proofs.Accounts.{at_none}
 use Rattle.hq_owned.specs.Owned.{given}
 use Rattle.hq_owned.proofs.Parts.{tied_true}
 use Rattle.hq_sql.specs.Heads.{with_account}
+use Rattle.hq_sql_lines.specs.Lines.{line_row, tables_with_line}
 use Rattle.hq_sql_shelf.specs.Accounts.{resized, counted_at, made_by, made_by_all, made_owing}
 use Rattle.hq_sql_shelf.specs.Accounts.{size_at, sized, unsized, with_rows, without_rows}
+use Rattle.hq_sql_shelf.specs.Accounts.{lined}
 use Rattle.hq_sql_shelf.proofs.Recounted.{put_twice}
-
--- ---- by the size that stands at the serial
 
 -- ---- a head row that is written behind another
 
@@ -91,6 +95,20 @@ module _ (c : List ℕ) (a : Account) (t : Tables) where
     heads = heads;
   }) (drop_heads serial)
 
+  line_heads : (line : Line) → given (counted with_line c (insert t.heads c a))
+      (λ _. insert t.heads c a) (get t.lines (c, line.pattern)) ≡ insert t.heads c
+      (lined a (is_some (get t.lines (c, line.pattern))))
+  line_heads line = cases (get t.lines (c, line.pattern)) where
+    cases : (o : Option Action) → given (counted with_line c (insert t.heads c a))
+        (λ _. insert t.heads c a) o ≡ insert t.heads c (lined a (is_some o))
+    cases None = counted_over with_line c t.heads a
+    cases (Some action) = refl
+
+  line_owed : (line : Line) → made_by c (PutLine line) (with_account c a t) ≡ with_account c
+      (lined a (is_some (get t.lines (c, line.pattern)))) (tables_with_line (line_row c line) t)
+  line_owed line = ap (λ (heads : Heads). record (write c (PutLine line) t) { heads = heads })
+      (line_heads line)
+
   -- ---- and all changes from it on
 
   pub head_then : (head : Head) (rest : List Change) →
@@ -111,6 +129,14 @@ module _ (c : List ℕ) (a : Account) (t : Tables) where
   drop_then serial rest after before e h =
       ap (λ (x : Account). made_owing c x rest (without_rows c serial t)) (e ∙ ap (unsized a) h)
       ∙ ap (made_by_all c rest) (sym (drop_owed serial))
+
+  pub line_then : (line : Line) (rest : List Change) (after : Account) (had : Bool) →
+      after ≡ lined a had → had ≡ is_some (get t.lines (c, line.pattern)) →
+      made_owing c after rest (tables_with_line (line_row c line) t) ≡ made_owing c a
+      (PutLine line ∷ rest) t
+  line_then line rest after had e h =
+      ap (λ (x : Account). made_owing c x rest (tables_with_line (line_row c line) t))
+      (e ∙ ap (lined a) h) ∙ ap (made_by_all c rest) (sym (line_owed line))
 
 -- ---- the first account that is owed
 
@@ -149,3 +175,13 @@ module _ (c : List ℕ) (t : Tables) (rest : List Change) where
       ap (dropped serial) (is_counted (without_message size) c t.heads kept fewer k f
       ∙ at_size t.heads (λ n. counted (without_message n) c t.heads)
       (get t.messages (c, serial)) size e)
+
+  -- a line was put whose pattern had none
+  pub line_first : (line : Line) (kept more : Account) →
+      is_some (get t.lines (c, line.pattern)) ≡ false → kept ≡ account t.heads c →
+      more ≡ recounted with_line kept → made_owing c more rest
+      (tables_with_line (line_row c line) t) ≡ made_by_all c (PutLine line ∷ rest) t
+  line_first line kept more e k m = ap (λ (heads : Heads). made_by_all c rest
+      (record (write c (PutLine line) t) { heads = heads }))
+      (is_counted with_line c t.heads kept more k m
+      ∙ at_none (counted with_line c t.heads) (λ _. t.heads) (get t.lines (c, line.pattern)) e)

@@ -34,14 +34,11 @@ made_after f old mid new u same p e =
     subst (Leaves old new) (ap (λ d. f (tables_in d)) same.0.now_is ∙ e)
     (left_after old mid new _ same p)
 
--- a query, a write and what comes behind make of the tables what they make of those that the query
--- saw
-pub made_behind : (f g : Tables → Tables) (old mid put new : State) (u : Tables) →
-    IsUnchanged old mid → Leaves mid put (f (tables_in mid.now)) →
-    Leaves put new (g (tables_in put.now)) → g (f (tables_in old.now)) ≡ u → Leaves old new u
-made_behind f g old mid put new u same p q e =
-    made_after (λ t. g (f t)) old mid new u same
-    (subst (Leaves mid new) (ap g p.tables) (leaves_then mid put new _ _ p q)) e
+-- what comes behind a write makes of the tables what it makes of those that the write left
+pub made_behind : (f : Tables → Tables) (old put new : State) (t u : Tables) → Leaves old put t →
+    Leaves put new (f (tables_in put.now)) → f t ≡ u → Leaves old new u
+made_behind f old put new t u p q e =
+    subst (Leaves old new) (ap f p.tables ∙ e) (leaves_then old put new _ _ p q)
 
 -- behind a query an account is read, and another is put in its place
 pub put_after : (customer : List ℕ) (kept more : Account) (old a b new : State)

@@ -6,32 +6,18 @@ use Rattle.std.specs.FinMap.{FinMap, get, insert}
 use Rattle.sqlite.specs.declared.error.Error.{Error}
 use Rattle.sqlite.specs.State.{State, HasCleanDisk}
 use Rattle.hq_kept.specs.declared.pattern.Class.{Class}
-use Rattle.hq_kept.specs.declared.account.Head.{Head}
 use Rattle.hq_kept.specs.declared.message.Message.{Message}
 use Rattle.hq_tables.specs.declared.account.Account.{Account}
 use Rattle.hq_tables.specs.declared.change.Change.{Change}
 use Rattle.hq_tables.specs.declared.change.Change.TheVariants.{PutMessage, DropMessage}
-use Rattle.hq_tables.specs.Tables.{Tables, Row, text_cmp, row_of, write, headed, counted, recounted}
+use Rattle.hq_tables.specs.Tables.{Tables, Row, text_cmp, row_of, write, counted, recounted}
 use Rattle.hq_tables.specs.Tables.{with_message, without_message, with_line, without_line}
-use Rattle.hq_tables.specs.Tables.{uncounted_message}
 use Rattle.hq_sql.specs.Heads.{with_account}
 use Rattle.hq_sql.specs.Tables.{IsDesk, Leaves, tables_in}
 use Rattle.hq_owned.specs.Owned.{given}
 
-abbrev pub with_head : List ℕ → Head → Tables → Tables
-with_head customer head t = record t { heads = headed customer head t.heads }
-
 abbrev pub counted_message : List ℕ → ℕ → Tables → Tables
 counted_message customer size t = record t { heads = counted (with_message size) customer t.heads }
-
-abbrev pub not_counted : List ℕ → ℕ → Tables → Tables
-not_counted customer serial t = record t { heads = uncounted_message customer serial t }
-
-abbrev pub counted_line : List ℕ → Class × List ℕ → Tables → Tables
-counted_line customer pattern t = record t {
-  heads =
-      given (counted with_line customer t.heads) (λ _. t.heads) (get t.lines (customer, pattern));
-}
 
 abbrev pub uncounted_line : List ℕ → Class × List ℕ → Tables → Tables
 uncounted_line customer pattern t = record t {
@@ -117,6 +103,10 @@ abbrev pub sized : ℕ → Account → Option ℕ → Account
 sized size a None = recounted (with_message size) a
 sized size a (Some before) = cond (nat_eq before size) a
     (recounted (with_message size) (recounted (without_message before) a))
+
+-- the account once a line is put, by whether its pattern had one
+abbrev pub lined : Account → Bool → Account
+lined a had = cond had a (recounted with_line a)
 
 -- all changes in order, after the head row was set to this account
 abbrev pub made_owing : List ℕ → Account → List Change → Tables → Tables

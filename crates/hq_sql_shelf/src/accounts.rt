@@ -2,16 +2,15 @@
 
 ghost use Rattle.std.specs.Prelude.{◌≡◌, IfErr};
 ghost use Rattle.std.specs.FinMap.{get};
-ghost use Rattle.hq_tables.specs.Tables.{account};
+ghost use Rattle.hq_tables.specs.Tables.{account, recounted, with_line};
 ghost use Rattle.sqlite.specs.Held.{state};
 ghost use Rattle.hq_sql.specs.Causes.{EndsSo, HasCause};
 ghost use Rattle.hq_sql.specs.Kept.{Yields, Writes, Intact, KeepsCommitted};
-ghost use Rattle.hq_sql_shelf.specs.Accounts.{with_head, counted_message, not_counted};
-ghost use Rattle.hq_sql_shelf.specs.Accounts.{counted_line, uncounted_line};
+ghost use Rattle.hq_sql_shelf.specs.Accounts.{counted_message, uncounted_line};
 ghost use Rattle.hq_sql_shelf.specs.Accounts.{resized_message, recounted_message, TellsFree, sized};
-ghost use Rattle.hq_sql_shelf.specs.Accounts.{unsized};
+ghost use Rattle.hq_sql_shelf.specs.Accounts.{unsized, lined};
 
-use hq_kept::{Head, Pattern};
+use hq_kept::Pattern;
 use hq_sql::{Limits, SqliteMemory, heads};
 use hq_sql_lines::lines;
 use hq_sql_messages::messages;
@@ -41,23 +40,6 @@ pub(crate) fn account<S: Alter, M: SqliteMemory>(
         Some(account) => Ok(account),
         None => Ok(Account::opening()),
     }
-}
-
-/// Sets the customer's head.
-pub(crate) fn put_head<S: Alter, M: SqliteMemory>(
-    memory: M,
-    conn: &mut Connection<S>,
-    customer: &Name,
-    head: Head,
-) -> Result<(), Error>
-    ensures made { Writes (state S.Store conn.old) (state S.Store conn.new) result
-        (with_head customer.now head) }
-    ensures kept { KeepsCommitted (state S.Store conn.old) (state S.Store conn.new) }
-    ensures cause { IfErr result (HasCause M.refused M.failed) }
-{
-    let kept = account(memory, conn, customer)?;
-    heads::put(memory, conn, customer, &Account { head, ..kept })?;
-    Ok(())
 }
 
 /// Counts one message more.
@@ -158,47 +140,28 @@ pub(crate) fn without_size(account: Account, before: Option<u32>) -> Account
     }
 }
 
-/// Counts the message of this serial no more, where there is one.
-pub(crate) fn uncount_message<S: Alter, M: SqliteMemory>(
-    memory: M,
-    conn: &mut Connection<S>,
-    customer: &Name,
-    serial: Serial,
-) -> Result<(), Error>
-    ensures made { Writes (state S.Store conn.old) (state S.Store conn.new) result
-        (not_counted customer.now serial) }
-    ensures kept { KeepsCommitted (state S.Store conn.old) (state S.Store conn.new) }
-    ensures cause { IfErr result (HasCause M.refused M.failed) }
+/// The account once one line more is counted in it.
+pub(crate) fn one_line_more<M: SqliteMemory>(memory: M, account: Account) -> Result<Account, Error>
+    ensures { EndsSo M.refused M.failed result (λ more. more ≡ recounted with_line account) }
 {
-    let Some(size) = messages::size(memory, conn, customer, serial)? else {
-        return Ok(());
-    };
-    let fewer = account(memory, conn, customer)?.without_message(size);
-    heads::put(memory, conn, customer, &fewer)?;
-    Ok(())
+    match account.with_line() {
+        Some(more) => Ok(more),
+        None => Err(too_many(memory)),
+    }
 }
 
-/// Counts one line more, where its pattern is new.
-pub(crate) fn count_line<S: Alter, M: SqliteMemory>(
+/// The account once a line is put, which is counted already where its pattern had one.
+pub(crate) fn with_line_unless<M: SqliteMemory>(
     memory: M,
-    conn: &mut Connection<S>,
-    customer: &Name,
-    pattern: &Pattern,
-) -> Result<(), Error>
-    ensures made { Writes (state S.Store conn.old) (state S.Store conn.new) result
-        (counted_line customer.now pattern.now) }
-    ensures kept { KeepsCommitted (state S.Store conn.old) (state S.Store conn.new) }
-    ensures cause { IfErr result (HasCause M.refused M.failed) }
+    account: Account,
+    had: bool,
+) -> Result<Account, Error>
+    ensures { EndsSo M.refused M.failed result (λ more. more ≡ lined account had) }
 {
-    if lines::has(memory, conn, customer, pattern)? {
-        return Ok(());
+    if had {
+        return Ok(account);
     }
-    let kept = account(memory, conn, customer)?;
-    let Some(more) = kept.with_line() else {
-        return Err(too_many(memory));
-    };
-    heads::put(memory, conn, customer, &more)?;
-    Ok(())
+    one_line_more(memory, account)
 }
 
 /// Counts one line fewer, where there is one of this pattern.

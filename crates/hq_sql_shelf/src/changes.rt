@@ -15,33 +15,15 @@ ghost use Rattle.hq_sql_shelf.specs.Accounts.{made_by, made_by_all, made_owing};
 ghost use Rattle.hq_sql_shelf.specs.Stops.{KeepsTransaction};
 
 use crate::accounts;
-use crate::one_message::{drop_message, drop_rows, put_message, put_uncounted};
+use crate::one_message::{drop_uncounted, put_message, put_uncounted};
 use hq_kept::{Head, Line, Pattern};
 use hq_sql::{SqliteMemory, heads};
 use hq_sql_lines::{lines, marks};
-use hq_sql_messages::messages;
 use hq_sql_notices::{ends, notices};
 use hq_sql_open::transaction::{begin, commit, sees_database};
 use hq_tables::{Account, Change};
 use hq_values::{Name, Serial};
 use sqlite::{Alter, Connection, Error};
-
-/// Puts a line, and counts it where its pattern is new.
-fn put_line<S: Alter, M: SqliteMemory>(
-    memory: M,
-    conn: &mut Connection<S>,
-    customer: &Name,
-    line: &Line,
-) -> Result<(), Error>
-    ensures made { Writes (state S.Store conn.old) (state S.Store conn.new) result
-        (write customer.now (PutLine line.now)) }
-    ensures kept { KeepsCommitted (state S.Store conn.old) (state S.Store conn.new) }
-    ensures cause { IfErr result (HasCause M.refused M.failed) }
-{
-    accounts::count_line(memory, conn, customer, &line.pattern)?;
-    lines::put(memory, conn, customer, line)?;
-    Ok(())
-}
 
 /// Drops the line of a pattern, and counts it no more.
 fn drop_line<S: Alter, M: SqliteMemory>(
@@ -61,6 +43,7 @@ fn drop_line<S: Alter, M: SqliteMemory>(
 }
 
 /// Makes one change.
+#[cycle(making)]
 fn make<S: Alter, M: SqliteMemory>(
     memory: M,
     conn: &mut Connection<S>,
@@ -73,10 +56,10 @@ fn make<S: Alter, M: SqliteMemory>(
     ensures cause { IfErr result (HasCause M.refused M.failed) }
 {
     match change {
-        Change::PutHead(head) => accounts::put_head(memory, conn, customer, *head),
+        Change::PutHead(head) => make_behind_head(memory, conn, customer, *head, &[]),
         Change::PutMessage(message) => put_message(memory, conn, customer, message),
-        Change::DropMessage(serial) => drop_message(memory, conn, customer, *serial),
-        Change::PutLine(line) => put_line(memory, conn, customer, line),
+        Change::DropMessage(serial) => make_behind_drop(memory, conn, customer, *serial, &[]),
+        Change::PutLine(line) => make_behind_line(memory, conn, customer, line, &[]),
         Change::DropLine(pattern) => drop_line(memory, conn, customer, pattern),
         Change::PutMark(mark) => marks::put(memory, conn, customer, mark),
         Change::AddNotice(notice) => notices::put(memory, conn, customer, notice),
@@ -87,7 +70,7 @@ fn make<S: Alter, M: SqliteMemory>(
 }
 
 /// Makes a change, and then others in order, where the customer's head row is still to be set to
-/// this account. A head and a message change the account alone.
+/// this account. A head, a message and a line that is put change the account alone.
 #[cycle(making)]
 fn make_owing_from<S: Alter, M: SqliteMemory>(
     memory: M,
@@ -113,9 +96,13 @@ fn make_owing_from<S: Alter, M: SqliteMemory>(
             make_owing(memory, conn, customer, after, rest)
         }
         Change::DropMessage(serial) => {
-            let before = messages::size(memory, conn, customer, *serial)?;
-            drop_rows(memory, conn, customer, *serial)?;
+            let before = drop_uncounted(memory, conn, customer, *serial)?;
             let after = accounts::without_size(account, before);
+            make_owing(memory, conn, customer, after, rest)
+        }
+        Change::PutLine(line) => {
+            let had = lines::put(memory, conn, customer, line)?;
+            let after = accounts::with_line_unless(memory, account, had)?;
             make_owing(memory, conn, customer, after, rest)
         }
         _ => {
@@ -161,13 +148,34 @@ fn make_behind_drop<S: Alter, M: SqliteMemory>(
     ensures kept { KeepsCommitted (state S.Store conn.old) (state S.Store conn.new) }
     ensures cause { IfErr result (HasCause M.refused M.failed) }
 {
-    let before = messages::size(memory, conn, customer, serial)?;
-    drop_rows(memory, conn, customer, serial)?;
-    let Some(size) = before else {
+    let Some(size) = drop_uncounted(memory, conn, customer, serial)? else {
         return make_all(memory, conn, customer, rest);
     };
     let fewer = accounts::account(memory, conn, customer)?.without_message(size);
     make_owing(memory, conn, customer, fewer, rest)
+}
+
+/// Puts a line, and then makes all changes in order. Where its pattern had one, nothing is owed.
+#[cycle(making)]
+fn make_behind_line<S: Alter, M: SqliteMemory>(
+    memory: M,
+    conn: &mut Connection<S>,
+    customer: &Name,
+    line: &Line,
+    rest: &[Change],
+) -> Result<(), Error>
+    ensures made { Writes (state S.Store conn.old) (state S.Store conn.new) result
+        (made_by_all customer.now (PutLine line.now ∷ rest.now)) }
+    ensures kept { KeepsCommitted (state S.Store conn.old) (state S.Store conn.new) }
+    ensures cause { IfErr result (HasCause M.refused M.failed) }
+{
+    if lines::put(memory, conn, customer, line)? {
+        make_all(memory, conn, customer, rest)
+    } else {
+        let kept = accounts::account(memory, conn, customer)?;
+        let more = accounts::one_line_more(memory, kept)?;
+        make_owing(memory, conn, customer, more, rest)
+    }
 }
 
 /// Sets the head, and then makes all changes in order. The head row is owed to those behind it.
@@ -188,8 +196,8 @@ fn make_behind_head<S: Alter, M: SqliteMemory>(
     make_owing(memory, conn, customer, Account { head, ..kept }, rest)
 }
 
-/// Makes all changes in order, up to the first that fails. From a head or a dropped message on, the
-/// head row is owed. A change that stands alone is made by itself.
+/// Makes all changes in order, up to the first that fails. From a head, a dropped message or a new
+/// line on, the head row is owed. A change that stands alone is made by itself.
 #[cycle(making)]
 pub(crate) fn make_all<S: Alter, M: SqliteMemory>(
     memory: M,
@@ -209,6 +217,7 @@ pub(crate) fn make_all<S: Alter, M: SqliteMemory>(
         [first, rest @ ..] => match first {
             Change::PutHead(head) => make_behind_head(memory, conn, customer, *head, rest),
             Change::DropMessage(serial) => make_behind_drop(memory, conn, customer, *serial, rest),
+            Change::PutLine(line) => make_behind_line(memory, conn, customer, line, rest),
             _ => {
                 make(memory, conn, customer, first)?;
                 make_all(memory, conn, customer, rest)

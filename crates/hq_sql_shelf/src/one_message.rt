@@ -2,8 +2,7 @@
 
 ghost use Rattle.std.specs.Prelude.{IfErr};
 ghost use Rattle.sqlite.specs.Held.{state};
-ghost use Rattle.hq_tables.specs.Tables.{write};
-ghost use Rattle.hq_tables.specs.declared.change.Change.TheVariants.{PutMessage, DropMessage};
+ghost use Rattle.hq_tables.specs.declared.change.Change.TheVariants.{PutMessage};
 ghost use Rattle.hq_sql.specs.Causes.{HasCause};
 ghost use Rattle.hq_sql.specs.Kept.{Writes, KeepsCommitted};
 ghost use Rattle.hq_sql_messages.specs.Messages.{with_row};
@@ -128,7 +127,7 @@ pub(crate) fn put_uncounted<S: Alter, M: SqliteMemory>(
 
 /// Drops all rows of a message, which stays counted.
 #[tactic(auto, unfolding(hq_tables::specs::Tables::give_reason))]
-pub(crate) fn drop_rows<S: Alter, M: SqliteMemory>(
+fn drop_rows<S: Alter, M: SqliteMemory>(
     memory: M,
     conn: &mut Connection<S>,
     customer: &Name,
@@ -145,18 +144,19 @@ pub(crate) fn drop_rows<S: Alter, M: SqliteMemory>(
     Ok(())
 }
 
-/// Drops a message, and counts it no more.
-pub(crate) fn drop_message<S: Alter, M: SqliteMemory>(
+/// Drops all rows of a message, counts nothing, and tells the size that it had.
+pub(crate) fn drop_uncounted<S: Alter, M: SqliteMemory>(
     memory: M,
     conn: &mut Connection<S>,
     customer: &Name,
     serial: Serial,
-) -> Result<(), Error>
-    ensures made { Writes (state S.Store conn.old) (state S.Store conn.new) result
-        (write customer.now (DropMessage serial)) }
+) -> Result<Option<u32>, Error>
+    ensures made { MakesTelling (state S.Store conn.old) (state S.Store conn.new) result
+        (size_at customer.now serial) (without_rows customer.now serial) }
     ensures kept { KeepsCommitted (state S.Store conn.old) (state S.Store conn.new) }
     ensures cause { IfErr result (HasCause M.refused M.failed) }
 {
-    accounts::uncount_message(memory, conn, customer, serial)?;
-    drop_rows(memory, conn, customer, serial)
+    let before = messages::size(memory, conn, customer, serial)?;
+    drop_rows(memory, conn, customer, serial)?;
+    Ok(before)
 }
