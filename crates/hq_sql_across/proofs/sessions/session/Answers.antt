@@ -81,7 +81,7 @@ returns-clause-passed g c clean sure keeps =
           (map (ask_of d) c.args.exchanges.now) r new) (sym (ap (λ v. v.items) w.replies-is))
           w.in-Ok-run.ensures.served) end_clean not_doubtful
       | in-Err-run w ↦ unasked_passed g.S.Store d before keeps old new here c.args.exchanges.now
-          replies w.in-Err-run.ensures.none end_clean
+          replies w.in-Err-run.ensures.none.0 end_clean
           (ap (λ v. v.items) w.replies-is ∙ w.new-replies.ensures.items)
     ] in
     subst (λ x. Passes c.args.host x) (sym conn)
