@@ -116,7 +116,7 @@ class Delivery:
         for customer in self.settings.customers:
             if self.book.untold(customer):
                 self.telling.add(customer)
-            self.handover.turns.add(customer)
+        self.handover.look()
 
     def keep_house(self) -> None:
         """Sweeps and cleans by the timers, until `end`."""

@@ -6,7 +6,7 @@ from typing import Dict, Iterator, List, Optional
 from settings import Address, Settings
 
 # Numbers of refusals that the worker tells apart.
-NO_MESSAGE, BAD_ADDRESS, ATTEMPT_AHEAD, UNKNOWN_RECIPIENT = 10, 20, 30, 31
+NO_ROUTE, NO_MESSAGE, BAD_ADDRESS, ATTEMPT_AHEAD, UNKNOWN_RECIPIENT = 4, 10, 20, 30, 31
 QUOTA_MESSAGES, QUOTA_BYTES, SERIALS_SPENT = 40, 41, 43
 
 
@@ -26,9 +26,9 @@ class Desk:
     def __init__(self, address: Address, key: str, timeout: float):
         self.address, self.key, self.timeout = address, key, timeout
 
-    def ask(self, path: str, body: Optional[dict] = None) -> dict:
+    def ask(self, path: str, body: Optional[dict] = None, timeout: Optional[float] = None) -> dict:
         """The body of the reply to one call."""
-        connection = http.client.HTTPConnection(*self.address, timeout=self.timeout)
+        connection = http.client.HTTPConnection(*self.address, timeout=timeout or self.timeout)
         try:
             sent = json.dumps(body).encode() if body is not None else b""
             connection.request("POST", path, sent, {"X-Desk-Key": self.key})
@@ -73,6 +73,10 @@ class Desk:
 
     def notice(self, customer: str, number: int) -> dict:
         return self.ask(f"/relay/notice/{customer}", {"number": number})
+
+    def due_of_all(self, timeout: float) -> dict:
+        """The first page of what is due of each customer, up to the one at whom a fault stopped it."""
+        return self.ask("/relay/due", timeout=timeout)
 
     def due(self, customer: str, after: Optional[str] = None) -> Iterator[dict]:
         return self.pages("due", customer, "due", "id", after)

@@ -11,7 +11,7 @@ from typing import Dict, List, Optional, Set, Tuple
 
 import log
 from book import Book
-from desk import Desk
+from desk import NO_ROUTE, Away, Desk, Refused
 from dsn import clean
 from handed import Attempt, Handed
 from instance import BROKEN, NotTaken, Session
@@ -24,6 +24,9 @@ from turns import Turns
 # So many messages, and bytes, are handed over behind one look at the desk's list; and so many of them
 # in one session before the next one takes some.
 BATCH, BATCH_BYTES, PART = 50, 20_000_000, 10
+# A look at all customers waits no longer than so many seconds for the desk. Where it failed, each
+# customer is asked for by itself for so many rounds.
+LOOK_SECONDS, ROUNDS_ALONE = 5.0, 6
 # The random part of an envelope ID: IDs of the desk repeat after a restore, and nobody may guess one.
 RANDOM_BYTES = 12
 
@@ -49,6 +52,7 @@ class Handover:
         self.after: Dict[str, str] = {}
         self.busy: Set[str] = set()
         self.begun = 0
+        self.rounds_alone = 0
         # (a sweep must not come between the list of what is due and its record)
         self.listing = {it: threading.Lock() for it in settings.customers}
 
@@ -72,6 +76,31 @@ class Handover:
         """Whether a customer waits for its turn, or something is being handed over."""
         with self.guard:
             return bool(self.turns.waiting or self.busy)
+
+    def look(self) -> None:
+        """Gives each customer a turn, but those of whom nothing is due. (A turn asks for its
+        customer's own list: what was told before it may be old by then.)"""
+        idle = self.idle() - set(self.turns.rests)
+        for customer in self.settings.customers:
+            if customer not in idle:
+                self.turns.add(customer)
+
+    def idle(self) -> Set[str]:
+        """The customers of whom nothing is due, as one call for all of them tells."""
+        if self.rounds_alone:
+            self.rounds_alone -= 1
+            return set()
+        try:
+            told = self.desk.due_of_all(LOOK_SECONDS)
+            if told["stopped"]:
+                log.error("due of all stopped", **told["stopped"])
+            return {it["customer"] for it in told["done"] if not it["due"]}
+        except (Away, Refused, LookupError, TypeError) as error:
+            self.rounds_alone = ROUNDS_ALONE
+            # (several desks behind one address have no such call)
+            if not (isinstance(error, Refused) and error.number == NO_ROUTE):
+                log.error("due of all not told", why=repr(error))
+            return set()
 
     def go_on(self) -> None:
         """Some attempt has ended: mail that waited for its domain may go."""
@@ -117,16 +146,22 @@ class Handover:
         with self.guard:
             self.held_up.add(customer)  # (before the look: an attempt may end meanwhile)
         not_free = self.handed.spools_under_way(customer) | set(self.book.untold(customer))
-        for it in self.desk.due(customer, after):
-            if it["spool"] in not_free:
-                continue
-            if not self.resting.begin(it["recipients"]):
-                is_held_up = True
-                continue
-            found.append(self.attempt(customer, it))
-            size += self.spool.size(it["spool"])
-            if len(found) >= BATCH or size >= BATCH_BYTES:
-                return found, it["id"]
+        try:
+            for it in self.desk.due(customer, after):
+                if it["spool"] in not_free:
+                    continue
+                if not self.resting.begin(it["recipients"]):
+                    is_held_up = True
+                    continue
+                found.append(self.attempt(customer, it))
+                not_free.add(it["spool"])  # (requeued meanwhile, it is met again under another ID)
+                size += self.spool.size(it["spool"])
+                if len(found) >= BATCH or size >= BATCH_BYTES:
+                    return found, it["id"]
+        except BaseException:
+            for attempt in found:
+                self.resting.end(attempt.recipients)
+            raise
         if not is_held_up:
             with self.guard:
                 self.held_up.discard(customer)

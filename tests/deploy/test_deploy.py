@@ -204,6 +204,7 @@ def test_refused_by_nginx(proxy, south):
             (404, "NoRoute", proxy.ask("GET", "/nothing", ACME)),
             (404, "NoRoute", proxy.relay("/relay/sweep")),
             (404, "NoRoute", proxy.relay("/relay/usage")),
+            (404, "NoRoute", proxy.relay("/relay/due")),
             (404, "NoRoute", proxy.relay("/v1/usage")),
             (413, "BodyTooLong", proxy.ask("POST", "/v1/check", ACME, long)),
             (400, "BadRequest", proxy.ask("GET", "/v1/usage", "k" * 40_000))):

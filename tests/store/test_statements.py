@@ -92,6 +92,8 @@ CALLED = {
     "limits": line("GET", "/v1/limits"),
     "report": line("GET", "/v1/report"),
     "due": line("POST", "/relay/due/acme", {"after": None}),
+    "due that finds nothing": line("POST", "/relay/due/birch", {"after": None}, LATER),
+    "due of both customers": line("POST", "/relay/due", at=LATER),
     "outcome that delivers": outcome(1, 1, a="delivered"),
     "outcome that fails": outcome(2, 1, a="failed"),
     "outcome again": outcome(4, 1, a="failed"),

@@ -1,7 +1,7 @@
-"""Fails each call of the store in a sweep and in a usage of all customers, over plain lists and over a store in memory.
+"""Fails each call of the store in each call of all customers, over plain lists and over a store in memory.
 
 FAILING is the program of crates/hq_failing. Two customers have a message each, which is five days old. A sweep of a customer
-makes three calls of the store, and a usage two. Where one call fails with 91, the reply has the customers before, and tells
+makes three calls of the store, a usage or a look at what is due two. Where one call fails with 91, the reply has the customers before, and tells
 at whom it stopped; the same call again does the rest. Where it and all behind it fail with 93, so does the call again.
 """
 import subprocess
@@ -16,10 +16,12 @@ MAIL = '{"spool":"s1","sender":"ann@a.example","recipients":["bob@far.example"],
 BEFORE = [f"1767225600 POST /relay/submit/{name} {RELAY} {MAIL}" for name in NAMES]
 QUEUED = ('200 {"id":"0000000001","recipients":["bob@far.example"],"refused":[],"state":"incoming",'
           '"verdict":"queued"}')
-SWEEP, USAGE = (f"1767657600 POST /relay/{it} {RELAY}" for it in ("sweep", "usage"))
+SWEEP, USAGE, DUE = (f"1767657600 POST /relay/{it} {RELAY}" for it in ("sweep", "usage", "due"))
 SWEPT, LEFT = '"expired":1,"notices":1,"warned":0', '"expired":0,"notices":0,"warned":0'
 USED = ('"accepted":1,"bytes":900,"deleted":0,"delivered":0,"expired":0,"failed":0,"lines":0,"messages":1,'
         '"pending":1')
+LISTED = ('"due":[{"attempt":1,"id":"0000000001","recipients":["bob@far.example"],"sender":"ann@a.example","spool":"s1"}],'
+          '"more":false')
 DISK, CLOSED = '"error":91,"name":"Disk"', '"error":93,"name":"Closed"'
 
 
@@ -39,6 +41,9 @@ STOPS = [
     (USAGE, (1, 2), "once", reply(stop=DISK), reply(USED, USED)),
     (USAGE, (3, 4), "once", reply(USED, stop=DISK), reply(USED, USED)),
     (USAGE, (3, 4), "from", reply(USED, stop=CLOSED), reply(stop=CLOSED)),
+    (DUE, (1, 2), "once", reply(stop=DISK), reply(LISTED, LISTED)),
+    (DUE, (3, 4), "once", reply(LISTED, stop=DISK), reply(LISTED, LISTED)),
+    (DUE, (3, 4), "from", reply(LISTED, stop=CLOSED), reply(stop=CLOSED)),
 ]
 
 

@@ -1,4 +1,4 @@
-"""Tries a sweep and a usage of all customers over a store in a file.
+"""Tries the calls of all customers over a store in a file.
 
 Two customers have a message each, which is five days old when all are swept.
 
@@ -10,8 +10,8 @@ Two customers have a message each, which is five days old when all are swept.
 4. Each write, sync and cut fails in turn, and each request for memory is refused: of some thousand each seventh, another
    one first at each run, or with EACH as 1 all of them. The reply has the customers of whom the file has the work, and no
    other, and tells at whom it stopped and by which fault; or it is 90, and no work is done.
-5. Each such request for memory is refused in a usage of all. The reply has the usage of the first customers, and tells at
-   whom it stopped and that it was 90; or it is 90. Asked again, it is whole.
+5. Each such request for memory is refused in a usage of all, and as all are asked what is due. The reply has what is told of
+   the first customers, and tells at whom it stopped and that it was 90; or it is 90. Asked again, it is whole.
 """
 import json
 import os
@@ -33,13 +33,16 @@ SUBMITTED, LATE, AGED = 1767225600, 1767229200, 1767657600
 MAIL = '{"spool":"s1","sender":"ann@a.example","recipients":["bob@far.example"],"size":900}'
 USED = ('{{"customer":"{}","accepted":1,"bytes":900,"deleted":0,"delivered":0,"expired":0,"failed":0,"lines":0,'
         '"messages":1,"pending":1}}')
+LISTED = ('{{"customer":"{}","due":[{{"attempt":1,"id":"0000000001","recipients":["bob@far.example"],'
+          '"sender":"ann@a.example","spool":"s1"}}],"more":false}}')
 SWEPT = '{{"customer":"{}","expired":1,"notices":1,"warned":0}}'
 AGAIN = '{{"customer":"{}","expired":0,"notices":0,"warned":0}}'
 STRUCK = '503 {"error":90,"name":"WantOfMemory"}'
 FAULTS = {90: "WantOfMemory", 91: "Disk", 93: "Closed"}
 
 
-USAGE = f"{AGED} POST /relay/usage {RELAY}\n"
+# A call that only reads, and what it tells of a customer.
+READS = {it: (f"{AGED} POST /relay/{it} {RELAY}\n", told) for it, told in (("usage", USED), ("due", LISTED))}
 
 
 def sweep_at(moment):
@@ -47,7 +50,7 @@ def sweep_at(moment):
 
 
 def reply_of(parts, stopped="null"):
-    """The body of the reply to a sweep or a usage of all."""
+    """The body of the reply to a call of all."""
     return f'{{"done":[{",".join(parts)}],"stopped":{stopped}}}'
 
 
@@ -186,31 +189,31 @@ def troubles(program, folder, library, workers, variable, places):
     return {job.result() for job in jobs}
 
 
-# ---- a usage
+# ---- calls that only read
 
-def usage(program, folder, library, at):
-    """Refuses a request for memory in a usage of all; answers of how many customers it told, or None where it was 90."""
-    store = copied(folder, f"usage-{at}")
-    ended = batch(program, store, USAGE, LD_PRELOAD=library, REFUSE_AT=str(at))
-    parts, told = [USED.format(name) for name in NAMES], ended.stdout.decode().rstrip("\n")
+def read(program, folder, library, word, at):
+    """Refuses a request for memory in such a call; answers of how many customers it told, or None where it was 90."""
+    store, (line, part) = copied(folder, f"{word}-{at}"), READS[word]
+    ended = batch(program, store, line, LD_PRELOAD=library, REFUSE_AT=str(at))
+    parts, told = [part.format(name) for name in NAMES], ended.stdout.decode().rstrip("\n")
     stops = [*('{{"customer":"{}","error":90,"name":"WantOfMemory"}}'.format(name) for name in NAMES), "null"]
     replies = [f"200 {reply_of(parts[:done], stop)}" for done, stop in enumerate(stops)]
     if ended.returncode == 0 and told:
         expect(told in (*replies, STRUCK) and ended.stderr == b"", at, ended)
     else:
         expect(ended.returncode == 1 and not told, at, ended)
-    expect(replies_of(program, store, USAGE) == replies[-1:], at, "asked again")
+    expect(replies_of(program, store, line) == replies[-1:], at, "asked again")
     shutil.rmtree(store.parent)
     return replies.index(told) if told in replies else None
 
 
-def usages(program, folder, library, workers, each):
+def reads(program, folder, library, workers, word, each):
     """Refuses some requests for memory in turn; answers how many."""
-    calls = folder.parent / "usages"
-    batch(program, copied(folder, "used"), USAGE, LD_PRELOAD=library, CALLS=str(calls))
+    calls = folder.parent / word
+    batch(program, copied(folder, f"{word}-counted"), READS[word][0], LD_PRELOAD=library, CALLS=str(calls))
     places = range(1 + int(time.time()) % each, int(calls.read_text().split()[2]) + 1, each)
-    found = {job.result() for job in [workers.submit(usage, program, folder, library, at) for at in places]}
-    expect(each > 1 or {0, 1} <= found, "told usages", found)
+    found = {job.result() for job in [workers.submit(read, program, folder, library, word, at) for at in places]}
+    expect(each > 1 or {0, 1} <= found, "told of", word, found)
     return len(places)
 
 
@@ -248,5 +251,6 @@ def test_stops_and_troubles(program, aged, library, workers, folder, each=7):
     expect((90, 0) in refused and (90, 1) in refused, "refused memory", refused)
 
 
-def test_usages(program, aged, library, workers, each=7):
-    usages(program, aged, library, workers, each)
+@pytest.mark.parametrize("word", READS)
+def test_reads(program, aged, library, workers, word, each=7):
+    reads(program, aged, library, workers, word, each)

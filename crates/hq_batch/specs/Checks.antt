@@ -4,7 +4,7 @@ use Rattle.std.specs.Prelude.{Result, Ok, Err}
 use Rattle.hq_values.specs.Refusals.{no_memory}
 use Rattle.hq_values.specs.declared.failure.Fail.TheVariants.{Fault as AsFault}
 use Rattle.hq_rules.specs.declared.render.Rendered.{Rendered}
-use Rattle.hq_settings.specs.Checked.{HasRelay, count_in}
+use Rattle.hq_settings.specs.Checked.{HasRelay, count_customers}
 use Rattle.hq_settings.specs.Settings.{Named}
 use Rattle.hq_words.specs.Given.{CheckGiven}
 use Rattle.hq_batch.specs.Printing.{IsPrinted}
@@ -23,7 +23,7 @@ IsCountTold count (Err trouble) = trouble ≡ Desk (AsFault no_memory)
 
 -- what is told of a file, with the relay or without one
 abbrev pub FileEnds : Option Named → List ℕ → Result Rendered Trouble → Type 0
-FileEnds relay file = Then (IsRead (count_in relay file)) IsCountTold
+FileEnds relay file = Then (IsRead (count_customers relay file)) IsCountTold
 
 -- How a check ends: with the first trouble of a start, or with the number of its customers.
 abbrev pub CheckEnds : CheckGiven → Result Rendered Trouble → Type 0

@@ -13,7 +13,7 @@ use crate::print;
 use hq_import::{DirectoryFail, DirectoryRefusal, read_directory};
 use hq_kept::Customer;
 use hq_rules::Rendered;
-use hq_settings::{Relay, Trouble, count_in, file_of, relay_given};
+use hq_settings::{Relay, Trouble, count_customers, file_of, relay_given};
 use hq_values::Fault;
 use hq_words::Check;
 use std::alloc::Global;
@@ -49,7 +49,7 @@ fn told_of(
     ensures { (file : List ℕ) → ReadsDirectory ⊤ (seen_by (λ v. v.items) read) (directory_in file)
         → FileEnds (option_map relay_seen relay) file result }
 {
-    let count = count_in(alloc, relay, read)?;
+    let count = count_customers(alloc, relay, read)?;
     count_told(alloc, count)
 }
 

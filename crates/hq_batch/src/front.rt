@@ -110,7 +110,7 @@ fn line_reply<'d, D: Acts, M: JsonMemory>(
 }
 
 /// The desk with the directory of its customers, a log, and the memory that requests and replies
-/// take.
+/// take. The memory is lent: a value of any type beside the lent desk might hold a part of it.
 #[derive(Drop)]
 pub struct Front<'d, 'l, 'm, D, L, M> {
     pub memory: &'m M,

@@ -1,15 +1,14 @@
 //! What is answered and changed on the report of a delivery attempt, and which messages may be
 //! tried. Nothing is read or written here.
 
-ghost use Rattle.std.specs.Prelude.{◌≡◌, Some, filter};
+ghost use Rattle.std.specs.Prelude.{◌≡◌, Some};
 ghost use Rattle.hq_memory.specs.Making.{MadeIn};
-ghost use Rattle.hq_rules.specs.Moves.{is_due};
 ghost use Rattle.hq_rules.specs.Outcomes as rules;
 
 use crate::notices::{carry_out, draft_notice};
 use hq_kept::{Ended, Entry, Head, Kind, Message, Reported, Told};
 use hq_memory::Memory;
-use hq_queue::{due, report};
+use hq_queue::report;
 use hq_rules::decision::{Decision, PAGE, refuse, tell};
 use hq_rules::{Answer, AttemptCounts, AttemptReport, Plan};
 use hq_tables::Change;
@@ -93,19 +92,11 @@ pub fn take_report<M: Memory>(
     }
 }
 
-/// Those of the messages that may be tried.
-fn keep_due(messages: &mut Vec<Message>, at: Moment)
-    ensures { messages.new.items ≡ filter (is_due at) messages.old.items }
-{
-    messages.retain(|message| due(message, at));
-}
-
-/// The first hundred of the messages that may be tried, of all these.
-pub fn due_page<M: Memory>(memory: M, at: Moment, messages: Items<Message>) -> Decision
-    ensures { result ≡ rules.due_page (filter (is_due at) messages) }
+/// The first hundred of these messages, which may be tried, and whether there are more.
+pub fn due_page<M: Memory>(memory: M, messages: Items<Message>) -> Decision
+    ensures { result ≡ rules.due_page messages }
 {
     let mut messages = messages.into_vec();
-    keep_due(&mut messages, at);
     let more = messages.len() > PAGE;
     messages.truncate(PAGE);
     tell(memory, Answer::DueListed(Items::from_vec(messages), more))

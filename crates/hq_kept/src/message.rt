@@ -72,6 +72,18 @@ pub struct Message {
     pub pending: Items<Pending>,
 }
 
+impl Message {
+    ghost use Rattle.hq_kept.specs.Messages.{is_due};
+
+    /// Whether it may be tried at a moment: it is incoming or deferred, and its next try is not
+    /// later. Takes no memory.
+    pub fn is_due(&self, at: Moment) -> bool
+        ensures { result ≡ is_due at self.now }
+    {
+        self.state != QueueState::Hold && self.next_try <= at
+    }
+}
+
 impl TryCopy for Message {
     fn copy<M: Memory>(&self, memory: M) -> Result<Message, AllocError> {
         let sender = self.sender.copy(memory)?;

@@ -1,10 +1,9 @@
 -- What INSERT .. SELECT does to a table with no row, no foreign key and no count.
-use Rattle.std.proofs.Common.{◌≡◌, ℕ, ℤ, pos, ◌+ℤ◌, false, cond, List, [], ◌∷◌, ◌++◌, map}
+use Rattle.std.proofs.Common.{◌≡◌, ℕ, ℤ, false, cond, List, [], ◌∷◌, ◌++◌, map}
 use Rattle.std.proofs.Common.{append-nil, append_assoc, fold, slice_get, Some, None, Ok, Result}
-use Rattle.std.proofs.Common.{Option, refl, sym, ap, ap₂, ◌∙◌, subst, length, drop, suc, MatchBool}
+use Rattle.std.proofs.Common.{Option, refl, sym, ap, ◌∙◌, subst, length, drop, suc, MatchBool}
 use Rattle.std.proofs.Common.{is_lt, int_cmp, unwrap_or}
 use Rattle.std.proofs.lemmas.List.{length-map, map-append}
-use Rattle.std.proofs.lemmas.List.Folds.{fold-map}
 use Rattle.sqlite.specs.declared.error.Error.{Error}
 use Rattle.sqlite.specs.declared.types.Value.TheVariants.{Null, Int}
 use Rattle.sqlite.specs.Order.{Row}
@@ -12,9 +11,8 @@ use Rattle.sqlite.specs.Cast.{cast_row}
 use Rattle.sqlite.specs.Command.TheVariants.{Insert}
 use Rattle.sqlite.specs.Source.TheVariants as source
 use Rattle.sqlite.specs.Does.{Tally, Does, AtPlace, OnRows}
-use Rattle.sqlite.specs.Edit.{edit_of, edited, put_all, numbered, id_in, next_rowid, with_rowid}
+use Rattle.sqlite.specs.Edit.{edit_of, edited, put_all, numbered, with_rowid}
 use Rattle.sqlite.specs.Effect.{Database}
-use Rattle.sqlite.specs.Ops.{is_null}
 use Rattle.sqlite.specs.Rowids.{Rowids}
 use Rattle.sqlite.specs.Rowids.TheVariants.{Chosen, Above}
 use Rattle.sqlite.specs.Rows.{Written, Task, rowids_for, count_of, CountsIn, sequence, higher}
@@ -28,10 +26,9 @@ use Rattle.sqlite_rules.specs.Action.{works}
 use Rattle.sqlite_rules.specs.Edit.{taken_by}
 use Rattle.sqlite_schema.specs.declared.schema.Keys.TheVariants.{Enforced}
 use Rattle.sqlite_schema.specs.declared.program.Program.{Program}
-use Rattle.sqlite_typed.proofs.RowLemmas.{puts-map}
 use Rattle.hq_keyed.specs.Filled.{added, Filled}
-use Rattle.hq_keyed.proofs.Rows.{all_below, put_last, rises_on}
-use Rattle.hq_keyed.proofs.Writes.{went, same_value}
+use Rattle.hq_keyed.proofs.Rows.{all_below, rises_on}
+use Rattle.hq_keyed.proofs.Writes.{put_is, went, same_value}
 
 -- ---- rows under the next numbers, one after another
 
@@ -54,21 +51,6 @@ added_rises xs (y ∷ ys) keyed = added_rises (xs ++ (next_key key xs, y) ∷ []
 
 module _ {X : Type 0} (encode : ℤ × X → Row) (numbered_by : (k : ℤ × X) →
     rowid (encode k) ≡ Int k.0) where
-  next_is : (rows : List Row) (xs : List (ℤ × X)) → rows ≡ map encode xs →
-      next_rowid rows ≡ next_key key xs
-  next_is rows xs stored = ap next_rowid stored ∙ fold-map (λ _ (r : Row). id_in (rowid r) +ℤ pos 1)
-      encode (pos 1) xs ∙ (λ i. fold (λ _ (k : ℤ × X). id_in (numbered_by k i) +ℤ pos 1) (pos 1) xs)
-
-  put_is : (rows : List Row) (xs : List (ℤ × X)) (made : Row) (y : X) → rows ≡ map encode xs →
-      IsKeyedBy key xs → rowid made ≡ Null → ((n : ℤ) → Int n ∷ drop 1 made ≡ encode (n, y))
-      → put_row (with_rowid Chosen rows made) rows ≡ map encode (xs ++ (next_key key xs, y) ∷ [])
-  put_is rows xs made y stored keyed null row =
-      let new_row : with_rowid Chosen rows made ≡ encode (next_key key xs, y) =
-      ap (λ v. cond (is_null v) (Int (next_rowid rows) ∷ drop 1 made) made) null
-      ∙ row (next_rowid rows) ∙ ap (λ n. encode (n, y)) (next_is rows xs stored) in
-      ap₂ put_row new_row stored ∙ puts-map key encode numbered_by ((next_key key xs, y) ∷ []) xs
-      ∙ ap (map encode) (put_last key xs (next_key key xs, y) (all_below key xs keyed))
-
   pub all_put : {Z : Type 0} (made : Z → Row) (typed : Z → X) → ((z : Z) → rowid (made z) ≡ Null) →
       ((z : Z) (n : ℤ) → Int n ∷ drop 1 (made z) ≡ encode (n, typed z))
       → (zs : List Z) (rows : List Row) (xs : List (ℤ × X)) → rows ≡ map encode xs →
@@ -78,7 +60,7 @@ module _ {X : Type 0} (encode : ℤ × X → Row) (numbered_by : (k : ℤ × X) 
   all_put made typed null row (z ∷ zs) rows xs stored keyed =
       all_put made typed null row zs (put_row (with_rowid Chosen rows (made z)) rows) (xs
       ++ (next_key key xs, typed z) ∷ [])
-      (put_is rows xs (made z) (typed z) stored keyed (null z) (row z))
+      (put_is encode numbered_by rows xs (made z) (typed z) stored keyed (null z) (row z))
       (rises_on key xs (next_key key xs, typed z) keyed (all_below key xs keyed))
 
 -- ---- the statement

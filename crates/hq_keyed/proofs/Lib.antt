@@ -11,3 +11,5 @@ pub mod Making
 pub mod Stops
 pub mod Known
 pub mod Placed
+pub mod Unique
+pub mod Refused

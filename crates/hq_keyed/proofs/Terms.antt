@@ -43,6 +43,11 @@ pub number_to : (x n : ℕ) → truth_or false (binary (Compare Le Binary) (numb
     nat_le x n
 number_to x n = at_ints false Le (pos x) (pos n)
 
+-- column < parameter
+pub number_below : (x n : ℕ) → truth_or false (binary (Compare Lt Binary) (number x) (number n)) ≡
+    nat_lt x n
+number_below x n = at_ints false Lt (pos x) (pos n)
+
 same_order : (a b : ℕ) → int_cmp (pos a) (pos b) ≡ nat_cmp a b
 same_order a b = grind (arith, ints)
 

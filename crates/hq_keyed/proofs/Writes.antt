@@ -71,6 +71,25 @@ pub cast_int : (n : ℤ) → cast Integer (Int n) ≡ Int n
 unfolding unary
 cast_int n = either _ (Int n)
 
+module _ {X : Type 0} (encode : ℤ × X → Row) (numbered_by : (k : ℤ × X) →
+    rowid (encode k) ≡ Int k.0) where
+  abbrev key : ℤ × X → ℤ
+  key k = k.0
+
+  -- a row more at the end, under the next number
+  pub put_is : (rows : List Row) (xs : List (ℤ × X)) (made : Row) (y : X) → rows ≡ map encode xs →
+      IsKeyedBy key xs → rowid made ≡ Null → ((n : ℤ) → Int n ∷ drop 1 made ≡ encode (n, y))
+      → put_row (with_rowid Chosen rows made) rows ≡ map encode (xs ++ (next_key key xs, y) ∷ [])
+  put_is rows xs made y stored keyed null row =
+      let next : next_rowid rows ≡ next_key key xs =
+      ap next_rowid stored ∙ fold-map (λ _ (r : Row). id_in (rowid r) +ℤ pos 1) encode (pos 1) xs
+      ∙ (λ i. fold (λ _ (k : ℤ × X). id_in (numbered_by k i) +ℤ pos 1) (pos 1) xs) in
+      let new_row : with_rowid Chosen rows made ≡ encode (next_key key xs, y) =
+      ap (λ v. cond (is_null v) (Int (next_rowid rows) ∷ drop 1 made) made) null
+      ∙ row (next_rowid rows) ∙ ap (λ n. encode (n, y)) next in
+      ap₂ put_row new_row stored ∙ puts-map key encode numbered_by ((next_key key xs, y) ∷ []) xs
+      ∙ ap (map encode) (put_last key xs (next_key key xs, y) (all_below key xs keyed))
+
 module _ {X : Type 0} (schema : Schema) (encode : ℤ × X → Row) (numbered_by : (k : ℤ × X) →
     rowid (encode k) ≡ Int k.0) (at : ℕ) (table : Table)
     (listed : slice_get schema.tables at ≡ Some table) (plain_tree : (db : Trees) →
@@ -180,24 +199,14 @@ module _ {X : Type 0} (schema : Schema) (encode : ℤ × X → Row) (numbered_by
       let applies = one_step schema Enforced db written.0 (edit_of db table [] rowids 0 given.0)
       (unlinked (taken_by db (edit_of db table [] rowids 0 given.0))
       (edit_of db table [] rowids 0 given.0).news) written.1 in
-      let key = λ (k : ℤ × X). k.0 in
       let chosen : rowids ≡ Chosen = ap (λ b. cond b (Above (count_of counter.0)) Chosen) uncounted
       in
-      let rows = db table.tree in
-      let made : Row = with_rowid Chosen rows (cast_row table source) in
-      let edit : edited db (edit_of db table [] rowids 0 given.0) ≡ put_row made rows =
+      let edit : edited db (edit_of db table [] rowids 0 given.0) ≡ edited db
+      (edit_of db table [] Chosen 0 (source ∷ [])) =
       ap (λ how. edited db (edit_of db table [] how 0 given.0)) chosen
       ∙ ap (λ all. edited db (edit_of db table [] Chosen 0 all)) (given.1.1 ∙ sources) in
-      let next : next_rowid rows ≡ next_key key xs =
-      ap next_rowid stored ∙ fold-map (λ _ (r : Row). id_in (rowid r) +ℤ pos 1) encode (pos 1) xs
-      ∙ (λ i. fold (λ _ (k : ℤ × X). id_in (numbered_by k i) +ℤ pos 1) (pos 1) xs) in
-      let new_row : made ≡ encode (next_key key xs, x) =
-      ap (λ v. cond (is_null v) (Int (next_rowid rows) ∷ drop 1 (cast_row table source))
-      (cast_row table source)) null ∙ row (next_rowid rows) ∙ ap (λ n. encode (n, x)) next in
-      let below = all_below key xs keyed in
-      let put : put_row made rows ≡ map encode (xs ++ (next_key key xs, x) ∷ []) =
-      ap₂ put_row new_row stored ∙ puts-map key encode numbered_by ((next_key key xs, x) ∷ []) xs
-      ∙ ap (map encode) (put_last key xs (next_key key xs, x) below) in
+      let put = put_is encode numbered_by (db table.tree) xs (cast_row table source) x stored keyed
+      null row in
       record {
         schema_is = ap (λ (d : Database). d.schema) now;
         rows_are = ap (λ (d : Database). d.trees table.tree) now

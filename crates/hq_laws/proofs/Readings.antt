@@ -1,9 +1,9 @@
 -- The bytes of the reply to a call of all are read in one way.
-use Rattle.std.proofs.Common.{◌≡◌, ℕ, true, ◌==◌, if◌then◌else◌, List, [], ◌∷◌}
+use Rattle.std.proofs.Common.{◌≡◌, ℕ, Bool, true, false, ◌==◌, if◌then◌else◌, List, [], ◌∷◌}
 use Rattle.std.proofs.Common.{◌++◌, map, get_or, take, drop, codes, Option, Some, None, Result, Ok}
-use Rattle.std.proofs.Common.{Err, inl, inr, refl, sym, ap, ◌∙◌, append_assoc}
-use Rattle.std.specs.List.{flat_map, list_all}
-use Rattle.std.proofs.lemmas.Bool.{and_parts, false≢true}
+use Rattle.std.proofs.Common.{Err, inl, inr, refl, sym, ap, ◌∙◌, append_assoc, subst}
+use Rattle.std.specs.List.{flat_map}
+use Rattle.std.proofs.lemmas.Bool.{false≢true}
 use Rattle.std.proofs.lemmas.List.{append_cancel_left}
 use Rattle.hq_values.specs.Refusals.{no_memory}
 use Rattle.hq_values.specs.declared.failure.Fault.{Fault}
@@ -14,9 +14,9 @@ use Rattle.hq_tables.specs.Tables.{Tables}
 use Rattle.hq_rules.specs.declared.call.Call.{Call}
 use Rattle.hq_requests.specs.Calls.{Asked, CallOf, CallOfAll}
 use Rattle.hq_wire.specs.Exchanges.{CallsAll, EndsAt, IsRefused, MayReplyTo}
-use Rattle.hq_json.specs.Parts.{Closes}
+use Rattle.hq_json.specs.Parts.{Place, Outside, closes, for_customer, is_last, is_none_open}
+use Rattle.hq_json.specs.Parts.{open_behind, stands_behind}
 use Rattle.hq_wire.specs.Replies.{AreObjects, Part, SeenReply, Stop, closing, fault_text}
-use Rattle.hq_json.specs.Parts.{for_customer, is_inside}
 use Rattle.hq_wire.specs.Replies.{comma_joined, parts_opening, plain}
 use Rattle.hq_wire.specs.Replies.{reply_of_fault}
 use Rattle.hq_wire.specs.Replies.{stopped_text, parted_reply}
@@ -27,36 +27,43 @@ cons : {X : Type 0} (a b : X) (xs ys : List X) → ◌≡◌ {A = List X} (a ∷
     × (xs ≡ ys)
 cons a b xs ys e = (cc, cc)
 
-not_brace : (b : ℕ) → is_inside b ≡ true → b ≡ 125 → ⊥
-not_brace b h e = false≢true (ap is_inside (sym e) ∙ h)
+no_end : (place : Place) (n : ℕ) → closes place n [] ≡ true → ⊥
+no_end place n h = false≢true h
 
--- what is inside of the braces ends at the first closing one
-inside_apart : (xs ys more others : List ℕ) → list_all is_inside xs ≡ true →
-    list_all is_inside ys ≡ true → xs ++ 125 ∷ more ≡ ys ++ 125 ∷ others → (xs ≡ ys)
-    × (more ≡ others)
-inside_apart [] [] more others h k e = (refl, (cons _ _ _ _ e).1)
-inside_apart [] (y ∷ ys) more others h k e =
-    absurd (not_brace y (and_parts (is_inside y) (list_all is_inside ys) k).0
-    (sym (cons _ _ _ _ e).0))
-inside_apart (x ∷ xs) [] more others h k e =
-    absurd (not_brace x (and_parts (is_inside x) (list_all is_inside xs) h).0 (cons _ _ _ _ e).0)
-inside_apart (x ∷ xs) (y ∷ ys) more others h k e =
+last_is : (text : List ℕ) → is_last text ≡ true → text ≡ []
+last_is [] h = refl
+last_is (b ∷ text) h = absurd (false≢true h)
+
+-- what is told of the text behind a byte, where that byte leaves no brace open or some
+abbrev behind : Place → ℕ → ℕ → Bool → List ℕ → Bool
+behind place n a none text = if none then is_last text else
+    closes (stands_behind place a) (open_behind place n a) text
+
+-- what ends where its braces are closed ends there, whatever stands behind it
+object_apart : (place : Place) (n : ℕ) (x y more others : List ℕ) → closes place n x ≡ true →
+    closes place n y ≡ true → x ++ more ≡ y ++ others → (x ≡ y) × (more ≡ others)
+object_apart place n [] y more others h k e = absurd (no_end place n h)
+object_apart place n (a ∷ x) [] more others h k e = absurd (no_end place n k)
+object_apart place n (a ∷ x) (b ∷ y) more others h k e =
     let same = cons _ _ _ _ e in
-    let rest = inside_apart xs ys more others (and_parts (is_inside x) (list_all is_inside xs) h).1
-    (and_parts (is_inside y) (list_all is_inside ys) k).1 same.1 in
-    (ap (λ c. c ∷ xs) same.0 ∙ ap (λ zs. y ∷ zs) rest.0, rest.1)
-
--- so does an object
-object_apart : (x y more others : List ℕ) → Closes x → Closes y → x ++ more ≡ y ++ others → (x ≡ y)
-    × (more ≡ others)
-object_apart x y more others h k e =
-    let open_x : x ++ more ≡ h.before ++ 125 ∷ more = ap (λ z. z ++ more) h.text_is
-    ∙ append_assoc h.before (125 ∷ []) more in
-    let open_y : y ++ others ≡ k.before ++ 125 ∷ others = ap (λ z. z ++ others) k.text_is
-    ∙ append_assoc k.before (125 ∷ []) others in
-    let same = inside_apart h.before k.before more others h.inside k.inside (sym open_x ∙ e
-    ∙ open_y) in
-    (h.text_is ∙ ap (λ z. z ++ 125 ∷ []) same.0 ∙ sym k.text_is, same.1)
+    let too : closes place n (a ∷ y) ≡ true =
+    subst (λ c. closes place n (c ∷ y) ≡ true) (sym same.0) k in
+    let rest = object_apart (stands_behind place a) (open_behind place n a) x y more others in
+    by rest (is_none_open (open_behind place n a)) h too same
+  where
+    by : (behind place n a false x ≡ true → behind place n a false y ≡ true →
+        x ++ more ≡ y ++ others → (x ≡ y) × (more ≡ others)) → (none : Bool) →
+        behind place n a none x ≡ true → behind place n a none y ≡ true →
+        (a ≡ b) × (x ++ more ≡ y ++ others) → (a ∷ x ≡ b ∷ y) × (more ≡ others)
+    by rest true h k same =
+        let first = last_is x h in
+        let second = last_is y k in (
+          ap (λ c. c ∷ x) same.0 ∙ ap (λ zs. b ∷ zs) (first ∙ sym second),
+          sym (ap (λ zs. zs ++ more) first) ∙ same.1 ∙ ap (λ zs. zs ++ others) second,
+        )
+    by rest false h k same =
+        let on = rest h k same.1 in
+        (ap (λ c. c ∷ x) same.0 ∙ ap (λ zs. b ∷ zs) on.0, on.1)
 
 abbrev text_of_part : Part → List ℕ
 text_of_part p = p.text
@@ -77,7 +84,7 @@ others_apart (p ∷ ps) [] more others h k e = absurd (bracket e)
 others_apart (p ∷ ps) (q ∷ qs) more others h k e =
     let here : (p.text ++ flat_map behind_comma ps) ++ 93
     ∷ more ≡ (q.text ++ flat_map behind_comma qs) ++ 93 ∷ others = (cons _ _ _ _ e).1 in
-    let same = object_apart p.text q.text _ _ h.0.1 k.0.1
+    let same = object_apart Outside 0 p.text q.text _ _ h.0.1 k.0.1
     (sym (append_assoc p.text (flat_map behind_comma ps) (93 ∷ more)) ∙ here
     ∙ append_assoc q.text (flat_map behind_comma qs) (93 ∷ others)) in
     let rest = others_apart ps qs more others h.1 k.1 same.1 in
@@ -104,7 +111,7 @@ parts_apart (p ∷ ps) [] more others h k e =
     absurd (begins_apart p.text others _ h.0.0 (sym e
     ∙ append_assoc p.text (flat_map behind_comma ps) (93 ∷ more)))
 parts_apart (p ∷ ps) (q ∷ qs) more others h k e =
-    let same = object_apart p.text q.text _ _ h.0.1 k.0.1
+    let same = object_apart Outside 0 p.text q.text _ _ h.0.1 k.0.1
     (sym (append_assoc p.text (flat_map behind_comma ps) (93 ∷ more)) ∙ e
     ∙ append_assoc q.text (flat_map behind_comma qs) (93 ∷ others)) in
     let rest = others_apart ps qs more others h.1 k.1 same.1 in

@@ -165,6 +165,24 @@ page_is c after limit messages recipients holds =
     ∙ sym (take-map (λ (e : ℕ × Row). j e.0 e.1) limit left)
     ∙ ap (take limit) (sym (after_is after (λ e. j e.0 e.1) (λ e. refl) es))
 
+-- and the messages at all of them
+pub all_is : (c : List ℕ) (after : Option ℕ) (messages : List MessageRow)
+    (recipients : List RecipientRow) (holds : List HoldRow)
+    → filter_map (message_at c messages recipients holds)
+    (serials_after after (rows_with c messages))
+    ≡ after_serial after (map (λ e. message_of e.0 e.1
+    (reason_of c e.0 (holds_of holds)) (pending_of c e.0 (recipients_of recipients)))
+    (rows_with c messages))
+all_is c after messages recipients holds =
+    let j : ℕ → Row → Message =
+    λ serial r. message_of serial r (reason_of c serial (holds_of holds))
+    (pending_of c serial (recipients_of recipients)) in
+    let es = rows_with c messages in
+    let left = filter (λ (e : ℕ × Row). is_after after e.0) es in
+    looked_up (λ k. get (messages_of messages) (c, k)) j left
+    (all-filter _ (λ (e : ℕ × Row). is_after after e.0) es (found_at c messages))
+    ∙ sym (after_is after (λ e. j e.0 e.1) (λ e. refl) es)
+
 -- ---- the first with a spool name
 
 abbrev first_entry : {E : Type 0} → List E → Option E

@@ -31,7 +31,28 @@ pub struct ListRows {
     pub ends: Vec<EndRow>,
 }
 
+/// The rows that messages are read from.
+#[derive(Clone, Copy)]
+pub struct QueueRows<'r> {
+    pub messages: &'r [MessageRow],
+    pub recipients: &'r [RecipientRow],
+    pub holds: &'r [HoldRow],
+}
+
 impl ListRows {
+    /// The rows that messages are read from.
+    pub fn queue(&self) -> QueueRows<'_>
+        ensures messages { result.messages.now ≡ self.now.messages.items }
+        ensures recipients { result.recipients.now ≡ self.now.recipients.items }
+        ensures holds { result.holds.now ≡ self.now.holds.items }
+    {
+        QueueRows {
+            messages: self.messages.as_slice(),
+            recipients: self.recipients.as_slice(),
+            holds: self.holds.as_slice(),
+        }
+    }
+
     /// The same rows on their own.
     pub fn copy<M: Memory>(&self, memory: M) -> Result<ListRows, AllocError>
         ensures tables { MadeIn M.refused result (λ copy. tables_of copy ≡ tables_of self.now) }

@@ -9,7 +9,7 @@ use crate::{ends, heads, lines, marks, messages, notices};
 use hq_kept::{Action, Class, End, Line, LookupKey, Mark, Message, Notice, Pattern};
 use hq_memory::Memory;
 use hq_tables::{Account, Change, Shelf};
-use hq_values::{Fault, Items, Label, Name, Serial, Spool};
+use hq_values::{Fault, Items, Label, Moment, Name, Serial, Spool};
 use std::marker::Model;
 
 /// The tables in plain lists in memory: slow, and simple to look through. Its only fault is 90,
@@ -82,25 +82,11 @@ impl<M: Memory> Shelf for ListShelf<M> {
     }
 
     fn message(&mut self, customer: &Name, serial: Serial) -> Result<Option<Message>, Fault> {
-        Ok(messages::message_in(
-            self.memory,
-            self.rows.messages.as_slice(),
-            self.rows.recipients.as_slice(),
-            self.rows.holds.as_slice(),
-            customer,
-            serial,
-        )?)
+        Ok(messages::message_in(self.memory, self.rows.queue(), customer, serial)?)
     }
 
     fn by_spool(&mut self, customer: &Name, spool: &Spool) -> Result<Option<Message>, Fault> {
-        Ok(messages::by_spool_in(
-            self.memory,
-            self.rows.messages.as_slice(),
-            self.rows.recipients.as_slice(),
-            self.rows.holds.as_slice(),
-            customer,
-            spool,
-        )?)
+        Ok(messages::by_spool_in(self.memory, self.rows.queue(), customer, spool)?)
     }
 
     fn messages(
@@ -109,15 +95,17 @@ impl<M: Memory> Shelf for ListShelf<M> {
         after: Option<Serial>,
         limit: usize,
     ) -> Result<Items<Message>, Fault> {
-        Ok(messages::page_in(
-            self.memory,
-            self.rows.messages.as_slice(),
-            self.rows.recipients.as_slice(),
-            self.rows.holds.as_slice(),
-            customer,
-            after,
-            limit,
-        )?)
+        Ok(messages::page_in(self.memory, self.rows.queue(), customer, after, limit)?)
+    }
+
+    fn due(
+        &mut self,
+        customer: &Name,
+        at: Moment,
+        after: Option<Serial>,
+        limit: usize,
+    ) -> Result<Items<Message>, Fault> {
+        Ok(messages::due_in(self.memory, self.rows.queue(), customer, at, after, limit)?)
     }
 
     fn line(

@@ -1,25 +1,28 @@
 //! The rows of messages: look-up, put, drop, counts and pages, and messages joined with their
 //! recipients.
 
-ghost use Rattle.std.specs.Prelude.{◌≡◌, ℕ, not, OnOk, [], ◌++◌, filter, map, option_map};
-ghost use Rattle.std.specs.Prelude.{slice_get, None, count_by};
+ghost use Rattle.std.specs.Prelude.{◌≡◌, ℕ, not, OnOk, [], ◌++◌, filter, option_map};
+ghost use Rattle.std.specs.Prelude.{take, None, count_by};
 ghost use Rattle.std.specs.List as list;
 ghost use Rattle.std.specs.List.{filter_map, cons_option, sum_by};
 ghost use Rattle.std.specs.FinMap as maps;
 ghost use Rattle.hq_memory.specs.Making.{MadeIn};
+ghost use Rattle.hq_kept.specs.Messages.{is_due};
 ghost use Rattle.hq_kept.specs.declared.message.Message.{Message};
-ghost use Rattle.hq_tables.specs.Tables.{row_of, message_of, reason_of, joined};
-ghost use Rattle.hq_tables.specs.Readings.{page_of, with_spool, saturated};
-ghost use Rattle.hq_rows.specs.Listed.{messages_of, recipients_of, holds_of, message_value};
+ghost use Rattle.hq_tables.specs.Tables.{row_of, message_of, reason_of};
+ghost use Rattle.hq_tables.specs.Readings.{after_serial, page_of, with_spool, saturated};
+ghost use Rattle.hq_rows.specs.Listed.{messages_of, holds_of, message_value};
 ghost use Rattle.hq_rows.specs.Lookups.{is_message, is_past, message_row, pending_in};
 ghost use Rattle.hq_rows.specs.Lookups.{serials_where, serials_after, serials_with_spool};
 ghost use Rattle.hq_rows.specs.Lookups.{rows_with, has_spool, message_at, AreUnique, AreDealt};
+ghost use Rattle.hq_lists.specs.Queue.{messages_read};
 
+use crate::list_rows::QueueRows;
 use crate::{holds, recipients};
 use hq_kept::Message;
 use hq_memory::Memory;
 use hq_rows::{HoldRow, MessageRow, RecipientRow};
-use hq_values::{Items, Name, Serial, Spool, TryCopy};
+use hq_values::{Items, Moment, Name, Serial, Spool, TryCopy};
 use std::alloc::AllocError;
 
 fn find_message<'a>(
@@ -127,17 +130,16 @@ fn joined<M: Memory>(
 /// The customer's message of this serial, with its recipients.
 pub fn message_in<M: Memory>(
     memory: M,
-    messages: &[MessageRow],
-    recipients: &[RecipientRow],
-    holds: &[HoldRow],
+    rows: QueueRows<'_>,
     customer: &Name,
     serial: Serial,
 ) -> Result<Option<Message>, AllocError>
-    ensures { AreDealt recipients.now → MadeIn M.refused result
-        (λ found. found ≡ message_at customer.now messages.now recipients.now holds.now serial) }
+    ensures { let all = rows.entry in AreDealt all.recipients.now → MadeIn M.refused result
+        (λ found. found ≡ message_at customer.now all.messages.now all.recipients.now
+        all.holds.now serial) }
 {
-    match find_message(messages, customer, serial) {
-        Some(row) => Ok(Some(joined(memory, row, recipients, holds, customer, serial)?)),
+    match find_message(rows.messages, customer, serial) {
+        Some(row) => Ok(Some(joined(memory, row, rows.recipients, rows.holds, customer, serial)?)),
         None => Ok(None),
     }
 }
@@ -224,19 +226,17 @@ fn push_found<M: Memory>(
 
 fn messages_at<M: Memory>(
     memory: M,
-    messages: &[MessageRow],
-    recipients: &[RecipientRow],
-    holds: &[HoldRow],
+    rows: QueueRows<'_>,
     customer: &Name,
     serials: &[Serial],
 ) -> Result<Vec<Message>, AllocError>
-    ensures { AreDealt recipients.now → MadeIn M.refused result
-        (λ page. page.items ≡ filter_map
-        (message_at customer.now messages.now recipients.now holds.now) serials.now) }
+    ensures { let all = rows.entry in AreDealt all.recipients.now → MadeIn M.refused result
+        (λ page. page.items ≡ filter_map (message_at customer.now all.messages.now
+        all.recipients.now all.holds.now) serials.now) }
 {
     let mut page = memory.none();
     for serial in serials {
-        let found = message_in(memory, messages, recipients, holds, customer, *serial)?;
+        let found = message_in(memory, rows, customer, *serial)?;
         push_found(memory, &mut page, found)?;
     }
     Ok(page)
@@ -245,28 +245,40 @@ fn messages_at<M: Memory>(
 /// The customer's messages in order of serial: the first `limit` after the serial, or of all.
 pub fn page_in<M: Memory>(
     memory: M,
-    messages: &[MessageRow],
-    recipients: &[RecipientRow],
-    holds: &[HoldRow],
+    rows: QueueRows<'_>,
     customer: &Name,
     after: Option<Serial>,
     limit: usize,
 ) -> Result<Items<Message>, AllocError>
-    ensures { AreUnique messages.now → AreDealt recipients.now → MadeIn M.refused result
-        (λ page. page ≡ page_of after limit
-        (map (λ e. joined customer.now (recipients_of recipients.now) (holds_of holds.now) e.0 e.1)
-        (rows_with customer.now messages.now))) }
+    ensures { let all = rows.entry in AreUnique all.messages.now → AreDealt all.recipients.now
+        → MadeIn M.refused result (λ page. page ≡ page_of after limit (messages_read
+        customer.now all.messages.now all.recipients.now all.holds.now)) }
 {
-    let mut serials = sorted_serials(memory, messages, customer, number_of(after))?;
+    let mut serials = sorted_serials(memory, rows.messages, customer, number_of(after))?;
     serials.truncate(limit);
-    let page = messages_at(
-        memory,
-        messages,
-        recipients,
-        holds,
-        customer,
-        serials.as_slice(),
-    )?;
+    let page = messages_at(memory, rows, customer, serials.as_slice())?;
+    Ok(Items::from_vec(page))
+}
+
+/// The customer's messages that may be tried at a moment, in order of serial: the first `limit`
+/// after the serial, or of all.
+pub fn due_in<M: Memory>(
+    memory: M,
+    rows: QueueRows<'_>,
+    customer: &Name,
+    at: Moment,
+    after: Option<Serial>,
+    limit: usize,
+) -> Result<Items<Message>, AllocError>
+    ensures { let all = rows.entry in AreUnique all.messages.now → AreDealt all.recipients.now
+        → MadeIn M.refused result (λ page. page ≡ take limit (filter (is_due at)
+        (after_serial after (messages_read customer.now all.messages.now all.recipients.now
+        all.holds.now)))) }
+{
+    let serials = sorted_serials(memory, rows.messages, customer, number_of(after))?;
+    let mut page = messages_at(memory, rows, customer, serials.as_slice())?;
+    page.retain(|message| message.is_due(at));
+    page.truncate(limit);
     Ok(Items::from_vec(page))
 }
 
@@ -304,33 +316,21 @@ fn sorted_having<M: Memory>(
     Ok(serials)
 }
 
-fn first_of(serials: &[Serial]) -> Option<Serial>
-    ensures { result ≡ slice_get serials.now 0 }
-{
-    serials.first().copied()
-}
-
 /// The customer's message with this spool name, the one of the smallest serial where several have
 /// it.
 pub fn by_spool_in<M: Memory>(
     memory: M,
-    messages: &[MessageRow],
-    recipients: &[RecipientRow],
-    holds: &[HoldRow],
+    rows: QueueRows<'_>,
     customer: &Name,
     spool: &Spool,
 ) -> Result<Option<Message>, AllocError>
-    ensures { AreUnique messages.now → AreDealt recipients.now → MadeIn M.refused result
-        (λ found. found ≡ with_spool spool.now
-        (map (λ e. joined customer.now (recipients_of recipients.now) (holds_of holds.now) e.0 e.1)
-        (rows_with customer.now messages.now))) }
+    ensures { let all = rows.entry in AreUnique all.messages.now → AreDealt all.recipients.now
+        → MadeIn M.refused result (λ found. found ≡ with_spool spool.now (messages_read
+        customer.now all.messages.now all.recipients.now all.holds.now)) }
 {
-    let serials = sorted_having(memory, messages, customer, spool)?;
-    match first_of(serials.as_slice()) {
+    let serials = sorted_having(memory, rows.messages, customer, spool)?;
+    match serials.as_slice().first() {
         None => Ok(None),
-        Some(serial) => {
-            let found = message_in(memory, messages, recipients, holds, customer, serial)?;
-            Ok(found)
-        }
+        Some(serial) => Ok(message_in(memory, rows, customer, *serial)?),
     }
 }

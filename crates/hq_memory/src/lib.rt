@@ -4,4 +4,4 @@
 
 mod memory;
 
-pub use memory::{ListRoom, Memory};
+pub use memory::Memory;

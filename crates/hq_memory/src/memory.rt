@@ -7,7 +7,7 @@ ghost use Rattle.std.specs.BTreeSet.{IsEmpty, contains, Updates};
 ghost use Rattle.std.specs.Char.{to_ascii_lowercase};
 ghost use Rattle.hq_memory.specs.Making.{MadeIn};
 
-use std::alloc::{AllocError, Allocator, Global};
+use std::alloc::{AllocError, Global};
 use std::collections::BTreeSet;
 use std::fmt::Display;
 
@@ -88,27 +88,6 @@ pub trait Memory: Copy + Drop {
         ensures is_new { MadeIn refused result (λ is_new. is_new ≡ not (contains T.cmp to.old
             value)) }
         ensures values { OnOk result (Updates T.cmp to.old to.new value true) };
-}
-
-/// An allocator that may refuse room for a list of its own.
-pub trait ListRoom: Allocator {
-    /// It refused room.
-    ghost no_room: { Type 0 };
-
-    /// An empty list with room for so many values.
-    fn list<T>(self, most: usize) -> Result<Vec<T, Self>, AllocError>
-        ensures items { MadeIn no_room result (λ values. values.items ≡ []) }
-        ensures room { IfOk result (λ values. (vec_len values ≡ 0)
-            × (most ≤ vec_capacity values)) };
-}
-
-/// Any allocator, of which nothing is said.
-impl<A: Allocator> ListRoom for A {
-    ghost no_room = { ⊤ };
-
-    fn list<T>(self, most: usize) -> Result<Vec<T, A>, AllocError> {
-        Vec::with_capacity(self, most)
-    }
 }
 
 /// The memory of the machine, of which nothing is said.

@@ -24,7 +24,7 @@ pub use addresses::distinct;
 pub use admission::admit;
 pub use backoff::next_try;
 pub use ending::end_all;
-pub use moves::{due, hold, release};
+pub use moves::{hold, release};
 pub use reporting::report;
 pub use requeueing::requeue;
 pub use sweep::sweep_one;

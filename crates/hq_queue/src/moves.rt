@@ -2,7 +2,7 @@
 //! attempt or the passing of time does to a message is not said here.
 
 ghost use Rattle.std.specs.Prelude.{◌≡◌};
-ghost use Rattle.hq_rules.specs.Moves.{held, released, is_due, MovesBy};
+ghost use Rattle.hq_rules.specs.Moves.{held, released, MovesBy};
 
 use hq_kept::{Message, QueueState};
 use hq_values::{Moment, Text};
@@ -40,12 +40,4 @@ pub fn release(message: &mut Message, at: Moment) -> bool
         }
         QueueState::Incoming | QueueState::Deferred => false,
     }
-}
-
-/// Whether a message may be tried at a moment: it is incoming or deferred, and its next try is not
-/// later. Takes no memory.
-pub fn due(message: &Message, at: Moment) -> bool
-    ensures { result ≡ is_due at message.now }
-{
-    message.state != QueueState::Hold && message.next_try <= at
 }

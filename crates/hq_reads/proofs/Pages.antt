@@ -14,6 +14,7 @@ use Rattle.hq_rules.specs.declared.answer.Answer.TheVariants as answer
 use Rattle.hq_rules.specs.AccessLines.{line_page}
 use Rattle.hq_rules.specs.Messages.{page}
 use Rattle.hq_rules.specs.Notices.{notice_page}
+use Rattle.hq_rules.specs.Outcomes.{due_page}
 
 more_is : (l n : ℕ) → nat_lt l (min (l + 1) n) ≡ nat_lt l n
 more_is l n = grind (arith, nat_tests)
@@ -30,6 +31,13 @@ page_is f l xs ys e =
 pub page_of_more : (ms found : List Message) → found ≡ take 101 ms → page found ≡ page ms
 page_of_more ms found e = page_is (λ shown more. record {
   answer = answer.Listed shown more;
+  changes = [];
+}) 100 ms found e
+
+pub due_page_of_more : (ms found : List Message) → found ≡ take 101 ms →
+    due_page found ≡ due_page ms
+due_page_of_more ms found e = page_is (λ shown more. record {
+  answer = answer.DueListed shown more;
   changes = [];
 }) 100 ms found e
 

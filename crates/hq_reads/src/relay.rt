@@ -4,7 +4,7 @@
 ghost use Rattle.std.specs.Prelude.{IfOk, filter};
 ghost use Rattle.hq_rules.specs.Desks.{IsAnswerTo};
 ghost use Rattle.hq_rules.specs.declared.call.Call.TheVariants.{Sweep as SweepCall};
-ghost use Rattle.hq_rules.specs.Moves.{is_due};
+ghost use Rattle.hq_kept.specs.Messages.{is_due};
 ghost use Rattle.hq_tables.specs.Readings.{after_serial};
 ghost use Rattle.hq_tables.specs.Shelves.{Finds, FindsSound, Keeps};
 ghost use Rattle.hq_rules.specs.Outcomes as outcomes;
@@ -16,7 +16,7 @@ use hq_decisions::sweeps::sweep;
 use hq_kept::Entry;
 use hq_memory::Memory;
 use hq_rules::AttemptReport;
-use hq_rules::decision::{Decision, refuse};
+use hq_rules::decision::{Decision, PAGE, refuse};
 use hq_tables::Shelf;
 use hq_values::{Fault, Host, Moment, Refusal, Serial};
 
@@ -57,8 +57,8 @@ pub(crate) fn decide_due<S: Shelf, M: Memory>(
         (λ rows. outcomes.due_page (filter (is_due at) (after_serial after rows.messages))) }
     ensures kept { Keeps (with_memory M.refused S.sight) shelf.old shelf.new result }
 {
-    let messages = shelf.messages(&entry.name, after, MOST_MESSAGES)?;
-    Ok(due_page(memory, at, messages))
+    let messages = shelf.due(&entry.name, at, after, PAGE + 1)?;
+    Ok(due_page(memory, messages))
 }
 
 /// The answer to a sweep, and its changes.

@@ -159,10 +159,11 @@ asked_of_one d role route key segment body = do
   call ← asked_of route segment body
   Ok (CallOf name call)
 
--- what a route for all asks of each customer: only these two are such routes
+-- what a route for all asks of each customer: only these three are such routes
 abbrev pub asked_of_each : Route → Result Call Refusal
 asked_of_each route.Sweep = Ok call.Sweep
 asked_of_each route.Usage = Ok call.Usage
+asked_of_each route.Due = Ok (call.Due None)
 asked_of_each _ = Err NoRoute
 
 -- the call of all customers: the relay's key, a route for all, and neither parameter nor body

@@ -40,6 +40,7 @@ unfoldable pub routes : RowsOf Methods
 routes =
     (with_parameter (codes "/relay/delete-matching/"), Post Relay DeleteMatching)
     ∷ (with_parameter (codes "/relay/due/"), Post Relay Due)
+    ∷ (codes "/relay/due", Post RelayForAll Due)
     ∷ (with_parameter (codes "/relay/find/"), Post Relay Find)
     ∷ (with_parameter (codes "/relay/history-find/"), Post Relay FindHistory)
     ∷ (with_parameter (codes "/relay/history/"), Post Relay HistoryByBody)

@@ -147,6 +147,7 @@ fn asked_of_each(route: Route) -> Result<EachCall, Refusal>
     match route {
         Route::Sweep => Ok(EachCall::Sweep),
         Route::Usage => Ok(EachCall::Usage),
+        Route::Due => Ok(EachCall::Due),
         _ => Err(Refusal::NoRoute),
     }
 }

@@ -146,7 +146,7 @@ pub enum Route {
 }
 
 /// Every path of the desk, as the router spells it, with its methods.
-pub(crate) const TABLE: [(&str, Methods); 44] = [
+pub(crate) const TABLE: [(&str, Methods); 45] = [
     ("/v1/messages", Get(Customer, Messages)),
     ("/v1/messages-after/{id}", Get(Customer, MessagesAfter)),
     ("/v1/message/{id}", GetOrDelete(Customer, Show, Delete)),
@@ -197,4 +197,5 @@ pub(crate) const TABLE: [(&str, Methods); 44] = [
     ),
     ("/relay/sweep", Post(RelayForAll, Sweep)),
     ("/relay/usage", Post(RelayForAll, Usage)),
+    ("/relay/due", Post(RelayForAll, Due)),
 ];

@@ -2,7 +2,7 @@
 -- customer. A decision reads and writes nothing. Refusals come in the order in which they are
 -- tested here.
 use Rattle.std.specs.Prelude.{ℕ, List, filter}
-use Rattle.hq_rules.specs.Moves.{is_due}
+use Rattle.hq_kept.specs.Messages.{is_due}
 use Rattle.hq_kept.specs.declared.account.Entry.{Entry}
 use Rattle.hq_tables.specs.Readings.{Readings, after_pattern, after_serial, after_number}
 use Rattle.hq_tables.specs.Readings.{before_end}

@@ -1,6 +1,6 @@
 -- The moves of a message (postsuper(1)): each gives the message after it, or nothing where it does
 -- not apply.
-use Rattle.std.specs.Prelude.{ℕ, ◌≡◌, Bool, true, false, not, ◌&&◌, nat_le, List, [], map, Option}
+use Rattle.std.specs.Prelude.{ℕ, ◌≡◌, Bool, true, false, List, [], map, Option}
 use Rattle.std.specs.Prelude.{Some, None, if◌then◌else◌}
 use Rattle.hq_kept.specs.Messages.{is_on_hold}
 use Rattle.hq_kept.specs.declared.message.Message.{Message}
@@ -33,10 +33,6 @@ requeued at serial m = record m {
   warned = false;
   pending = map cleared m.pending;
 }
-
--- incoming or deferred, and to be tried by that moment
-abbrev pub is_due : ℕ → Message → Bool
-is_due at m = not (is_on_hold m.state) && nat_le m.next_try at
 
 -- What a call makes of a message, by a move: true, and the message is the move's; or false where
 -- the move does not apply, and the message is as it was.

@@ -12,6 +12,8 @@ pub enum EachCall {
     Sweep,
     /// `Call::Usage`.
     Usage,
+    /// `Call::Due`, from the start.
+    Due,
 }
 
 impl EachCall {
@@ -22,6 +24,7 @@ impl EachCall {
         match self {
             EachCall::Sweep => Call::Sweep,
             EachCall::Usage => Call::Usage,
+            EachCall::Due => Call::Due(None),
         }
     }
 }

@@ -24,5 +24,5 @@ count_of (Some relay) customers = do
 count_of None customers = Ok (length customers)
 
 -- how many customers a start would serve, or the refusal of their directory
-abbrev pub count_in : Option Named → List ℕ → Result ℕ Refusal
-count_in relay file = customers_in file >>= count_of relay
+abbrev pub count_customers : Option Named → List ℕ → Result ℕ Refusal
+count_customers relay file = customers_in file >>= count_of relay

@@ -7,7 +7,7 @@ ghost use Rattle.hq_import.specs.Directories.{directory_in};
 ghost use Rattle.hq_import.specs.Refused.{ReadsDirectory};
 ghost use Rattle.hq_words.specs.Asked.{check_of};
 ghost use Rattle.hq_settings.specs.Seen.{relay_seen};
-ghost use Rattle.hq_settings.specs.Checked.{HasRelay, count_of, count_in};
+ghost use Rattle.hq_settings.specs.Checked.{HasRelay, count_of, count_customers};
 
 use crate::{Relay, Settings, Trouble, relay_of};
 use hq_import::DirectoryFail;
@@ -53,14 +53,14 @@ fn count_of(alloc: Global, relay: Option<Relay>, customers: Vec<Customer>) -> Re
 /// How many customers a start would serve, by the directory that was read and the relay, where one
 /// is known: else the directory's own refusal, 57 `BadRelayKey` where the relay's key is a
 /// customer's, or want of memory.
-pub fn count_in(
+pub fn count_customers(
     alloc: Global,
     relay: Option<Relay>,
     read: Result<Vec<Customer>, DirectoryFail>,
 ) -> Result<usize, Fail>
     requires { IfOk read (λ customers. IsTrue (are_customers customers.items)) }
     ensures { (file : List ℕ) → ReadsDirectory ⊤ (seen_by (λ v. v.items) read) (directory_in file)
-        → Reads result (count_in (option_map relay_seen relay) file) }
+        → Reads result (count_customers (option_map relay_seen relay) file) }
 {
     let customers = read?;
     count_of(alloc, relay, customers)

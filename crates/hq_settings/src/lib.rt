@@ -25,7 +25,7 @@ mod trouble;
 mod words_tests;
 
 pub use builtin::settings as builtin_settings;
-pub use checking::{count_in, relay_given};
+pub use checking::{count_customers, relay_given};
 pub use files::{customers_of, file_of};
 pub use relay::Relay;
 pub use relay_words::relay_of;

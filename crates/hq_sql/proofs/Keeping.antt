@@ -1,12 +1,13 @@
 -- What statements keep, whichever they are: from what the library says of a query and of a command.
-use Rattle.std.proofs.Common.{◌≡◌, ◌⊎◌, inl, inr, ℕ, true, false, true≢false, not, List, Option}
-use Rattle.std.proofs.Common.{None, Result, Ok, Err, IsErr, IsTrue, sym, ap, ◌∙◌, subst}
+use Rattle.std.proofs.Common.{◌≡◌, ◌⊎◌, inl, inr, ℕ, Bool, true, false, true≢false, not, List}
+use Rattle.std.proofs.Common.{Option, None, Result, Ok, Err, IsErr, IsTrue, refl, sym, ap, ◌∙◌}
+use Rattle.std.proofs.Common.{subst}
 use Rattle.std.specs.Prelude.{nat_eq, is_some}
 use Rattle.sqlite.specs.Order.{Row}
 use Rattle.sqlite.specs.declared.error.Error.{Error}
 use Rattle.sqlite.specs.Command.{Command}
 use Rattle.sqlite.specs.Listing.{understood}
-use Rattle.sqlite.specs.State.{State, HasCleanDisk, KeepsCommit, Survives, CommitsBy}
+use Rattle.sqlite.specs.State.{State, HasCleanDisk, IsUnchanged, KeepsCommit, Survives, CommitsBy}
 use Rattle.sqlite.specs.State.{CommitsShowing, Shown, FailsToQuery, Executes}
 use Rattle.sqlite.proofs.Callers.{IsPlain, command_of}
 use Rattle.hq_keyed.proofs.Known.{Orders, changes_rows, keeps_commit}
@@ -14,8 +15,8 @@ use Rattle.hq_keyed.proofs.Left.{shown_unchanged, query_left, execute_left, left
 use Rattle.hq_keyed.proofs.Stops.{may_end, ends_none, query_leaves_no_more, write_leaves_no_more}
 use Rattle.hq_schema.specs.Schema.{desk_schema}
 use Rattle.hq_tables.specs.Tables.{Tables}
-use Rattle.hq_sql.specs.Tables.{IsDesk, Leaves}
-use Rattle.hq_sql.specs.Kept.{Intact, KeepsCommitted, Updated}
+use Rattle.hq_sql.specs.Tables.{IsDesk, Leaves, tables_in}
+use Rattle.hq_sql.specs.Kept.{HasTried, Intact, KeepsCommitted, Updated}
 
 module _ (old new : State) (text : List ℕ) (params : Row)
     (plain : IsPlain (understood desk_schema text))
@@ -69,6 +70,13 @@ module _ (old new : State) (text : List ℕ) (params : Row) (command : Command)
   write_failed e h = write_keeps (λ clean desk within. left_keeps old new
       (execute_left old new text params e (h clean)))
 
+  -- an INSERT that was made, or whose key was taken
+  pub insert_tried : (there : Bool) →
+      (HasCleanDisk new → HasTried text params old new (Ok there)) → KeepsCommitted old new
+  insert_tried true h = write_failed _ (λ clean. (h clean).0)
+  insert_tried false h = write_keeps (λ clean desk within. keeps_commit desk_schema old new
+      desk.schema_is text params command known changes (h clean).0 (h clean).1 within)
+
 -- ---- a query that was answered or failed, with another result
 
 pub keeps_ok : {X Y : Type 0} (old new : State) (x : X) (y : Y) → Intact old new (Ok x) →
@@ -109,3 +117,23 @@ told_there {count = count} (inr h) = record {
   free = λ absent. absurd (one_there count h.0 absent);
   taken = λ there. h.1.0;
 }
+
+-- ---- what a key that was free tells of an INSERT
+
+-- nothing changed
+pub unchanged_leaves : (old new : State) → IsDesk old.now → IsUnchanged old new →
+    Leaves old new (tables_in old.now)
+unchanged_leaves old new desk same = record {
+  desk = subst IsDesk (sym same.0.now_is) desk;
+  tables = ap tables_in same.0.now_is;
+  is_open = same.0.is_open;
+  was_open = same.0.was_open;
+  mode = same.0.mode;
+  committed = λ _. same.0.committed_is;
+}
+
+-- it was made, where nothing stood at the key
+pub made_free : {V : Type 0} {there : Bool} {old new : State} {before : Option V}
+    {t after : Tables} → Updated there old new before t after → before ≡ None → Leaves old new t
+made_free {there = true} h free = absurd (true≢false (sym (h.taken refl) ∙ ap is_some free))
+made_free {there = false} h free = h.untouched refl

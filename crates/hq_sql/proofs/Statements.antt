@@ -1,7 +1,7 @@
 -- What the statements on one table of the desk find in it and leave of all.
 use Rattle.std.proofs.Common.{◌≡◌, ℕ, ℤ, Bool, false, List, [], ◌∷◌, map, filter, find, take, drop}
 use Rattle.std.proofs.Common.{length, ◌/◌, slice_get, option_map, not, inl, inr, None, Ok, ap, ◌∙◌}
-use Rattle.std.proofs.Common.{subst}
+use Rattle.std.proofs.Common.{true, true≢false, sym, subst}
 use Rattle.std.specs.Prelude.{nat_eq}
 use Rattle.std.specs.List.{list_all}
 use Rattle.std.specs.declared.cmp.Ordering.{Ordering}
@@ -16,18 +16,20 @@ use Rattle.sqlite.specs.Command.TheVariants.{Insert, Update, Delete}
 use Rattle.sqlite.specs.Source.TheVariants.{Values}
 use Rattle.sqlite.specs.Query.{Query, inner, end, output, output_cmp, page}
 use Rattle.sqlite.specs.Edit.{id_in}
-use Rattle.sqlite.specs.Effect.{value_rows}
+use Rattle.sqlite.specs.Effect.{IsDatabase, value_rows}
 use Rattle.sqlite.specs.Rows.{stamped}
 use Rattle.sqlite.specs.State.{State, Executes, Shown}
 use Rattle.sqlite_keyed.specs.Lists.{sort_by}
 use Rattle.hq_owned.specs.Rows.{pairs_of}
 use Rattle.hq_keyed.proofs.Known.{Asks, Orders}
 use Rattle.hq_keyed.proofs.Placed as placed
+use Rattle.hq_keyed.proofs.Refused.{refused}
 use Rattle.hq_keyed.proofs.Select.{query_of}
+use Rattle.hq_keyed.proofs.Unique.{Guard, adds as added}
 use Rattle.hq_schema.specs.Schema.{desk_schema}
-use Rattle.hq_sql.specs.Kept.{Updated}
+use Rattle.hq_sql.specs.Kept.{HasTried, Updated}
 use Rattle.hq_sql.specs.Tables.{IsDesk, Leaves, tables_in}
-use Rattle.hq_sql.proofs.Keeping.{told_there}
+use Rattle.hq_sql.proofs.Keeping.{made_free, told_there, unchanged_leaves}
 use Rattle.hq_sql.proofs.Tables.{DeskTable, left, leaves_then}
 
 module _ {X K V : Type 0} (t : DeskTable X K V) (old new : State) (desk : IsDesk old.now) where
@@ -162,6 +164,37 @@ module _ {X K V : Type 0} (t : DeskTable X K V) (old new : State) (desk : IsDesk
       (t.stored old.now desk) text terms width known params source count x sources null row back
       free h)
 
+  -- a row is put at a key that was free, or its key was taken and all is as it was
+  pub adds : Guard desk_schema t.place t.kind → (text : List ℕ) (terms : List Term) (width : ℕ) →
+      Orders desk_schema text (Insert t.place.at (Values terms width)) →
+      (params source : Row) (x : X)
+      → value_rows (stamped t.place.table params) width (length terms / width) terms ≡ source ∷ [] →
+      rowid (cast_row t.place.table source) ≡ Null
+      → ((n : ℤ) → Int n ∷ drop 1 (cast_row t.place.table source) ≡ t.kind.encode (n, x)) →
+      ((n : ℤ) → t.kind.decode (t.kind.encode (n, x)) ≡ x)
+      → (there : Bool) → HasTried text params old new (Ok there) →
+      Updated there old new (get before (t.kind.key x))
+      (t.put (tables_in old.now) (insert before (t.kind.key x) (t.kind.val x))) (tables_in old.now)
+  adds g text terms width known params source x sources null row back true h =
+      let it = refused desk_schema t.place t.kind g old new desk.schema_is (t.stored old.now desk)
+      text terms width known params source x sources null row h.0 in
+      let was = h.1 it.0.0.is_open in
+      record {
+        made = λ _. unchanged_leaves old new desk it.0;
+        untouched = λ e. absurd (true≢false e);
+        free = λ e. absurd (true≢false e);
+        taken = λ _. it.1 (subst IsDatabase it.0.0.now_is was.0);
+      }
+  adds g text terms width known params source x sources null row back false h =
+      let it = added desk_schema t.place t.kind g old new desk.schema_is (t.stored old.now desk)
+      text terms width known params source h.0 x sources null row back h.1 in
+      record {
+        made = λ e. absurd (true≢false (sym e));
+        untouched = λ _. left t old new _ desk it.1;
+        free = λ _. it.0;
+        taken = λ e. absurd (true≢false (sym e));
+      }
+
   -- the rows are dropped whose keys pass a test
   pub drops : (text : List ℕ) (terms : List Term) →
       Orders desk_schema text (Delete t.place.at (record {
@@ -216,7 +249,7 @@ module _ {X K V : Type 0} (t : DeskTable X K V) (old new : State) (desk : IsDesk
       ]
 
 -- the row at a key is dropped, and then one is put
-pub anew : {X K V : Type 0} (t : DeskTable X K V) (old mid new : State) (q : K) (v : V) →
+anew : {X K V : Type 0} (t : DeskTable X K V) (old mid new : State) (q : K) (v : V) →
     Leaves old mid (t.put (tables_in old.now) (remove (t.at (tables_in old.now)) q))
     → (IsDesk mid.now → get (t.at (tables_in mid.now)) q ≡ None →
     Leaves mid new (t.put (tables_in mid.now) (insert (t.at (tables_in mid.now)) q v))) →
@@ -235,3 +268,15 @@ anew t old mid new q v gone put =
     ∙ t.put_put was (remove m q) (insert (remove m q) q v)
     ∙ ap (t.put was) (placed.put_anew t.kind.total t.kind.exact m q v) in
     subst (Leaves old new) all (leaves_then old mid new _ _ gone (put gone.desk free))
+
+-- so it is where an INSERT met a row at the key
+pub renewed : {X K V : Type 0} (t : DeskTable X K V) (old a b new : State) (q : K) (v : V)
+    (there : Bool) → Leaves old a (tables_in old.now)
+    → (IsDesk a.now → Leaves a b (t.put (tables_in a.now) (remove (t.at (tables_in a.now)) q)))
+    → (IsDesk b.now → Updated there b new (get (t.at (tables_in b.now)) q)
+    (t.put (tables_in b.now) (insert (t.at (tables_in b.now)) q v)) (tables_in b.now)) →
+    Leaves old new (t.put (tables_in old.now) (insert (t.at (tables_in old.now)) q v))
+renewed t old a b new q v there same gone put =
+    subst (λ u. Leaves old new (t.put u (insert (t.at u) q v))) same.tables
+    (leaves_then old a new _ _ same (anew t a b new q v (gone same.desk)
+    (λ desk free. made_free (put desk) free)))

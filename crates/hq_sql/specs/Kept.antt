@@ -1,10 +1,14 @@
 -- What a statement finds, makes and keeps. `old` and `new` are what is seen of its connection
 -- before and after.
 -- Inner: it serves proofs alone, and no promise rests on it.
-use Rattle.std.specs.Prelude.{◌≡◌, Bool, true, false, Option, None, Result, IfOk, OnOk, OnErr}
-use Rattle.std.specs.Prelude.{IsTrue, is_some}
+use Rattle.std.specs.Prelude.{◌≡◌, ℕ, List, Bool, true, false, Option, None, Result, Ok, Err, IfOk}
+use Rattle.std.specs.Prelude.{OnOk, OnErr, IsTrue, is_some}
 use Rattle.sqlite.specs.declared.error.Error.{Error}
-use Rattle.sqlite.specs.State.{State, HasCleanDisk, IsUnchanged, KeepsCommit}
+use Rattle.sqlite.specs.declared.error.Error.TheVariants.{SqliteFailure}
+use Rattle.sqlite.specs.declared.error.ErrorCode.TheVariants.{ConstraintViolation}
+use Rattle.sqlite_schema.specs.declared.schema.Constraint.TheVariants.{Unique}
+use Rattle.sqlite.specs.Order.{Row}
+use Rattle.sqlite.specs.State.{State, HasCleanDisk, Executes, IsLive, IsUnchanged, KeepsCommit}
 use Rattle.hq_keyed.specs.Left.{IsQuiet, LeavesNoMore}
 use Rattle.hq_tables.specs.Tables.{Tables}
 use Rattle.hq_sql.specs.Tables.{IsDesk, Leaves, tables_in}
@@ -30,8 +34,15 @@ abbrev pub Inserts : {X V : Type 0} → State → State → Result X Error → (
 Inserts old new result at f = HasCleanDisk new → IsDesk old.now → at (tables_in old.now) ≡ None →
     OnOk result (Leaves old new (f (tables_in old.now)))
 
--- What an UPDATE by key leaves, by whether it tells of a row: `before` is what stood at the key,
--- `t` are the tables before.
+-- What an INSERT did, by whether it tells that a unique key was taken.
+abbrev pub HasTried : List ℕ → Row → State → State → Result Bool Error → Type 0
+HasTried sql params old new (Ok true) =
+    Executes sql params old new (Err (SqliteFailure (ConstraintViolation Unique))) × IsLive new
+HasTried sql params old new (Ok false) = (count : ℕ) × Executes sql params old new (Ok count)
+HasTried sql params old new (Err e) = Executes sql params old new (Err e)
+
+-- What a write by key leaves, by whether it tells of a row there: `before` is what stood at the
+-- key, and `t` and `after` are what it leaves without a row and with one.
 pub record Updated {V : Type 0} (there : Bool) (old new : State) (before : Option V)
     (t after : Tables) : Type 0 where
   pub made : there ≡ true → Leaves old new after
@@ -46,6 +57,14 @@ abbrev pub Updates : {V : Type 0} → State → State → Result Bool Error → 
 Updates old new result at f = HasCleanDisk new → IsDesk old.now →
     IfOk result (λ there. Updated there old new (at (tables_in old.now)) (tables_in old.now)
     (f (tables_in old.now)))
+
+-- An INSERT by key tells whether a row stands there, and leaves `f` of the tables before where none
+-- does.
+abbrev pub Adds : {V : Type 0} → State → State → Result Bool Error → (Tables → Option V) →
+    (Tables → Tables) → Type 0
+Adds old new result at f = HasCleanDisk new → IsDesk old.now →
+    IfOk result (λ there. Updated there old new (at (tables_in old.now)) (f (tables_in old.now))
+    (tables_in old.now))
 
 -- What a query keeps.
 pub record Intact {X : Type 0} (old new : State) (result : Result X Error) : Type 0 where

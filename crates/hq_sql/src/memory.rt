@@ -11,12 +11,13 @@ ghost use Rattle.sqlite.specs.State.{CommitsBy, CommitsShowing, Fails, IsUnchang
 ghost use Rattle.sqlite.specs.Values.{bound};
 ghost use Rattle.sqlite.specs.declared.error.Error.TheVariants.{InvalidQuery};
 ghost use Rattle.hq_sql.specs.Causes.{EndsSo, HasCause};
+ghost use Rattle.hq_sql.specs.Kept.{HasTried};
 ghost use Rattle.hq_sql.specs.Unfit.{IsNoneOf, IsOutside};
 
 use crate::unfit::{Form, Limits};
 use hq_memory::Memory;
 use sqlite::types::{FromSql, ValueRef};
-use sqlite::{Alter, Connection, Error, Row, Rows};
+use sqlite::{Alter, Connection, Constraint, Error, ErrorCode, Row, Rows};
 use std::alloc::Global;
 
 /// Memory that also makes the calls of `sqlite`. Code that takes any of it knows why one of them
@@ -34,6 +35,20 @@ pub trait SqliteMemory: Memory {
         params: &[ValueRef<'_>],
     ) -> Result<usize, Error>
         ensures runs { HasCleanDisk (state S.Store conn.new) → Executes sql.now (bound params.now)
+            (state S.Store conn.old) (state S.Store conn.new) result }
+        ensures survives { Survives (state S.Store conn.old) (state S.Store conn.new)
+            (CommitsBy sql.now (bound params.now) (state S.Store conn.old)) }
+        ensures cause { IfErr result (HasCause Self.refused failed) };
+
+    /// An INSERT of one row; whether a unique key was taken, and so nothing changed. That is no
+    /// failure of the store.
+    fn try_insert<S: Alter>(
+        self,
+        conn: &mut Connection<S>,
+        sql: &str,
+        params: &[ValueRef<'_>],
+    ) -> Result<bool, Error>
+        ensures runs { HasCleanDisk (state S.Store conn.new) → HasTried sql.now (bound params.now)
             (state S.Store conn.old) (state S.Store conn.new) result }
         ensures survives { Survives (state S.Store conn.old) (state S.Store conn.new)
             (CommitsBy sql.now (bound params.now) (state S.Store conn.old)) }
@@ -113,6 +128,24 @@ impl SqliteMemory for Global {
         params: &[ValueRef<'_>],
     ) -> Result<usize, Error> {
         conn.execute(sql, params)
+    }
+
+    fn try_insert<S: Alter>(
+        self,
+        conn: &mut Connection<S>,
+        sql: &str,
+        params: &[ValueRef<'_>],
+    ) -> Result<bool, Error> {
+        let told = conn.execute(sql, params);
+        // (it tells with its schema that the rows obey it, so a taken key is that of a row)
+        conn.schema();
+        match told {
+            Ok(_) => Ok(false),
+            Err(Error::SqliteFailure(ErrorCode::ConstraintViolation(Constraint::Unique))) => {
+                Ok(true)
+            }
+            Err(error) => Err(error),
+        }
     }
 
     fn query_all<S: Alter>(

@@ -77,7 +77,7 @@ pub fn session<'d, S: Alter + Reopen + Drop>(
         }
     };
     let mut desk = Desk::new(shelf, host);
-    let replies = match run(alloc, alloc, &mut desk, directory, exchanges) {
+    let replies = match run(alloc, &mut desk, directory, exchanges) {
         Ok(replies) => replies,
         Err(_) => Vec::new(alloc),
     };

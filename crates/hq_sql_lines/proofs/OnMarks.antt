@@ -1,6 +1,6 @@
 -- What the statements on `marks` do.
-use Rattle.std.proofs.Common.{◌≡◌, ℕ, ℤ, pos, List, [], ◌∷◌, slice_get, option_map, None, Ok, refl}
-use Rattle.std.proofs.Common.{◌∙◌}
+use Rattle.std.proofs.Common.{◌≡◌, ℕ, ℤ, pos, Bool, List, [], ◌∷◌, slice_get, option_map, Ok, refl}
+use Rattle.std.proofs.Common.{◌∙◌, subst}
 use Rattle.std.specs.List.{list_all}
 use Rattle.std.specs.Ordering.{eq_by_cmp}
 use Rattle.std.specs.Cmp.{tied_then}
@@ -9,8 +9,10 @@ use Rattle.sqlite.specs.declared.types.Value.TheVariants.{Null, Text}
 use Rattle.sqlite.specs.Order.{Row}
 use Rattle.sqlite.specs.Term.{holds}
 use Rattle.sqlite.specs.State.{State, Executes, Shown}
+use Rattle.sqlite_value.specs.Keys.{first_key, plain}
 use Rattle.sqlite_typed.proofs.TestLemmas.{then_term, last_term, then_value}
 use Rattle.hq_keyed.proofs.Terms.{text_is}
+use Rattle.hq_keyed.proofs.Unique.{Guard}
 use Rattle.hq_keyed.proofs.Writes.{cast_null, cast_int}
 use Rattle.hq_schema.specs.Schema as schema
 use Rattle.hq_kept.specs.declared.mark.Mark.{Mark}
@@ -21,7 +23,8 @@ use Rattle.hq_tables.proofs.Orders.{mark_total, mark_exact}
 use Rattle.hq_sql.specs.Rows.{mark_columns, mark_stored, mark_read, mark_shown}
 use Rattle.hq_sql_lines.specs.Marks.{with_mark, without_mark, mark_key_columns}
 use Rattle.hq_sql.specs.Tables.{IsDesk, Leaves, tables_in}
-use Rattle.hq_sql.proofs.Statements.{got, puts, drops_at}
+use Rattle.hq_sql.specs.Kept.{HasTried, Updated}
+use Rattle.hq_sql.proofs.Statements.{got, adds, drops_at}
 use Rattle.hq_sql.proofs.Tables.{DeskTable}
 use Rattle.hq_sql_lines.proofs.MarkTexts as text
 
@@ -72,18 +75,28 @@ mark_got old new q rows desk h =
     text.mark_read_known (mark_key_columns q) mark_shown (λ k. refl) (λ xs. refl) q
     (λ k. key_tests q k []) rows h
 
-pub mark_inserted : (old new : State) (r : MarkRow) (count : ℕ) → IsDesk old.now →
-    get (tables_in old.now).marks (mark_key r) ≡ None →
-    Executes text.mark_insert_text (mark_columns r) old new (Ok count) →
-    Leaves old new (with_mark r (tables_in old.now))
-mark_inserted old new r count desk free h =
-    puts marks_table old new desk text.mark_insert_text text.mark_inserted 7 text.mark_insert_known
-    (mark_columns r) (Null ∷ mark_columns r) count r refl cast_null
+marks_guard : Guard schema.desk_schema marks_table.place marks_table.kind
+unfolding first_key
+marks_guard = record {
+  order = plain;
+  places = 1 ∷ 2 ∷ [];
+  alone = λ db row. refl;
+  agrees = λ a b. key_tests (mark_key b.1) a [];
+}
+
+pub mark_added : (old new : State) (r : MarkRow) (there : Bool) (params : Row) → IsDesk old.now →
+    params ≡ mark_columns r → HasTried text.mark_insert_text params old new (Ok there) →
+    Updated there old new (get (tables_in old.now).marks (mark_key r))
+    (with_mark r (tables_in old.now)) (tables_in old.now)
+mark_added old new r there params desk are h =
+    adds marks_table old new desk marks_guard text.mark_insert_text text.mark_inserted 7
+    text.mark_insert_known (mark_columns r) (Null ∷ mark_columns r) r refl cast_null
     (λ n. then_value refl (then_value refl
     (then_value refl (then_value refl
     (then_value (cast_int (pos r.mark.added))
     (then_value (cast_int (pos r.mark.changed))
-    (then_value (cast_int (pos r.mark.same)) refl))))))) (λ n. refl) free h
+    (then_value (cast_int (pos r.mark.same)) refl))))))) (λ n. refl) there
+    (subst (λ p. HasTried text.mark_insert_text p old new (Ok there)) are h)
 
 pub mark_deleted : (old new : State) (q : Key) (count : ℕ) → IsDesk old.now →
     Executes text.mark_delete_text (mark_key_columns q) old new (Ok count) →

@@ -5,7 +5,7 @@ ghost use Rattle.std.specs.FinMap.{get};
 ghost use Rattle.sqlite.specs.Held.{state};
 ghost use Rattle.hq_rows.specs.Listed.{mark_value};
 ghost use Rattle.hq_sql.specs.Causes.{HasCause};
-ghost use Rattle.hq_sql.specs.Kept.{Shows, Yields, Writes, Inserts, Intact};
+ghost use Rattle.hq_sql.specs.Kept.{Shows, Yields, Writes, Adds, Intact};
 ghost use Rattle.hq_sql.specs.Kept.{KeepsCommitted};
 ghost use Rattle.hq_sql.specs.Rows.{mark_shown};
 ghost use Rattle.hq_sql_lines.specs.Marks.{mark_row, with_mark, without_mark};
@@ -75,14 +75,14 @@ fn remove<S: Alter, M: SqliteMemory>(
     Ok(())
 }
 
-/// Adds a mark of a new label.
+/// Adds a mark of a new label; whether its label has one is told.
 fn insert<S: Alter, M: SqliteMemory>(
     memory: M,
     conn: &mut Connection<S>,
     customer: &Name,
     mark: &Mark,
-) -> Result<(), Error>
-    ensures made { Inserts (state S.Store conn.old) (state S.Store conn.new) result
+) -> Result<bool, Error>
+    ensures made { Adds (state S.Store conn.old) (state S.Store conn.new) result
         (λ t. get t.marks (customer.now, mark.now.label))
         (with_mark (mark_row customer.now mark.now)) }
     ensures kept { KeepsCommitted (state S.Store conn.old) (state S.Store conn.new) }
@@ -90,16 +90,16 @@ fn insert<S: Alter, M: SqliteMemory>(
 {
     let numbers = bind::numbers(memory, mark)?;
     let params = bind::mark(customer, mark, &numbers);
-    memory.execute(
+    let there = memory.try_insert(
         conn,
         "INSERT INTO marks (customer, label, digest, added, changed, same) \
          VALUES (?1, ?2, ?3, ?4, ?5, ?6)",
         &params,
     )?;
-    Ok(())
+    Ok(there)
 }
 
-/// Sets the mark of its label, in a new row.
+/// Sets the mark of its label, in a new row, to which one that is there gives way.
 pub fn put<S: Alter, M: SqliteMemory>(
     memory: M,
     conn: &mut Connection<S>,
@@ -111,7 +111,9 @@ pub fn put<S: Alter, M: SqliteMemory>(
     ensures kept { KeepsCommitted (state S.Store conn.old) (state S.Store conn.new) }
     ensures cause { IfErr result (HasCause M.refused M.failed) }
 {
-    remove(memory, conn, customer, &mark.label)?;
-    insert(memory, conn, customer, mark)?;
+    if insert(memory, conn, customer, mark)? {
+        remove(memory, conn, customer, &mark.label)?;
+        insert(memory, conn, customer, mark)?;
+    }
     Ok(())
 }

@@ -5,7 +5,7 @@ use Rattle.sqlite.specs.Collation.TheVariants.{Binary}
 use Rattle.sqlite_value.specs.Keys.{ascending}
 use Rattle.sqlite.specs.Term.{Term, lit, col, op2}
 use Rattle.sqlite_sql.specs.declared.ops.BinaryOp.TheVariants.{Compare}
-use Rattle.sqlite_sql.specs.declared.ops.CompareOp.TheVariants.{Gt}
+use Rattle.sqlite_sql.specs.declared.ops.CompareOp.TheVariants.{Gt, Lt, Le}
 use Rattle.sqlite.specs.Query.{Query}
 use Rattle.sqlite.specs.Command.TheVariants.{Insert, Update, Delete}
 use Rattle.sqlite.specs.Source.TheVariants.{Values}
@@ -122,3 +122,19 @@ pub message_page_known : Asks desk_schema message_page_text
     message_names
 unfolding understood everything
 message_page_known = record { is = refl; plain = (refl, refl); unlisted = refl }
+
+abbrev pub due_terms : List Term
+due_terms = at 1 0 ∷ op2 (Compare Gt Binary) (col 1 2) (col 0 1)
+    ∷ op2 (Compare Lt Binary) (col 1 7) (lit (Int (pos 2)))
+    ∷ op2 (Compare Le Binary) (col 1 8) (col 0 2) ∷ []
+
+abbrev pub message_due_text : List ℕ
+message_due_text =
+    codes
+    "SELECT customer, serial, sender, spool, size, arrival, state, next_try, attempts, warned FROM messages WHERE customer = ?1 AND serial > ?2 AND state < 2 AND next_try <= ?3 ORDER BY customer, serial LIMIT ?4"
+
+pub message_due_known : Asks desk_schema message_due_text
+    (record (message_order (query_of 3 due_terms message_columns)) { limit = col 0 3 })
+    message_names
+unfolding understood everything
+message_due_known = record { is = refl; plain = (refl, refl); unlisted = refl }

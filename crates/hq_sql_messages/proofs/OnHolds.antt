@@ -1,6 +1,6 @@
 -- What the statements on `holds` do.
-use Rattle.std.proofs.Common.{◌≡◌, ℕ, ℤ, pos, List, [], ◌∷◌, slice_get, option_map, None, Ok}
-use Rattle.std.proofs.Common.{nat_cmp, refl, ◌∙◌}
+use Rattle.std.proofs.Common.{◌≡◌, ℕ, ℤ, pos, Bool, List, [], ◌∷◌, slice_get, option_map, Ok}
+use Rattle.std.proofs.Common.{nat_cmp, refl, ◌∙◌, subst}
 use Rattle.std.specs.List.{list_all}
 use Rattle.std.specs.Ordering.{eq_by_cmp}
 use Rattle.std.specs.Cmp.{tied_then}
@@ -9,9 +9,11 @@ use Rattle.sqlite.specs.declared.types.Value.TheVariants.{Null, Text}
 use Rattle.sqlite.specs.Order.{Row}
 use Rattle.sqlite.specs.Term.{holds}
 use Rattle.sqlite.specs.State.{State, Executes, Shown}
+use Rattle.sqlite_value.specs.Keys.{first_key, plain}
 use Rattle.sqlite_typed.proofs.TestLemmas.{then_term, last_term, then_value}
 use Rattle.hq_keyed.specs.Values.{number}
 use Rattle.hq_keyed.proofs.Terms.{text_is, number_is}
+use Rattle.hq_keyed.proofs.Unique.{Guard}
 use Rattle.hq_keyed.proofs.Writes.{cast_null, cast_int}
 use Rattle.hq_schema.specs.Schema as schema
 use Rattle.hq_rows.specs.declared.rows.HoldRow.{HoldRow}
@@ -22,7 +24,8 @@ use Rattle.hq_sql.specs.Bound.{message_key_columns}
 use Rattle.hq_sql.specs.Rows.{hold_columns, hold_stored, hold_read, hold_shown}
 use Rattle.hq_sql_messages.specs.Holds.{with_hold, without_hold}
 use Rattle.hq_sql.specs.Tables.{IsDesk, Leaves, tables_in}
-use Rattle.hq_sql.proofs.Statements.{got, puts, drops_at}
+use Rattle.hq_sql.specs.Kept.{HasTried, Updated}
+use Rattle.hq_sql.proofs.Statements.{got, adds, drops_at}
 use Rattle.hq_sql.proofs.Tables.{DeskTable}
 use Rattle.hq_sql_messages.proofs.HoldTexts as text
 
@@ -73,15 +76,24 @@ hold_got old new q rows desk h =
     text.hold_read_known (message_key_columns q) hold_shown (λ k. refl) (λ xs. refl) q
     (λ k. key_tests q k []) rows h
 
-pub hold_inserted : (old new : State) (r : HoldRow) (count : ℕ) → IsDesk old.now →
-    get (tables_in old.now).holds (hold_key r) ≡ None →
-    Executes text.hold_insert_text (hold_columns r) old new (Ok count) →
-    Leaves old new (with_hold r (tables_in old.now))
-hold_inserted old new r count desk free h =
-    puts holds_table old new desk text.hold_insert_text text.hold_inserted 4 text.hold_insert_known
-    (hold_columns r) (Null ∷ hold_columns r) count r refl cast_null
+holds_guard : Guard schema.desk_schema holds_table.place holds_table.kind
+unfolding first_key
+holds_guard = record {
+  order = plain;
+  places = 1 ∷ 2 ∷ [];
+  alone = λ db row. refl;
+  agrees = λ a b. key_tests (hold_key b.1) a [];
+}
+
+pub hold_added : (old new : State) (r : HoldRow) (there : Bool) (params : Row) → IsDesk old.now →
+    params ≡ hold_columns r → HasTried text.hold_insert_text params old new (Ok there) →
+    Updated there old new (get (tables_in old.now).holds (hold_key r))
+    (with_hold r (tables_in old.now)) (tables_in old.now)
+hold_added old new r there params desk are h =
+    adds holds_table old new desk holds_guard text.hold_insert_text text.hold_inserted 4
+    text.hold_insert_known (hold_columns r) (Null ∷ hold_columns r) r refl cast_null
     (λ n. then_value refl (then_value refl (then_value (cast_int (pos r.serial)) refl))) (λ n. refl)
-    free h
+    there (subst (λ p. HasTried text.hold_insert_text p old new (Ok there)) are h)
 
 pub hold_deleted : (old new : State) (q : Key) (count : ℕ) → IsDesk old.now →
     Executes text.hold_delete_text (message_key_columns q) old new (Ok count) →

@@ -2,7 +2,7 @@
 use Rattle.std.proofs.Common.{◌≡◌, ◌&&◌, Bool, true, false, true≢false, T, inl, inr, subst, ℕ, ℤ}
 use Rattle.std.proofs.Common.{pos, negsuc, List, [], ◌∷◌, map, filter, take, drop, slice_get}
 use Rattle.std.proofs.Common.{option_map, not, Option, Some, None, Ok, nat_cmp, refl, sym, ap, ◌∙◌}
-use Rattle.std.specs.Prelude.{nat_eq}
+use Rattle.std.specs.Prelude.{nat_eq, nat_lt, int_lt}
 use Rattle.std.specs.List.{list_all}
 use Rattle.std.specs.Ordering.{eq_by_cmp}
 use Rattle.std.specs.Cmp.{tied_then}
@@ -25,9 +25,13 @@ use Rattle.sqlite.specs.declared.types.Value.TheVariants.{Int}
 use Rattle.sqlite_value.proofs.OrderLemmas.{value_cmp-Text}
 use Rattle.sqlite_keyed.proofs.ListLemmas.{map-map}
 use Rattle.sqlite_typed.proofs.TestLemmas.{then_key, last_key}
-use Rattle.hq_keyed.proofs.Terms.{number_above, number_order, above_none, above_some}
+use Rattle.hq_keyed.proofs.Terms.{number_above, number_below, number_to, number_order}
+use Rattle.hq_keyed.proofs.Terms.{above_none, above_some}
 use Rattle.hq_owned.specs.Rows.{pairs_of}
 use Rattle.hq_rows.specs.declared.rows.MessageRow.{MessageRow}
+use Rattle.hq_kept.specs.Messages.{is_on_hold}
+use Rattle.hq_kept.specs.declared.message.QueueState.{QueueState}
+use Rattle.hq_kept.specs.declared.message.QueueState.TheVariants.{Incoming, Deferred, Hold}
 use Rattle.hq_tables.specs.Tables as store
 use Rattle.hq_tables.specs.Tables.{text_cmp, message_cmp}
 use Rattle.hq_rows.specs.Listed.{message_key, message_value}
@@ -37,7 +41,8 @@ use Rattle.hq_sql.specs.Rows.{state_code, message_columns, message_stored, messa
 use Rattle.hq_sql.specs.Rows.{message_shown}
 use Rattle.hq_sql_messages.proofs.Backs.{IsReadable, message_back}
 use Rattle.hq_sql_messages.specs.Messages.{without_row, message_page_columns, spool_columns}
-use Rattle.hq_sql_messages.specs.Messages.{is_on_page}
+use Rattle.hq_sql_messages.specs.Messages.{above_number, is_on_page, is_on_due_page}
+use Rattle.hq_sql_messages.specs.Messages.{due_page_columns}
 use Rattle.hq_sql_messages.specs.Messages.{has_spool_name, bare, bare_entry}
 use Rattle.hq_sql.specs.Bound.{message_key_columns}
 use Rattle.std.proofs.lemmas.Map.Lookups.{exact_unsigned}
@@ -124,11 +129,42 @@ page_shown old new c after limit rows desk h =
     (λ j k. then_key (value_cmp-Text j.1.customer k.1.customer)
     (last_key (number_order j.1.serial k.1.serial))) limit (λ xs. refl) rows h
 
+-- and of those that may be tried by a moment
+state_below : (s : QueueState) → nat_lt (state_code s) 2 ≡ not (is_on_hold s)
+state_below Incoming = refl
+state_below Deferred = refl
+state_below Hold = refl
+
+serial_after : (after : Option ℕ) (x : ℕ) → int_lt (above_number after) (pos x) ≡ is_after after x
+serial_after None x = above_none x
+serial_after (Some n) x = above_some n x
+
+due_tests : (c : List ℕ) (at : ℕ) (after : Option ℕ) (limit : ℕ) (k : ℤ × MessageRow)
+    → list_all (holds (due_page_columns c at after limit ∷ message_stored k ∷ [])) text.due_terms
+    ≡ is_on_due_page c at after (message_key k.1, message_value k.1)
+due_tests c at after limit k =
+    then_term (text_is k.1.customer c)
+    (then_term (number_above k.1.serial (above_number after) ∙ serial_after after k.1.serial)
+    (then_term (number_below (state_code k.1.state) 2 ∙ state_below k.1.state)
+    (last_term (number_to k.1.next_try at))))
+
+pub due_shown : (old new : State) (c : List ℕ) (at : ℕ) (after : Option ℕ) (limit : ℕ)
+    (rows : List Row) → IsDesk old.now →
+    Shown text.message_due_text (due_page_columns c at after limit) old new rows →
+    pairs rows ≡ take limit
+    (filter (is_on_due_page c at after) (entries (tables_in old.now).messages))
+due_shown old new c at after limit rows desk h =
+    pages_entries messages_table old new desk text.message_due_text _ _ text.message_due_known
+    refl refl refl (due_page_columns c at after limit) message_shown (λ k. refl)
+    (is_on_due_page c at after)
+    (due_tests c at after limit)
+    (λ j k. then_key (value_cmp-Text j.1.customer k.1.customer)
+    (last_key (number_order j.1.serial k.1.serial))) limit (λ xs. refl) rows h
+
 -- the rows of a page, without their recipients
-pub page_bare : (after : Option ℕ) (limit : ℕ) (c : List ℕ) (t : store.Tables) (rows : List Row) →
-    pairs rows ≡ take limit (filter (is_on_page c after) (entries t.messages))
-    → map bare rows ≡ map bare_entry (take limit (filter (is_on_page c after) (entries t.messages)))
-page_bare after limit c t rows h =
+pub page_bare : (rows : List Row) (found : List ((List ℕ × ℕ) × store.Row)) → pairs rows ≡ found →
+    map bare rows ≡ map bare_entry found
+page_bare rows found h =
     sym (map-map bare_entry (λ r. (message_key (message_shown r), message_value (message_shown r)))
     rows)
     ∙ ap (map bare_entry) (sym (map-map (λ (r : MessageRow). (message_key r, message_value r))

@@ -1,6 +1,7 @@
 -- What the statements on messages find and leave.
 -- Inner: it serves proofs alone, and no promise rests on it.
-use Rattle.std.specs.Prelude.{◌≡◌, ℕ, ℤ, pos, negsuc, Bool, true, false, ◌&&◌, List, [], ◌∷◌}
+use Rattle.std.specs.Prelude.{◌≡◌, ℕ, ℤ, pos, negsuc, Bool, true, false, not, ◌&&◌, nat_le}
+use Rattle.std.specs.Prelude.{List, [], ◌∷◌}
 use Rattle.std.specs.Prelude.{Option, None, Some, Result, IfOk}
 use Rattle.std.specs.Ordering.{eq_by_cmp}
 use Rattle.std.specs.FinMap.{insert, remove}
@@ -10,6 +11,7 @@ use Rattle.sqlite.specs.declared.error.Error.{Error}
 use Rattle.sqlite.specs.State.{State, HasCleanDisk}
 use Rattle.hq_sql.specs.Tables.{IsDesk, Leaves, tables_in}
 use Rattle.hq_keyed.specs.Values.{number}
+use Rattle.hq_kept.specs.Messages.{is_on_hold}
 use Rattle.hq_kept.specs.declared.message.Message.{Message}
 use Rattle.hq_tables.specs.Tables.{Tables, Row, text_cmp, row_of, message_of}
 use Rattle.hq_rows.specs.Listed.{message_value}
@@ -50,6 +52,11 @@ abbrev pub message_page_columns : List ℕ → Option ℕ → ℕ → sqlite.Row
 message_page_columns customer after limit = Text customer ∷ Int (above_number after) ∷ number limit
     ∷ []
 
+-- and a page of messages that may be tried by a moment
+abbrev pub due_page_columns : List ℕ → ℕ → Option ℕ → ℕ → sqlite.Row
+due_page_columns customer at after limit = Text customer ∷ Int (above_number after) ∷ number at
+    ∷ number limit ∷ []
+
 -- what a spool name is asked with
 abbrev pub spool_columns : List ℕ → List ℕ → sqlite.Row
 spool_columns customer spool = Text customer ∷ Text spool ∷ []
@@ -57,6 +64,15 @@ spool_columns customer spool = Text customer ∷ Text spool ∷ []
 -- a message of the customer after a serial, or any of its messages
 abbrev pub is_on_page : List ℕ → Option ℕ → (List ℕ × ℕ) × Row → Bool
 is_on_page customer after e = eq_by_cmp text_cmp customer e.0.0 && is_after after e.0.1
+
+-- the row of a message that may be tried by a moment
+abbrev pub row_is_due : ℕ → Row → Bool
+row_is_due at r = not (is_on_hold r.state) && nat_le r.next_try at
+
+-- and such a message of the customer after a serial, or any such
+abbrev pub is_on_due_page : List ℕ → ℕ → Option ℕ → (List ℕ × ℕ) × Row → Bool
+is_on_due_page customer at after e = eq_by_cmp text_cmp customer e.0.0
+    && (is_after after e.0.1 && row_is_due at e.1)
 
 -- a message of the customer with a spool name
 abbrev pub has_spool_name : List ℕ → List ℕ → (List ℕ × ℕ) × Row → Bool

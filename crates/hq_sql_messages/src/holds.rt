@@ -6,7 +6,7 @@ ghost use Rattle.sqlite.specs.Held.{state};
 ghost use Rattle.hq_tables.specs.Tables.{reason_of};
 ghost use Rattle.hq_rows.specs.Listed.{hold_value};
 ghost use Rattle.hq_sql.specs.Causes.{HasCause};
-ghost use Rattle.hq_sql.specs.Kept.{Shows, Yields, Writes, Inserts, Intact};
+ghost use Rattle.hq_sql.specs.Kept.{Shows, Yields, Writes, Adds, Intact};
 ghost use Rattle.hq_sql.specs.Kept.{KeepsCommitted};
 ghost use Rattle.hq_sql.specs.Rows.{hold_shown};
 ghost use Rattle.hq_sql_messages.specs.Holds.{hold_row, with_hold, without_hold, with_reason};
@@ -77,30 +77,30 @@ pub fn remove<S: Alter, M: SqliteMemory>(
     Ok(())
 }
 
-/// Adds the reason of a message that has none.
+/// Adds the reason of a message that has none; whether it has one is told.
 fn insert<S: Alter, M: SqliteMemory>(
     memory: M,
     conn: &mut Connection<S>,
     customer: &Name,
     key: Serial,
     reason: &Text,
-) -> Result<(), Error>
-    ensures made { Inserts (state S.Store conn.old) (state S.Store conn.new) result
+) -> Result<bool, Error>
+    ensures made { Adds (state S.Store conn.old) (state S.Store conn.new) result
         (λ t. get t.holds (customer.now, key))
         (with_hold (hold_row customer.now key reason.now)) }
     ensures kept { KeepsCommitted (state S.Store conn.old) (state S.Store conn.new) }
     ensures cause { IfErr result (HasCause M.refused M.failed) }
 {
     let params = hold_values::hold(customer, key, reason);
-    memory.execute(
+    let there = memory.try_insert(
         conn,
         "INSERT INTO holds (customer, serial, hold_reason) VALUES (?1, ?2, ?3)",
         &params,
     )?;
-    Ok(())
+    Ok(there)
 }
 
-/// Sets the reason of a message, in a new row.
+/// Sets the reason of a message, in a new row, to which one that is there gives way.
 fn set<S: Alter, M: SqliteMemory>(
     memory: M,
     conn: &mut Connection<S>,
@@ -113,8 +113,10 @@ fn set<S: Alter, M: SqliteMemory>(
     ensures kept { KeepsCommitted (state S.Store conn.old) (state S.Store conn.new) }
     ensures cause { IfErr result (HasCause M.refused M.failed) }
 {
-    remove(memory, conn, customer, key)?;
-    insert(memory, conn, customer, key, reason)?;
+    if insert(memory, conn, customer, key, reason)? {
+        remove(memory, conn, customer, key)?;
+        insert(memory, conn, customer, key, reason)?;
+    }
     Ok(())
 }
 

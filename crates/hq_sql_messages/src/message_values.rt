@@ -6,6 +6,7 @@ ghost use Rattle.hq_values.specs.Senders.{sender_text};
 ghost use Rattle.hq_rows.specs.Lookups.{message_row};
 ghost use Rattle.hq_sql.specs.Rows.{sender_of, state_code, message_columns};
 ghost use Rattle.hq_sql_messages.specs.Messages.{above_number, message_page_columns, spool_columns};
+ghost use Rattle.hq_sql_messages.specs.Messages.{due_page_columns};
 
 use hq_kept::{Message, QueueState};
 use hq_sql::bind::{RowLimit, serial, small};
@@ -94,6 +95,24 @@ pub(crate) fn page<'a>(
     [
         ValueRef::Text(customer.as_str().as_bytes()),
         ValueRef::Int(after(last)),
+        ValueRef::Int(most.rows),
+    ]
+}
+
+/// What a page of messages that may be tried by a moment is asked with.
+pub(crate) fn due<'a>(
+    customer: &'a Name,
+    at: Moment,
+    last: Option<Serial>,
+    most: &RowLimit,
+) -> [ValueRef<'a>; 4]
+    ensures { (limit : ℕ) → most.now.rows ≡ pos limit
+        → bound result ≡ due_page_columns customer.now at last limit }
+{
+    [
+        ValueRef::Text(customer.as_str().as_bytes()),
+        ValueRef::Int(after(last)),
+        ValueRef::Int(moment(at)),
         ValueRef::Int(most.rows),
     ]
 }

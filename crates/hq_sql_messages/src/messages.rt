@@ -11,14 +11,14 @@ ghost use Rattle.hq_sql.specs.Rows.{message_shown};
 ghost use Rattle.hq_sql.specs.Kept.{Shows, Yields, Writes, Inserts, Updates, Intact};
 ghost use Rattle.hq_sql.specs.Kept.{KeepsCommitted};
 ghost use Rattle.hq_sql_messages.specs.Messages.{UpdatesSize, with_row, without_row};
-ghost use Rattle.hq_sql_messages.specs.Messages.{is_on_page, has_spool_name};
+ghost use Rattle.hq_sql_messages.specs.Messages.{is_on_page, is_on_due_page, has_spool_name};
 ghost use Rattle.hq_sql_messages.specs.Messages.{bare, bare_entry};
 
 use crate::{message_rows, message_values};
 use hq_kept::Message;
 use hq_sql::lent::Taker;
 use hq_sql::{SqliteMemory, lent};
-use hq_values::{Items, Name, Serial, Spool, Text};
+use hq_values::{Items, Moment, Name, Serial, Spool, Text};
 use sqlite::{Alter, Connection, Error, Row};
 
 /// The row of the customer's message of a serial: one, or none.
@@ -110,6 +110,39 @@ pub fn page<S: Alter, M: SqliteMemory>(
         conn,
         "SELECT customer, serial, sender, spool, size, arrival, state, next_try, attempts, warned \
          FROM messages WHERE customer = ?1 AND serial > ?2 ORDER BY customer, serial LIMIT ?3",
+        &params,
+        TakenMessages { page },
+    )?;
+    Ok(taken.page)
+}
+
+/// The customer's messages after a serial, or all, that may be tried by a moment, without reasons
+/// and recipients, in order of serial: at most `limit` of them. Their rows are lent one after
+/// another. A limit of 2^63 or more is an error.
+pub fn due<S: Alter, M: SqliteMemory>(
+    memory: M,
+    conn: &mut Connection<S>,
+    customer: &Name,
+    at: Moment,
+    after: Option<Serial>,
+    limit: usize,
+) -> Result<Vec<Message>, Error>
+    ensures found { Shows (state S.Store conn.old) (state S.Store conn.new) result
+        (λ page. page.items)
+        (λ t. map bare_entry
+        (take limit (filter (is_on_due_page customer.now at after) (entries t.messages)))) }
+    ensures kept { Intact (state S.Store conn.old) (state S.Store conn.new) result }
+    ensures cause { IfErr result (HasCause M.refused M.failed) }
+{
+    let most = hq_sql::bind::limit(memory, limit)?;
+    let params = message_values::due(customer, at, after, &most);
+    let page = memory.none();
+    let taken = lent::walk(
+        memory,
+        conn,
+        "SELECT customer, serial, sender, spool, size, arrival, state, next_try, attempts, warned \
+         FROM messages WHERE customer = ?1 AND serial > ?2 AND state < 2 AND next_try <= ?3 \
+         ORDER BY customer, serial LIMIT ?4",
         &params,
         TakenMessages { page },
     )?;

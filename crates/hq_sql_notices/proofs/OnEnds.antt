@@ -15,14 +15,14 @@ use Rattle.sqlite.specs.Term.{holds}
 use Rattle.sqlite.specs.State.{State, Executes, Shown}
 use Rattle.sqlite_sql.specs.Ops.{binary}
 use Rattle.sqlite_sql.specs.declared.ops.BinaryOp.TheVariants.{Compare}
-use Rattle.sqlite_sql.specs.declared.ops.CompareOp.TheVariants.{Gt, Lt, Le}
+use Rattle.sqlite_sql.specs.declared.ops.CompareOp.TheVariants.{Gt, Le}
 use Rattle.sqlite_value.proofs.OrderLemmas.{value_cmp-Text}
 use Rattle.sqlite_typed.proofs.TestLemmas.{then_term, last_term, then_value, at_ints, truth_or}
 use Rattle.sqlite_typed.proofs.TestLemmas.{then_key, last_key}
 use Rattle.sqlite_keyed.specs.Lists.{sort_by}
 use Rattle.sqlite_keyed.proofs.ListLemmas.{map-map}
 use Rattle.hq_keyed.specs.Values.{number}
-use Rattle.hq_keyed.proofs.Terms.{text_is, number_order}
+use Rattle.hq_keyed.proofs.Terms.{text_is, number_below, number_order}
 use Rattle.hq_keyed.proofs.Writes.{cast_null, cast_int}
 use Rattle.hq_schema.specs.Schema as schema
 use Rattle.hq_kept.specs.declared.outcome.Fate.{Fate}
@@ -199,11 +199,6 @@ rows_are c before limit rows kept u shown =
     (filter (on_page c before) (map end_read kept))))
     ∙ ap (take limit) (sorted_found end_pages (is_before before) c (map end_read kept) u
     ∙ sym (before_is before (end_rows_with c (map end_read kept))))
-
--- column < parameter
-number_below : (x n : ℕ) → truth_or false (binary (Compare Lt Binary) (number x) (number n)) ≡
-    nat_lt x n
-number_below x n = at_ints false Lt (pos x) (pos n)
 
 all_pass : (b : Bool) → b ≡ (b && true)
 all_pass true = refl

@@ -12,23 +12,22 @@ use Rattle.sqlite.specs.Term.{holds}
 use Rattle.sqlite.specs.State.{State, Executes, Shown}
 use Rattle.sqlite_typed.proofs.TestLemmas.{then_term, last_term, then_value}
 use Rattle.hq_keyed.specs.Values.{number}
-use Rattle.hq_keyed.proofs.Terms.{text_is, number_is}
+use Rattle.hq_keyed.proofs.Terms.{text_is, number_is, number_below}
+use Rattle.hq_keyed.proofs.Unique.{Guard}
 use Rattle.hq_keyed.proofs.Writes.{cast_null, cast_int}
 use Rattle.hq_schema.specs.Schema as schema
 use Rattle.hq_sql.specs.Tables.{IsDesk, Leaves, tables_in}
-use Rattle.hq_sql.proofs.Statements.{row_at, pages, puts, drops, drops_at}
+use Rattle.hq_sql.specs.Kept.{HasTried, Updated}
+use Rattle.hq_sql.proofs.Statements.{row_at, pages, adds, drops, drops_at}
 use Rattle.hq_sql.proofs.Tables.{DeskTable}
 use Rattle.std.proofs.Common.{Ordering, subst, arith}
 use Rattle.std.specs.Prelude.{nat_le, nat_lt}
 use Rattle.std.specs.FinMap.{retain_keys}
 use Rattle.std.proofs.lemmas.Bool.Decides.{nat_tests}
 use Rattle.std.proofs.lemmas.List.{take-map}
-use Rattle.sqlite.specs.Collation.TheVariants.{Binary}
-use Rattle.sqlite_sql.specs.Ops.{binary}
-use Rattle.sqlite_sql.specs.declared.ops.BinaryOp.TheVariants.{Compare}
-use Rattle.sqlite_sql.specs.declared.ops.CompareOp.TheVariants.{Lt}
+use Rattle.sqlite_value.specs.Keys.{first_key, plain}
 use Rattle.sqlite_value.proofs.OrderLemmas.{value_cmp-Text}
-use Rattle.sqlite_typed.proofs.TestLemmas.{at_ints, truth_or, then_key, last_key}
+use Rattle.sqlite_typed.proofs.TestLemmas.{then_key, last_key}
 use Rattle.sqlite_keyed.specs.Lists.{sort_by}
 use Rattle.sqlite_keyed.proofs.ListLemmas.{map-map}
 use Rattle.hq_keyed.proofs.Select.{option_map-map}
@@ -115,19 +114,30 @@ notice_got old new q rows desk h =
 
 -- ---- writing
 
-pub notice_inserted : (old new : State) (r : NoticeRow) (count : ℕ) → IsDesk old.now →
-    get (tables_in old.now).notices (notice_key r) ≡ None →
-    Executes text.notice_insert_text (notice_columns r) old new (Ok count) →
-    Leaves old new (with_notice r (tables_in old.now))
-notice_inserted old new r count desk free h =
-    puts notices_table old new desk text.notice_insert_text text.notice_inserted 9
-    text.notice_insert_known (notice_columns r) (Null ∷ notice_columns r) count r refl cast_null
+notices_guard : Guard schema.desk_schema notices_table.place notices_table.kind
+unfolding first_key
+notices_guard = record {
+  order = plain;
+  places = 1 ∷ 2 ∷ [];
+  alone = λ db row. refl;
+  agrees = λ a b. key_tests (notice_key b.1) a [];
+}
+
+pub notice_added : (old new : State) (r : NoticeRow) (there : Bool) (params : Row) →
+    IsDesk old.now → params ≡ notice_columns r →
+    HasTried text.notice_insert_text params old new (Ok there) →
+    Updated there old new (get (tables_in old.now).notices (notice_key r))
+    (with_notice r (tables_in old.now)) (tables_in old.now)
+notice_added old new r there params desk are h =
+    adds notices_table old new desk notices_guard text.notice_insert_text text.notice_inserted 9
+    text.notice_insert_known (notice_columns r) (Null ∷ notice_columns r) r refl cast_null
     (λ n. then_value refl (then_value refl
     (then_value (cast_int (pos r.notice.number))
     (then_value (cast_int (pos (kind_code r.notice.kind)))
     (then_value (cast_int (pos r.notice.serial))
     (then_value (cast_int (pos r.notice.at)) refl))))))
-    (λ n. notice_back r n) free h
+    (λ n. notice_back r n) there
+    (subst (λ p. HasTried text.notice_insert_text p old new (Ok there)) are h)
 
 pub notice_deleted : (old new : State) (q : Key) (count : ℕ) → IsDesk old.now →
     Executes text.notice_delete_text (number_key_columns q) old new (Ok count) →
@@ -137,11 +147,6 @@ notice_deleted old new q count desk h =
     text.notice_delete_known (number_key_columns q) count q (λ k. key_tests q k []) h
 
 -- ---- the drop of old ones
-
--- column < parameter
-number_below : (x n : ℕ) → truth_or false (binary (Compare Lt Binary) (number x) (number n)) ≡
-    nat_lt x n
-number_below x n = at_ints false Lt (pos x) (pos n)
 
 -- a notice of the customer below the number
 abbrev is_below : Key → List ℕ × ℕ → Bool

@@ -5,7 +5,7 @@ ghost use Rattle.std.specs.FinMap.{get};
 ghost use Rattle.sqlite.specs.Held.{state};
 ghost use Rattle.hq_tables.specs.Tables.{Noted, notice_of};
 ghost use Rattle.hq_sql.specs.Causes.{HasCause};
-ghost use Rattle.hq_sql.specs.Kept.{Shows, Yields, Writes, Inserts, Intact};
+ghost use Rattle.hq_sql.specs.Kept.{Shows, Yields, Writes, Adds, Intact};
 ghost use Rattle.hq_sql.specs.Kept.{KeepsCommitted};
 ghost use Rattle.hq_sql.specs.Rows.{notice_shown};
 ghost use Rattle.hq_sql_notices.specs.Notices.{notice_row, with_notice, without_notice};
@@ -80,14 +80,14 @@ fn remove<S: Alter, M: SqliteMemory>(
     Ok(())
 }
 
-/// Adds a notice of a new number.
+/// Adds a notice of a new number; whether its number has one is told.
 fn insert<S: Alter, M: SqliteMemory>(
     memory: M,
     conn: &mut Connection<S>,
     customer: &Name,
     notice: &Notice,
-) -> Result<(), Error>
-    ensures made { Inserts (state S.Store conn.old) (state S.Store conn.new) result
+) -> Result<bool, Error>
+    ensures made { Adds (state S.Store conn.old) (state S.Store conn.new) result
         (λ t. get t.notices (customer.now, notice.now.number))
         (with_notice (notice_row customer.now notice.now)) }
     ensures kept { KeepsCommitted (state S.Store conn.old) (state S.Store conn.new) }
@@ -95,16 +95,16 @@ fn insert<S: Alter, M: SqliteMemory>(
 {
     let numbers = notice_values::numbers(memory, notice)?;
     let params = notice_values::notice(customer, notice, &numbers);
-    memory.execute(
+    let there = memory.try_insert(
         conn,
         "INSERT INTO notices (customer, number, kind, serial, moment, sender, human, status) \
          VALUES (?1, ?2, ?3, ?4, ?5, ?6, ?7, ?8)",
         &params,
     )?;
-    Ok(())
+    Ok(there)
 }
 
-/// Sets the notice of its number, in a new row.
+/// Sets the notice of its number, in a new row, to which one that is there gives way.
 pub fn put<S: Alter, M: SqliteMemory>(
     memory: M,
     conn: &mut Connection<S>,
@@ -116,8 +116,10 @@ pub fn put<S: Alter, M: SqliteMemory>(
     ensures kept { KeepsCommitted (state S.Store conn.old) (state S.Store conn.new) }
     ensures cause { IfErr result (HasCause M.refused M.failed) }
 {
-    remove(memory, conn, customer, notice.number)?;
-    insert(memory, conn, customer, notice)?;
+    if insert(memory, conn, customer, notice)? {
+        remove(memory, conn, customer, notice.number)?;
+        insert(memory, conn, customer, notice)?;
+    }
     Ok(())
 }
 

@@ -1,5 +1,6 @@
 -- Whole messages: rows with their recipients, and reads one after another.
-use Rattle.std.proofs.Common.{◌≡◌, ℕ, ◌-◌, ◌<◌, Bool, true, List, [], ◌∷◌, map, filter, take}
+use Rattle.std.proofs.Common.{◌≡◌, ℕ, ◌-◌, ◌<◌, Bool, true, false, cond, ◌&&◌, List, [], ◌∷◌}
+use Rattle.std.proofs.Common.{map, filter, take}
 use Rattle.std.proofs.Common.{length, slice_get, option_map, Option, Some, None, Result, Ok, IfOk}
 use Rattle.std.proofs.Common.{refl, sym, ap, ◌∙◌, subst, arith, nat_cmp, Less}
 use Rattle.std.specs.Ordering.{eq_by_cmp}
@@ -17,6 +18,7 @@ use Rattle.sqlite_keyed.proofs.ListLemmas.{first_taken, ascending-map, ascending
 use Rattle.sqlite_keyed.proofs.ListLemmas.{ascending_weaker}
 use Rattle.hq_keyed.proofs.Left.{clean_before}
 use Rattle.hq_keyed.proofs.Select.{find-map}
+use Rattle.hq_kept.specs.Messages.{is_due}
 use Rattle.hq_kept.specs.declared.message.Message.{Message}
 use Rattle.hq_owned.specs.Owned.{rows_of}
 use Rattle.hq_owned.proofs.OwnedPages.{owned}
@@ -30,7 +32,8 @@ use Rattle.hq_tables.specs.Readings.{read_tables, page_of, after_serial}
 use Rattle.hq_sql.specs.Kept.{Intact}
 use Rattle.hq_sql.specs.Rows.{message_shown}
 use Rattle.hq_sql.specs.Tables.{IsDesk, tables_in}
-use Rattle.hq_sql_messages.specs.Messages.{is_on_page, has_spool_name, bare_entry}
+use Rattle.hq_sql_messages.specs.Messages.{is_on_page, is_on_due_page, row_is_due}
+use Rattle.hq_sql_messages.specs.Messages.{has_spool_name, bare_entry}
 use Rattle.hq_sql_queue.specs.Queued.{whole}
 use Rattle.hq_sql_queue.specs.Dealt.{serials_of, Rise, Spans}
 use Rattle.hq_sql_queue.specs.Parts.{with_dealt, with_parts}
@@ -75,32 +78,67 @@ parts_joined : (c : List ℕ) (t : Tables) (e : Entry) →
 unfolding reason_of
 parts_joined c t e = refl
 
+-- the entries of the customer that pass a test
+abbrev passing : List ℕ → (ℕ × Row → Bool) → Tables → List Entry
+passing c test t = filter (λ (e : Entry). eq_by_cmp text_cmp c e.0.0 && test (own e))
+    (entries t.messages)
+
+-- the first so many of them, with their recipients
+first_whole : (c : List ℕ) (t : Tables) (test : ℕ × Row → Bool) (limit : ℕ) →
+    map (with_parts c t) (map bare_entry (take limit (passing c test t))) ≡ take limit
+    (map (whole_own c t) (filter test (rows_of text_cmp c (entries t.messages))))
+first_whole c t test limit =
+    map-map (with_parts c t) bare_entry (take limit (passing c test t))
+    ∙ map_same (λ e. with_parts c t (bare_entry e)) (whole_entry c t) (parts_joined c t)
+    (take limit (passing c test t))
+    ∙ sym (take-map (whole_entry c t) limit (passing c test t))
+    ∙ ap (take limit) (sym (map-map (whole_own c t) own (passing c test t))
+    ∙ ap (map (whole_own c t)) (owned text_cmp test c (entries t.messages)))
+
 -- the entries of a page, with their recipients
 pub page_whole : (c : List ℕ) (t : Tables) (after : Option ℕ) (limit : ℕ) →
     map (with_parts c t) (map bare_entry
     (take limit (filter (is_on_page c after) (entries t.messages)))) ≡ page_of after limit
     (read_tables c t).messages
 page_whole c t after limit =
-    map-map (with_parts c t) bare_entry (take limit
-    (filter (is_on_page c after) (entries t.messages)))
-    ∙ map_same (λ e. with_parts c t (bare_entry e)) (whole_entry c t) (parts_joined c t)
-    (take limit (filter (is_on_page c after) (entries t.messages)))
-    ∙ sym (take-map (whole_entry c t) limit (filter (is_on_page c after) (entries t.messages)))
-    ∙ ap (take limit) (sym (map-map (whole_own c t) own
-    (filter (is_on_page c after) (entries t.messages)))
-    ∙ ap (map (whole_own c t)) (owned text_cmp (λ (e : ℕ × Row). is_after after e.0) c
-    (entries t.messages))
-    ∙ sym (after_is c t after (rows_of text_cmp c (entries t.messages))))
+    first_whole c t (λ (e : ℕ × Row). is_after after e.0) limit
+    ∙ ap (take limit) (sym (after_is c t after (rows_of text_cmp c (entries t.messages))))
 
--- serials of a page rise
-pub page_rises : (c : List ℕ) (after : Option ℕ) (limit : ℕ) (t : Tables) →
-    Rise (serials_of (map bare_entry (take limit
-    (filter (is_on_page c after) (entries t.messages)))))
-page_rises c after limit t =
-    let kept = filter (is_on_page c after) (entries t.messages) in
+filter_both : {X : Type 0} (p q : X → Bool) (xs : List X) →
+    filter (λ x. p x && q x) xs ≡ filter q (filter p xs)
+filter_both p q [] = refl
+filter_both p q (x ∷ xs) = elim (p x) as (λ b. cond (b && q x) (x ∷ filter (λ x. p x && q x) xs)
+    (filter (λ x. p x && q x) xs) ≡ filter q (cond b (x ∷ filter p xs) (filter p xs))) [
+      | true ↦ elim (q x) as (λ b. cond b (x ∷ filter (λ x. p x && q x) xs)
+          (filter (λ x. p x && q x) xs) ≡ cond b (x ∷ filter q (filter p xs))
+          (filter q (filter p xs))) [
+            | true ↦ ap (λ ys. x ∷ ys) (filter_both p q xs)
+            | false ↦ filter_both p q xs
+          ]
+      | false ↦ filter_both p q xs
+    ]
+
+-- and of a page of those that may be tried
+pub due_whole : (c : List ℕ) (t : Tables) (at : ℕ) (after : Option ℕ) (limit : ℕ) →
+    map (with_parts c t) (map bare_entry
+    (take limit (filter (is_on_due_page c at after) (entries t.messages)))) ≡ take limit
+    (filter (is_due at) (after_serial after (read_tables c t).messages))
+due_whole c t at after limit =
+    let mine = rows_of text_cmp c (entries t.messages) in
+    first_whole c t (λ (e : ℕ × Row). is_after after e.0 && row_is_due at e.1) limit
+    ∙ ap (take limit) (ap (map (whole_own c t)) (filter_both
+    (λ (e : ℕ × Row). is_after after e.0) (λ (e : ℕ × Row). row_is_due at e.1) mine)
+    ∙ sym (filter-map (is_due at) (whole_own c t)
+    (filter (λ (e : ℕ × Row). is_after after e.0) mine))
+    ∙ ap (filter (is_due at)) (sym (after_is c t after mine)))
+
+-- serials of the first so many rise
+first_rise : (c : List ℕ) (test : ℕ × Row → Bool) (limit : ℕ) (t : Tables) →
+    Rise (serials_of (map bare_entry (take limit (passing c test t))))
+first_rise c test limit t =
+    let kept = passing c test t in
     let serial : ℕ × Row → ℕ = λ e. e.0 in
     let mine = rows_of text_cmp c (entries t.messages) in
-    let test : ℕ × Row → Bool = λ e. is_after after e.0 in
     let R : ℕ × Row → ℕ × Row → Type 0 = λ a b. nat_cmp a.0 b.0 ≡ Less in
     let S : ℕ × Row → ℕ × Row → Type 0 = λ a b. a.0 < b.0 in
     let sorted = ascending_weaker R S (λ a b e. ranked a.0 b.0 Less (sym e)) (filter test mine)
@@ -115,6 +153,16 @@ page_rises c after limit t =
     ∙ ap (map serial) (owned text_cmp test c (entries t.messages))) in
     subst Rise (sym serials) (ascending_taken (λ a b. a < b) limit (map serial (filter test mine))
     (ascending-map (λ a b. a < b) serial (filter test mine) sorted))
+
+pub page_rises : (c : List ℕ) (after : Option ℕ) (limit : ℕ) (t : Tables) →
+    Rise (serials_of (map bare_entry (take limit
+    (filter (is_on_page c after) (entries t.messages)))))
+page_rises c after = first_rise c (λ (e : ℕ × Row). is_after after e.0)
+
+pub due_rises : (c : List ℕ) (at : ℕ) (after : Option ℕ) (limit : ℕ) (t : Tables) →
+    Rise (serials_of (map bare_entry (take limit
+    (filter (is_on_due_page c at after) (entries t.messages)))))
+due_rises c at after = first_rise c (λ (e : ℕ × Row). is_after after e.0 && row_is_due at e.1)
 
 pub none_dealt : (f : Message → Message) (page : List Message) → length page ≡ 0 → page ≡ map f page
 none_dealt f [] h = refl

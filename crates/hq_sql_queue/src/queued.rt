@@ -1,10 +1,11 @@
 //! Whole messages: their rows with their reasons and their recipients.
 
 ghost use Rattle.sqlite.specs.Held.{state};
-ghost use Rattle.std.specs.Prelude.{map, IfErr};
+ghost use Rattle.std.specs.Prelude.{map, filter, take, IfErr};
 ghost use Rattle.hq_tables.specs.Tables.{joined, pending_of, reason_of};
 ghost use Rattle.hq_rows.specs.Listed.{message_value};
-ghost use Rattle.hq_tables.specs.Readings.{read_tables, page_of};
+ghost use Rattle.hq_kept.specs.Messages.{is_due};
+ghost use Rattle.hq_tables.specs.Readings.{read_tables, page_of, after_serial};
 ghost use Rattle.hq_sql.specs.Causes.{HasCause};
 ghost use Rattle.hq_sql.specs.Rows.{message_shown};
 ghost use Rattle.hq_sql.specs.Kept.{Yields, Shows, Intact};
@@ -17,7 +18,7 @@ use hq_kept::{Message, Pending};
 use hq_sql::SqliteMemory;
 use hq_sql_messages::{holds, message_rows, messages};
 use hq_sql_recipients::recipients;
-use hq_values::{Items, Name, Serial, Spool, Text};
+use hq_values::{Items, Moment, Name, Serial, Spool, Text};
 use sqlite::{Alter, Connection, Error, Row};
 
 /// The recipients and the reason of the customer's message of this serial.
@@ -159,6 +160,32 @@ pub fn page<S: Alter, M: SqliteMemory>(
     ensures cause { IfErr result (HasCause M.refused M.failed) }
 {
     let page = messages::page(memory, conn, customer, after, limit)?;
+    match dealing::ends(page.as_slice()) {
+        None => Ok(Items::from_vec(page)),
+        Some((low, high)) => {
+            let filled = filled(memory, conn, customer, low, high, page)?;
+            Ok(Items::from_vec(filled))
+        }
+    }
+}
+
+/// Those of them that may be tried by a moment: at most `limit` of them. A limit of 2^63 or more
+/// is an error. The store reads past the others without lending them.
+pub fn due<S: Alter, M: SqliteMemory>(
+    memory: M,
+    conn: &mut Connection<S>,
+    customer: &Name,
+    at: Moment,
+    after: Option<Serial>,
+    limit: usize,
+) -> Result<Items<Message>, Error>
+    ensures found { Yields (state S.Store conn.old) (state S.Store conn.new) result
+        (λ t. take limit (filter (is_due at)
+        (after_serial after (read_tables customer.now t).messages))) }
+    ensures kept { Intact (state S.Store conn.old) (state S.Store conn.new) result }
+    ensures cause { IfErr result (HasCause M.refused M.failed) }
+{
+    let page = messages::due(memory, conn, customer, at, after, limit)?;
     match dealing::ends(page.as_slice()) {
         None => Ok(Items::from_vec(page)),
         Some((low, high)) => {

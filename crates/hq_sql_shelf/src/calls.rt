@@ -8,7 +8,7 @@ use hq_sql_lines::{line_pages, lines, marks};
 use hq_sql_notices::{end_pages, notice_pages, notices};
 use hq_sql_queue::queued;
 use hq_tables::{Account, Change, Shelf};
-use hq_values::{Fault, Items, Label, Name, Serial, Spool};
+use hq_values::{Fault, Items, Label, Moment, Name, Serial, Spool};
 use sqlite::Alter;
 
 impl<S: Alter, M: SqliteMemory> Shelf for SqlShelf<S, M> {
@@ -49,6 +49,20 @@ impl<S: Alter, M: SqliteMemory> Shelf for SqlShelf<S, M> {
     ) -> Result<Items<Message>, Fault> {
         self.ready()?;
         match queued::page(self.memory, &mut self.conn, customer, after, limit) {
+            Ok(page) => Ok(page),
+            Err(error) => Err(self.give_up(error)),
+        }
+    }
+
+    fn due(
+        &mut self,
+        customer: &Name,
+        at: Moment,
+        after: Option<Serial>,
+        limit: usize,
+    ) -> Result<Items<Message>, Fault> {
+        self.ready()?;
+        match queued::due(self.memory, &mut self.conn, customer, at, after, limit) {
             Ok(page) => Ok(page),
             Err(error) => Err(self.give_up(error)),
         }

@@ -70,7 +70,7 @@ fn make<S: Alter, M: SqliteMemory>(
 }
 
 /// Makes a change, and then others in order, where the customer's head row is still to be set to
-/// this account. A head, a message and a line that is put change the account alone.
+/// this account. A head is told on in it; of a message and a line, so are their counts.
 #[cycle(making)]
 fn make_owing_from<S: Alter, M: SqliteMemory>(
     memory: M,

@@ -41,7 +41,7 @@ impl Account {
     }
 
     /// With one message more, of this size in bytes; nothing exactly where a count would have more
-    /// than 64 bits, as none of a sound table has.
+    /// than 64 bits, as no count of sound tables has.
     pub fn with_message(self, size: u32) -> Option<Account>
         ensures { MatchOption result
             ((2 ^ 64 ≤ self.counts.messages + 1) ⊎ (2 ^ 64 ≤ self.counts.bytes + size))
@@ -71,8 +71,8 @@ impl Account {
         Account { counts, ..self }
     }
 
-    /// With one line more; nothing exactly where their count would have more than 64 bits, as none
-    /// of a sound table has.
+    /// With one line more; nothing exactly where their count would have more than 64 bits, as no
+    /// count of sound tables has.
     pub fn with_line(self) -> Option<Account>
         ensures { MatchOption result (2 ^ 64 ≤ self.counts.lines + 1)
             (λ more. more ≡ recounted with_line self) }

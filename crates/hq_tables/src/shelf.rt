@@ -1,16 +1,17 @@
 //! What every store of the tables does, whichever way it keeps them.
 
-ghost use Rattle.std.specs.Prelude.{◌≡◌, OnOk, take, option_map};
+ghost use Rattle.std.specs.Prelude.{◌≡◌, OnOk, take, filter, option_map};
+ghost use Rattle.hq_kept.specs.Messages.{is_due};
 ghost use Rattle.hq_tables.specs.Tables.{write_all};
 ghost use Rattle.hq_tables.specs.Readings.{account_read, page_of, after_pattern, after_number};
-ghost use Rattle.hq_tables.specs.Readings.{before_end};
+ghost use Rattle.hq_tables.specs.Readings.{after_serial, before_end};
 ghost use Rattle.hq_tables.specs.Shelves.{Sight, OnClean, Finds, Keeps, KeepsOnErr};
 ghost use Rattle.hq_tables.specs.Shelves.{StopLeavesWhole};
 
 use crate::account::Account;
 use crate::change::Change;
 use hq_kept::{Action, Class, End, Line, LookupKey, Mark, Message, Notice, Pattern};
-use hq_values::{Fault, Items, Label, Name, Serial, Spool};
+use hq_values::{Fault, Items, Label, Moment, Name, Serial, Spool};
 
 /// The tables of all customers. Each call reads or changes the rows of the customer that it names.
 ///
@@ -57,6 +58,19 @@ pub trait Shelf {
     ) -> Result<Items<Message>, Fault>
         ensures found { Finds sight self.old self.new result customer.now
             (λ rows. page_of after limit rows.messages) }
+        ensures kept { Keeps sight self.old self.new result };
+
+    /// The customer's messages that may be tried at the moment, in order of serial: the first
+    /// `limit` after the serial, or of all.
+    fn due(
+        &mut self,
+        customer: &Name,
+        at: Moment,
+        after: Option<Serial>,
+        limit: usize,
+    ) -> Result<Items<Message>, Fault>
+        ensures found { Finds sight self.old self.new result customer.now
+            (λ rows. take limit (filter (is_due at) (after_serial after rows.messages))) }
         ensures kept { Keeps sight self.old self.new result };
 
     /// The action of the customer's line of this class, at this key.

@@ -7,7 +7,7 @@ ghost use Rattle.hq_trial.specs.Shelves.{inner_of, trial_of, greatest_limit_of};
 use crate::failure::{Failure, Trial};
 use hq_kept::{Action, Class, End, Line, LookupKey, Mark, Message, Notice, Pattern};
 use hq_tables::{Account, Change, Shelf};
-use hq_values::{Fault, Items, Label, Name, Serial, Spool};
+use hq_values::{Fault, Items, Label, Moment, Name, Serial, Spool};
 
 /// A shelf before another: it hands each call on, or fails it as told without handing it on.
 ///
@@ -100,6 +100,21 @@ impl<S: Shelf> Shelf for FailingShelf<S> {
         let answer = match self.trial.count() {
             Some(fault) => Err(fault),
             None => self.inner.messages(customer, after, limit),
+        };
+        self.trial.answer(answer)
+    }
+
+    fn due(
+        &mut self,
+        customer: &Name,
+        at: Moment,
+        after: Option<Serial>,
+        limit: usize,
+    ) -> Result<Items<Message>, Fault> {
+        self.greatest_limit = self.greatest_limit.max(limit);
+        let answer = match self.trial.count() {
+            Some(fault) => Err(fault),
+            None => self.inner.due(customer, at, after, limit),
         };
         self.trial.answer(answer)
     }

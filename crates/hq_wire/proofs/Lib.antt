@@ -4,3 +4,4 @@ pub mod Numbers
 pub mod OneLine
 pub mod Serving
 pub mod Called
+pub mod Stopping

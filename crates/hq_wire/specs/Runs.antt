@@ -1,5 +1,5 @@
 -- Whole runs: the desk's, and that of one customer's machine on that customer's share of the calls.
-use Rattle.std.specs.Prelude.{◌≡◌, ℕ, ◌+◌, ◌-◌, ◌^◌, ◌<◌, ◌≤◌, Bool, List, [], ◌∷◌, ◌++◌, map}
+use Rattle.std.specs.Prelude.{◌≡◌, ℕ, ◌+◌, ◌-◌, ◌^◌, ◌<◌, Bool, List, [], ◌∷◌, ◌++◌, map}
 use Rattle.std.specs.Prelude.{filter}
 use Rattle.std.specs.List.{AllZip}
 use Rattle.std.specs.Ordering.{eq_by_cmp}

@@ -1,7 +1,7 @@
 //! The same call of all customers: each by a call of its own, and all told in one reply.
 
-ghost use Rattle.std.specs.Prelude.{◌≡◌, ◌+◌, ◌*◌, ◌≤◌, ◌++◌, true, Ok, Some, None, length, drop};
-ghost use Rattle.std.specs.Prelude.{vec_len, vec_capacity, IfOk, IfSome};
+ghost use Rattle.std.specs.Prelude.{◌≡◌, ◌+◌, ◌*◌, ◌≤◌, ◌<◌, ◌++◌, true, Ok, Some, None, length};
+ghost use Rattle.std.specs.Prelude.{drop, vec_len, vec_capacity, IfSome, OnOk, OnErr};
 ghost use Rattle.hq_memory.specs.Making.{MadeIn};
 ghost use Rattle.hq_rules.specs.Each.{each_call};
 ghost use Rattle.hq_requests.specs.Calls.{CallOfAll};
@@ -23,19 +23,24 @@ use hq_rules::{Acts, Answer, EachCall, Render};
 use hq_values::{Fault, Moment, Name, Refusal};
 use std::alloc::AllocError;
 
-/// Room for the longest part and a comma: a name has 32 bytes at most, and each count 20 digits, of
-/// which a sweep tells three and a usage nine.
+/// The room that is taken first for a part: that of the longest, with a comma. A name has 32 bytes
+/// at most, and each count 20 digits, of which a sweep tells three and a usage nine. A page of
+/// messages has no such bound, and takes its room when it is there.
 fn part_room(each: EachCall) -> usize
     ensures { result ≡ part_room each }
 {
     match each {
         EachCall::Sweep => 140,
         EachCall::Usage => 326,
+        EachCall::Due => 0,
     }
 }
 
 /// Room for what stands before the parts and behind them.
 const OTHER_ROOM: usize = 102;
+
+/// Room for the longest that stands behind the parts.
+const CLOSING_ROOM: usize = 93;
 
 /// What stands before the parts.
 const OPENING: &[u8] = b"{\"done\":[";
@@ -104,14 +109,15 @@ fn tells_numbers(answer: &Answer)
     }
 }
 
-/// Whether an answer is one to such a call.
+/// Whether an answer can be a part of such a call.
 fn is_for(each: EachCall, answer: &Answer) -> bool
     ensures { result ≡ is_for each answer.now }
 {
     match (each, answer) {
         (EachCall::Sweep, Answer::Swept(_))
         | (EachCall::Sweep, Answer::Refused(Refusal::NoticesSpent))
-        | (EachCall::Usage, Answer::Used(_)) => true,
+        | (EachCall::Usage, Answer::Used(_))
+        | (EachCall::Due, _) => true,
         _ => false,
     }
 }
@@ -186,6 +192,48 @@ fn put_part(body: &mut Vec<u8>, is_first: bool, part: &[u8])
     put(body, part);
 }
 
+/// Has a body take so many bytes more. Where it has no room, it moves to twice its length, so that
+/// one which grows moves seldom; where the memory refuses, it stays as it is.
+fn make_room<M: Memory>(memory: M, body: &mut Vec<u8>, more: usize) -> Result<(), AllocError>
+    ensures items { body.new.items ≡ body.old.items }
+    ensures len { vec_len body.new ≡ vec_len body.old }
+    ensures room { OnOk result (vec_len body.new + more ≤ vec_capacity body.new) }
+    ensures capacity { vec_capacity body.old ≤ vec_capacity body.new }
+    ensures cause { OnErr result (M.refused × (vec_capacity body.old < vec_len body.old + more)) }
+{
+    let len = body.len();
+    if more <= body.capacity() - len {
+        return Ok(());
+    }
+    let mut longer = memory.room((2 * len).saturating_add(more))?;
+    put(&mut longer, body.as_slice());
+    *body = longer;
+    Ok(())
+}
+
+/// Adds a part, behind a comma unless it is the first, and leaves room for what stands behind all
+/// of them. It asks the memory only where the body has no room for both; where that is refused,
+/// the body stays as it is.
+fn add_part<M: Memory>(
+    memory: M,
+    body: &mut Vec<u8>,
+    is_first: bool,
+    part: &[u8],
+) -> Result<(), AllocError>
+    requires { vec_len body.old + 93 ≤ vec_capacity body.old }
+    ensures added { OnOk result (body.new.items ≡ body.old.items ++ separated is_first part.now) }
+    ensures len { vec_len body.new ≤ vec_len body.old + (1 + length part.now) }
+    ensures capacity { vec_capacity body.old ≤ vec_capacity body.new }
+    ensures room { vec_len body.new + 93 ≤ vec_capacity body.new }
+    ensures kept { OnErr result (body.new.items ≡ body.old.items) }
+    ensures cause { OnErr result (M.refused × (vec_capacity body.old
+        < vec_len body.old + (1 + length part.now + 93))) }
+{
+    make_room(memory, body, part.len().saturating_add(1 + CLOSING_ROOM))?;
+    put_part(body, is_first, part);
+    Ok(())
+}
+
 /// Adds what stands behind the parts where all customers are done.
 fn put_all_done(body: &mut Vec<u8>)
     requires { vec_len body.old + 93 ≤ vec_capacity body.old }
@@ -221,11 +269,25 @@ fn parted(body: Vec<u8>) -> Reply<'static>
     }
 }
 
+/// The reply with these parts, of a call that a fault stopped at a customer.
+fn stopped(mut body: Vec<u8>, name: &Name, fault: Fault) -> Reply<'static>
+    requires { vec_len body + 93 ≤ vec_capacity body }
+    ensures status { result.status ≡ 200 }
+    ensures body { body_bytes result.body ≡ body.items
+        ++ closing (Some (record { customer = name.now; fault = fault })) }
+    ensures customer { customer_told result ≡ None }
+{
+    put_stop(&mut body, name, fault);
+    parted(body)
+}
+
 /// Calls for every customer, in the order of the directory, and stops at the first fault. A
 /// customer's part may be a refusal.
 ///
-/// Room for the longest reply is taken first; where it is refused, nothing is done. Each part is
-/// written before its customer's changes are made, and added without taking memory.
+/// Of a call that may change anything, room for the longest reply is taken first; where it is
+/// refused, nothing is done. Each part is written before its customer's changes are made, and added
+/// without taking memory. A call that only reads takes room for each part when it is there; where
+/// that is refused, it stops at the part's customer.
 pub(crate) fn call_all<D: Acts, M: JsonMemory>(
     memory: M,
     desk: &mut D,
@@ -248,11 +310,13 @@ pub(crate) fn call_all<D: Acts, M: JsonMemory>(
         let name = &customer.entry.name;
         let part = PartText { name, each };
         match desk.act(memory, at, &customer.entry, each.call(), &part) {
-            Ok(rendered) => put_part(&mut body, is_first, rendered.bytes.as_slice()),
-            Err(fault) => {
-                put_stop(&mut body, name, fault);
-                return parted(body);
+            Ok(rendered) => {
+                let part = rendered.bytes.as_slice();
+                let Ok(()) = add_part(memory, &mut body, is_first, part) else {
+                    return stopped(body, name, Fault::WantOfMemory);
+                };
             }
+            Err(fault) => return stopped(body, name, fault),
         }
         is_first = false;
     }

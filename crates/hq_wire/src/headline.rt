@@ -7,7 +7,6 @@ ghost use Rattle.hq_wire.specs.Runs.{RunsSo};
 
 use crate::answering::exchange;
 use hq_bodies::JsonMemory;
-use hq_memory::ListRoom;
 use hq_requests::{Directory, Exchange, Reply};
 use hq_rules::Acts;
 use std::alloc::AllocError;
@@ -20,22 +19,21 @@ use std::alloc::AllocError;
 /// 90 is told only where `memory` refused a request, or where the store may answer it. Each reply
 /// carries the customer of its exchange.
 ///
-/// Room for all replies is taken first from `room`. The run ends in an error only where `room`
-/// refused a request; then nothing was done.
-pub fn run<'d, D: Acts, M: JsonMemory, A: ListRoom>(
+/// Room for all replies is taken first. The run ends in an error only where `memory` refused a
+/// request; then nothing was done.
+pub fn run<'d, D: Acts, M: JsonMemory>(
     memory: M,
-    room: A,
     desk: &mut D,
     directory: &'d Directory,
     exchanges: &[Exchange],
-) -> Result<Vec<Reply<'d>, A>, AllocError>
+) -> Result<Vec<Reply<'d>>, AllocError>
     ensures served { IfOk result (λ replies. RunsSo (with_refusals M.refused D.sight)
         directory.now desk.old (map (ask_of directory.now) exchanges.now) replies.items desk.new) }
     ensures customers { IfOk result (λ replies. map customer_told replies.items
         ≡ map (customer_of_exchange directory.now) exchanges.now) }
-    ensures none { OnErr result ((desk.new ≡ desk.old) × A.no_room) }
+    ensures none { OnErr result ((desk.new ≡ desk.old) × M.refused) }
 {
-    let mut replies = room.list(exchanges.len())?;
+    let mut replies = memory.room(exchanges.len())?;
     for item in exchanges {
         let reply = exchange(memory, desk, directory, item);
         replies.push_reserved(reply);

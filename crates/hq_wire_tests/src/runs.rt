@@ -1,11 +1,9 @@
 //! Many exchanges in one run.
 
-use crate::relay::{asked, desk_over, directory, expect_rows, line_of};
-use hq_desk::Desk;
+use crate::relay::{asked, desk_over, directory, line_of};
 use hq_lists::ListShelf;
 use hq_wire::{Directory, Exchange, Reply, run};
-use linked_list_allocator::LocalHeap;
-use std::alloc::{AllocError, Allocator, Global};
+use std::alloc::Global;
 use std::process::Abort;
 use std::test::Fail;
 
@@ -30,17 +28,6 @@ const LISTED_BIRCH: &str =
      \"recipients\":1,\"sender\":\"ann@a.example\",\"size\":900,\"state\":\"incoming\"}],\
      \"more\":false}";
 
-/// The replies of one run, in this room.
-fn replies_in<'d, A: Allocator>(
-    alloc: Global,
-    room: A,
-    desk: &mut Desk<ListShelf<Global>>,
-    directory: &'d Directory,
-    exchanges: &[Exchange],
-) -> Result<Vec<Reply<'d>, A>, AllocError> {
-    run(alloc, room, desk, directory, exchanges)
-}
-
 /// The replies are those of the rows, in order.
 fn expect_replies(
     rt: &(impl Abort + AllocGlobal),
@@ -60,7 +47,7 @@ fn expect_run(rt: &(impl Abort + AllocGlobal), rows: &[(&str, &str)]) -> Result<
     let directory = directory(rt)?;
     let exchanges = exchanges(alloc, rows)?;
     let mut desk = desk_over(alloc, ListShelf::new(alloc))?;
-    let replies = replies_in(alloc, alloc, &mut desk, &directory, exchanges.as_slice())?;
+    let replies = run(alloc, &mut desk, &directory, exchanges.as_slice())?;
     expect_replies(rt, replies.as_slice(), rows)
 }
 
@@ -90,17 +77,4 @@ fn runs(rt: HostRuntime) -> Result<(), Fail> {
         expect_run(&rt, rows)?;
     }
     Ok(())
-}
-
-/// Where room for the replies is refused, nothing was done: the next submit gets the first serial.
-#[test]
-fn a_run_without_room(rt: HostRuntime) -> Result<(), Fail> {
-    let alloc = rt.alloc();
-    let heap = LocalHeap::new(alloc, 64)?;
-    let directory = directory(&rt)?;
-    let mut desk = desk_over(alloc, ListShelf::new(alloc))?;
-    let exchanges = exchanges(alloc, &[(SUBMIT_ACME, QUEUED_FIRST); 40])?;
-    let replies = replies_in(alloc, &heap, &mut desk, &directory, exchanges.as_slice());
-    assert!(rt; replies.is_err());
-    expect_rows(&rt, &mut desk, &[(SUBMIT_ACME, QUEUED_FIRST)])
 }

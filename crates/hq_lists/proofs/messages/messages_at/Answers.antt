@@ -8,7 +8,8 @@ use Rattle.hq_lists.proofs.messages.messages_at.Goals as goal
 pub loop-serial-preserved : goal.loop-serial-preserved
 loop-serial-preserved g c all =
     let at =
-    message_at c.args.customer.now c.args.messages.now c.args.recipients.now c.args.holds.now in
+    message_at c.args.customer.now c.args.rows.messages.now c.args.rows.recipients.now
+    c.args.rows.holds.now in
     let xs = c.args.serials.now in
     let k = c.loop-serial.serial-index in
     let x = c.serial-item.result in

@@ -1,6 +1,5 @@
 use Rattle.std.proofs.Common.{ap, map, ◌++◌, ◌∙◌}
 use Rattle.sqlite.specs.Held.{state}
-use Rattle.hq_sql.specs.Tables.{tables_in}
 use Rattle.hq_sql.proofs.Keeping.{keeps_ok, keeps_err}
 use Rattle.hq_sql_messages.proofs.MessageTexts.{message_page_known}
 use Rattle.hq_sql.proofs.Walking.{pushed_all}
@@ -21,7 +20,7 @@ returns-clause-found g c clean desk =
     (c.in_ok-taken.ensures.found (record { plain = message_page_known.plain }) clean desk) in
     pushed_all (λ (it : TakenMessages). it.page.items) bare all.rows _ c.in_ok-taken.taken all.taken
     ∙ ap (λ l. l ++ map bare all.rows) c.none-page.ensures.items
-    ∙ page_bare c.args.after c.args.limit c.args.customer.now (tables_in old.now) all.rows
+    ∙ page_bare all.rows _
     (page_shown old (state g.S.Store c.walk.new.conn) c.args.customer.now c.args.after
     c.args.limit all.rows desk all.shown)
 

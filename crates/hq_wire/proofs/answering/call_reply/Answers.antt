@@ -1,4 +1,4 @@
-use Rattle.std.proofs.Common.{◌≡◌, ◌+◌, inl, inr, ap, Bool, true, false, cond, Result, Ok}
+use Rattle.std.proofs.Common.{◌≡◌, ◌+◌, inl, inr, Bool, true, false, cond, Result, Ok}
 use Rattle.std.proofs.Common.{rules, refl, sym, subst, arith, ◌∙◌}
 use Rattle.hq_values.specs.declared.failure.Refusal.{Refusal}
 use Rattle.hq_tables.specs.Shelves.{OnOpenSound}
