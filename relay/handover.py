@@ -97,8 +97,9 @@ class Handover:
             return {it["customer"] for it in told["done"] if not it["due"]}
         except (Away, Refused, LookupError, TypeError) as error:
             self.rounds_alone = ROUNDS_ALONE
-            # (several desks behind one address have no such call)
-            if not (isinstance(error, Refused) and error.number == NO_ROUTE):
+            # (several desks behind one address have no such call: their proxy answers 404)
+            is_refused = isinstance(error, Refused) and error.number == NO_ROUTE
+            if not is_refused and ": 404 " not in str(error):
                 log.error("due of all not told", why=repr(error))
             return set()
 
