@@ -19,7 +19,12 @@ class Refused(Exception):
 
 
 class Away(Exception):
-    """No reply, or a fault: nobody knows whether the call was done. It may be asked again."""
+    """No reply, or a fault: nobody knows whether the call was done. It may be asked again. `status` is
+    that of a reply which is none of a desk."""
+
+    def __init__(self, why: str, status: Optional[int] = None):
+        super().__init__(why)
+        self.status = status
 
 
 class Desk:
@@ -41,7 +46,7 @@ class Desk:
         if response.status == 200:
             return told
         if response.status == 503 or not isinstance(told, dict) or "error" not in told:
-            raise Away(f"{path}: {response.status} {told}")
+            raise Away(f"{path}: {response.status} {told}", response.status)
         raise Refused(told)
 
     def submit(self, customer: str, spool: str, sender: str, recipient: str, size: int) -> dict:

@@ -31,6 +31,13 @@ LOOK_SECONDS, ROUNDS_ALONE = 5.0, 6
 RANDOM_BYTES = 12
 
 
+def has_no_call_of_all(error: Exception) -> bool:
+    """Whether several desks stand behind the address: their proxy answers 404 to a call of all."""
+    if isinstance(error, Refused):
+        return error.number == NO_ROUTE
+    return isinstance(error, Away) and error.status == 404
+
+
 class Handover:
     """Customers have their turns, each for one batch; its parts go over as many sessions as there may
     be, each of which has a thread."""
@@ -97,9 +104,7 @@ class Handover:
             return {it["customer"] for it in told["done"] if not it["due"]}
         except (Away, Refused, LookupError, TypeError) as error:
             self.rounds_alone = ROUNDS_ALONE
-            # (several desks behind one address have no such call: their proxy answers 404)
-            is_refused = isinstance(error, Refused) and error.number == NO_ROUTE
-            if not is_refused and ": 404 " not in str(error):
+            if not has_no_call_of_all(error):
                 log.error("due of all not told", why=repr(error))
             return set()
 

@@ -1,7 +1,7 @@
 """Who gets a turn by one look at all customers, and what a turn leaves that fails behind its first page."""
 from types import SimpleNamespace
 
-import handover
+import log
 import pytest
 from desk import NO_ROUTE, Away, Refused
 from handover import ROUNDS_ALONE, Handover
@@ -82,7 +82,18 @@ def test_rounds_behind_a_look_that_failed():
     expect(rounds == [NAMES] * (1 + ROUNDS_ALONE) + [["acme"]] and desk.asked == 2, rounds, desk.asked)
 
 
-def test_a_turn_that_fails_behind_its_first_page(monkeypatch):
+@pytest.mark.parametrize("answer, is_told", [
+    (Away("/relay/due"), True), (Away("/relay/due: 503 {}", 503), True), (Away("/relay/due: 404 {}", 404), False),
+    (Refused({"error": NO_ROUTE, "name": "NoRoute"}), False), (Refused({"error": 3, "name": "WrongRole"}), True)])
+def test_what_is_told_of_a_look_that_failed(monkeypatch, answer, is_told):
+    """The log tells why, but nothing of a proxy that has no such call."""
+    lines = []
+    monkeypatch.setattr(log, "error", lambda event, **words: lines.append(event))
+    turns_of(looking(Desk(answer)))
+    expect(lines == ["due of all not told"] * is_told, answer, lines)
+
+
+def test_a_turn_that_fails_behind_its_first_page():
     """What it had found counts as under way to its domain no more."""
     def listed(customer, after):
         yield entry(1)
@@ -93,7 +104,6 @@ def test_a_turn_that_fails_behind_its_first_page(monkeypatch):
     found.spool = SimpleNamespace(size=lambda name: 900)
     found.handed = SimpleNamespace(spools_under_way=lambda customer: set())
     found.book = SimpleNamespace(untold=lambda customer: [])
-    monkeypatch.setattr(handover, "BATCH", 50)
     for _ in range(UNPROVEN + 1):
         with pytest.raises(Away):
             found.due("acme", None)
