@@ -1,7 +1,7 @@
 """The desk's calls that a worker makes, each over a connection of its own."""
 import http.client
 import json
-from typing import Dict, Iterator, List, Optional
+from typing import Dict, Iterator, List, Optional, Set
 
 from settings import Address, Settings
 
@@ -62,10 +62,12 @@ class Desk:
 
     def usages(self) -> List[dict]:
         """What each customer of the desk has there, and what became of its recipients."""
-        told = self.ask("/relay/usage")
-        if told["stopped"]:
-            raise Away(f"/relay/usage: {told}")
-        return told["done"]
+        found: List[dict] = []
+        for told in self.by_hundreds("/relay/usage"):
+            if told["stopped"]:
+                raise Away(f"/relay/usage stopped: {told['stopped']}")
+            found += told["done"]
+        return found
 
     def message(self, customer: str, id: str) -> Optional[dict]:
         """A message shown whole; None where it has left the queue, or has another ID by now."""
@@ -79,9 +81,9 @@ class Desk:
     def notice(self, customer: str, number: int) -> dict:
         return self.ask(f"/relay/notice/{customer}", {"number": number})
 
-    def due_of_all(self, timeout: float) -> dict:
+    def due_of_all(self, timeout: float) -> Iterator[dict]:
         """The first page of what is due of each customer, up to the one at whom a fault stopped it."""
-        return self.ask("/relay/due", timeout=timeout)
+        return self.by_hundreds("/relay/due", timeout)
 
     def due(self, customer: str, after: Optional[str] = None) -> Iterator[dict]:
         return self.pages("due", customer, "due", "id", after)
@@ -109,6 +111,22 @@ class Desk:
                 return
             yield from page
             after = page[-1][last]
+
+    def by_hundreds(self, path: str, timeout: Optional[float] = None) -> Iterator[dict]:
+        """The replies to a call of all customers, a hundred a call, so that nobody waits for a long one.
+
+        The last reply tells of a fault, or that no customer is left.
+        """
+        start: Optional[str] = None
+        asked: Set[Optional[str]] = set()
+        while start not in asked:
+            asked.add(start)
+            told = self.ask(path, {"from": start}, timeout)
+            yield told
+            # (a desk that tells no `next` has asked everyone)
+            start = None if told["stopped"] else told.get("next")
+        if start is not None:
+            raise Away(f"{path}: it goes on at {start} again")
 
 
 def desk_of(settings: Settings) -> Desk:

@@ -24,8 +24,8 @@ from turns import Turns
 # So many messages, and bytes, are handed over behind one look at the desk's list; and so many of them
 # in one session before the next one takes some.
 BATCH, BATCH_BYTES, PART = 50, 20_000_000, 10
-# A look at all customers waits no longer than so many seconds for the desk. Where it failed, each
-# customer is asked for by itself for so many rounds.
+# A look at all customers waits so many seconds for each reply, and makes no further call once they have
+# passed. Where it failed, each customer is asked for by itself for so many rounds.
 LOOK_SECONDS, ROUNDS_ALONE = 5.0, 6
 # The random part of an envelope ID: IDs of the desk repeat after a restore, and nobody may guess one.
 RANDOM_BYTES = 12
@@ -93,20 +93,24 @@ class Handover:
                 self.turns.add(customer)
 
     def idle(self) -> Set[str]:
-        """The customers of whom nothing is due, as one call for all of them tells."""
+        """The customers of whom nothing is due, as a call for each hundred of them tells."""
         if self.rounds_alone:
             self.rounds_alone -= 1
             return set()
+        found: Set[str] = set()
+        end = time.monotonic() + LOOK_SECONDS
         try:
-            told = self.desk.due_of_all(LOOK_SECONDS)
-            if told["stopped"]:
-                log.error("due of all stopped", **told["stopped"])
-            return {it["customer"] for it in told["done"] if not it["due"]}
+            for told in self.desk.due_of_all(LOOK_SECONDS):
+                found.update(it["customer"] for it in told["done"] if not it["due"])
+                if told["stopped"]:
+                    log.error("due of all stopped", **told["stopped"])
+                if time.monotonic() > end:
+                    break
         except (Away, Refused, LookupError, TypeError) as error:
             self.rounds_alone = ROUNDS_ALONE
             if not has_no_call_of_all(error):
                 log.error("due of all not told", why=repr(error))
-            return set()
+        return found
 
     def go_on(self) -> None:
         """Some attempt has ended: mail that waited for its domain may go."""

@@ -91,7 +91,7 @@ def is_as_told(calls, call, found, body):
     by_name = {it["name"]: it["schema"] for it in call["parameters"]}
     if not all(calls.forms.has(by_name[name], value) for name, value in found.groupdict().items()):
         return False
-    if "requestBody" not in call:
+    if "requestBody" not in call or not (body or call["requestBody"]["required"]):
         return True
     schema = call["requestBody"]["content"]["application/json"]["schema"]
     try:

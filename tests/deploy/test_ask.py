@@ -1,4 +1,5 @@
-"""hq-ask: a desk that runs is asked at its address, and one that does not over its store."""
+"""hq-ask: a desk that runs is asked at its address, and one that does not over its store; all customers by hundreds."""
+import json
 import os
 import stat
 import subprocess
@@ -6,7 +7,8 @@ import time
 
 import pytest
 from deploying import DEPLOY, Desk
-from serving import LONGEST, RELAY, batch_line, expect, submission
+from serving import LONGEST, RELAY, batch_line, expect, named, submission
+from stand_in import StandIn, by_hundreds
 
 ROWS = ["acme,acmekey000000001,1000,500000000,1000,100,14400", "birch,birchkey00000001,100,1000000,100,10,0"]
 QUEUE = """\
@@ -17,6 +19,10 @@ Queue ID          Size Arrival                         Sender/Recipient
     bob@far.example
 -- 2 queued, 1800 bytes, 0 on hold
 """
+# More customers than a call of all asks.
+MANY = [f"c{number:03}" for number in range(1, 103)]
+MANY_ROWS = [f"{it},{it}key000000001,10,100000,10,10,0" for it in MANY]
+SWEPT = {"expired": 0, "notices": 0, "warned": 0}
 # A user that owns nothing.
 NOBODY = 65534
 NOTHING = "accepted 0, pending 0, delivered 0, failed 0, deleted 0, expired 0"
@@ -146,6 +152,37 @@ def test_history(asking, desk):
     expect(len(lines) == 122 and lines[0].split(" ", 3)[3] == "0000000004 ann@a.example r59@far.example deleted", lines[:2])
     found = asking.done("history", "acme", "recipient", "r7@far.example").splitlines()
     expect([it.split()[3] for it in found] == ["0000000004", "0000000003"], found)
+
+
+def test_all_of_many(asking, folder, program):
+    """More than a hundred customers are asked by two calls, and one by a call of its own."""
+    with Desk(folder, program, "north", MANY_ROWS):
+        for command in ("usage", "sweep"):
+            names = [it.partition(":")[0] for it in asking.done(command).splitlines()]
+            expect(names == MANY, command, "tells", names)
+        expect(asking.done("usage", "c102") == f"c102: messages 0, bytes 0, lines 0, {NOTHING}\n", "of one it tells another usage")
+    asked = [json.loads(it)["path"] for it in (folder / "north.log").read_text().splitlines()]
+    expect(asked == ["/relay/usage"] * 2 + ["/relay/sweep"] * 2 + ["/v1/usage"], "asked was", asked)
+
+
+@pytest.mark.parametrize("fault, starts", [("c050", [None]), ("c101", [None, "c101"])])
+def test_a_stop(folder, fault, starts):
+    """What was done before it is printed, and it is told once."""
+    with StandIn(by_hundreds(MANY, SWEPT, fault)) as desk:
+        Desk(folder, "true", "north", MANY_ROWS, named(desk.server_address))
+        ended = Asking(folder, "true").run("sweep")
+    done = "".join(f"{it}: expired 0, warned 0, notices 0\n" for it in MANY[:MANY.index(fault)])
+    told = f"hq-ask: north stopped at {fault}: error 91, name Disk\n"
+    expect((ended.returncode, ended.stdout, ended.stderr) == (1, done, told), "it ended with", ended)
+    expect([json.loads(body)["from"] for _, _, body in desk.asked] == starts, "asked was", desk.asked)
+
+
+def test_a_desk_without_an_end(folder):
+    """One that names a customer from whom it was asked before is asked no more."""
+    with StandIn(lambda body: (200, json.dumps({"done": [], "next": "c001", "stopped": None}))) as desk:
+        Desk(folder, "true", "north", MANY_ROWS, named(desk.server_address))
+        Asking(folder, "true").refused("hq-ask: the desk goes on at c001 again", "usage")
+        expect(len(desk.asked) == 2, "asked was", desk.asked)
 
 
 def test_words(asking, folder, program):

@@ -31,6 +31,7 @@ LONGEST_LINE = 1_000
 QUEUED = '{"id":"0000000001","recipients":["bob@far.example"],"refused":[],"state":"incoming","verdict":"queued"}'
 SWEPT = ('{"done":[{"customer":"acme","expired":0,"notices":0,"warned":0},{"customer":"birch","expired":0,"notices":0,'
          '"warned":0}],"stopped":null}')
+SWEPT_BEHIND = '{"done":[{"customer":"birch","expired":0,"notices":0,"warned":0}],"next":null,"stopped":null}'
 USED = ('{{"customer":"{}","accepted":{one},"bytes":0,"deleted":{one},"delivered":0,"expired":0,"failed":0,"lines":0,"messages":0,'
         '"pending":0}}')
 LOST = "hq: log"
@@ -76,6 +77,8 @@ def exchanges():
         (request("POST", "/relay/due/cedar", RELAY), 404, '{"error":13,"name":"NoCustomer"}',
          line(None, "POST", "/relay/due/cedar", 404, 13)),
         (request("POST", "/relay/sweep", RELAY), 200, SWEPT, line(None, "POST", "/relay/sweep", told=SWEPT)),
+        (request("POST", "/relay/sweep", RELAY, {"from": "birch"}), 200, SWEPT_BEHIND,
+         line(None, "POST", "/relay/sweep", told=SWEPT_BEHIND)),
         (request("POST", "/relay/usage", RELAY), 200,
          f'{{"done":[{USED.format("acme", one=0)},{USED.format("birch", one=1)}],"stopped":null}}',
          line(None, "POST", "/relay/usage")),

@@ -2,19 +2,20 @@
 
 1. Of a desk with two customers, one of which has mail and a line, it prints just the lines that are written here.
 2. A desk in whose place a stub of Python answers is asked by one POST with the relay's key. Texts that no name has are
-   escaped; a stop at a customer, a fault, a body that is no JSON, and a reply of nginx are told in one line, with status 1,
-   and nothing else is printed. So are a desk that is away and a key that the desk does not know.
-3. Bad settings and bad words are told with status 2.
+   escaped; a fault, a body that is no JSON, and a reply of nginx are told in one line, with status 1, and nothing else is
+   printed. So are a desk that is away and a key that the desk does not know.
+3. Where it has more than a hundred customers it is asked again, from the customer on that it names. A stop at a customer, of
+   whichever hundred, is told as a fault is; and so is a name from which it was asked before.
+4. Bad settings and bad words are told with status 2.
 """
 import json
 import re
 import subprocess
-import threading
 import time
-from http.server import BaseHTTPRequestHandler, HTTPServer
 from pathlib import Path
 
 from serving import ACME, BIRCH, DIRECTORY, LONGEST, RELAY, Server, expect, request, words
+from stand_in import StandIn, by_hundreds
 import pytest
 
 METRICS = Path(__file__).resolve().parents[2] / "relay/metrics"
@@ -102,6 +103,8 @@ desk_worker_errors{event="lost notices"} 2
 desk_worker_errors{event="plain"} 1
 """
 COUNTS = ("accepted", "bytes", "deleted", "delivered", "expired", "failed", "lines", "messages", "pending")
+MANY = [f"c{number:03}" for number in range(201)]
+USED = {name: number for number, name in enumerate(COUNTS)}
 
 
 def run(folder, address, *words_of, lines=""):
@@ -163,40 +166,29 @@ def of_a_desk(program, folder):
 
 # ---- a stub
 
-class Stub(BaseHTTPRequestHandler):
-    asked, reply = [], (200, "")
-
-    def do_POST(self):
-        self.asked.append((self.path, self.headers["X-Desk-Key"], self.rfile.read(int(self.headers["Content-Length"] or 0))))
-        status, body = self.reply
-        self.send_response(status)
-        self.send_header("Content-Length", str(len(body)))
-        self.end_headers()
-        self.wfile.write(body.encode())
-
-    def log_message(self, *_):
-        pass
-
-
 def of_a_stub(folder):
-    server = HTTPServer(("127.0.0.1", 0), Stub)
-    threading.Thread(target=server.serve_forever, daemon=True).start()
-    usage = {"customer": 'a"b\\c\nd', **{name: number for number, name in enumerate(COUNTS)}, "later": "a member"}
-    stop = {"customer": "birch", "error": 91, "name": "Disk"}
-    Stub.reply = 200, json.dumps({"done": [usage], "stopped": None})
-    status, printed, told = run(folder, server.server_address)
-    expect((status, told) == (0, "") and r'desk_messages{customer="a\"b\\c\nd"} 7' in printed.split("\n"),
-           "escaped", status, printed, told)
-    expect(printed.count("\n") == 9 * 3 + 2 * 2 + 3, "lines", printed)
-    for reply, reason in (((200, json.dumps({"done": [usage], "stopped": stop})), "'Disk'"),
-                          ((503, '{"error":90,"name":"WantOfMemory"}'), "WantOfMemory"),
-                          ((404, '{"name":"NoRoute","proxy":404}'), "404"),
-                          ((200, "<html>"), "JSONDecodeError")):
-        Stub.reply = reply
-        expect_refusal(folder, server.server_address, reason)
-    expect(set(Stub.asked) == {("/relay/usage", RELAY, b"")} and len(Stub.asked) == 5, "asked was", Stub.asked)
-    server.shutdown()
-    server.server_close()
+    """What is told of one customer, and how what is no usage is."""
+    usage = {"customer": 'a"b\\c\nd', **USED, "later": "a member"}
+    with StandIn() as desk:
+        def replies(status, told):
+            desk.reply = lambda body: (status, told if isinstance(told, str) else json.dumps(told))
+
+        replies(200, {"done": [usage], "next": None, "stopped": None})
+        status, printed, told = run(folder, desk.server_address)
+        expect((status, told) == (0, "") and r'desk_messages{customer="a\"b\\c\nd"} 7' in printed.split("\n"),
+               "escaped", status, printed, told)
+        expect(printed.count("\n") == 9 * 3 + 2 * 2 + 3, "lines", printed)
+        for reply, reason in (((503, {"error": 90, "name": "WantOfMemory"}), "WantOfMemory"),
+                              ((404, {"name": "NoRoute", "proxy": 404}), "404"),
+                              ((200, "<html>"), "JSONDecodeError")):
+            replies(*reply)
+            expect_refusal(folder, desk.server_address, reason)
+        expect(desk.asked == asked_from(None) * 4, "asked was", desk.asked)
+
+
+def asked_from(*names):
+    """What is asked of the customers from each of these on, or from the first."""
+    return [("/relay/usage", RELAY, json.dumps({"from": it}).encode()) for it in names]
 
 
 def of_words(folder):
@@ -217,6 +209,27 @@ def customers(folder):
 
 def test_of_a_stub(customers):
     of_a_stub(customers)
+
+
+def test_of_hundreds(customers):
+    with StandIn(by_hundreds(MANY, USED)) as desk:
+        status, printed, _ = run(customers, desk.server_address)
+        told = re.findall(r'^desk_messages{customer="(\w+)"} 7$', printed, re.M)
+        expect(status == 0 and told == MANY, "of these it tells", status, told)
+        expect(desk.asked == asked_from(None, "c100", "c200"), "asked was", desk.asked)
+
+
+@pytest.mark.parametrize("fault, starts", [("c000", [None]), ("c150", [None, "c100"]), ("c200", [None, "c100", "c200"])])
+def test_of_a_stop(customers, fault, starts):
+    with StandIn(by_hundreds(MANY, USED, fault)) as desk:
+        expect_refusal(customers, desk.server_address, "'Disk'")
+        expect(desk.asked == asked_from(*starts), "asked was", desk.asked)
+
+
+def test_of_no_end(customers):
+    with StandIn(lambda body: (200, json.dumps({"done": [], "next": "c000", "stopped": None}))) as desk:
+        expect_refusal(customers, desk.server_address, "goes on at c000 again")
+        expect(desk.asked == asked_from(None, "c000"), "asked was", desk.asked)
 
 
 def test_of_words(customers):

@@ -1,14 +1,16 @@
-"""Who gets a turn by one look at all customers, and what a turn leaves that fails behind its first page."""
+"""Who gets a turn by a look at all customers, and what a turn leaves that fails behind its first page."""
+import time
 from types import SimpleNamespace
 
 import log
 import pytest
-from desk import NO_ROUTE, Away, Refused
-from handover import ROUNDS_ALONE, Handover
+from desk import NO_ROUTE, Away, Desk, Refused
+from handover import LOOK_SECONDS, ROUNDS_ALONE, Handover
 from resting import UNPROVEN, Resting
 from serving import expect
 
 NAMES = ["acme", "birch", "cedar"]
+STOPPED, NOT_TOLD = "due of all stopped", "due of all not told"
 
 
 def entry(number):
@@ -19,18 +21,19 @@ def part(name, *numbers):
     return {"customer": name, "due": [entry(it) for it in numbers], "more": False}
 
 
-def told(*parts, stopped=None):
-    return {"done": [*parts], "stopped": stopped}
+def told(*parts, next=None, stopped=None):
+    return {"done": [*parts], "next": next, "stopped": stopped and {"customer": stopped, "error": 91, "name": "Disk"}}
 
 
-class Desk:
-    """A desk that tells of all customers what it is told to, in turn, or fails so."""
+class Told(Desk):
+    """A desk that tells what it is told to, in turn, or fails so. `starts` has the customers from which it was asked."""
 
     def __init__(self, *answers):
-        self.answers, self.asked = [*answers], 0
+        self.answers, self.starts = [*answers], []
 
-    def due_of_all(self, timeout):
-        self.asked += 1
+    def ask(self, path, body=None, timeout=None):
+        expect(path == "/relay/due" and timeout == LOOK_SECONDS, "asked was", path, timeout)
+        self.starts.append(body["from"])
         answer = self.answers.pop(0)
         if isinstance(answer, Exception):
             raise answer
@@ -58,39 +61,81 @@ def turns_of(found):
     return found.turns.added
 
 
+@pytest.fixture
+def logged(monkeypatch):
+    """The events of the level error, as they are logged."""
+    lines = []
+    monkeypatch.setattr(log, "error", lambda event, **words: lines.append(event))
+    return lines
+
+
 @pytest.mark.parametrize("answer, rests, wanted", [
     (told(part("acme", 1), part("birch"), part("cedar", 7)), [], ["acme", "cedar"]),
     (told(part("acme"), part("birch"), part("cedar")), ["birch"], ["birch"]),
-    (told(part("acme"), part("birch"), stopped={"customer": "cedar", "error": 91, "name": "Disk"}), [], ["cedar"]),
+    (told(part("acme"), part("birch"), next="cedar", stopped="cedar"), [], ["cedar"]),
     (told(part("acme"), part("birch"), part("cedar"), part("dogwood", 1)), [], []),
     (Away("/relay/due"), [], NAMES),
     (Refused({"error": NO_ROUTE, "name": "NoRoute"}), [], NAMES),
     ({"done": [{"customer": "acme"}], "stopped": None}, [], NAMES),
+    ({"done": [part("acme", 1), part("birch"), part("cedar")], "stopped": None}, [], ["acme"]),
     ([], [], NAMES),
 ])
 def test_who_gets_a_turn(answer, rests, wanted):
-    """All but those of whom nothing is due; those too who were not reached, or whose last turn failed."""
-    found = turns_of(looking(Desk(answer), rests))
-    expect(found == wanted, answer, found)
+    """All but those of whom nothing is due; those too who were not reached, or whose last turn failed. A desk that tells no
+    `next` was asked for all."""
+    desk = Told(answer)
+    found = turns_of(looking(desk, rests))
+    expect(found == wanted and desk.starts == [None], answer, found, desk.starts)
+
+
+@pytest.mark.parametrize("answers, starts, wanted, events", [
+    ([told(part("acme", 1), part("birch"), next="cedar"), told(part("cedar"))], [None, "cedar"], ["acme"], []),
+    ([told(part("acme"), next="birch"), told(part("birch"), next="cedar", stopped="cedar")], [None, "birch"], ["cedar"], [STOPPED]),
+    ([told(part("acme"), next="birch"), told(next="birch", stopped="birch")], [None, "birch"], ["birch", "cedar"], [STOPPED]),
+    ([told(part("acme"), next="birch"), Away("/relay/due")], [None, "birch"], ["birch", "cedar"], [NOT_TOLD]),
+    ([told(part("acme"), next="birch"), told(part("birch"), next="birch")], [None, "birch"], ["cedar"], [NOT_TOLD]),
+    ([told(part("acme"), next="birch"), told(part("birch"), next="acme"), told(part("acme"), next="birch")],
+     [None, "birch", "acme"], ["cedar"], [NOT_TOLD]),
+])
+def test_looks_by_hundreds(logged, answers, starts, wanted, events):
+    """One call after another, from the customer on that the one before names; what was told before a fault counts. It has an end
+    where these names have none."""
+    desk = Told(*answers)
+    found = turns_of(looking(desk))
+    expect((found, desk.starts, logged) == (wanted, starts, events), answers, found, desk.starts, logged)
+
+
+def test_the_round_behind_a_stop(logged):
+    """It begins at the first customer again."""
+    stop = told(part("acme"), part("birch"), next="cedar", stopped="cedar")
+    desk = Told(stop, told(part("acme", 1), part("birch"), part("cedar")))
+    found = looking(desk)
+    rounds = [turns_of(found) for _ in range(2)]
+    expect((rounds, desk.starts, logged) == ([["cedar"], ["acme"]], [None, None], [STOPPED]), rounds, desk.starts, logged)
+
+
+def test_a_look_that_takes_long(monkeypatch, logged):
+    """Of those behind it nothing is known, so they have their turns; and that is no error."""
+    found = looking(Told(told(part("acme"), part("birch"), next="cedar")))
+    monkeypatch.setattr(time, "monotonic", iter([0.0, LOOK_SECONDS + 1]).__next__)
+    expect(turns_of(found) == ["cedar"] and not logged and not found.rounds_alone, logged)
 
 
 def test_rounds_behind_a_look_that_failed():
     """Each customer has its turn for some rounds, without another look at all of them."""
-    desk = Desk(Away("/relay/due"), told(part("acme", 1), part("birch"), part("cedar")))
+    desk = Told(Away("/relay/due"), told(part("acme", 1), part("birch"), part("cedar")))
     found = looking(desk)
     rounds = [turns_of(found) for _ in range(1 + ROUNDS_ALONE + 1)]
-    expect(rounds == [NAMES] * (1 + ROUNDS_ALONE) + [["acme"]] and desk.asked == 2, rounds, desk.asked)
+    expect(rounds == [NAMES] * (1 + ROUNDS_ALONE) + [["acme"]] and desk.starts == [None, None], rounds, desk.starts)
 
 
 @pytest.mark.parametrize("answer, is_told", [
     (Away("/relay/due"), True), (Away("/relay/due: 503 {}", 503), True), (Away("/relay/due: 404 {}", 404), False),
     (Refused({"error": NO_ROUTE, "name": "NoRoute"}), False), (Refused({"error": 3, "name": "WrongRole"}), True)])
-def test_what_is_told_of_a_look_that_failed(monkeypatch, answer, is_told):
+def test_what_is_told_of_a_look_that_failed(logged, answer, is_told):
     """The log tells why, but nothing of a proxy that has no such call."""
-    lines = []
-    monkeypatch.setattr(log, "error", lambda event, **words: lines.append(event))
-    turns_of(looking(Desk(answer)))
-    expect(lines == ["due of all not told"] * is_told, answer, lines)
+    turns_of(looking(Told(answer)))
+    expect(logged == [NOT_TOLD] * is_told, answer, logged)
 
 
 def test_a_turn_that_fails_behind_its_first_page():

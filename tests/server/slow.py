@@ -1,6 +1,9 @@
-"""Of tests/server/test_clients.py: clients that are too slow, with their request or with its response, and those that wait behind them."""
+"""Of tests/server/test_clients.py: clients that are too slow, with their request or with its response, and others beside them."""
+import array
+import fcntl
 import select
 import socket
+import termios
 import time
 
 from serving import ACME, BIRCH, LONGEST, RELAY, Server, expect, request, submission, words
@@ -8,8 +11,10 @@ from serving import ACME, BIRCH, LONGEST, RELAY, Server, expect, request, submis
 USED = '{"accepted":0,"bytes":0,"deleted":0,"delivered":0,"expired":0,"failed":0,"lines":0,"messages":0,"pending":0}'
 # Messages and their recipients, whose report is longer than the system keeps for a client that takes nothing.
 MESSAGES, RECIPIENTS = 400, [f"{it:0100}@{'d' * 60}.example" for it in range(100)]
-# In seconds: a read or a write, a whole request or response, and how much more a busy machine may take.
-IDLE, WHOLE, BUSY = 1, 2, 20
+# In seconds: from byte to byte, a whole request or response, and how much more a busy machine may take.
+IDLE, WHOLE, BUSY = 2, 4, 20
+# Clients that begin a request at once, and go no further.
+HALVES = 20
 
 
 def cut(server, least, dribble):
@@ -39,25 +44,45 @@ def wait_of_another(server):
     begun, other = time.monotonic(), server.connect()
     sent = request("GET", "/v1/usage", BIRCH)
     other.sendall(sent)
-    expect(select.select([other], [], [], LONGEST)[0], "nobody is served behind a client that is too slow")
+    expect(select.select([other], [], [], LONGEST)[0], "nobody is served beside a client that is too slow")
     taken = time.monotonic() - begun
     server.receive(other, 200, USED, sent)
     return taken
 
 
+def is_served_at_once(server):
+    """Another client that asks now has its response before a slow one is cut, which would be told."""
+    wait_of_another(server)
+    unread = array.array("i", [0])
+    fcntl.ioctl(server.process.stderr, termios.FIONREAD, unread)
+    expect(unread[0] == sum(len(line) + 1 for line in server.errors), "another waited until a slow client was cut")
+
+
+def begin_a_request(server):
+    """Clients that begin a request keep no other waiting; those that leave it so are refused."""
+    clients = [server.connect() for _ in range(HALVES)]
+    for client in clients:
+        client.sendall(b"GET /v1/usage HTTP/1.1\r\nHost: desk")
+    is_served_at_once(server)
+    for client in clients:
+        client.shutdown(socket.SHUT_WR)
+        told = server.received(client)
+        expect(told.startswith(b"HTTP/1.1 400 "), "half a request got", told)
+
+
 def takes_nothing(server):
-    """A client that takes nothing of a long response is cut, and keeps no other waiting for longer than it may."""
+    """A client that takes nothing of a long response is cut, and keeps no other waiting."""
     for number in range(MESSAGES):
         server.body_of(request("POST", "/relay/submit/acme", RELAY, {**submission(f"s{number}"), "recipients": RECIPIENTS}))
     with server.connect() as client:
         client.sendall(request("GET", "/v1/report", ACME))
-        taken = wait_of_another(server)
-    expect(IDLE - 0.1 <= taken < 2 * WHOLE + 1 + BUSY, "behind a client that takes nothing another waited", taken, "seconds")
-    server.told("hq: output")
+        expect(select.select([client], [], [], LONGEST)[0], "a report does not begin")
+        is_served_at_once(server)
+        server.told("hq: output")
 
 
 def keeps_its_connection(server):
-    """A client that has its response, and does not end its side, keeps no other waiting for longer than a second."""
+    """A client that has its response, and does not end its side, keeps no other waiting."""
     with server.connect() as client:
         client.sendall(request("GET", "/v1/usage", BIRCH))
         expect(client.recv(4096).endswith(USED.encode()) and client.recv(4096) == b"", "a usage is not told whole")
@@ -69,12 +94,13 @@ def keeps_its_connection(server):
 def slow_clients(program, folder, listen):
     """Each of them, at an address or at a path."""
     asked = words(program, "serve", None, "--idle-timeout", str(IDLE), "--request-timeout", str(WHOLE))
-    with Server(asked, folder, MESSAGES + 9, listen) as server:
+    with Server(asked, folder, MESSAGES + HALVES + 10, listen) as server:
         cut(server, IDLE, None)
         server.ask(request("GET", "/v1/usage", ACME), 200, USED)
         cut(server, WHOLE, 0.3)
         server.ask(request("GET", "/v1/usage", ACME), 200, USED)
         keeps_its_connection(server)
+        begin_a_request(server)
         takes_nothing(server)
         server.ask(request("GET", "/v1/usage", BIRCH), 200, USED)
     return server.answered

@@ -14,14 +14,15 @@ Over a store in memory and over one in a file, each response compared whole with
    its lines on standard error are just these, and nobody listens there any more.
 
 Over the file a second process is refused meanwhile, and afterwards a second server, at once on the same address, and a
-batch show what the first one kept. A server with limits of 1 and 2 seconds cuts a client that says nothing, one that sends
-a byte now and then, and one that takes nothing of a long response; and it waits a second at most for one that keeps its
-connection (slow.py). It serves the next one each time. An address that cannot be printed is `hq: output`. A clock that tells no
-moment of the desk, and a connection that cannot be accepted, end the server with `hq: clock` and `hq: network`
-(tests/support/interpose.c makes both so). What comes through a proxy is for tests/server/test_proxy.py.
+batch show what the first one kept. A server with limits of 2 and 4 seconds cuts a client that says nothing, one that sends
+a byte now and then, and one that takes nothing of a long response. Meanwhile it serves others, also beside half a request of
+each of 20 clients (slow.py). An address that cannot be printed is `hq: output`. A clock that tells no moment of the desk, and
+a connection that cannot be accepted, end the server with `hq: clock` and `hq: network` (tests/support/interpose.c makes both
+so). What comes through a proxy is for tests/server/test_proxy.py.
 """
 import json
 import shutil
+import signal
 import socket
 import struct
 import subprocess
@@ -180,13 +181,15 @@ def gone_in_the_middle(server):
 
 
 def gone_before_its_response(server):
-    """While another one is served, so that it is gone before its request is looked at: what it asked for is done."""
+    """While the server stands still, so that it is gone before its request is looked at: what it asked for is done."""
     half, rest = half_a_request("slow.example")
     other = server.connect()
     other.sendall(half)
+    server.process.send_signal(signal.SIGSTOP)
     client = server.connect()
     client.sendall(request("POST", "/v1/line-put", ACME, put("gone.example")))
     reset(client)
+    server.process.send_signal(signal.SIGCONT)
     server.told("hq: output")
     other.sendall(rest)
     server.receive(other, 200, '{"put":"added"}', half)
@@ -294,6 +297,7 @@ def failing_machine(program, folder, library):
             server.stops("hq: clock")
     with Server(asked, folder, 2, LD_PRELOAD=library, ACCEPT_FAILS_AT="2") as server:
         server.ask(request("GET", "/v1/usage", ACME), 200, USED)
+        server.connect()
         server.stops("hq: network")
     return answered + server.answered
 

@@ -2,8 +2,10 @@
 
 FAILING is the program of crates/hq_failing. Two customers have a message each, which is five days old. A sweep of a customer
 makes three calls of the store, a usage or a look at what is due two. Where one call fails with 91, the reply has the customers before, and tells
-at whom it stopped; the same call again does the rest. Where it and all behind it fail with 93, so does the call again.
+at whom it stopped; the same call again does the rest. Where it and all behind it fail with 93, so does the call again. A call
+of a hundred names that customer as the one to go on at, too.
 """
+import re
 import subprocess
 from pathlib import Path
 
@@ -30,6 +32,12 @@ def reply(*told, stop=None):
     parts = [f'{{"customer":"{name}",{members}}}' for name, members in zip(NAMES, told)]
     stopped = f'{{"customer":"{NAMES[len(told)]}",{stop}}}' if stop else "null"
     return f'200 {{"done":[{",".join(parts)}],"stopped":{stopped}}}'
+
+
+def with_next(told):
+    """The same reply to a call of a hundred."""
+    stop = re.search(r'"stopped":{"customer":("\w+")', told)
+    return told.replace('"stopped"', f'"next":{stop[1] if stop else "null"},"stopped"')
 
 
 # what is called, which of its calls of the store fails, how, and what it and the same behind it are replied to with
@@ -64,3 +72,5 @@ def test_stopped_calls(failing, store, line, numbers, how, told, again):
     for number in numbers:
         replies, _ = run(failing, store, how, calls + number, [*BEFORE, line, line])
         expect(replies == [QUEUED, QUEUED, told, again], store, how, number, replies)
+        replies, _ = run(failing, store, how, calls + number, [*BEFORE, *[f'{line} {{"from":null}}'] * 2])
+        expect(replies == [QUEUED, QUEUED, with_next(told), with_next(again)], store, how, number, "of a hundred", replies)

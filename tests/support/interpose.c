@@ -5,7 +5,7 @@
 // POWER_GOES=M has the power go with that end: of each file, what was written or cut since its last sync is gone; with an M
 // that is not 0 a part of these calls is kept, each by a bit drawn from M. SYNCS_LIE=1 has syncs answer well and keep nothing.
 // REFUSE_AT=N answers "no memory" at its N-th request for memory, and REFUSE_EACH=N at each N-th.
-// ACCEPT_FAILS_AT=N answers "too many open files" at its N-th acceptance of a connection, and CLOCK_AT=S has the clock tell
+// ACCEPT_FAILS_AT=N answers "too many open files" in place of the N-th connection accepted, and CLOCK_AT=S has the clock tell
 // S seconds since 1970, at all times; how long something takes is not told by that clock.
 // SYNC_TAKES=MS has each sync of a file take so many milliseconds more.
 // CALLS=PATH has three counts written to that file when the process ends by itself: of those calls, of the syncs among
@@ -212,7 +212,9 @@ void *realloc(void *block, size_t size) {
 int accept4(int socket, struct sockaddr *address, socklen_t *length, int flags) {
   static int (*real)(int, struct sockaddr *, socklen_t *, int);
   if (!real) real = (int (*)(int, struct sockaddr *, socklen_t *, int))dlsym(RTLD_NEXT, "accept4");
-  if (++accepted != accept_fails_at) return real(socket, address, length, flags);
+  int told = real(socket, address, length, flags);
+  if (told < 0 || ++accepted != accept_fails_at) return told;
+  close(told);
   errno = EMFILE;
   return -1;
 }

@@ -15,9 +15,9 @@ use Rattle.hq_rules.specs.declared.answer.Answer.{Answer}
 use Rattle.hq_rules.specs.declared.answer.Answer.TheVariants.{Refused}
 use Rattle.hq_rules.specs.declared.call.Call.{Call}
 use Rattle.hq_requests.specs.Calls.{Asked, CallOf, CallOfAll}
-use Rattle.hq_requests.specs.Directories.{entry_of, names_of}
+use Rattle.hq_requests.specs.Directories.{entry_of}
 use Rattle.hq_wire.specs.Exchanges.{Ask, CallsAll, Deed, EndsAt, IsStruck, IsWant, MayReplyTo}
-use Rattle.hq_wire.specs.Exchanges.{Whole, calls_asked, deeds_of, of_part, unheard_call}
+use Rattle.hq_wire.specs.Exchanges.{Whole, calls_asked, deeds_of, next_left, of_part, unheard_call}
 use Rattle.hq_across.specs.Answered.{IsAnsweredTo, as_asked}
 use Rattle.hq_wire.specs.Replies.{Part, SeenReply, Stop, parted_reply, reply_of, status_of}
 use Rattle.hq_wire.specs.Runs.{AllReplied, deeds}
@@ -44,13 +44,13 @@ module _ (may : Fault → Type 0) (none : (fault : Fault) → may fault → ⊥)
       let done = shared host (entry_of d name) t at call in ⊎_elim
       (λ (did : (r ≡ reply_of done.0) × (t' ≡ done.1)). did)
       (λ (no : (fault : Fault) × may fault × IsStruck fault t r t'). absurd (none no.0 no.1)) h
-  answered t t' at (Ok (CallOfAll call)) r h = ⊎_elim
-      (λ (did : CallsAll may host d t at call r t').
+  answered t t' at (Ok (CallOfAll whom call)) r h = ⊎_elim
+      (λ (did : CallsAll may host d t at whom call r t').
       let all = went_on did.left r.stopped did.ends in (
         did.order ∙ ap (λ ns. map (λ (part : Part). part.customer) r.parts ++ ns) all.0
             ∙ append-nil (map (λ (part : Part). part.customer) r.parts),
         did.done,
-        did.reply ∙ ap (parted_reply r.parts) all.1,
+        did.reply ∙ (λ i. parted_reply r.parts (next_left d whom (all.0 i)) (all.1 i)),
       ))
       (λ (want : IsWant may r × (t' ≡ t)). absurd (none no_memory want.0.0)) h
 
@@ -61,7 +61,7 @@ module _ (may : Fault → Type 0) (none : (fault : Fault) → may fault → ⊥)
       ∙ answer_not_struck (answer_number (Refused refusal))
   never_503 t t' at (Ok (CallOf name call)) r h = ap (λ (x : SeenReply). eqb x.status 503) h.0
       ∙ answer_not_struck (answer_number (shared host (entry_of d name) t at call).0)
-  never_503 t t' at (Ok (CallOfAll call)) r h = ap (λ (x : SeenReply). eqb x.status 503) h.2
+  never_503 t t' at (Ok (CallOfAll whom call)) r h = ap (λ (x : SeenReply). eqb x.status 503) h.2
 
   asked_parts : (at : ℕ) (call : Call) (parts : List Part) →
       map as_asked (map (of_part at call) parts)
@@ -85,7 +85,7 @@ module _ (may : Fault → Type 0) (none : (fault : Fault) → may fault → ⊥)
       } in
       ap (λ (b : Bool). map as_asked (cond b [] (deed ∷ [])))
       (never_503 t t' at (Ok (CallOf name call)) r h)
-  done_once t t' at (Ok (CallOfAll call)) r h = asked_parts at call r.parts
+  done_once t t' at (Ok (CallOfAll whom call)) r h = asked_parts at call r.parts
       ∙ ap (map (unheard_call at call)) (sym h.0)
 
   pub all_done : (t t' : Tables) (asks : List Ask) (rs : List SeenReply) →

@@ -11,7 +11,8 @@ use Rattle.hq_tables.specs.Tables.{Tables}
 use Rattle.hq_rules.specs.Machine.{shared}
 use Rattle.hq_rules.specs.declared.call.Call.{Call}
 use Rattle.hq_requests.specs.Calls.{Asked, CallOf, CallOfAll}
-use Rattle.hq_requests.specs.Directories.{entry_of, names_of}
+use Rattle.hq_requests.specs.Directories.{entry_of}
+use Rattle.hq_requests.specs.Spans.{Whom, names_in}
 use Rattle.hq_requests.specs.declared.directory.Directory.{Directory}
 use Rattle.hq_wire.specs.Exchanges.{IsWant}
 use Rattle.hq_wire.specs.Exchanges.{AllDone, Ask, CallsAll, IsStruck, MayReply, MayReplyTo, of_part}
@@ -34,11 +35,11 @@ module _ (host : List ℕ) (d : Directory) (at : ℕ) where
       in_parts call (shared host (entry_of d part.customer) t at call).1 t' parts h.1
 
   -- these are the first calls of all
-  first_calls : (call : Call) (parts : List Part) (left : List (List ℕ)) →
-      names_of d ≡ map (λ (part : Part). part.customer) parts ++ left →
-      take (length (calls_of call parts)) (calls_asked d at (Ok (CallOfAll call)))
+  first_calls : (whom : Whom) (call : Call) (parts : List Part) (left : List (List ℕ)) →
+      names_in d whom ≡ map (λ (part : Part). part.customer) parts ++ left →
+      take (length (calls_of call parts)) (calls_asked d at (Ok (CallOfAll whom call)))
       ≡ calls_of call parts
-  first_calls call parts left order =
+  first_calls whom call parts left order =
       ap (λ names. take (length (calls_of call parts)) (map (unheard_call at call) names)) order
       ∙ ap (take (length (calls_of call parts))) (map-append (unheard_call at call) _ left
       ∙ ap (λ us. us ++ map (unheard_call at call) left) (map_map parts))
@@ -63,13 +64,13 @@ module _ (host : List ℕ) (d : Directory) (at : ℕ) where
       × (t' ≡ (shared host (entry_of d name) t at call).1)). (1, did.1))
       (λ (no : (fault : Fault) × may fault × IsStruck fault t r t').
       none t t' (Ok (CallOf name call)) no.2.1) h
-  stepped may t t' (Ok (CallOfAll call)) r h = ⊎_elim
-      (λ (did : CallsAll may host d t at call r t'). (
+  stepped may t t' (Ok (CallOfAll whom call)) r h = ⊎_elim
+      (λ (did : CallsAll may host d t at whom call r t'). (
         length (calls_of call r.parts),
         in_parts call t t' r.parts did.done
-            ∙ ap (after_calls host d t) (sym (first_calls call r.parts did.left did.order)),
+            ∙ ap (after_calls host d t) (sym (first_calls whom call r.parts did.left did.order)),
       ))
-      (λ (no : IsWant may r × (t' ≡ t)). none t t' (Ok (CallOfAll call)) no.1) h
+      (λ (no : IsWant may r × (t' ≡ t)). none t t' (Ok (CallOfAll whom call)) no.1) h
 
 pub lost : (may : Fault → Type 0) (host : List ℕ) (d : Directory) (asks : List Ask)
     (rs : List SeenReply) (a : Ask) (r : SeenReply) (t last t' : Tables) →

@@ -13,7 +13,8 @@ use Rattle.hq_rules.specs.Desks.{DeskSight}
 use Rattle.hq_rules.specs.Machine.{shared}
 use Rattle.hq_soundness.proofs.Soundness.{shared_sound}
 use Rattle.hq_requests.specs.Calls.{Asked, CallOf, CallOfAll}
-use Rattle.hq_requests.specs.Directories.{entry_of, names_of}
+use Rattle.hq_requests.specs.Directories.{entry_of}
+use Rattle.hq_requests.specs.Spans.{names_in}
 use Rattle.hq_requests.specs.declared.directory.Directory.{Directory}
 use Rattle.hq_wire.specs.Exchanges.{IsWant}
 use Rattle.hq_wire.specs.Exchanges.{AllDone, Ask, Deed, Exchanged, RepliesAnyway, StopMayLeave}
@@ -42,9 +43,9 @@ told_closed sight d old new at (Ok (CallOf name call)) r closed h = ⊎_elim
     (λ (is : r ≡ reply_of_fault Closed). inl (inl is))
     (λ (same : IsWant sight.may_answer r × (new ≡ old)).
     inr (ap sight.is_closed (sym same.1) ∙ closed)) (h closed)
-told_closed sight d old new at (Ok (CallOfAll call)) r closed h = ⊎_elim
+told_closed sight d old new at (Ok (CallOfAll whom call)) r closed h = ⊎_elim
     (λ (is : StopsClosed r.stopped). inl (inr is))
-    (λ (same : (IsWant sight.may_answer r ⊎ (names_of d ≡ [])) × (new ≡ old)).
+    (λ (same : (IsWant sight.may_answer r ⊎ (names_in d whom ≡ [])) × (new ≡ old)).
     inr (ap sight.is_closed (sym same.1) ∙ closed)) (h closed)
 
 -- what a stop in an exchange leaves is found where its next call was under way
@@ -66,7 +67,7 @@ nothing_more : (xs : List Deed) → xs ++ [] ≡ xs
 nothing_more [] = refl
 nothing_more (x ∷ xs) = ap (λ ys. x ∷ ys) (nothing_more xs)
 
-done_sound : (host : List ℕ) (d : Directory) (t t' : Tables) (done : List Deed) →
+pub done_sound : (host : List ℕ) (d : Directory) (t t' : Tables) (done : List Deed) →
     AllDone host d t done t' → Sound t → Sound t'
 done_sound host d t t' [] h sound = subst Sound (sym h) sound
 done_sound host d t t' (deed ∷ done) h sound =
@@ -74,8 +75,8 @@ done_sound host d t t' (deed ∷ done) h sound =
     (shared_sound host (entry_of d deed.customer) t deed.at deed.call sound)
 
 -- what was asked from the tables t, where the next opening finds the tables t'
-record Ran (host : List ℕ) (d : Directory) (asks : List Ask) (rs : List SeenReply) (t t' : Tables)
-    : Type 0 where
+pub record Ran (host : List ℕ) (d : Directory) (asks : List Ask) (rs : List SeenReply)
+    (t t' : Tables) : Type 0 where
   pub under_way : List Unheard
   pub stopped_at : StoppedAt d asks rs under_way
   pub last : Tables
@@ -134,12 +135,12 @@ module _ {D : Type 0} (sight : DeskSight D) (d : Directory) where
       ] refl
 
   -- a closed desk does nothing, and leaves no more than before
-  record Rested (old : D) (asks : List Ask) (rs : List SeenReply) (new : D) : Type 0 where
+  pub record Rested (old : D) (asks : List Ask) (rs : List SeenReply) (new : D) : Type 0 where
     pub nothing : deeds asks rs ≡ []
     pub leaves : StopLeavesNoMore sight.store old new
     pub clean : sight.store.is_clean old
 
-  rested : (old new : D) (asks : List Ask) (rs : List SeenReply) →
+  pub rested : (old new : D) (asks : List Ask) (rs : List SeenReply) →
       InTurn (Exchanged sight d) old asks rs new → sight.store.is_closed old ≡ true →
       sight.store.is_clean new → Rested old asks rs new
   rested old new [] [] h closed clean = record {
@@ -189,7 +190,7 @@ module _ {D : Type 0} (sight : DeskSight D) (d : Directory) where
   was_clean old new asks rs h clean = (served sight d old new asks rs h).stays.quiet clean
 
   -- nothing is under way where nothing was done
-  idle : (asks : List Ask) (rs : List SeenReply) → deeds asks rs ≡ [] → StoppedAt d asks rs []
+  pub idle : (asks : List Ask) (rs : List SeenReply) → deeds asks rs ≡ [] → StoppedAt d asks rs []
   idle [] rs none = refl
   idle (a ∷ asks) [] none = refl
   idle (a ∷ asks) (r ∷ rs) none = inr (inr (none, refl))
@@ -212,7 +213,7 @@ module _ {D : Type 0} (sight : DeskSight D) (d : Directory) where
         },
       )
 
-  ran : (old new : D) (asks : List Ask) (rs : List SeenReply) →
+  pub ran : (old new : D) (asks : List Ask) (rs : List SeenReply) →
       InTurn (Exchanged sight d) old asks rs new → IsJustOpened sight old →
       sight.store.is_clean new →
       StopLeaves sight.store new (Ran (sight.host old) d asks rs (tables old))

@@ -2,7 +2,7 @@
 use Rattle.std.specs.Prelude.{⊤}
 use Rattle.std.proofs.Common.{◌≡◌, ℕ, zero, suc, ◌<◌, false, true, List, [], ◌∷◌, ◌++◌, map, take}
 use Rattle.std.proofs.Common.{drop, length, get_or, Ok, refl, sym, ap, ◌∙◌}
-use Rattle.std.proofs.Common.{subst, arith, length-append}
+use Rattle.std.proofs.Common.{inl, inr, ⊎_elim, subst, arith, length-append}
 use Rattle.hq_values.specs.Turns.{InTurn}
 use Rattle.hq_values.proofs.Turns.{turns_on, one_turn}
 use Rattle.hq_kept.specs.declared.account.Entry.{Entry}
@@ -41,6 +41,7 @@ module _ {D : Type 0} (sight : DeskSight D) (at : ℕ) (asked : Call) where
     sound = λ clean ours open_ sound. sound;
     stays = record {
       ours = λ clean ours open_. ours;
+      round = λ clean either t back. back;
       quiet = λ clean. clean;
       stays_open = λ open_. open_;
       host = refl;
@@ -65,6 +66,17 @@ module _ {D : Type 0} (sight : DeskSight D) (at : ℕ) (asked : Call) where
   keeps_on old mid new first next = record {
     ours = λ clean ours open_. next.ours clean
         (first.ours (next.quiet clean) ours (next.stays_open open_)) open_;
+    round = λ clean either t back.
+        let before = next.quiet clean in
+        let after = first.round before either t back in
+        elim (sight.store.is_closed mid) as
+        (λ b. sight.store.is_closed mid ≡ b → sight.store.goes_back new t) [
+          | true ↦ λ closed. next.round clean (inr closed) t after
+          | false ↦ λ opened. next.round clean (⊎_elim
+              (λ (ours : sight.store.is_ours old). inl (first.ours before ours opened))
+              (λ (closed : sight.store.is_closed old ≡ true).
+              differ (sym (first.stays_open opened) ∙ closed)) either) t after
+        ] refl;
     quiet = λ clean. first.quiet (next.quiet clean);
     stays_open = λ open_. first.stays_open (next.stays_open open_);
     host = next.host ∙ first.host;
@@ -113,6 +125,7 @@ module _ {D : Type 0} (sight : DeskSight D) (at : ℕ) (asked : Call) where
         stays = keeps_on old mid new before.stays
             (record {
               ours = kept.ours;
+              round = kept.round;
               quiet = kept.quiet;
               stays_open = λ open_. was;
               host = host;

@@ -12,6 +12,7 @@ pub any_reason : {D X : Type 0} (sight : DeskSight D) (reason : Type 0) (old new
 any_reason sight reason old new result kept = record {
   none = kept.none;
   ours = kept.ours;
+  round = kept.round;
   quiet = kept.quiet;
   tally = kept.tally;
   cause = cause result kept.cause;

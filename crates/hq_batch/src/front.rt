@@ -1,7 +1,7 @@
 //! The desk as what answers the lines of a batch.
 
 ghost use Rattle.hq_wire.specs.Exchanges.{with_refusals};
-ghost use Rattle.std.specs.Prelude.{◌≡◌, Some, string_bytes, option_map};
+ghost use Rattle.std.specs.Prelude.{◌≡◌, Some};
 ghost use Rattle.hq_memory.specs.Making.{MadeIn};
 ghost use Rattle.hq_lines.specs.Fields.{request_in, line_request};
 ghost use Rattle.hq_batch.specs.Steps.{IsOfLine, IsLineToLog, LineStep, SendsLine};
@@ -10,23 +10,12 @@ use crate::writing::write_reply;
 use hq_bodies::JsonMemory;
 use hq_lines::{Answers, RequestLine, read_line};
 use hq_log::{Answered, Log};
-use hq_memory::Memory;
+use hq_memory::{Memory, own_text};
 use hq_rules::Acts;
 use hq_values::{Fault, Moment, Refusal};
 use hq_wire::{Directory, Exchange, Reply, exchange, fault_reply, refusal_reply};
 use std::alloc::AllocError;
 use std::io::{self, Write};
-
-/// A key of its own.
-fn own_key<M: Memory>(memory: M, key: Option<&str>) -> Result<Option<String>, AllocError>
-    ensures { MadeIn M.refused result (λ own. option_map string_bytes own
-        ≡ option_map (λ k. k.now) key.entry) }
-{
-    match key {
-        None => Ok(None),
-        Some(key) => Ok(Some(memory.text(key)?)),
-    }
-}
 
 /// The exchange that a line asks for.
 fn exchange_of<M: Memory>(memory: M, line: &RequestLine<'_>) -> Result<Exchange, AllocError>
@@ -36,7 +25,7 @@ fn exchange_of<M: Memory>(memory: M, line: &RequestLine<'_>) -> Result<Exchange,
         at: line.at,
         method: memory.text(line.method)?,
         path: memory.text(line.path)?,
-        key: own_key(memory, line.key)?,
+        key: own_text(memory, line.key)?,
         body: memory.bytes(line.body)?,
     })
 }

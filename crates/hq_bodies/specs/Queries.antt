@@ -1,5 +1,6 @@
 -- The bodies of the relay's calls that read: {"after"} and {"before"}, from where on a list goes,
--- null for the start; {"id"} and {"number"}, what is shown.
+-- null for the start; {"id"} and {"number"}, what is shown; {"from"}, the first customer that a
+-- call of all asks, null for the first of the directory.
 use Rattle.std.specs.Prelude.{ℕ, List, [], ◌∷◌, codes, Option, Some, None, Bool, true, false}
 use Rattle.std.specs.Prelude.{option_and_then, Result, Ok, if◌then◌else◌}
 use Rattle.serde_json.specs.Data.{Data, null, boolean, number, string, array, object}
@@ -51,6 +52,17 @@ after_in read d = if is_null_at (codes "after") d then Ok None else
 abbrev pub before_at : Data → Result (Option ℕ) Refusal
 before_at d = if is_null_at (codes "before") d then Ok None else
     seen_by Some (notice_at (codes "before") d)
+
+-- the member `from`: null, or a text
+abbrev pub from_at : Data → Result (Option (List ℕ)) Refusal
+from_at d = if is_null_at (codes "from") d then Ok None else
+    seen_by Some (or_refuse BadField (text_at (codes "from") d))
+
+-- the name of the customer to begin at, or none for the first
+unfoldable pub read_from : List ℕ → Result (Option (List ℕ)) Refusal
+read_from bytes = do
+  d ← value_with (codes "from") bytes
+  from_at d
 
 -- the serial after which to go on, or none for the start
 unfoldable pub read_message_after : List ℕ → Result (Option ℕ) Refusal

@@ -1,6 +1,6 @@
 //! The bodies of the relay's calls that read: from where on a list goes, or what is shown.
 
-ghost use Rattle.std.specs.Prelude.{◌≡◌};
+ghost use Rattle.std.specs.Prelude.{◌≡◌, option_map, string_bytes};
 ghost use Rattle.serde_json.specs.View.{view};
 ghost use Rattle.hq_values.specs.Readers.{ReadsIn, seen_by};
 ghost use Rattle.hq_values.specs.declared.failure.Refusal.TheVariants.{BadField};
@@ -78,6 +78,22 @@ pub fn read_message_after<M: JsonMemory>(memory: M, body: &[u8]) -> Result<Optio
 {
     let value = value_with(memory, "after", body)?;
     Ok(message_after(&value)?)
+}
+
+/// Reads a body that tells at which customer to begin, or at the first: 7 `BadJson` where it is not
+/// JSON, 8 `BadField` where it is not an object of the member `from` alone, or that is neither a
+/// text nor null.
+#[tactic(auto, unfolding(crate::specs::Queries::read_from))]
+pub fn read_from<M: JsonMemory>(memory: M, body: &[u8]) -> Result<Option<String>, Fail>
+    ensures { ReadsIn M.refused (seen_by (option_map string_bytes) result)
+        (queries.read_from body.now) }
+{
+    let value = value_with(memory, "from", body)?;
+    if is_null_member(&value, "from") {
+        return Ok(None);
+    }
+    let name = text_member(&value, "from").ok_or(Refusal::BadField)?;
+    Ok(Some(memory.text(name)?))
 }
 
 /// Reads a body that names a message: 7 `BadJson` where it is not JSON, 8 `BadField` where it is

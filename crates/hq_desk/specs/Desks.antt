@@ -23,6 +23,7 @@ store_on sight = record {
   may_answer = sight.may_answer;
   may_leave = λ desk. sight.may_leave (shelf_of desk);
   leaves_desk = λ desk. sight.leaves_desk (shelf_of desk);
+  goes_back = λ desk. sight.goes_back (shelf_of desk);
 }
 
 -- what is seen of a desk, by what is seen of its shelf

@@ -32,6 +32,15 @@ impl<S: Shelf + Drop> Desk<S> {
     {
         self.shelf
     }
+
+    /// The shelf again, and the name of the relay. It takes no memory.
+    pub fn into_parts(self) -> (S, Host)
+        ensures shelf { result.0 ≡ shelf_of self }
+        ensures host { result.1 ≡ host_of self }
+    {
+        let Desk { shelf, host } = self;
+        (shelf, host)
+    }
 }
 
 impl<S: Shelf + Drop> Acts for Desk<S> {

@@ -4,6 +4,7 @@
 mod begun;
 mod ends;
 mod fields;
+mod gathering;
 mod head;
 mod laws;
 mod reading;
@@ -11,6 +12,7 @@ mod reads;
 mod stages;
 mod writing;
 
+pub use gathering::{Gathered, Gathering};
 pub use laws::one_request;
 pub use reading::{Input, read_request};
 pub use reads::Reads;

@@ -37,7 +37,7 @@ pub(crate) enum Turn {
 }
 
 /// What the end of the input makes of what was read.
-fn at_end(stage: &Stage) -> Input
+pub(crate) fn at_end(stage: &Stage) -> Input
     ensures { (bytes : List ℕ) → StageIs bytes stage.now → EndIs bytes result }
 {
     match stage {

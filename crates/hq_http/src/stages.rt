@@ -1,7 +1,6 @@
 //! How far a request has come, from chunk to chunk.
 
-ghost use Rattle.std.specs.Prelude.{◌≡◌, ◌≢◌, ◌<◌, ◌++◌, [], length, List, ℕ, option_map};
-ghost use Rattle.std.specs.Prelude.{string_bytes};
+ghost use Rattle.std.specs.Prelude.{◌≡◌, ◌≢◌, ◌<◌, ◌++◌, [], length, List, ℕ};
 ghost use Rattle.hq_memory.specs.Making.{MadeIn};
 ghost use Rattle.hq_http.specs.Ends.{HasEnd};
 ghost use Rattle.hq_http.specs.Stages.{BodyBegun, StageIs, StepIs, IsOf};
@@ -9,7 +8,7 @@ ghost use Rattle.hq_http.specs.Stages.{BodyBegun, StageIs, StepIs, IsOf};
 use crate::begun::Begun;
 use crate::ends::HeadPlace;
 use crate::head::{HEAD_BYTES, ParsedHead, WholeHead, head_of};
-use hq_memory::Memory;
+use hq_memory::{Memory, own_text};
 use hq_values::Refusal;
 use std::alloc::AllocError;
 
@@ -58,17 +57,6 @@ fn with_body(request: Request, length: u64) -> Step
     Step::Whole(request)
 }
 
-/// A key of its own.
-fn own_key<M: Memory>(memory: M, key: Option<&str>) -> Result<Option<String>, AllocError>
-    ensures { MadeIn M.refused result (λ own. option_map string_bytes own
-        ≡ option_map (λ k. k.now) key.entry) }
-{
-    match key {
-        None => Ok(None),
-        Some(key) => Ok(Some(memory.text(key)?)),
-    }
-}
-
 /// The request of a head, with the first bytes of its body.
 fn request_of<M: Memory>(
     memory: M,
@@ -80,7 +68,7 @@ fn request_of<M: Memory>(
     Ok(Request {
         method: memory.text(head.method)?,
         path: memory.text(head.path)?,
-        key: own_key(memory, head.key)?,
+        key: own_text(memory, head.key)?,
         body: memory.bytes(rest)?,
     })
 }

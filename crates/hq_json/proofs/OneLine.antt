@@ -159,7 +159,7 @@ name_bytes (b ∷ bs) h =
     let parts = and_parts (is_name_byte b) (list_all is_name_byte bs) h in
     both_true (name_byte b parts.0) (name_bytes bs parts.1)
 
-name_one : (name : List ℕ) → is_name name ≡ true → is_one_line name ≡ true
+pub name_one : (name : List ℕ) → is_name name ≡ true → is_one_line name ≡ true
 name_one name h = name_bytes name (and_parts (nat_lt 0 (length name) && nat_le (length name) 32)
     (list_all is_name_byte name) h).1
 

@@ -48,8 +48,8 @@ module _ (may : Fault → Type 0) (host : List ℕ) (d : Directory) (t t' : Tabl
       ∙ called name call (λ same. other (ap (λ (x : SeenReply). x.status) did.0 ∙ same)))
       (λ (struck : (fault : Fault) × may fault × IsStruck fault t r t').
       struck.2.1) h
-  left_by_others (Ok (CallOfAll call)) r h other = ⊎_elim
-      (λ (did : CallsAll may host d t at call r t'). absurd
+  left_by_others (Ok (CallOfAll whom call)) r h other = ⊎_elim
+      (λ (did : CallsAll may host d t at whom call r t'). absurd
       (other (ap (λ (x : SeenReply). x.status) did.reply)))
       (λ (struck : IsWant may r × (t' ≡ t)). struck.1) h
 
@@ -74,6 +74,6 @@ module _ (may : Fault → Type 0) (host : List ℕ) (d : Directory) (t t' : Tabl
       ∙ read name call t reads)
       (λ (struck : (fault : Fault) × may fault × IsStruck fault t r t').
       struck.2.1) h
-  left_by_reading (CallOfAll call) r h reads = ⊎_elim
-      (λ (did : CallsAll may host d t at call r t'). all_read call t r.parts reads did.done)
+  left_by_reading (CallOfAll whom call) r h reads = ⊎_elim
+      (λ (did : CallsAll may host d t at whom call r t'). all_read call t r.parts reads did.done)
       (λ (struck : IsWant may r × (t' ≡ t)). struck.1) h

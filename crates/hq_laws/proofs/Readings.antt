@@ -13,11 +13,12 @@ use Rattle.hq_values.specs.declared.failure.Refusal.{Refusal}
 use Rattle.hq_tables.specs.Tables.{Tables}
 use Rattle.hq_rules.specs.declared.call.Call.{Call}
 use Rattle.hq_requests.specs.Calls.{Asked, CallOf, CallOfAll}
-use Rattle.hq_wire.specs.Exchanges.{CallsAll, EndsAt, IsRefused, MayReplyTo}
+use Rattle.hq_requests.specs.Spans.{Whom}
+use Rattle.hq_wire.specs.Exchanges.{CallsAll, EndsAt, IsRefused, MayReplyTo, next_left}
 use Rattle.hq_json.specs.Parts.{Place, Outside, closes, for_customer, is_last, is_none_open}
 use Rattle.hq_json.specs.Parts.{open_behind, stands_behind}
 use Rattle.hq_wire.specs.Replies.{AreObjects, Part, SeenReply, Stop, closing, fault_text}
-use Rattle.hq_wire.specs.Replies.{comma_joined, parts_opening, plain}
+use Rattle.hq_wire.specs.Replies.{comma_joined, next_text, parts_opening, plain}
 use Rattle.hq_wire.specs.Replies.{reply_of_fault}
 use Rattle.hq_wire.specs.Replies.{stopped_text, parted_reply}
 use Rattle.hq_requests.specs.declared.directory.Directory.{Directory}
@@ -180,24 +181,39 @@ stops_apart may mights ls ms (Some s) (Some t) same h k e =
 
 -- ---- the law
 
+-- what stands behind what is told of the next customer
+behind_next : (next : Option (Option (List ℕ))) (s t : Option Stop) →
+    drop 1 (closing next s) ≡ drop 1 (closing next t) →
+    stopped_text s ++ codes "}" ≡ stopped_text t ++ codes "}"
+behind_next next s t e =
+    let before : List ℕ = next_text next ++ codes ",\"stopped\":" in
+    append_cancel_left before _ _
+    (sym (append_assoc before (stopped_text s) (codes "}")) ∙ e
+    ∙ append_assoc before (stopped_text t) (codes "}"))
+
 -- of two calls of all under one directory
-calls_apart : (call : Call) (may mights : Fault → Type 0) (host name : List ℕ) (d : Directory)
-    (at moment : ℕ) (t t' u u' : Tables) (r q : SeenReply) → CallsAll may host d t at call r t' →
-    CallsAll mights name d u moment call q u' → r.body ≡ q.body → r ≡ q
-calls_apart call may mights host name d at moment t t' u u' r q one other e =
-    let same : (parts_opening ++ comma_joined r.parts) ++ closing r.stopped
+calls_apart : (whom : Whom) (call : Call) (may mights : Fault → Type 0) (host name : List ℕ)
+    (d : Directory) (at moment : ℕ) (t t' u u' : Tables) (r q : SeenReply) →
+    CallsAll may host d t at whom call r t' →
+    CallsAll mights name d u moment whom call q u' → r.body ≡ q.body → r ≡ q
+calls_apart whom call may mights host name d at moment t t' u u' r q one other e =
+    let next = next_left d whom one.left in
+    let later = next_left d whom other.left in
+    let same : (parts_opening ++ comma_joined r.parts) ++ closing next r.stopped
     ≡ (parts_opening ++ comma_joined q.parts)
-    ++ closing q.stopped = sym (ap (λ (x : SeenReply). x.body) one.reply) ∙ e
+    ++ closing later q.stopped = sym (ap (λ (x : SeenReply). x.body) one.reply) ∙ e
     ∙ ap (λ (x : SeenReply). x.body) other.reply in
     let behind = append_cancel_left parts_opening _ _
-    (sym (append_assoc parts_opening (comma_joined r.parts) (closing r.stopped)) ∙ same
-    ∙ append_assoc parts_opening (comma_joined q.parts) (closing q.stopped)) in
-    let texts = parts_apart r.parts q.parts (drop 1 (closing r.stopped))
-    (drop 1 (closing q.stopped)) one.objects other.objects behind in
+    (sym (append_assoc parts_opening (comma_joined r.parts) (closing next r.stopped)) ∙ same
+    ∙ append_assoc parts_opening (comma_joined q.parts) (closing later q.stopped)) in
+    let texts = parts_apart r.parts q.parts (drop 1 (closing next r.stopped))
+    (drop 1 (closing later q.stopped)) one.objects other.objects behind in
     let names = named r.parts q.parts one.left other.left texts.0 (sym one.order ∙ other.order) in
+    let nexts : next ≡ later = ap (next_left d whom) names.1 in
     let stops = stops_apart may mights one.left other.left r.stopped q.stopped names.1 one.ends
-    other.ends (ap (drop 11) texts.1) in
-    one.reply ∙ (λ i. parted_reply (names.0 i) (stops i)) ∙ sym other.reply
+    other.ends (behind_next later r.stopped q.stopped
+    (ap (λ n. drop 1 (closing n r.stopped)) (sym nexts) ∙ texts.1)) in
+    one.reply ∙ (λ i. parted_reply (names.0 i) (nexts i) (stops i)) ∙ sym other.reply
 
 -- a reply to no call of all has no parts
 refusal_plain : (may : Fault → Type 0) (refusal : Refusal) (r : SeenReply) →
@@ -211,10 +227,11 @@ fault_plain : (fault : Fault) (r : SeenReply) → r ≡ reply_of_fault fault →
 unfolding reply_of_fault
 fault_plain fault r is = is ∙ sym (ap (λ (x : SeenReply). plain x.status x.body) is)
 
-no_fault : (fault : Fault) (r q : SeenReply) → r ≡ parted_reply r.parts r.stopped →
+no_fault : (fault : Fault) (next : Option (Option (List ℕ))) (r q : SeenReply) →
+    r ≡ parted_reply r.parts next r.stopped →
     q ≡ reply_of_fault fault → r.status ≡ q.status → ⊥
 unfolding reply_of_fault
-no_fault fault r q one other e = false≢true (ap (λ n. n == 503)
+no_fault fault next r q one other e = false≢true (ap (λ n. n == 503)
     (sym (ap (λ (x : SeenReply). x.status) one) ∙ e ∙ ap (λ (x : SeenReply). x.status) other))
 
 module _ (may mights : Fault → Type 0) (host name : List ℕ) (d : Directory) (t t' u u' : Tables)
@@ -234,11 +251,11 @@ module _ (may mights : Fault → Type 0) (host name : List ℕ) (d : Directory) 
   one_reading (Ok (CallOf c call)) r q one other status body =
       call_plain may host t t' at c call r one ∙ (λ i. plain (status i) (body i))
       ∙ sym (call_plain mights name u u' moment c call q other)
-  one_reading (Ok (CallOfAll call)) r q (inl one) (inl other) status body =
-      calls_apart call may mights host name d at moment t t' u u' r q one other body
-  one_reading (Ok (CallOfAll call)) r q (inl one) (inr other) status body =
-      absurd (no_fault no_memory r q one.reply other.0.1 status)
-  one_reading (Ok (CallOfAll call)) r q (inr one) (inl other) status body =
-      absurd (no_fault no_memory q r other.reply one.0.1 (sym status))
-  one_reading (Ok (CallOfAll call)) r q (inr one) (inr other) status body =
+  one_reading (Ok (CallOfAll whom call)) r q (inl one) (inl other) status body =
+      calls_apart whom call may mights host name d at moment t t' u u' r q one other body
+  one_reading (Ok (CallOfAll whom call)) r q (inl one) (inr other) status body =
+      absurd (no_fault no_memory _ r q one.reply other.0.1 status)
+  one_reading (Ok (CallOfAll whom call)) r q (inr one) (inl other) status body =
+      absurd (no_fault no_memory _ q r other.reply one.0.1 (sym status))
+  one_reading (Ok (CallOfAll whom call)) r q (inr one) (inr other) status body =
       one.0.1 ∙ sym other.0.1

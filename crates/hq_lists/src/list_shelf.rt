@@ -70,6 +70,7 @@ impl<M: Memory> Shelf for ListShelf<M> {
       may_answer = λ fault. (fault ≡ WantOfMemory) × M.refused;
       may_leave = λ _ _. ⊥;
       leaves_desk = λ _. ⊤;
+      goes_back = λ _ _. ⊤;
     } };
 
     fn account(&mut self, customer: &Name) -> Result<Account, Fault> {

@@ -32,6 +32,7 @@ plain = record {
   may_answer = λ fault. (fault ≡ WantOfMemory) × ⊤;
   may_leave = λ _ _. ⊥;
   leaves_desk = λ _. ⊤;
+  goes_back = λ _ _. ⊤;
 }
 
 pub serves : (set : Settings) → settings_seen set ≡ settings → (shelf : ListRows) →

@@ -4,4 +4,4 @@
 
 mod memory;
 
-pub use memory::Memory;
+pub use memory::{Memory, own_text};

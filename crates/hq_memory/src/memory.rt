@@ -1,7 +1,7 @@
 //! The calls that may end in want of memory, each as the library has it.
 
 ghost use Rattle.std.specs.Prelude.{◌≡◌, ◌≤◌, ◌++◌, ⊤, [], ◌∷◌, if◌then◌else◌, is_ok, map, not};
-ghost use Rattle.std.specs.Prelude.{true};
+ghost use Rattle.std.specs.Prelude.{option_map, true};
 ghost use Rattle.std.specs.Prelude.{IfOk, IfSome, OnErr, OnOk, string_bytes, vec_len, vec_capacity};
 ghost use Rattle.std.specs.BTreeSet.{IsEmpty, contains, Updates};
 ghost use Rattle.std.specs.Char.{to_ascii_lowercase};
@@ -88,6 +88,17 @@ pub trait Memory: Copy + Drop {
         ensures is_new { MadeIn refused result (λ is_new. is_new ≡ not (contains T.cmp to.old
             value)) }
         ensures values { OnOk result (Updates T.cmp to.old to.new value true) };
+}
+
+/// A text of its own, where there is one.
+pub fn own_text<M: Memory>(memory: M, of: Option<&str>) -> Result<Option<String>, AllocError>
+    ensures { MadeIn M.refused result (λ own. option_map string_bytes own
+        ≡ option_map (λ text. text.now) of.entry) }
+{
+    match of {
+        None => Ok(None),
+        Some(text) => Ok(Some(memory.text(text)?)),
+    }
 }
 
 /// The memory of the machine, of which nothing is said.

@@ -62,6 +62,12 @@ keeps_on sight old mid new x result first next = record {
       ∙ first.same before ours first.tally.1;
   ours = λ clean ours opened. let before = next.quiet clean in
       next.ours clean (first.ours before ours first.tally.1) opened;
+  round = λ clean either. let before = next.quiet clean in
+      ⊎_elim (λ (ours : sight.is_ours old). λ t back.
+      next.round clean (inl (first.ours before ours first.tally.1)) t
+      (first.round before (inl ours) t back))
+      (λ (closed : sight.is_closed old ≡ true). apart (sight.is_closed old) first.tally.0 closed)
+      either;
   quiet = λ clean. first.quiet (next.quiet clean);
   tally = tallied_on (sight.is_closed old) (sight.is_closed mid) (sight.is_closed new)
       (sight.fault_count old) (sight.fault_count mid) (sight.fault_count new) x result first.tally
@@ -82,6 +88,7 @@ pub keeps_more : {S X : Type 0} (refused : Type 0) (sight : Sight S) (old new : 
 keeps_more refused sight old new result kept = record {
   same = kept.same;
   ours = kept.ours;
+  round = kept.round;
   quiet = kept.quiet;
   tally = kept.tally;
   cause = cause result kept.cause;
@@ -98,6 +105,7 @@ pub keeps_all : {S X : Type 0} (sight : Sight S) (old : S) (x : X) → sight.is_
 keeps_all sight old x opened = record {
   same = λ clean ours opened. refl;
   ours = λ clean ours opened. ours;
+  round = λ clean either t back. back;
   quiet = λ clean. clean;
   tally = (opened, opened, refl);
   cause = tt;
@@ -111,6 +119,7 @@ pub keeps_want : {S X : Type 0} (refused : Type 0) (sight : Sight S) (old : S) �
 keeps_want refused sight old why opened = record {
   same = λ clean ours opened. refl;
   ours = λ clean ours opened. ours;
+  round = λ clean either t back. back;
   quiet = λ clean. clean;
   tally = (opened, opened, refl);
   cause = inl (refl, why);
@@ -131,6 +140,7 @@ keeps_err {X} {Y} sight old new f kept =
     record {
       same = kept.same;
       ours = kept.ours;
+      round = kept.round;
       quiet = kept.quiet;
       tally =
           fault_tallied X Y (sight.is_closed old) (sight.is_closed new) (sight.fault_count old)
@@ -144,6 +154,7 @@ pub keeps_ok : {S X Y : Type 0} (sight : Sight S) (old new : S) (x : X) (y : Y) 
 keeps_ok sight old new x y kept = record {
   same = kept.same;
   ours = kept.ours;
+  round = kept.round;
   quiet = kept.quiet;
   tally = kept.tally;
   cause = tt;
@@ -254,6 +265,12 @@ changes_on {S} {X} {Y} {Z} refused wide sight old mid new x f result is first ne
           ∙ first.same before ours first.tally.1;
       ours = λ clean ours opened. let before = next.quiet clean in
           next.ours clean (first.ours before ours first.tally.1) opened;
+      round = λ clean either. let before = next.quiet clean in
+          ⊎_elim (λ (ours : sight.is_ours old). λ t back.
+          next.round clean (inl (first.ours before ours first.tally.1)) t
+          (first.round before (inl ours) t back))
+          (λ (closed : sight.is_closed old ≡ true).
+          apart (sight.is_closed old) first.tally.0 closed) either;
       quiet = λ clean. first.quiet (next.quiet clean);
       tally = tallied_on {Y = Z} (sight.is_closed old) (sight.is_closed mid) (sight.is_closed new)
           (sight.fault_count old) (sight.fault_count mid) (sight.fault_count new) x (Err f)
@@ -279,6 +296,7 @@ no_memory_on {S} {X} {Z} refused wide sight old new x result why is first =
     subst (λ (r : Result Z Fault). KeepsOnErr (with_memory wide sight) old new r) (sym is) (record {
       none = first.same;
       ours = first.ours;
+      round = first.round;
       quiet = first.quiet;
       tally = first.tally;
       cause = inl (refl, why);
@@ -286,3 +304,29 @@ no_memory_on {S} {X} {Z} refused wide sight old new x result why is first =
           (first.same clean ours opened);
       shut = λ clean closed. first.stops clean (inr closed);
     })
+
+-- ---- then a change that is made
+
+-- what reading calls and a change that answered keep together
+pub made_on : {S X Y Z : Type 0} (refused wide : Type 0) (sight : Sight S) (old mid new : S)
+    (x : X) (y : Y) (z : Z) → Keeps (with_memory refused sight) old mid (Ok x) →
+    KeepsOnErr sight mid new (Ok y) → KeepsOnErr (with_memory wide sight) old new (Ok z)
+made_on refused wide sight old mid new x y z first next = record {
+  none = λ clean ours opened. tt;
+  ours = λ clean ours opened. let before = next.quiet clean in
+      next.ours clean (first.ours before ours first.tally.1) opened;
+  round = λ clean either. let before = next.quiet clean in
+      ⊎_elim (λ (ours : sight.is_ours old). λ t back.
+      next.round clean (inl (first.ours before ours first.tally.1)) t
+      (first.round before (inl ours) t back))
+      (λ (closed : sight.is_closed old ≡ true). apart (sight.is_closed old) first.tally.0 closed)
+      either;
+  quiet = λ clean. first.quiet (next.quiet clean);
+  tally = (first.tally.0, next.tally.1, next.tally.2 ∙ first.tally.2);
+  cause = tt;
+  rests = λ clean ours opened rests. let before = next.quiet clean in
+      next.rests clean (first.ours before ours first.tally.1) opened
+      (rests_on sight old mid (first.stops before (inl ours))
+      (first.same before ours first.tally.1) rests);
+  shut = λ clean closed. apart (sight.is_closed old) first.tally.0 closed;
+}

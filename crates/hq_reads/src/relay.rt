@@ -53,7 +53,7 @@ pub(crate) fn decide_due<S: Shelf, M: Memory>(
     entry: &Entry,
     after: Option<Serial>,
 ) -> Result<Decision, Fault>
-    ensures found { FindsSound S.sight shelf.old shelf.new result entry.now.name
+    ensures found { Finds S.sight shelf.old shelf.new result entry.now.name
         (λ rows. outcomes.due_page (filter (is_due at) (after_serial after rows.messages))) }
     ensures kept { Keeps (with_memory M.refused S.sight) shelf.old shelf.new result }
 {

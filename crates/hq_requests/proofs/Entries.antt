@@ -6,6 +6,7 @@ use Rattle.std.specs.List.{find, list_any}
 use Rattle.std.specs.Ordering.{eq_by_cmp}
 use Rattle.std.specs.Cmp.Lexicographic.{nat_list_cmp_total}
 use Rattle.std.proofs.lemmas.Bool.{and_parts, false≢true}
+use Rattle.std.proofs.lemmas.List.{get_or-take, length-take}
 use Rattle.std.proofs.lemmas.Map.Lookups.{exact_bytes}
 use Rattle.std.proofs.lemmas.Map.Views.{tells_apart}
 use Rattle.hq_kept.specs.declared.account.Customer.{Customer}
@@ -13,6 +14,9 @@ use Rattle.hq_tables.specs.Tables.{text_cmp}
 use Rattle.hq_owned.proofs.Parts.{tied_true, tied_false}
 use Rattle.hq_requests.specs.Customers.{has_name, names_apart, keys_apart, are_customers}
 use Rattle.hq_requests.specs.Directories.{entry_in}
+use Rattle.hq_requests.specs.Spans.{Whom, Everyone, From, asked_in, from_name, from_start}
+use Rattle.hq_requests.specs.Spans.{most_asked}
+use Rattle.hq_requests.specs.declared.directory.Directory.{Directory}
 
 same_some : {A : Type 0} (a b : A) → ◌≡◌ {A = Option A} (Some a) (Some b) → a ≡ b
 same_some a b e = cc
@@ -103,6 +107,37 @@ pub entry_at : (cs : List Customer) (i : ℕ) (c x : Customer) → are_customers
     i < length cs → x ≡ get_or cs i c → entry_in cs x.entry.name ≡ x.entry
 entry_at cs i c x h below is = subst (λ (y : Customer). entry_in cs y.entry.name ≡ y.entry) (sym is)
     (at_place cs i c (and_parts (names_apart cs) (keys_apart cs) h).0 below)
+
+-- a place behind a name is a place of all
+at_suffix : (name : List ℕ) (cs : List Customer) (i : ℕ) (c : Customer) →
+    i < length (from_name name cs) → (j : ℕ) × (j < length cs)
+    × (get_or cs j c ≡ get_or (from_name name cs) i c)
+at_suffix name [] i c below = absurd (omega arith)
+at_suffix name (y ∷ ys) i c below = by (at_suffix name ys i c) (has_name name y) below where
+  by : (i < length (from_name name ys) → (j : ℕ) × (j < length ys)
+      × (get_or ys j c ≡ get_or (from_name name ys) i c)) → (b : Bool) →
+      i < length (cond b (y ∷ ys) (from_name name ys)) → (j : ℕ) × (j < length (y ∷ ys))
+      × (get_or (y ∷ ys) j c ≡ get_or (cond b (y ∷ ys) (from_name name ys)) i c)
+  by further true below = (i, below, refl)
+  by further false below = let at = further below in (suc at.0, omega (arith, at.1), at.2)
+
+at_start : (start : Option (List ℕ)) (cs : List Customer) (i : ℕ) (c : Customer) →
+    i < length (from_start start cs) → (j : ℕ) × (j < length cs)
+    × (get_or cs j c ≡ get_or (from_start start cs) i c)
+at_start None cs i c below = (i, below, refl)
+at_start (Some name) cs i c below = at_suffix name cs i c below
+
+-- and so of those that are asked
+pub entry_asked : (d : Directory) (whom : Whom) (i : ℕ) (c x : Customer) →
+    i < length (asked_in d whom) → x ≡ get_or (asked_in d whom) i c →
+    entry_in d.customers x.entry.name ≡ x.entry
+entry_asked d Everyone i c x below is = entry_at d.customers i c x d.apart below is
+entry_asked d (From start) i c x below is =
+    let cs = from_start start d.customers in
+    let short = length-take most_asked cs in
+    let first : i < most_asked = omega (arith, short, below) in
+    let at = at_start start d.customers i c (omega (arith, short, below)) in
+    entry_at d.customers at.0 c x d.apart at.1 (is ∙ get_or-take most_asked cs i c first ∙ sym at.2)
 
 -- the entry under a name has this name, whether it is a customer's or not
 pub named : (cs : List Customer) (name : List ℕ) → (entry_in cs name).name ≡ name

@@ -13,13 +13,14 @@ use Rattle.hq_kept.specs.declared.account.Customer.{Customer}
 use Rattle.hq_tables.specs.Tables.{text_cmp}
 use Rattle.hq_rules.specs.declared.call.Call.{Call}
 use Rattle.hq_requests.specs.Calls.{Asked, CallOf, CallOfAll, asked_as, asked_of, asked_of_each}
-use Rattle.hq_requests.specs.Calls.{call_from, call_of}
+use Rattle.hq_requests.specs.Calls.{call_from, call_of, whom_in}
 use Rattle.hq_requests.specs.Customers.{has_key, has_name}
 use Rattle.hq_requests.specs.Directories.{by_customer, by_relay, customer_of, not_relay}
 use Rattle.hq_requests.specs.Directories.{relay_alone}
 use Rattle.hq_requests.specs.Named.{customer_named, customer_of_exchange, first_ok, key_shown}
 use Rattle.hq_requests.specs.Named.{named_at, named_by_relay}
 use Rattle.hq_requests.specs.Routes.{last_segment, methods_at, role_of, route_of}
+use Rattle.hq_requests.specs.Spans.{Whom}
 use Rattle.hq_requests.specs.declared.directory.Directory.{Directory}
 use Rattle.hq_requests.specs.declared.exchanges.Exchange.{Exchange}
 use Rattle.hq_requests.specs.declared.table.Methods.{Methods}
@@ -135,21 +136,22 @@ module _ (d : Directory) (key : Option (List ℕ)) (path body : List ℕ) (metho
   of_one role.RelayForAll is name call h =
       let relay = went_on (relay_alone d key) _ (CallOf name call) h in
       let each = went_on (asked_of_each route) _ (CallOf name call) relay.2 in
-      absurd (let e = each.2 in cc)
+      let whom = went_on (whom_in d body) _ (CallOf name call) each.2 in
+      absurd (let e = whom.2 in cc)
 
-  of_none : (r : Role) → role_of methods ≡ r → (call : Call) →
-      asked_as d r route key segment body ≡ Ok (CallOfAll call) →
+  of_none : (r : Role) → role_of methods ≡ r → (whom : Whom) (call : Call) →
+      asked_as d r route key segment body ≡ Ok (CallOfAll whom call) →
       customer_named d key path ≡ None
-  of_none role.Customer is call h =
-      let who = went_on (customer_of d role.Customer key segment) _ (CallOfAll call) h in
-      let what = went_on (asked_of route segment body) _ (CallOfAll call) who.2 in
+  of_none role.Customer is whom call h =
+      let who = went_on (customer_of d role.Customer key segment) _ (CallOfAll whom call) h in
+      let what = went_on (asked_of route segment body) _ (CallOfAll whom call) who.2 in
       absurd (let e = what.2 in cc)
-  of_none role.Relay is call h =
-      let who = went_on (customer_of d role.Relay key segment) _ (CallOfAll call) h in
-      let what = went_on (asked_of route segment body) _ (CallOfAll call) who.2 in
+  of_none role.Relay is whom call h =
+      let who = went_on (customer_of d role.Relay key segment) _ (CallOfAll whom call) h in
+      let what = went_on (asked_of route segment body) _ (CallOfAll whom call) who.2 in
       absurd (let e = what.2 in cc)
-  of_none role.RelayForAll is call h =
-      let relay = went_on (relay_alone d key) _ (CallOfAll call) h in
+  of_none role.RelayForAll is whom call h =
+      let relay = went_on (relay_alone d key) _ (CallOfAll whom call) h in
       λ i. first_ok (relays_own d key segment relay.1 i) (named_as role.RelayForAll is i)
 
 -- ---- of an exchange
@@ -185,9 +187,9 @@ whose_call d x name call h =
     of_one d (key_shown x) (string_bytes x.path) x.body.items s.methods s.at s.found.1 s.found.0
     s.role_is name call s.asks
 
-pub whose_all : (d : Directory) (x : Exchange) (call : Call) →
-    call_of d x ≡ Ok (CallOfAll call) → customer_of_exchange d x ≡ None
-whose_all d x call h =
-    let s = steps d x (CallOfAll call) h in
+pub whose_all : (d : Directory) (x : Exchange) (whom : Whom) (call : Call) →
+    call_of d x ≡ Ok (CallOfAll whom call) → customer_of_exchange d x ≡ None
+whose_all d x whom call h =
+    let s = steps d x (CallOfAll whom call) h in
     of_none d (key_shown x) (string_bytes x.path) x.body.items s.methods s.at s.found.1 s.found.0
-    s.role_is call s.asks
+    s.role_is whom call s.asks

@@ -1,17 +1,18 @@
 -- From an exchange to a call: the refusals in the order of the steps here.
-use Rattle.std.specs.Prelude.{ℕ, ⊤, ◌≡◌, nat_le, List, length}
+use Rattle.std.specs.Prelude.{ℕ, ⊤, ◌≡◌, ◌∷◌, [], nat_le, List, length}
 use Rattle.std.specs.Prelude.{string_bytes, Option, None, Some, option_map, Result, Ok, Err}
+use Rattle.std.specs.List.{find}
 use Rattle.hq_values.specs.Limits.{most_bytes}
-use Rattle.hq_values.specs.Readers.{◌>>=◌, guard, or_refuse}
+use Rattle.hq_values.specs.Readers.{◌>>=◌, guard, or_refuse, seen_by}
 use Rattle.hq_values.specs.Serials.{serial_in}
 use Rattle.hq_values.specs.declared.failure.Refusal.{Refusal}
 use Rattle.hq_values.specs.declared.failure.Refusal.TheVariants.{BodyTooLong, NoRoute, WrongMethod}
-use Rattle.hq_values.specs.declared.failure.Refusal.TheVariants.{BadField}
+use Rattle.hq_values.specs.declared.failure.Refusal.TheVariants.{BadField, NoCustomer}
 use Rattle.hq_rules.specs.Each.{each_call}
 use Rattle.hq_rules.specs.declared.call.Call.{Call}
 use Rattle.hq_rules.specs.declared.call.Call.TheVariants as call
 use Rattle.hq_bodies.specs.Outcomes.{read_report}
-use Rattle.hq_bodies.specs.Queries.{read_message_after, read_message_id}
+use Rattle.hq_bodies.specs.Queries.{read_from, read_message_after, read_message_id}
 use Rattle.hq_bodies.specs.Queries.{read_history_before, read_notice_after, read_notice_number}
 use Rattle.hq_bodies.specs.Tables.{read_pattern, read_find, read_search, read_line, read_check}
 use Rattle.hq_bodies.specs.Tables.{read_import}
@@ -21,32 +22,34 @@ use Rattle.hq_requests.specs.declared.table.Role.{Role}
 use Rattle.hq_requests.specs.declared.table.Role.TheVariants as role
 use Rattle.hq_requests.specs.declared.table.Route.{Route}
 use Rattle.hq_requests.specs.declared.table.Route.TheVariants as route
-use Rattle.hq_requests.specs.Directories.{customer_of, relay_alone, entry_of}
+use Rattle.hq_requests.specs.Customers.{has_name}
+use Rattle.hq_requests.specs.Directories.{customer_of, entry_of, name_of, relay_alone}
 use Rattle.hq_requests.specs.Numbers.{notice_number}
+use Rattle.hq_requests.specs.Spans.{Whom, Everyone, From, whom_seen}
 use Rattle.hq_requests.specs.declared.directory.Directory.{Directory}
 use Rattle.hq_requests.specs.declared.exchanges.Exchange.{Exchange}
 use Rattle.hq_requests.specs.declared.request.Asking.{Asking}
 use Rattle.hq_requests.specs.declared.request.Asking.TheVariants as asking
 
--- What an exchange asks: a call of one customer, or the same call of every customer.
+-- What an exchange asks: a call of one customer, or the same call of many.
 pub data Asked : Type 0 where
   CallOf : List ℕ → Call → Asked
-  CallOfAll : Call → Asked
+  CallOfAll : Whom → Call → Asked
 
 -- the call that is asked, of one customer or of each
 abbrev pub call_in : Asked → Call
 call_in (CallOf name call) = call
-call_in (CallOfAll call) = call
+call_in (CallOfAll whom call) = call
 
 -- as the code has it
 abbrev pub asked_seen : Asking → Asked
 asked_seen (asking.CallOf entry call) = CallOf entry.now.name call
-asked_seen (asking.CallOfAll each) = CallOfAll (each_call each)
+asked_seen (asking.CallOfAll span each) = CallOfAll (whom_seen span) (each_call each)
 
 -- whose call it is, the directory knows
 abbrev pub IsKnown : Directory → Asking → Type 0
 IsKnown d (asking.CallOf entry call) = entry.now ≡ entry_of d entry.now.name
-IsKnown d (asking.CallOfAll each) = ⊤
+IsKnown d (asking.CallOfAll span each) = ⊤
 
 -- the serial of the message whose queue ID is the parameter
 abbrev pub serial_of : List ℕ → Result ℕ Refusal
@@ -166,17 +169,32 @@ asked_of_each route.Usage = Ok call.Usage
 asked_of_each route.Due = Ok (call.Due None)
 asked_of_each _ = Err NoRoute
 
--- the call of all customers: the relay's key, a route for all, and neither parameter nor body
-abbrev pub asked_of_all : Directory → Route → Option (List ℕ) → Result Asked Refusal
-asked_of_all d route key = do
+-- the name of a customer, or none for the first
+abbrev pub start_in : Directory → Option (List ℕ) → Result (Option (List ℕ)) Refusal
+start_in d None = Ok None
+start_in d (Some name) = seen_by Some (or_refuse NoCustomer
+    (option_map name_of (find (has_name name) d.customers)))
+
+-- whom a body asks: every customer where it is empty
+abbrev pub whom_in : Directory → List ℕ → Result Whom Refusal
+whom_in d [] = Ok Everyone
+whom_in d (b ∷ body) = do
+  name ← read_from (b ∷ body)
+  start ← start_in d name
+  Ok (From start)
+
+-- the call of all customers: the relay's key, a route for all, and whom the body asks
+abbrev pub asked_of_all : Directory → Route → Option (List ℕ) → List ℕ → Result Asked Refusal
+asked_of_all d route key body = do
   relay ← relay_alone d key
   call ← asked_of_each route
-  Ok (CallOfAll call)
+  whom ← whom_in d body
+  Ok (CallOfAll whom call)
 
 -- what a route of a role asks
 abbrev pub asked_as : Directory → Role → Route → Option (List ℕ) → (segment body : List ℕ) →
     Result Asked Refusal
-asked_as d role.RelayForAll route key segment body = asked_of_all d route key
+asked_as d role.RelayForAll route key segment body = asked_of_all d route key body
 asked_as d role route key segment body = asked_of_one d role route key segment body
 
 -- what is asked, or the refusal: the body's length, the path, the method, and then those of the

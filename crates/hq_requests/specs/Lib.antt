@@ -6,3 +6,4 @@ pub mod Customers
 pub mod Directories
 pub mod Named
 pub mod Numbers
+pub mod Spans

@@ -10,7 +10,7 @@ ghost use Rattle.hq_requests.specs.Customers.{has_name};
 use crate::routes::RouteMemory;
 use crate::{Methods, Role, Routes};
 use hq_kept::{Customer, Entry};
-use hq_values::{Fail, Fault, Items, Key, Refusal};
+use hq_values::{Fail, Fault, Items, Key, Name, Refusal};
 
 /// Whether a customer shows this key.
 fn has_key(customer: &Customer, key: &str) -> bool
@@ -20,7 +20,7 @@ fn has_key(customer: &Customer, key: &str) -> bool
 }
 
 /// Whether a customer has this name.
-fn has_name(customer: &Customer, name: &str) -> bool
+pub(crate) fn has_name(customer: &Customer, name: &str) -> bool
     ensures { result ≡ has_name name.now customer.now }
 {
     name.cmp(customer.entry.name.as_str()).is_eq()
@@ -98,7 +98,9 @@ impl Directory {
     ghost use Rattle.std.specs.Ordering.{eq_by_cmp};
     ghost use Rattle.hq_tables.specs.Tables.{text_cmp};
     ghost use Rattle.hq_requests.specs.Routes.{methods_at};
-    ghost use Rattle.hq_values.specs.Readers.{seen_by};
+    ghost use Rattle.hq_values.specs.Readers.{or_refuse, seen_by};
+    ghost use Rattle.hq_values.specs.declared.failure.Refusal.TheVariants.{NoCustomer};
+    ghost use Rattle.hq_requests.specs.Directories.{name_of};
 
     /// A directory of customers whose names and keys are pairwise different. Refused as 57
     /// `BadRelayKey` exactly where the relay's key is a customer's. Else it may end in 90
@@ -194,6 +196,17 @@ impl Directory {
                 }
             }
         }
+    }
+
+    /// The customer of this name, by its name in the directory: else 13 `NoCustomer`.
+    pub fn named(&self, name: &str) -> Result<&Name, Refusal>
+        ensures { seen_by (λ found. found.now) result ≡ or_refuse NoCustomer
+            (option_map name_of (find (has_name name.now) (customers_of self.now))) }
+    {
+        let Some(customer) = with_name(self.customers.as_slice(), name) else {
+            return Err(Refusal::NoCustomer);
+        };
+        Ok(&customer.entry.name)
     }
 
     /// Nothing, where the relay's key is shown: else 2 `NoKey` or 3 `WrongRole`.

@@ -11,6 +11,7 @@ mod number;
 mod reply;
 mod request;
 mod routes;
+mod spans;
 mod table;
 
 pub use directory::{Directory, are_customers};
@@ -19,4 +20,5 @@ pub use named::customer_named;
 pub use reply::{Body, Reply};
 pub use request::{Asking, call_of};
 pub use routes::{RouteMemory, Routes, last_segment};
+pub use spans::{Span, asked_in};
 pub use table::{Methods, Role, Route};

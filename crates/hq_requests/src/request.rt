@@ -5,14 +5,15 @@ ghost use Rattle.hq_values.specs.Readers.{ReadsIn, seen_by};
 ghost use Rattle.hq_values.specs.declared.failure.Refusal.TheVariants.{BadField};
 ghost use Rattle.hq_rules.specs.Each.{each_call};
 ghost use Rattle.hq_requests.specs.Routes.{last_segment};
+ghost use Rattle.hq_requests.specs.Spans.{whom_seen};
 ghost use Rattle.hq_requests.specs.Calls as calls;
 
 use crate::directory::Directory;
 use crate::exchanges::Exchange;
 use crate::number::notice_number;
-use crate::{Role, Route, last_segment};
+use crate::{Role, Route, Span, last_segment};
 use hq_bodies::{
-    JsonMemory, read_check, read_find, read_history_before, read_import, read_line,
+    JsonMemory, read_check, read_find, read_from, read_history_before, read_import, read_line,
     read_message_after, read_message_id, read_notice_after, read_notice_number, read_pattern,
     read_report, read_search, read_submission,
 };
@@ -28,8 +29,8 @@ const BODY_BYTES: usize = 262_144;
 pub enum Asking<'d> {
     /// A call of a customer.
     CallOf(&'d Entry, Call),
-    /// The same call of every customer.
-    CallOfAll(EachCall),
+    /// The same call of these customers.
+    CallOfAll(Span<'d>, EachCall),
 }
 
 /// The serial of the message whose queue ID is the parameter: else 8 `BadField`.
@@ -152,24 +153,47 @@ fn asked_of_each(route: Route) -> Result<EachCall, Refusal>
     }
 }
 
-/// The call of all customers that is asked for: refused as 2 `NoKey` or 3 `WrongRole`.
-fn asked_of_all<'d>(
+/// Whom a body asks: every customer where it is empty; else refused as 7 `BadJson` or 8 `BadField`,
+/// and then as 13 `NoCustomer`.
+fn whom_in<'d, M: JsonMemory>(
+    memory: M,
+    directory: &'d Directory,
+    body: &[u8],
+) -> Result<Span<'d>, Fail>
+    ensures { ReadsIn M.refused (seen_by whom_seen result)
+        (calls.whom_in directory.now body.now) }
+{
+    let [_, ..] = body else {
+        return Ok(Span::Everyone);
+    };
+    match read_from(memory, body)? {
+        None => Ok(Span::From(None)),
+        Some(name) => Ok(Span::From(Some(directory.named(name.as_str())?))),
+    }
+}
+
+/// The call of all customers that is asked for: refused as 2 `NoKey` or 3 `WrongRole`, and then as
+/// the body is.
+fn asked_of_all<'d, M: JsonMemory>(
+    memory: M,
     directory: &'d Directory,
     route: Route,
     exchange: &Exchange,
-) -> Result<Asking<'d>, Refusal>
-    ensures call { seen_by calls.asked_seen result
-        ≡ calls.asked_of_all directory.now route (option_map string_bytes exchange.now.key) }
+) -> Result<Asking<'d>, Fail>
+    ensures call { ReadsIn M.refused (seen_by calls.asked_seen result)
+        (calls.asked_of_all directory.now route (option_map string_bytes exchange.now.key)
+        exchange.now.body.items) }
     ensures known { IfOk result (calls.IsKnown directory.now) }
 {
     directory.relay_alone(key_of(exchange))?;
     let each = asked_of_each(route)?;
-    Ok(Asking::CallOfAll(each))
+    let span = whom_in(memory, directory, exchange.body.as_slice())?;
+    Ok(Asking::CallOfAll(span, each))
 }
 
 /// What an exchange asks, or the first refusal in the order: 6 `BodyTooLong`, 4 `NoRoute`, 5
 /// `WrongMethod`, 2 `NoKey`, 3 `WrongRole`, and for one customer 13 `NoCustomer`, then those of the
-/// parameter and the body.
+/// parameter and the body; for all of them those of the body, of which 13 is the last.
 #[tactic(auto, unfolding(crate::specs::Calls::call_from))]
 pub fn call_of<'d, M: JsonMemory>(
     memory: M,
@@ -190,7 +214,7 @@ pub fn call_of<'d, M: JsonMemory>(
         .route(exchange.method.as_str())
         .ok_or(Refusal::WrongMethod)?;
     match role {
-        Role::RelayForAll => Ok(asked_of_all(directory, route, exchange)?),
+        Role::RelayForAll => asked_of_all(memory, directory, route, exchange),
         Role::Customer | Role::Relay => asked_of_one(memory, directory, role, route, exchange),
     }
 }

@@ -3,7 +3,7 @@ use Rattle.std.specs.Prelude.{ℕ, ◌≡◌, ◌⊎◌, ⊤, false, true, List}
 use Rattle.hq_values.specs.Refusals.{no_memory}
 use Rattle.hq_values.specs.declared.failure.Refusal.TheVariants.{NoticesSpent}
 use Rattle.hq_kept.specs.declared.account.Entry.{Entry}
-use Rattle.hq_tables.specs.Shelves.{Sight, StopLeavesTables, StopLeavesNoMore}
+use Rattle.hq_tables.specs.Shelves.{Sight, StaysInRound, StopLeavesTables, StopLeavesNoMore}
 use Rattle.hq_tables.specs.Tables.{Tables}
 use Rattle.hq_rules.specs.Answers.{answer_number}
 use Rattle.hq_rules.specs.Machine.{shared}
@@ -46,6 +46,10 @@ pub record Stays {D : Type 0} (sight : DeskSight D) (old new : D) : Type 0 where
   -- the rows stay those of the tables; after Closed nothing is said of them
   pub ours : sight.store.is_clean new → sight.store.is_ours old →
       sight.store.is_closed new ≡ false → sight.store.is_ours new
+  -- it stays in its round
+  pub round : sight.store.is_clean new →
+      sight.store.is_ours old ⊎ (sight.store.is_closed old ≡ true) →
+      StaysInRound sight.store old new
   -- what is clean now was clean
   pub quiet : sight.store.is_clean new → sight.store.is_clean old
   -- what is open now was open

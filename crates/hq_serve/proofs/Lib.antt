@@ -1,3 +1,3 @@
 pub mod Connected
 pub mod Logging
-pub mod Runs
+pub mod InRounds

@@ -1,6 +1,6 @@
 -- The line of what was read and replied.
 use Rattle.std.specs.Io.KnownBytes.{Appends}
-use Rattle.std.proofs.Common.{◌≡◌, ℕ, Bool, List, Option, None, Some, refl, sym, ◌∙◌, subst}
+use Rattle.std.proofs.Common.{◌≡◌, ℕ, Bool, List, Option, None, Some, refl, sym, subst}
 use Rattle.hq_http.specs.Requests.{Wanted, nothing, refused, request}
 use Rattle.hq_log.specs.Entries.{IsTold}
 use Rattle.hq_log.specs.Lines.{LogEntry, log_line_behind}

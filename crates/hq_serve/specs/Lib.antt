@@ -1,6 +1,7 @@
+pub mod Clients
 pub mod Connections
-pub mod Deadlines
 pub mod Listening
 pub mod Logged
 pub mod Places
+pub mod Rounds
 pub mod Steps

@@ -28,7 +28,7 @@ fn read_input<R: Read, M: Memory>(memory: M, reader: &mut R) -> Result<Input, En
 }
 
 /// The exchange that a request asks for at a moment.
-fn exchange_of(request: Request, at: Moment) -> Exchange
+pub(crate) fn exchange_of(request: Request, at: Moment) -> Exchange
     ensures { IsOfRequest result at (request_seen request) }
 {
     Exchange {

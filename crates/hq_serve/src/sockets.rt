@@ -4,8 +4,8 @@ ghost use Rattle.std.specs.Io.{ReadsAtMost, WritesAtMost};
 
 use std::io::{self, Read, Write};
 use std::net::{Shutdown, TcpListener, TcpStream};
+use std::os::fd::{AsRawFd, RawFd};
 use std::os::unix::net::{UnixListener, UnixStream};
-use std::time::Duration;
 
 /// A listening socket.
 #[derive(Drop)]
@@ -28,6 +28,22 @@ impl Listener {
                 let (stream, _) = listener.accept()?;
                 Ok(Stream::Unix(stream))
             }
+        }
+    }
+
+    /// From now on `accept` fails with `WouldBlock` where none waits.
+    pub(crate) fn never_wait(&self) -> io::Result<()> {
+        match self {
+            Listener::Tcp(listener) => listener.set_nonblocking(true),
+            Listener::Unix(listener) => listener.set_nonblocking(true),
+        }
+    }
+
+    /// Its descriptor.
+    pub(crate) fn descriptor(&self) -> RawFd {
+        match self {
+            Listener::Tcp(listener) => listener.as_raw_fd(),
+            Listener::Unix(listener) => listener.as_raw_fd(),
         }
     }
 }
@@ -74,22 +90,6 @@ pub(crate) enum Stream {
 }
 
 impl Stream {
-    /// How long one read may take.
-    pub fn set_read_timeout(&self, time: Duration) -> io::Result<()> {
-        match self {
-            Stream::Tcp(stream) => stream.set_read_timeout(Some(time)),
-            Stream::Unix(stream) => stream.set_read_timeout(Some(time)),
-        }
-    }
-
-    /// How long one write may take.
-    pub fn set_write_timeout(&self, time: Duration) -> io::Result<()> {
-        match self {
-            Stream::Tcp(stream) => stream.set_write_timeout(Some(time)),
-            Stream::Unix(stream) => stream.set_write_timeout(Some(time)),
-        }
-    }
-
     /// Reads what has come, as `Read` does.
     pub fn read(&self, buf: &mut [u8]) -> io::Result<usize>
         ensures { ReadsAtMost result buf.new }
@@ -107,6 +107,22 @@ impl Stream {
         match self {
             Stream::Tcp(stream) => write_tcp(stream, buf),
             Stream::Unix(stream) => write_unix(stream, buf),
+        }
+    }
+
+    /// From now on a read or a write that would wait fails with `WouldBlock`.
+    pub fn never_wait(&self) -> io::Result<()> {
+        match self {
+            Stream::Tcp(stream) => stream.set_nonblocking(true),
+            Stream::Unix(stream) => stream.set_nonblocking(true),
+        }
+    }
+
+    /// Its descriptor.
+    pub fn descriptor(&self) -> RawFd {
+        match self {
+            Stream::Tcp(stream) => stream.as_raw_fd(),
+            Stream::Unix(stream) => stream.as_raw_fd(),
         }
     }
 

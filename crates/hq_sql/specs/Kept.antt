@@ -1,8 +1,8 @@
 -- What a statement finds, makes and keeps. `old` and `new` are what is seen of its connection
 -- before and after.
 -- Inner: it serves proofs alone, and no promise rests on it.
-use Rattle.std.specs.Prelude.{◌≡◌, ℕ, List, Bool, true, false, Option, None, Result, Ok, Err, IfOk}
-use Rattle.std.specs.Prelude.{OnOk, OnErr, IsTrue, is_some}
+use Rattle.std.specs.Prelude.{◌≡◌, ◌≢◌, ℕ, List, Bool, true, false, Option, None, Result, Ok, Err}
+use Rattle.std.specs.Prelude.{IfOk, OnOk, OnErr, IsTrue, is_some}
 use Rattle.sqlite.specs.declared.error.Error.{Error}
 use Rattle.sqlite.specs.declared.error.Error.TheVariants.{SqliteFailure}
 use Rattle.sqlite.specs.declared.error.ErrorCode.TheVariants.{ConstraintViolation}
@@ -34,12 +34,13 @@ abbrev pub Inserts : {X V : Type 0} → State → State → Result X Error → (
 Inserts old new result at f = HasCleanDisk new → IsDesk old.now → at (tables_in old.now) ≡ None →
     OnOk result (Leaves old new (f (tables_in old.now)))
 
--- What an INSERT did, by whether it tells that a unique key was taken.
+-- What an INSERT did, by whether it tells that a unique key was taken. That is no error of it.
 abbrev pub HasTried : List ℕ → Row → State → State → Result Bool Error → Type 0
 HasTried sql params old new (Ok true) =
     Executes sql params old new (Err (SqliteFailure (ConstraintViolation Unique))) × IsLive new
 HasTried sql params old new (Ok false) = (count : ℕ) × Executes sql params old new (Ok count)
 HasTried sql params old new (Err e) = Executes sql params old new (Err e)
+    × (e ≢ SqliteFailure (ConstraintViolation Unique))
 
 -- What a write by key leaves, by whether it tells of a row there: `before` is what stood at the
 -- key, and `t` and `after` are what it leaves without a row and with one.

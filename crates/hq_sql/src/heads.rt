@@ -52,7 +52,7 @@ pub fn account<S: Alter, M: SqliteMemory>(
     decode::first_account(memory, rows.as_slice())
 }
 
-/// Sets all columns of the customer's row; whether it has one is told.
+/// Sets all columns of the customer's row, and tells whether it has one.
 fn update<S: Alter, M: SqliteMemory>(
     memory: M,
     conn: &mut Connection<S>,

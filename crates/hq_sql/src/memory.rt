@@ -40,8 +40,8 @@ pub trait SqliteMemory: Memory {
             (CommitsBy sql.now (bound params.now) (state S.Store conn.old)) }
         ensures cause { IfErr result (HasCause Self.refused failed) };
 
-    /// An INSERT of one row; whether a unique key was taken, and so nothing changed. That is no
-    /// failure of the store.
+    /// An INSERT of one row. It tells whether a unique key was taken, and so nothing changed: that
+    /// is no failure of the store, and no error.
     fn try_insert<S: Alter>(
         self,
         conn: &mut Connection<S>,

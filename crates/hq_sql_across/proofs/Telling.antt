@@ -21,14 +21,14 @@ tells_some may d (Err refusal) r (inl told) = inl told
 tells_some may d (Err refusal) r (inr want) = inr (tt, want.1)
 tells_some may d (Ok (CallOf name call)) r (inl told) = inl told
 tells_some may d (Ok (CallOf name call)) r (inr struck) = inr (struck.0, tt, struck.2)
-tells_some may d (Ok (CallOfAll call)) r (inl parts) = inl (record {
+tells_some may d (Ok (CallOfAll whom call)) r (inl parts) = inl (record {
   left = parts.left;
   order = parts.order;
   ends = any_end may parts.left r.stopped parts.ends;
   objects = parts.objects;
   reply = parts.reply;
 })
-tells_some may d (Ok (CallOfAll call)) r (inr want) = inr (tt, want.1)
+tells_some may d (Ok (CallOfAll whom call)) r (inr want) = inr (tt, want.1)
 
 -- of all that was asked
 pub tells_any : (may : Fault → Type 0) (d : Directory) (asks : List Ask) (rs : List SeenReply) →

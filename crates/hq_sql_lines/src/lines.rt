@@ -84,7 +84,7 @@ fn written<M: SqliteMemory>(memory: M, action: &Action) -> Result<String, Error>
     }
 }
 
-/// Sets the action of the customer's line of this pattern; whether there is one is told.
+/// Sets the action of the customer's line of this pattern, and tells whether there is one.
 fn update<S: Alter, M: SqliteMemory>(
     memory: M,
     conn: &mut Connection<S>,

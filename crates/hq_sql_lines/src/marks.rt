@@ -75,7 +75,7 @@ fn remove<S: Alter, M: SqliteMemory>(
     Ok(())
 }
 
-/// Adds a mark of a new label; whether its label has one is told.
+/// Adds a mark, and tells whether its label had one: then nothing changed.
 fn insert<S: Alter, M: SqliteMemory>(
     memory: M,
     conn: &mut Connection<S>,
@@ -99,7 +99,7 @@ fn insert<S: Alter, M: SqliteMemory>(
     Ok(there)
 }
 
-/// Sets the mark of its label, in a new row, to which one that is there gives way.
+/// Sets the mark of its label: a new row replaces the one that is there.
 pub fn put<S: Alter, M: SqliteMemory>(
     memory: M,
     conn: &mut Connection<S>,

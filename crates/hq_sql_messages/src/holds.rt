@@ -77,7 +77,7 @@ pub fn remove<S: Alter, M: SqliteMemory>(
     Ok(())
 }
 
-/// Adds the reason of a message that has none; whether it has one is told.
+/// Adds the reason of a message, and tells whether it had one: then nothing changed.
 fn insert<S: Alter, M: SqliteMemory>(
     memory: M,
     conn: &mut Connection<S>,
@@ -100,7 +100,7 @@ fn insert<S: Alter, M: SqliteMemory>(
     Ok(there)
 }
 
-/// Sets the reason of a message, in a new row, to which one that is there gives way.
+/// Sets the reason of a message: a new row replaces the one that is there.
 fn set<S: Alter, M: SqliteMemory>(
     memory: M,
     conn: &mut Connection<S>,

@@ -165,7 +165,7 @@ pub fn size<S: Alter, M: SqliteMemory>(
     message_rows::first_size(memory, rows.as_slice())
 }
 
-/// Sets all columns of the message's row; whether it has one is told.
+/// Sets all columns of the message's row, and tells whether it has one.
 fn update<S: Alter, M: SqliteMemory>(
     memory: M,
     conn: &mut Connection<S>,
@@ -188,7 +188,7 @@ fn update<S: Alter, M: SqliteMemory>(
     Ok(count != 0)
 }
 
-/// Sets all columns of the row of a message that has this size; whether there is one is told.
+/// Sets all columns of the row of a message that has this size, and tells whether there is one.
 pub fn update_of_size<S: Alter, M: SqliteMemory>(
     memory: M,
     conn: &mut Connection<S>,

@@ -80,7 +80,7 @@ fn remove<S: Alter, M: SqliteMemory>(
     Ok(())
 }
 
-/// Adds a notice of a new number; whether its number has one is told.
+/// Adds a notice, and tells whether its number had one: then nothing changed.
 fn insert<S: Alter, M: SqliteMemory>(
     memory: M,
     conn: &mut Connection<S>,
@@ -104,7 +104,7 @@ fn insert<S: Alter, M: SqliteMemory>(
     Ok(there)
 }
 
-/// Sets the notice of its number, in a new row, to which one that is there gives way.
+/// Sets the notice of its number: a new row replaces the one that is there.
 pub fn put<S: Alter, M: SqliteMemory>(
     memory: M,
     conn: &mut Connection<S>,

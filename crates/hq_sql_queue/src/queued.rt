@@ -169,8 +169,9 @@ pub fn page<S: Alter, M: SqliteMemory>(
     }
 }
 
-/// Those of them that may be tried by a moment: at most `limit` of them. A limit of 2^63 or more
-/// is an error. The store reads past the others without lending them.
+/// Of the customer's messages after the serial, or of all, those that may be tried at the moment,
+/// with their recipients, in order of serial: at most `limit`. A limit of 2^63 or more is an error.
+/// The store reads past the others without lending them.
 pub fn due<S: Alter, M: SqliteMemory>(
     memory: M,
     conn: &mut Connection<S>,

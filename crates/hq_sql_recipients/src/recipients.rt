@@ -60,7 +60,7 @@ pub fn pending<S: Alter, M: SqliteMemory>(
     Ok(all)
 }
 
-/// Sets the recipient at a place of the message; whether one stands there is told.
+/// Sets the recipient at a place of the message, and tells whether one stands there.
 fn update<S: Alter, M: SqliteMemory>(
     memory: M,
     conn: &mut Connection<S>,

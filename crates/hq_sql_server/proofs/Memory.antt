@@ -8,6 +8,7 @@ use Rattle.sqlite.specs.Steps.{over_memory}
 use Rattle.sqlite.proofs.Callers.{memory_is_clean}
 use Rattle.sqlite_trees.specs.declared.memory.MemStore.{MemStore}
 use Rattle.hq_values.specs.declared.failure.Fault.{Fault}
+use Rattle.hq_tables.specs.Shelves.{OnOpenSound}
 use Rattle.hq_tables.specs.Sound.{Sound}
 use Rattle.hq_tables.specs.Tables.{no_tables}
 use Rattle.hq_tables.proofs.Empty.{empty_sound}
@@ -22,7 +23,7 @@ use Rattle.hq_desk.specs.declared.desk.Desk.{Desk}
 use Rattle.hq_settings.specs.declared.settings.Settings.{Settings}
 use Rattle.hq_wire.specs.Exchanges.{Ask, with_refusals}
 use Rattle.hq_wire.specs.Replies.{SeenReply}
-use Rattle.hq_wire.specs.Runs.{AllReplied, Alone, Served}
+use Rattle.hq_wire.specs.Runs.{AllReplied, Alone}
 use Rattle.hq_wire.proofs.Serving.{all_replied}
 use Rattle.hq_lines.specs.Fields.{LineRequest}
 use Rattle.hq_lines.specs.Lines.{Streams}
@@ -47,9 +48,13 @@ pub from_empty : (settings : Settings) (shelf : SqlShelf MemStore Global) →
     → (old new : Desk (SqlShelf MemStore Global)) → host_of old ≡ settings.host
     → shelf_of old ≡ shelf
     → (asks : List Ask) (replies : List SeenReply) →
-    Served (with_refusals ⊤ (on memory)) settings.directory old asks replies new → FromEmpty
-    settings asks replies new
-from_empty settings shelf ours none old new named is asks replies p =
+    OnOpenSound (on memory).store old new
+    (AllReplied (with_refusals ⊤ (on memory)).store.may_answer (host_of old) settings.directory
+    ((on memory).store.tables old) asks replies ((on memory).store.tables new)) →
+    OnOpenSound (on memory).store old new (Alone (host_of old) settings.directory asks replies
+    ((on memory).store.tables old) ((on memory).store.tables new)) →
+    FromEmpty settings asks replies new
+from_empty settings shelf ours none old new named is asks replies together apart =
     let d = settings.directory in
     let empty = ap memory.tables is ∙ none in
     let after = (on memory).store.tables new in
@@ -61,15 +66,14 @@ from_empty settings shelf ours none old new named is asks replies p =
     let owned = subst memory.is_ours (sym is) ours in
     record {
       replied = λ stays.
-          let all = all_replied (with_refusals ⊤ (on memory)) d old new asks replies p.each clean
-          owned stays sound in
+          let all = together clean owned stays sound in
           subst (λ n. AllReplied (with_refusals ⊤ (on memory)).store.may_answer n d no_tables asks
           replies after) named
           (subst (λ t. AllReplied (with_refusals ⊤ (on memory)).store.may_answer (host_of old) d t
           asks replies after) empty
           all);
       alone = λ stays.
-          let alone = p.alone clean owned stays sound in
+          let alone = apart clean owned stays sound in
           subst (λ n. Alone n d asks replies no_tables after) named
           (subst (λ t. Alone (host_of old) d asks replies t after) empty alone);
     }
@@ -83,7 +87,10 @@ serves settings shelf ours none asked lines it = record {
   shelf = shelf;
   over = it;
   from_empty = from_empty settings shelf ours none it.old it.new it.host_is it.shelf_is
-      (map (ask_in settings.directory) asked) it.replied.0 it.replied.2;
+      (map (ask_in settings.directory) asked) it.replied.0
+      (all_replied (with_refusals ⊤ (on memory)) settings.directory it.old it.new
+      (map (ask_in settings.directory) asked) it.replied.0 it.replied.2.each)
+      it.replied.2.alone;
 }
 
 pub memory_ends : (settings : Settings) (opened : Result (SqlShelf MemStore Global) Fault)

@@ -10,6 +10,7 @@ use Rattle.hq_tables.specs.Tables.{no_tables}
 use Rattle.hq_sql.specs.Tables.{tables_in}
 use Rattle.hq_sql_shelf.specs.Shelf.{IsOurs}
 use Rattle.hq_sql_shelf.specs.declared.shelf.SqlShelf.{SqlShelf}
+use Rattle.hq_together.specs.Sessions.{all_in}
 use Rattle.hq_settings.specs.declared.settings.Settings.{Settings}
 use Rattle.hq_settings.specs.declared.trouble.Trouble.{Trouble}
 use Rattle.hq_sql_server.specs.Stored.{memory}
@@ -33,7 +34,7 @@ serves_empty settings count shelf ours none it = record {
   shelf = shelf;
   over = it;
   from_empty = from_empty settings shelf ours none it.old it.new it.host_is it.shelf_is
-      it.served.asks it.served.replies it.served.served;
+      (all_in it.served.asked) (all_in it.served.replied) it.served.as_one it.served.alone;
 }
 
 pub memory_ends : (settings : Settings) (count : ℕ)

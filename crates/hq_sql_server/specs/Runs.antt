@@ -10,7 +10,8 @@ use Rattle.hq_sql_shelf.specs.declared.shelf.SqlShelf.{SqlShelf}
 use Rattle.hq_desk.specs.Desks.{host_of, on, shelf_of}
 use Rattle.hq_desk.specs.declared.desk.Desk.{Desk}
 use Rattle.hq_settings.specs.declared.settings.Settings.{Settings}
-use Rattle.hq_serve.specs.Listening.{DoesSome}
+use Rattle.hq_serve.specs.Rounds.{DoesRounds}
+use Rattle.hq_together.specs.Sessions.{all_in}
 use Rattle.hq_words.specs.Asked.{key_given}
 use Rattle.hq_words.specs.declared.options.Serve.{Serve}
 use Rattle.hq_settings.specs.SettingUp.{SetsUp}
@@ -19,18 +20,18 @@ use Rattle.hq_settings.specs.declared.trouble.Trouble.TheVariants.{Network, Cloc
 use Rattle.hq_sql_server.specs.Stored.{memory, FromEmpty, IsUnopened}
 use Rattle.hq_sql_server.specs.Listening.{HasTold, IsUnbound}
 
--- So many connections at most are served by a desk over this shelf, as a run of exchanges.
+-- So many connections at most are served by a desk over this shelf, in rounds of exchanges.
 pub record ServesConnections {S : Type 0} (sight : Sight S) (settings : Settings) (count : ℕ)
     (shelf : S) : Type 0 where
   pub old : Desk S
   pub host_is : host_of old ≡ settings.host
   pub shelf_is : shelf_of old ≡ shelf
   pub new : Desk S
-  pub served : DoesSome (with_refusals ⊤ (on sight)) settings.directory count old new
+  pub served : DoesRounds (with_refusals ⊤ (on sight)) settings.directory count old new
 
 -- Why no more are served: as many came as there were to be, or one could not be accepted, or the
--- clock tells no moment. That as many came is said where connections are counted, of `serve_on`;
--- nothing that is seen here tells of a socket.
+-- clock tells no moment. That as many came is said where connections are counted, of
+-- `serve_rounds`; nothing that is seen here tells of a socket.
 abbrev pub IsEnd : Result ⊤ Trouble → Type 0
 IsEnd (Ok _) = ⊤
 IsEnd (Err Network) = ⊤
@@ -62,7 +63,8 @@ OpenedServerEnds sight settings count opened unwritten told result = OverOpened
 pub record ServesEmpty (settings : Settings) (count : ℕ) : Type 0 where
   pub shelf : SqlShelf MemStore Global
   pub over : ServesConnections memory settings count shelf
-  pub from_empty : FromEmpty settings over.served.asks over.served.replies over.new
+  pub from_empty : FromEmpty settings (all_in over.served.asked) (all_in over.served.replied)
+      over.new
 
 abbrev pub MemoryServerEnds : Settings → ℕ → Type 0 → Type 0 → Result ⊤ Trouble → Type 0
 MemoryServerEnds settings count unwritten told result = OverMemory

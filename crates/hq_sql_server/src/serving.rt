@@ -10,7 +10,8 @@ ghost use Rattle.hq_sql_server.specs.Runs.{StoreServerEnds, ServeEnds};
 use crate::listening::{limits, listen};
 use hq_desk::Desk;
 use hq_log::log_of;
-use hq_serve::{Connections, ServiceEnd, serve_on};
+use hq_rounds::Rounds;
+use hq_serve::{Connections, ServiceEnd, serve_rounds};
 use hq_settings::{Settings, Trouble, set_up};
 use hq_sql_shelf::{FileShelf, SqlShelf, open_file};
 use hq_tables::Shelf;
@@ -33,7 +34,7 @@ fn ended(end: ServiceEnd) -> Result<(), Trouble>
 
 /// Serves the connections of an address over a shelf as it was opened; where it could not be, tells
 /// why, and listens on nothing.
-fn serve_over<S: Shelf + Drop, W: Write, E: Write>(
+fn serve_over<S: Rounds, W: Write, E: Write>(
     rt: &HostRuntime,
     opened: Result<S, Fault>,
     settings: Settings,
@@ -47,19 +48,20 @@ fn serve_over<S: Shelf + Drop, W: Write, E: Write>(
     let shelf = opened?;
     let listener = listen(rt, given.listen, output)?;
     let Settings { host, directory } = settings;
-    let mut desk = Desk::new(shelf, host);
+    let desk = Desk::new(shelf, host);
     let mut connections = Connections::new(listener, given.count);
     let mut log = log_of(rt, given.log);
-    ended(serve_on(
+    let (end, _desk) = serve_rounds(
         rt,
         rt.alloc(),
         &mut connections,
         limits(given),
-        &mut desk,
+        desk,
         &directory,
         errors,
         &mut log,
-    ))
+    );
+    ended(end)
 }
 
 /// Serves the connections of an address over a store of `sqlite` as it was opened, as `serve_over`
@@ -116,8 +118,8 @@ fn serve_stored<W: Write, E: Write>(
 
 /// Serves HTTP connections for the customers of a directory: listens on the address that is given,
 /// prints the one that was bound as `listening on 127.0.0.1:8025`, and serves so many connections
-/// as there are to be, one after another, at the moments of the clock. A fault of one connection is
-/// told on `errors` in a line, `hq: input` or `hq: output`, and the next is served.
+/// as there are to be, several at once and by rounds, at the moments of the clock. A fault of one
+/// connection is told on `errors` in a line, `hq: input` or `hq: output`.
 ///
 /// Checked in the order relay's name, form of its key, directory, relay's key against it, store,
 /// address. Up to then nothing is printed. An error is the first refusal of these; `File` for a

@@ -1,8 +1,7 @@
-pub mod Steps
 pub mod Ours
 pub mod Stops
 pub mod Reading
-pub mod Recounted
+pub mod RoundCalls
+pub mod RoundEnds
 pub mod Migrated
-pub mod Owing
 pub mod Causes

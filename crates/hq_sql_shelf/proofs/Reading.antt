@@ -34,7 +34,7 @@ tallied X was is m n k Disk was_open same it = (was_open, it.1, it.2 ∙ ap one_
 tallied X was is m n k BadSchema was_open same it = absurd it
 tallied X was is m n k Closed was_open same it = (it.0, it.1 ∙ ap one_more same)
 
-still_settled : (old new : State) (standing : Standing) → Settles old new standing →
+pub still_settled : (old new : State) (standing : Standing) → Settles old new standing →
     HasCleanDisk new → Stands standing new → is_gone standing ≡ false → IsSettled new
 still_settled old new Open it clean stands stays = it.settled clean refl
 still_settled old new Gone it clean stands stays = absurd (true≢false stays)
@@ -97,6 +97,7 @@ module _ {S M X : Type 0} (refused failed : Type 0) (g : Ghosts S) (old mid : Sq
               };
               holds = subst HoldsTables (sym shown.committed_is) mine.holds;
             };
+        round = λ clean either t back. tt;
         quiet = λ clean. first.quiet
             (seen (before clean.0));
         tally = first.tally;
@@ -169,6 +170,7 @@ module _ {S M X : Type 0} (refused failed : Type 0) (g : Ghosts S) (old mid : Sq
       record {
         same = end.same;
         ours = end.ours;
+        round = λ clean either t back. tt;
         quiet = end.quiet;
         tally = end.tally;
         cause = end.cause;

@@ -21,7 +21,8 @@ use Rattle.hq_sql_open.specs.Found.{HoldDesk, desk_with, tables_with}
 use Rattle.hq_sql_open.specs.declared.transaction.Standing.TheVariants.{Open}
 use Rattle.hq_sql_shelf.specs.declared.shelf.SqlShelf.{SqlShelf}
 use Rattle.hq_sql_shelf.specs.Shelf.{IsWholeDesk, IsOurs, HoldsTables, sight_over, is_gone}
-use Rattle.hq_sql_shelf.specs.Stops.{LeavesTables, LeavesWhole, LeavesOnly, KeepsTransaction}
+use Rattle.hq_sql_shelf.specs.Stops.{LeavesWhole, LeavesOnly}
+use Rattle.hq_sql_changes.specs.Transacted.{LeavesTables, KeepsTransaction}
 use Rattle.hq_sql_shelf.proofs.Ours.{at_rest, open_stands}
 
 -- ---- trees
@@ -36,8 +37,8 @@ whole_held trees t held counted = record {
   holds = record { desk = held.desk; counted = subst AreCounted (sym held.tables) counted };
 }
 
-whole_with : (db : Database) (trees : Trees) → IsDatabase db → HoldsTables db → trees ≡ db.trees →
-    IsWholeDesk trees × (tables_with trees ≡ tables_in db)
+pub whole_with : (db : Database) (trees : Trees) → IsDatabase db → HoldsTables db →
+    trees ≡ db.trees → IsWholeDesk trees × (tables_with trees ≡ tables_in db)
 whole_with db trees sound holds same =
     let is = is_desk_with db trees holds.desk.schema_is same in (
       record { sound = subst IsDatabase is sound; holds = subst HoldsTables is holds },
@@ -57,7 +58,7 @@ module _ {S M : Type 0} (refused failed : Type 0) (g : Ghosts S) where
   )
 
 -- the law of a store: while it is open it leaves what it has committed
-abbrev LeavesCommit : {S : Type 0} → Ghosts S → Type 0
+abbrev pub LeavesCommit : {S : Type 0} → Ghosts S → Type 0
 LeavesCommit {S} g = (s : S) (db : Trees) → IsTrue (g.view s).is_open → g.recovers s db →
     db ≡ (g.view s).committed
 

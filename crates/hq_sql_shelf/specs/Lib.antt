@@ -1,4 +1,4 @@
-pub mod Accounts
+pub mod Rounds
 pub mod Shelf
 pub mod Stops
 pub mod Migration

@@ -79,6 +79,7 @@ sight_over refused failed seen = record {
   may_answer = IsCaused refused failed;
   may_leave = λ s t. (trees : Trees) × (seen s.conn).may_leave trees × (tables_with trees ≡ t);
   leaves_desk = λ s. (trees : Trees) → (seen s.conn).may_leave trees → IsWholeDesk trees;
+  goes_back = λ s t. ⊤;
 }
 
 -- a statement failed while the shelf was open: what is counted and closed for that fault

@@ -1,9 +1,9 @@
 //! The calls of a shelf, over the statements of the store.
 
-use crate::accounts;
 use crate::shelf::SqlShelf;
 use hq_kept::{Action, Class, End, Line, LookupKey, Mark, Message, Notice, Pattern};
 use hq_sql::SqliteMemory;
+use hq_sql_changes::account;
 use hq_sql_lines::{line_pages, lines, marks};
 use hq_sql_notices::{end_pages, notice_pages, notices};
 use hq_sql_queue::queued;
@@ -19,7 +19,7 @@ impl<S: Alter, M: SqliteMemory> Shelf for SqlShelf<S, M> {
 
     fn account(&mut self, customer: &Name) -> Result<Account, Fault> {
         self.ready()?;
-        match accounts::account(self.memory, &mut self.conn, customer) {
+        match account(self.memory, &mut self.conn, customer) {
             Ok(account) => Ok(account),
             Err(error) => Err(self.give_up(error)),
         }

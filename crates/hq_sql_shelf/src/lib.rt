@@ -9,17 +9,16 @@
 //! ```
 #![tactic(auto)]
 
-mod accounts;
 mod calls;
-mod changes;
 mod file;
 mod known;
 mod migrating;
-mod one_message;
+mod rounds;
 mod shelf;
 mod writing;
 
 pub use file::{FileShelf, migrate_file, open_file};
 pub use hq_sql_open::fault_of;
 pub use migrating::migrate;
+pub use rounds::SqlRound;
 pub use shelf::SqlShelf;

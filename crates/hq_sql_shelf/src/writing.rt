@@ -9,9 +9,9 @@ ghost use Rattle.hq_sql.specs.Tables.{tables_in};
 ghost use Rattle.hq_sql_shelf.specs.Shelf.{sight_over, is_gone, IsOurs};
 ghost use Rattle.hq_sql_shelf.specs.Stops.{LeavesWhole, LeavesOnly};
 
-use crate::changes;
 use crate::shelf::SqlShelf;
 use hq_sql::SqliteMemory;
+use hq_sql_changes::apply;
 use hq_sql_open::transaction::sees_database;
 use hq_tables::Change;
 use hq_values::{Fault, Name};
@@ -45,7 +45,7 @@ impl<S: Alter, M: SqliteMemory> SqlShelf<S, M> {
     {
         sees_database(&self.conn);
         self.ready()?;
-        match changes::apply(self.memory, &mut self.conn, customer, changes) {
+        match apply(self.memory, &mut self.conn, customer, changes) {
             Ok(()) => Ok(()),
             Err(error) => Err(self.give_up(error)),
         }

@@ -28,6 +28,8 @@ pub record Sight (S : Type 0) : Type 1 where
   pub may_leave : S → Tables → Type 0
   -- and whatever it may find is a desk's
   pub leaves_desk : S → Type 0
+  -- in a round: it goes back to these tables where the round does not stand, and a stop leaves them
+  pub goes_back : S → Tables → Type 0
 
 -- ---- when something is said of the tables
 
@@ -58,6 +60,10 @@ StopLeavesTables sight s = StopLeaves sight s (λ t. t ≡ sight.tables s)
 abbrev pub StopLeavesNoMore : {S : Type 0} → Sight S → S → S → Type 0
 StopLeavesNoMore sight old new = (sight.leaves_desk old → sight.leaves_desk new)
     × ((t : Tables) → sight.may_leave new t → sight.may_leave old t)
+
+-- it goes back to the same tables
+abbrev pub StaysInRound : {S : Type 0} → Sight S → S → S → Type 0
+StaysInRound sight old new = (t : Tables) → sight.goes_back old t → sight.goes_back new t
 
 -- ---- what is found, and what is kept
 
@@ -97,6 +103,9 @@ pub record Keeps {S X : Type 0} (sight : Sight S) (old new : S) (result : Result
     -- the rows stay those of the tables; after Closed nothing is said of them
     pub ours : sight.is_clean new → sight.is_ours old → sight.is_closed new ≡ false →
         sight.is_ours new
+    -- it stays in its round
+    pub round : sight.is_clean new → sight.is_ours old ⊎ (sight.is_closed old ≡ true) →
+        StaysInRound sight old new
     -- what is clean now was clean
     pub quiet : sight.is_clean new → sight.is_clean old
     pub tally : IsTallied (sight.is_closed old) (sight.is_closed new) (sight.fault_count old)
@@ -118,6 +127,8 @@ pub record KeepsOnErr {S X : Type 0} (sight : Sight S) (old new : S) (result : R
       OnErr result (sight.tables new ≡ sight.tables old)
   pub ours : sight.is_clean new → sight.is_ours old → sight.is_closed new ≡ false →
       sight.is_ours new
+  pub round : sight.is_clean new → sight.is_ours old ⊎ (sight.is_closed old ≡ true) →
+      StaysInRound sight old new
   pub quiet : sight.is_clean new → sight.is_clean old
   pub tally : IsTallied (sight.is_closed old) (sight.is_closed new) (sight.fault_count old)
       (sight.fault_count new) result

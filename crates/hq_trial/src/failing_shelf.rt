@@ -64,6 +64,7 @@ impl<S: Shelf> Shelf for FailingShelf<S> {
       may_answer = λ fault. (fault ≡ Disk) ⊎ ((fault ≡ Closed) ⊎ S.sight.may_answer fault);
       may_leave = λ s t. S.sight.may_leave s.inner t;
       leaves_desk = λ s. S.sight.leaves_desk s.inner;
+      goes_back = λ s. S.sight.goes_back s.inner;
     } };
 
     fn account(&mut self, customer: &Name) -> Result<Account, Fault> {

@@ -162,8 +162,8 @@ module _ (may : Fault → Type 0) (host : List ℕ) (d : Directory) where
       (λ (no : (fault : Fault) × may fault × IsStruck fault t r t'). subst
       Out (sym (eq-eqb r.status 503 (ap (λ (x : SeenReply). x.status) no.2.0
       ∙ fault_status no.0))) no.2.1) h
-  done_once t t' at (Ok (CallOfAll call)) r h = ⊎_elim
-      (λ (did : CallsAll may host d t at call r t'). did.done)
+  done_once t t' at (Ok (CallOfAll whom call)) r h = ⊎_elim
+      (λ (did : CallsAll may host d t at whom call r t'). did.done)
       (λ (no : IsWant may r × (t' ≡ t)). subst
       (λ parts. AllDone host d t (map (of_part at call) parts) t')
       (sym (ap (λ (x : SeenReply). x.parts) no.0.1 ∙ no_parts no_memory)) no.1) h

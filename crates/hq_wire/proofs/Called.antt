@@ -16,7 +16,9 @@ use Rattle.hq_rules.specs.declared.call.Call.{Call}
 use Rattle.hq_rules.specs.Desks.{DeskSight, IsRendered, Stays, stepped}
 use Rattle.hq_rules.specs.declared.render.Rendered.{Rendered}
 use Rattle.hq_requests.specs.Calls.{CallOfAll}
-use Rattle.hq_requests.specs.Directories.{entry_of, names_of}
+use Rattle.hq_requests.specs.Directories.{entry_of}
+use Rattle.hq_requests.specs.Spans.{Whom, names_in}
+use Rattle.hq_wire.specs.Exchanges.{next_left}
 use Rattle.hq_wire.specs.Exchanges.{AllDone, Exchanged, InPart, IsWant, Unheard}
 use Rattle.hq_wire.specs.Exchanges.{of_part, unheard_call}
 use Rattle.hq_json.specs.Parts.{IsObject}
@@ -154,6 +156,7 @@ module _ {D : Type 0} (sight : DeskSight D) (d : Directory) (at : ℕ) (call : C
       → Stays sight mid new
   still_open mid new rendered kept host = record {
     ours = kept.ours;
+    round = kept.round;
     quiet = kept.quiet;
     stays_open = λ open_. kept.tally.0;
     host = host;
@@ -217,11 +220,11 @@ module _ {D : Type 0} (sight : DeskSight D) (d : Directory) (at : ℕ) (call : C
       }
 
   -- all customers were done
-  pub done_by_all : (old new : D) (names : List (List ℕ)) (body : List ℕ) (is_first : Bool)
-      (so_far : SoFar old names new body is_first) → names ≡ names_of d →
-      Exchanged sight d old (record { at = at; called = Ok (CallOfAll call) })
-      (parted_reply so_far.parts None) new
-  done_by_all old new names body is_first so_far all = record {
+  pub done_by_all : (whom : Whom) (old new : D) (names : List (List ℕ)) (body : List ℕ)
+      (is_first : Bool) (so_far : SoFar old names new body is_first) → names ≡ names_in d whom →
+      Exchanged sight d old (record { at = at; called = Ok (CallOfAll whom call) })
+      (parted_reply so_far.parts (next_left d whom []) None) new
+  done_by_all whom old new names body is_first so_far all = record {
     replied = λ clean ours open_ sound. inl (record {
       left = [];
       order = sym (append-nil (map customer_of_part so_far.parts) ∙ so_far.whose ∙ all);
@@ -238,7 +241,7 @@ module _ {D : Type 0} (sight : DeskSight D) (d : Directory) (at : ℕ) (call : C
       reply = refl;
     });
     anyway = λ closed. inr (either so_far.open_ closed);
-    closed = tells_none (parted_reply so_far.parts None) refl;
+    closed = tells_none (parted_reply so_far.parts (next_left d whom []) None) refl;
     sound = so_far.sound;
     stays = so_far.stays;
     stops = λ clean ours fit rests.
@@ -251,7 +254,8 @@ module _ {D : Type 0} (sight : DeskSight D) (d : Directory) (at : ℕ) (call : C
   } where
     either : ((names ≡ []) × (new ≡ old)) ⊎ (sight.store.is_closed new ≡ false) →
         sight.store.is_closed new ≡ true →
-        (IsWant sight.store.may_answer (parted_reply so_far.parts None) ⊎ (names_of d ≡ []))
+        (IsWant sight.store.may_answer (parted_reply so_far.parts (next_left d whom []) None)
+        ⊎ (names_in d whom ≡ []))
         × (new ≡ old)
     either (inl none) closed = (inr (sym all ∙ none.0), none.1)
     either (inr open_) closed = apart (sym open_ ∙ closed)

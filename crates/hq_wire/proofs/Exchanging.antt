@@ -38,6 +38,7 @@ apart e = absurd (false≢true e)
 pub stay_put : {D : Type 0} (sight : DeskSight D) (desk : D) → Stays sight desk desk
 stay_put sight desk = record {
   ours = λ clean ours open_. ours;
+  round = λ clean either t back. back;
   quiet = λ clean. clean;
   stays_open = λ open_. open_;
   host = refl;
@@ -60,6 +61,17 @@ pub stay_on : {D : Type 0} (sight : DeskSight D) (old mid new : D) → Stays sig
 stay_on sight old mid new first next = record {
   ours = λ clean ours open_. next.ours clean
       (first.ours (next.quiet clean) ours (next.stays_open open_)) open_;
+  round = λ clean either t back.
+      let before = next.quiet clean in
+      let after = first.round before either t back in
+      elim (sight.store.is_closed mid) as
+      (λ b. sight.store.is_closed mid ≡ b → sight.store.goes_back new t) [
+        | true ↦ λ closed. next.round clean (inr closed) t after
+        | false ↦ λ opened. next.round clean (⊎_elim
+            (λ (ours : sight.store.is_ours old). inl (first.ours before ours opened))
+            (λ (closed : sight.store.is_closed old ≡ true).
+            apart (sym (first.stays_open opened) ∙ closed)) either) t after
+      ] refl;
   quiet = λ clean. first.quiet (next.quiet clean);
   stays_open = λ open_. first.stays_open (next.stays_open open_);
   host = next.host ∙ first.host;
@@ -90,7 +102,7 @@ no_deeds fault at (Ok (CallOf name call)) r h =
     } in
     ap (λ (b : Bool). cond b [] (deed ∷ []))
     (eq-eqb r.status 503 (ap (λ (x : SeenReply). x.status) h ∙ fault_status fault))
-no_deeds fault at (Ok (CallOfAll call)) r h =
+no_deeds fault at (Ok (CallOfAll whom call)) r h =
     ap (map (of_part at call)) (ap (λ (x : SeenReply). x.parts) h ∙ no_parts fault)
 
 -- so a stop leaves the tables that there were
@@ -142,20 +154,20 @@ pub without_room : (may : Fault → Type 0) (host : List ℕ) (d : Directory) (t
 without_room may host d t at (Err e) r want = (inr want, refl)
 without_room may host d t at (Ok (CallOf name call)) r want =
     inr (no_memory, want.0, (want.1, refl))
-without_room may host d t at (Ok (CallOfAll call)) r want = inr (want, refl)
+without_room may host d t at (Ok (CallOfAll whom call)) r want = inr (want, refl)
 
 room_anyway : {D : Type 0} (sight : Sight D) (d : Directory) (desk : D)
     (called : Result Asked Refusal) (r : SeenReply) → IsWant sight.may_answer r →
     RepliesAnyway sight d desk called r desk
 room_anyway sight d desk (Err e) r want = (inr want, refl)
 room_anyway sight d desk (Ok (CallOf name call)) r want = λ closed. inr (want, refl)
-room_anyway sight d desk (Ok (CallOfAll call)) r want = λ closed. inr (inl want, refl)
+room_anyway sight d desk (Ok (CallOfAll whom call)) r want = λ closed. inr (inl want, refl)
 
 room_tells : (may : Fault → Type 0) (d : Directory) (called : Result Asked Refusal)
     (r : SeenReply) → IsWant may r → TellsOf may d called r
 room_tells may d (Err e) r want = inr want
 room_tells may d (Ok (CallOf name call)) r want = inr (no_memory, want.0, want.1)
-room_tells may d (Ok (CallOfAll call)) r want = inr want
+room_tells may d (Ok (CallOfAll whom call)) r want = inr want
 
 none_more : (b : Bool) (n : ℕ) → b ≡ false → cond b 1 0 + n ≡ n
 none_more b n h = subst (λ (x : Bool). cond x 1 0 + n ≡ n) (sym h) (omega arith)
@@ -250,30 +262,34 @@ stops_closed : Option Stop → Bool
 stops_closed None = false
 stops_closed (Some stop) = is_closed stop.fault
 
-not_whole : {A : Type 0} (parts : List Part) (stopped : Option Stop) →
-    parted_reply parts stopped ≡ reply_of_fault Closed → A
+not_whole : {A : Type 0} (parts : List Part) (next : Option (Option (List ℕ)))
+    (stopped : Option Stop) → parted_reply parts next stopped ≡ reply_of_fault Closed → A
 unfolding reply_of_fault
-not_whole parts stopped e = apart (ap (λ (x : SeenReply). eqb x.status 503) e)
+not_whole parts next stopped e = apart (ap (λ (x : SeenReply). eqb x.status 503) e)
 
-by_another : {A : Type 0} (fault : Fault) (parts : List Part) (name : List ℕ) →
-    is_closed fault ≡ false → TellsClosed (parted_reply parts
+by_another : {A : Type 0} (fault : Fault) (parts : List Part)
+    (next : Option (Option (List ℕ))) (name : List ℕ) →
+    is_closed fault ≡ false → TellsClosed (parted_reply parts next
     (Some (record { customer = name; fault = fault }))) → A
 unfolding is_closed stops_closed
-by_another fault parts name another told = ⊎_elim
-    (λ (whole : parted_reply parts (Some (record { customer = name; fault = fault })) ≡
-    reply_of_fault Closed). not_whole parts _ whole)
+by_another fault parts next name another told = ⊎_elim
+    (λ (whole : parted_reply parts next (Some (record { customer = name; fault = fault })) ≡
+    reply_of_fault Closed). not_whole parts next _ whole)
     (λ (stops : StopsClosed (Some (record { customer = name; fault = fault }))). apart (sym another
     ∙ ap stops_closed stops.1)) told
 
 -- and so of a fault that stopped a call of all
-pub stop_closes : (fault : Fault) (was is : Bool) (m n : ℕ) (parts : List Part) (name : List ℕ) →
+pub stop_closes : (fault : Fault) (was is : Bool) (m n : ℕ) (parts : List Part)
+    (next : Option (Option (List ℕ))) (name : List ℕ) →
     IsTallied {X = Rendered} was is m n (Err fault) →
-    TellsClosed (parted_reply parts (Some (record { customer = name; fault = fault }))) → is ≡ true
+    TellsClosed (parted_reply parts next (Some (record { customer = name; fault = fault }))) →
+    is ≡ true
 unfolding is_closed
-stop_closes WantOfMemory was is m n parts name h told = by_another WantOfMemory parts name refl told
-stop_closes Disk was is m n parts name h told = by_another Disk parts name refl told
-stop_closes BadSchema was is m n parts name h told = absurd h
-stop_closes Closed was is m n parts name h told = h.0
+stop_closes WantOfMemory was is m n parts next name h told =
+    by_another WantOfMemory parts next name refl told
+stop_closes Disk was is m n parts next name h told = by_another Disk parts next name refl told
+stop_closes BadSchema was is m n parts next name h told = absurd h
+stop_closes Closed was is m n parts next name h told = h.0
 
 module _ {D : Type 0} (sight : DeskSight D) (d : Directory) (desk : D) where
   -- there was no room for it, and nothing was done
@@ -330,6 +346,7 @@ module _ {D : Type 0} (refused : Type 0) (sight : DeskSight D) where
   rendered_all all old new result takes kept = record {
     none = kept.none;
     ours = kept.ours;
+    round = kept.round;
     quiet = kept.quiet;
     tally = kept.tally;
     cause = cause result kept.cause;

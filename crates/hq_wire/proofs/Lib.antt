@@ -5,3 +5,4 @@ pub mod OneLine
 pub mod Serving
 pub mod Called
 pub mod Stopping
+pub mod Written

@@ -22,6 +22,17 @@ use Rattle.hq_json.proofs.OneLine.{answer_one_line, both_one_line, customer_one}
 use Rattle.hq_requests.specs.Calls.{Asked, CallOf, CallOfAll}
 use Rattle.hq_requests.specs.Directories.{entry_of, names_of}
 use Rattle.hq_wire.specs.Exchanges.{IsWant}
+use Rattle.std.proofs.Common.{zero, suc, cond, Bool, false, take, drop}
+use Rattle.std.specs.Prelude.{⊤}
+use Rattle.std.specs.Cmp.Derive.{both_true}
+use Rattle.hq_kept.specs.declared.account.Customer.{Customer}
+use Rattle.hq_requests.specs.Customers.{has_name}
+use Rattle.hq_requests.specs.Directories.{name_of}
+use Rattle.hq_requests.specs.Spans.{Whom, Everyone, From, from_name, from_start, most_asked}
+use Rattle.hq_requests.specs.Spans.{names_in, unasked_in}
+use Rattle.hq_wire.specs.Exchanges.{first_named, next_shown, next_left}
+use Rattle.hq_wire.specs.Replies.{next_text}
+use Rattle.hq_json.proofs.OneLine.{name_one}
 use Rattle.hq_wire.specs.Exchanges.{AllDone, CallsAll, EndsAt, InPart, IsStruck, MayReplyTo}
 use Rattle.hq_wire.specs.Exchanges.{of_part}
 use Rattle.hq_wire.specs.Replies.{Part, SeenReply, Stop, closing, comma_joined, fault_text}
@@ -84,23 +95,87 @@ module _ (host : List ℕ) (d : Directory) (at : ℕ) where
       (and_parts (is_name stop.customer) (list_all is_name more)
       (ap (list_all is_name) (sym ends.1.1) ∙ known)).0 (fault_one stop.fault)
 
+  -- a name that may be told
+  abbrev IsKnown : Option (List ℕ) → Type 0
+  IsKnown None = ⊤
+  IsKnown (Some name) = is_name name ≡ true
+
+  first_known : (xs ys : List (List ℕ)) → list_all is_name xs ≡ true → list_all is_name ys ≡ true →
+      IsKnown (first_named (xs ++ ys))
+  first_known [] [] h k = tt
+  first_known [] (y ∷ ys) h k = (and_parts (is_name y) (list_all is_name ys) k).0
+  first_known (x ∷ xs) ys h k = (and_parts (is_name x) (list_all is_name xs) h).0
+
+  next_one_line : (whom : Whom) (next : Option (List ℕ)) → IsKnown next →
+      is_one_line (next_text (next_shown whom next)) ≡ true
+  next_one_line Everyone next known = refl
+  next_one_line (From start) None known = refl
+  next_one_line (From start) (Some name) known = both_one_line (codes ",\"next\":")
+      (codes "\"" ++ name ++ codes "\"") refl
+      (both_one_line (codes "\"" ++ name) (codes "\"")
+      (both_one_line (codes "\"") name refl (name_one name known)) refl)
+
   module _ (may : Fault → Type 0) (t t' : Tables) (names : list_all is_name (names_of d) ≡ true)
     where
-      called_one : (call : Call) (r : SeenReply) → CallsAll may host d t at call r t' →
-          is_one_line r.body ≡ true
-      called_one call r did =
+      from_name_known : (name : List ℕ) (cs : List Customer) →
+          list_all is_name (map name_of cs) ≡ true →
+          list_all is_name (map name_of (from_name name cs)) ≡ true
+      from_name_known name [] known = refl
+      from_name_known name (c ∷ cs) known = by (from_name_known name cs) (has_name name c) where
+        by : (list_all is_name (map name_of cs) ≡ true →
+            list_all is_name (map name_of (from_name name cs)) ≡ true) → (b : Bool) →
+            list_all is_name (map name_of (cond b (c ∷ cs) (from_name name cs))) ≡ true
+        by further true = known
+        by further false = further (and_parts (is_name (name_of c))
+            (list_all is_name (map name_of cs)) known).1
+
+      start_known : (start : Option (List ℕ)) →
+          list_all is_name (map name_of (from_start start d.customers)) ≡ true
+      start_known None = names
+      start_known (Some name) = from_name_known name d.customers names
+
+      split_known : (n : ℕ) (cs : List Customer) → list_all is_name (map name_of cs) ≡ true →
+          (list_all is_name (map name_of (take n cs)) ≡ true)
+          × (list_all is_name (map name_of (drop n cs)) ≡ true)
+      split_known zero cs known = (refl, known)
+      split_known (suc n) [] known = (refl, refl)
+      split_known (suc n) (c ∷ cs) known =
+          let parts = and_parts (is_name (name_of c)) (list_all is_name (map name_of cs)) known in
+          let rest = split_known n cs parts.1 in
+          (both_true parts.0 rest.0, rest.1)
+
+      asked_known : (whom : Whom) → list_all is_name (names_in d whom) ≡ true
+      asked_known Everyone = names
+      asked_known (From start) = (split_known most_asked (from_start start d.customers)
+          (start_known start)).0
+
+      unasked_known : (whom : Whom) → list_all is_name (map name_of (unasked_in d whom)) ≡ true
+      unasked_known Everyone = refl
+      unasked_known (From start) = (split_known most_asked (from_start start d.customers)
+          (start_known start)).1
+
+      called_one : (whom : Whom) (call : Call) (r : SeenReply) →
+          CallsAll may host d t at whom call r t' → is_one_line r.body ≡ true
+      called_one whom call r did =
           let known : (list_all is_name (map whose r.parts) && list_all is_name did.left) ≡ true =
           sym (list_all-append is_name (map whose r.parts) did.left)
-          ∙ ap (list_all is_name) (sym did.order) ∙ names in
+          ∙ ap (list_all is_name) (sym did.order) ∙ asked_known whom in
           let both = and_parts (list_all is_name (map whose r.parts)) (list_all is_name did.left)
           known in
           let parts = joined_one call t t' r.parts both.0 did.done in
           let stop = stopped_one may did.left r.stopped both.1 did.ends in
-          let end : is_one_line (closing r.stopped) ≡ true = both_one_line (codes "],\"stopped\":"
-          ++ stopped_text r.stopped) (codes "}") (both_one_line (codes "],\"stopped\":")
-          (stopped_text r.stopped) refl stop) refl in
+          let next = next_left d whom did.left in
+          let next_one : is_one_line (next_text next) ≡ true =
+          next_one_line whom (first_named (did.left ++ map name_of (unasked_in d whom)))
+          (first_known did.left (map name_of (unasked_in d whom)) both.1 (unasked_known whom)) in
+          let end : is_one_line (closing next r.stopped) ≡ true =
+          both_one_line (codes "]" ++ next_text next ++ codes ",\"stopped\":"
+          ++ stopped_text r.stopped) (codes "}") (both_one_line (codes "]" ++ next_text next
+          ++ codes ",\"stopped\":") (stopped_text r.stopped)
+          (both_one_line (codes "]" ++ next_text next) (codes ",\"stopped\":")
+          (both_one_line (codes "]") (next_text next) refl next_one) refl) stop) refl in
           ap (λ (x : SeenReply). is_one_line x.body) did.reply
-          ∙ both_one_line (codes "{\"done\":[" ++ comma_joined r.parts) (closing r.stopped)
+          ∙ both_one_line (codes "{\"done\":[" ++ comma_joined r.parts) (closing next r.stopped)
           (both_one_line (codes "{\"done\":[") (comma_joined r.parts) refl parts) end
 
       pub reply_one_line_of : (asked : Result Asked Refusal) (r : SeenReply) →
@@ -118,8 +193,8 @@ module _ (host : List ℕ) (d : Directory) (at : ℕ) where
           ∙ answer_one_line (shared host (entry_of d name) t at call).0)
           (λ (struck : (fault : Fault) × may fault × IsStruck fault t r t').
           ap (λ (x : SeenReply). is_one_line x.body) struck.2.0 ∙ struck_one struck.0) h
-      reply_one_line_of (Ok (CallOfAll call)) r h = ⊎_elim
-          (λ (did : CallsAll may host d t at call r t'). called_one call r did)
+      reply_one_line_of (Ok (CallOfAll whom call)) r h = ⊎_elim
+          (λ (did : CallsAll may host d t at whom call r t'). called_one whom call r did)
           (λ (struck : IsWant may r × (t' ≡ t)). ap (λ (x : SeenReply). is_one_line x.body)
           struck.0.1 ∙ struck_one no_memory) h
 

@@ -16,7 +16,8 @@ use Rattle.hq_rules.specs.declared.answer.Answer.{Answer}
 use Rattle.hq_rules.specs.declared.answer.Answer.TheVariants.{Refused}
 use Rattle.hq_rules.specs.declared.call.Call.{Call}
 use Rattle.hq_requests.specs.Calls.{Asked, CallOf, CallOfAll, call_of}
-use Rattle.hq_requests.specs.Directories.{entry_of, names_of}
+use Rattle.hq_requests.specs.Directories.{entry_of, name_of}
+use Rattle.hq_requests.specs.Spans.{Whom, Everyone, From, names_in, unasked_in}
 use Rattle.hq_json.specs.Parts.{part_text}
 use Rattle.hq_wire.specs.Replies.{SeenReply, Part, Stop, AreObjects, reply_of}
 use Rattle.hq_wire.specs.Replies.{reply_of_fault, parted_reply, tells_store}
@@ -83,7 +84,7 @@ abbrev pub deeds_of : ℕ → Result Asked Refusal → SeenReply → List Deed
 deeds_of at (Err refusal) r = []
 deeds_of at (Ok (CallOf name call)) r = if r.status == 503 then [] else
     record { customer = name; at = at; call = call; in_part = false; told = Whole r } ∷ []
-deeds_of at (Ok (CallOfAll call)) r = map (of_part at call) r.parts
+deeds_of at (Ok (CallOfAll whom call)) r = map (of_part at call) r.parts
 
 -- Each by the shared step, from the tables that the one before it left.
 abbrev pub AllDone : List ℕ → Directory → Tables → List Deed → Tables → Type 0
@@ -107,7 +108,7 @@ unheard_call at call name = record { customer = name; at = at; call = call }
 abbrev pub calls_asked : Directory → ℕ → Result Asked Refusal → List Unheard
 calls_asked d at (Err refusal) = []
 calls_asked d at (Ok (CallOf name call)) = unheard_call at call name ∷ []
-calls_asked d at (Ok (CallOfAll call)) = map (unheard_call at call) (names_of d)
+calls_asked d at (Ok (CallOfAll whom call)) = map (unheard_call at call) (names_in d whom)
 
 -- of those that the reply does not tell of, the first
 abbrev pub next_call : Directory → ℕ → Result Asked Refusal → SeenReply → List Unheard
@@ -129,23 +130,36 @@ StopMayLeave host d t at called r t' = (told : Tables)
 
 -- ---- what may be replied
 
--- A call of all ends with the last customer; or at the first of those that are left, by a fault.
+abbrev pub first_named : List (List ℕ) → Option (List ℕ)
+first_named [] = None
+first_named (name ∷ names) = Some name
+
+-- the first customer that has no part, as it is told: where not everyone was asked
+abbrev pub next_shown : Whom → Option (List ℕ) → Option (Option (List ℕ))
+next_shown Everyone next = None
+next_shown (From start) next = Some next
+
+abbrev pub next_left : Directory → Whom → List (List ℕ) → Option (Option (List ℕ))
+next_left d whom left = next_shown whom (first_named (left ++ map name_of (unasked_in d whom)))
+
+-- A call of all ends with the last customer that is asked; or at the first of those that are left,
+-- by a fault.
 abbrev pub EndsAt : (Fault → Type 0) → List (List ℕ) → Option Stop → Type 0
 EndsAt may left None = left ≡ []
 EndsAt may left (Some stop) = may stop.fault
     × ((more : List (List ℕ)) × (left ≡ stop.customer ∷ more))
 
--- A call of all: of the first customers of the directory it is done, of each in its turn, and
+-- A call of all: of the first of the customers that are asked it is done, of each in its turn, and
 -- nothing else is.
 pub record CallsAll (may : Fault → Type 0) (host : List ℕ) (d : Directory) (t : Tables) (at : ℕ)
-    (call : Call) (r : SeenReply) (t' : Tables) : Type 0 where
+    (whom : Whom) (call : Call) (r : SeenReply) (t' : Tables) : Type 0 where
   pub left : List (List ℕ)
-  pub order : names_of d ≡ map (λ (part : Part). part.customer) r.parts ++ left
+  pub order : names_in d whom ≡ map (λ (part : Part). part.customer) r.parts ++ left
   pub done : AllDone host d t (map (of_part at call) r.parts) t'
   pub ends : EndsAt may left r.stopped
   -- so that the parts are told by the bytes
   pub objects : AreObjects r.parts
-  pub reply : r ≡ parted_reply r.parts r.stopped
+  pub reply : r ≡ parted_reply r.parts (next_left d whom left) r.stopped
 
 -- From the tables t, what was asked may get the reply r and leave the tables t': a refusal, which
 -- changes nothing; or the shared step's answer and its tables; or, in place of either, a fault that
@@ -157,21 +171,22 @@ MayReplyTo may host d t at (Ok (CallOf name call)) r t' =
     let done = shared host (entry_of d name) t at call in
     ((r ≡ reply_of done.0) × (t' ≡ done.1)) ⊎ ((fault : Fault) × may fault
     × IsStruck fault t r t')
-MayReplyTo may host d t at (Ok (CallOfAll call)) r t' = CallsAll may host d t at call r t'
+MayReplyTo may host d t at (Ok (CallOfAll whom call)) r t' = CallsAll may host d t at whom call r t'
     ⊎ (IsWant may r × (t' ≡ t))
 
 abbrev pub MayReply : (Fault → Type 0) → List ℕ → Directory → Tables → Ask → SeenReply → Tables →
     Type 0
 MayReply may host d t a r t' = MayReplyTo may host d t a.at a.called r t'
 
--- The reply to a call of all has the parts of the first customers of the directory, and then ends,
--- or names the next one and the fault that stopped it there.
-pub record ArePartsOf (may : Fault → Type 0) (d : Directory) (r : SeenReply) : Type 0 where
-  pub left : List (List ℕ)
-  pub order : names_of d ≡ map (λ (part : Part). part.customer) r.parts ++ left
-  pub ends : EndsAt may left r.stopped
-  pub objects : AreObjects r.parts
-  pub reply : r ≡ parted_reply r.parts r.stopped
+-- The reply to a call of all has the parts of the first of the customers that are asked, and then
+-- ends, or names the next one and the fault that stopped it there.
+pub record ArePartsOf (may : Fault → Type 0) (d : Directory) (whom : Whom) (r : SeenReply) : Type 0
+  where
+    pub left : List (List ℕ)
+    pub order : names_in d whom ≡ map (λ (part : Part). part.customer) r.parts ++ left
+    pub ends : EndsAt may left r.stopped
+    pub objects : AreObjects r.parts
+    pub reply : r ≡ parted_reply r.parts (next_left d whom left) r.stopped
 
 -- What a reply tells, whatever the store is: of what was refused, the refusal; of a call of a
 -- customer, an answer or a fault; of a call of all, parts and what stopped it. Want of memory may
@@ -180,7 +195,7 @@ abbrev pub TellsOf : (Fault → Type 0) → Directory → Result Asked Refusal �
 TellsOf may d (Err refusal) r = IsRefused may refusal r
 TellsOf may d (Ok (CallOf name call)) r = ((answer : Answer) × (r ≡ reply_of answer))
     ⊎ ((fault : Fault) × may fault × (r ≡ reply_of_fault fault))
-TellsOf may d (Ok (CallOfAll call)) r = ArePartsOf may d r ⊎ IsWant may r
+TellsOf may d (Ok (CallOfAll whom call)) r = ArePartsOf may d whom r ⊎ IsWant may r
 
 abbrev pub Tells : (Fault → Type 0) → Directory → Ask → SeenReply → Type 0
 Tells may d a r = TellsOf may d a.called r
@@ -196,15 +211,15 @@ TellsClosed r = (r ≡ reply_of_fault Closed) ⊎ StopsClosed r.stopped
 
 -- Whatever the store is: a refusal is told, and the desk stays as it is; and where the store is
 -- closed after a call, the reply tells this, or want of memory before anything was done; and so of
--- a call of all, unless there is no customer.
+-- a call of all, unless no customer was asked.
 abbrev pub RepliesAnyway : {D : Type 0} → Sight D → Directory → D → Result Asked Refusal
     → SeenReply → D → Type 0
 RepliesAnyway sight d old (Err refusal) r new = IsRefused sight.may_answer refusal r × (new ≡ old)
 RepliesAnyway sight d old (Ok (CallOf name call)) r new = sight.is_closed new ≡ true →
     (r ≡ reply_of_fault Closed) ⊎ (IsWant sight.may_answer r × (new ≡ old))
-RepliesAnyway sight d old (Ok (CallOfAll call)) r new = sight.is_closed new ≡ true →
+RepliesAnyway sight d old (Ok (CallOfAll whom call)) r new = sight.is_closed new ≡ true →
     StopsClosed r.stopped
-    ⊎ ((IsWant sight.may_answer r ⊎ (names_of d ≡ [])) × (new ≡ old))
+    ⊎ ((IsWant sight.may_answer r ⊎ (names_in d whom ≡ [])) × (new ≡ old))
 
 -- What one exchange does to a desk, by what is seen of its shelf.
 pub record Exchanged {D : Type 0} (sight : DeskSight D) (d : Directory) (old : D) (a : Ask)

@@ -96,16 +96,26 @@ stopped_text (Some stop) = for_customer stop.customer (fault_text stop.fault)
 abbrev pub parts_opening : List ℕ
 parts_opening = codes "{\"done\":["
 
+abbrev pub name_text : Option (List ℕ) → List ℕ
+name_text None = codes "null"
+name_text (Some name) = codes "\"" ++ name ++ codes "\""
+
+-- the first customer that has no part, where that is told
+abbrev pub next_text : Option (Option (List ℕ)) → List ℕ
+next_text None = []
+next_text (Some next) = codes ",\"next\":" ++ name_text next
+
 -- behind the last part
-abbrev pub closing : Option Stop → List ℕ
-closing stopped = codes "],\"stopped\":" ++ stopped_text stopped ++ codes "}"
+abbrev pub closing : Option (Option (List ℕ)) → Option Stop → List ℕ
+closing next stopped = codes "]" ++ next_text next ++ codes ",\"stopped\":" ++ stopped_text stopped
+    ++ codes "}"
 
 -- the reply to a call of all
-abbrev pub parted_reply : List Part → Option Stop → SeenReply
-parted_reply parts stopped = record {
+abbrev pub parted_reply : List Part → Option (Option (List ℕ)) → Option Stop → SeenReply
+parted_reply parts next stopped = record {
   status = 200;
   body = parts_opening ++ comma_joined parts
-      ++ closing stopped;
+      ++ closing next stopped;
   parts = parts;
   stopped = stopped;
 }

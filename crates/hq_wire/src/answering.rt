@@ -98,7 +98,7 @@ fn call_reply<'d, D: Acts, M: JsonMemory>(
 /// other fault only where the store may.
 ///
 /// The reply to a call of all has a part for each customer that is done, by the shared step: the
-/// first of the directory. A fault stops the call, and the reply names its customer.
+/// first of those that are asked. A fault stops the call, and the reply names its customer.
 ///
 /// Contracts speak of tables where the store is clean and open as the call ends, its rows were
 /// those of the tables before, and the tables were sound. Whatever the store is, a refusal is told
@@ -119,7 +119,9 @@ pub fn exchange<'d, D: Acts, M: JsonMemory>(
 {
     match call_of(memory, directory, exchange) {
         Ok(Asking::CallOf(entry, call)) => call_reply(memory, desk, exchange.at, entry, call),
-        Ok(Asking::CallOfAll(each)) => call_all(memory, desk, directory, exchange.at, each),
+        Ok(Asking::CallOfAll(span, each)) => {
+            call_all(memory, desk, directory, exchange.at, span, each)
+        }
         Err(Fail::Refused(refusal)) => {
             refusal_reply(memory, customer_named(directory, exchange), refusal)
         }

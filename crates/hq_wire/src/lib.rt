@@ -16,6 +16,7 @@ mod calling;
 mod faults;
 mod headline;
 pub mod laws;
+mod parted;
 
 pub use answering::{exchange, refusal_reply};
 pub use faults::fault_reply;

@@ -3,10 +3,11 @@
 use hq_desk::Desk;
 use hq_kept::{Customer, Entry, Quota};
 use hq_lists::ListShelf;
+use hq_memory::own_text;
 use hq_tables::Shelf;
 use hq_values::{Fail as Failure, Host, Key, Moment, Name};
 use hq_wire::{Directory, Exchange, Reply, are_customers, exchange};
-use std::alloc::{AllocError, Global};
+use std::alloc::Global;
 use std::process::Abort;
 use std::str;
 use std::test::Fail;
@@ -79,14 +80,6 @@ fn word<'a>(line: &'a str, index: usize) -> &'a str {
     line.splitn(4, ' ').nth(index).unwrap_or("")
 }
 
-/// A key of its own.
-fn own_key(alloc: Global, key: Option<&str>) -> Result<Option<String>, AllocError> {
-    match key {
-        None => Ok(None),
-        Some(key) => Ok(Some(String::from_str(alloc, key)?)),
-    }
-}
-
 pub fn exchange_of(
     alloc: Global,
     method: &str,
@@ -98,7 +91,7 @@ pub fn exchange_of(
         at: Moment::new(START).ok_or("no moment")?,
         method: String::from_str(alloc, method)?,
         path: String::from_str(alloc, path)?,
-        key: own_key(alloc, key)?,
+        key: own_text(alloc, key)?,
         body: Vec::from_slice(alloc, body.as_bytes())?,
     })
 }

@@ -5,7 +5,7 @@ use Rattle.hq_reads.proofs.Pages.{due_page_of_more}
 use Rattle.hq_reads.proofs.relay.decide_due.Goals as goal
 
 pub returns-clause-found : goal.returns-clause-found
-returns-clause-found g c = λ clean ours sound.
+returns-clause-found g c = λ clean ours.
     let name = c.args.entry.now.name in
     let t = g.S.Shelf.sight.tables c.args.shelf.now in
     c.due_page.ensures

@@ -1,16 +1,17 @@
-use Rattle.std.proofs.Common.{◌≡◌, ℕ, ◌<◌, ◌≤◌, ◌^◌, List, sym, subst, ap, ◌∙◌}
+use Rattle.std.proofs.Common.{◌≡◌, ℕ, ◌<◌, ◌≤◌, ◌^◌, List, Ok, sym, subst, ap, ◌∙◌}
 use Rattle.std.specs.Prelude.{option_map}
 use Rattle.hq_rules.specs.Verdicts.{verdict}
 use Rattle.hq_kept.specs.declared.pattern.Class.TheVariants.{SenderSide}
 use Rattle.hq_rules.specs.Admission.{admitted}
 use Rattle.hq_kept.specs.declared.account.Head.{Head}
 use Rattle.hq_tables.specs.Readings.{account_read, read_tables}
+use Rattle.hq_tables.specs.Shelves.{Keeps}
 use Rattle.hq_tables.specs.declared.account.Account.{Account}
 use Rattle.hq_reads.proofs.Then.{finds_on}
 use Rattle.hq_reads.specs.Memory.{with_memory}
 use Rattle.hq_rules.specs.Submissions as rules
 use Rattle.hq_reads.proofs.NoLines.{nobody_found, no_actions}
-use Rattle.hq_reads.proofs.Reading.{keeps_more}
+use Rattle.hq_reads.proofs.Reading.{keeps_more, keeps_ok, keeps_on}
 use Rattle.hq_reads.proofs.submit.decide_new.Goals as goal
 use Rattle.hq_reads.proofs.submit.decide_new.Goals.{then-account-eq0+in_ok-verdict}
 use Rattle.hq_reads.proofs.submit.decide_new.Goals.{else-account-eq0+in_ok-verdict-2}
@@ -63,3 +64,19 @@ returns-clause-found g c = λ clean ours sound.
     c.if-account-eq0.verdict) serial
     ∙ (λ i. rules.settled (account i).head c.args.at origin
     (admitted (account i).head c.args.entry.now.quota (account i).counts sub.size) (whole i))
+
+pub returns-clause-kept : goal.returns-clause-kept
+returns-clause-kept g c =
+    let sight = with_memory g.M.Memory.refused g.S.Shelf.sight in
+    let old = c.args.shelf.now in
+    let first = c.in_ok-account.ensures in
+    let kept = keeps_more g.M.Memory.refused g.S.Shelf.sight _ _ _ first.kept in
+    let told = Ok c.in_ok-decision.decision in
+    elim c.if-account-eq0.branch [
+      | then-account-eq0+in_ok-verdict w ↦
+          subst (λ new. Keeps sight old new told) (sym w.shelf-is) (keeps_ok sight _ _ _ _ kept)
+      | else-account-eq0+in_ok-verdict-2 w ↦
+          subst (λ new. Keeps sight old new told) (sym w.shelf-is)
+          (keeps_ok sight _ _ _ _ (keeps_on sight _ _ _ _ _ kept
+          (w.in_ok-verdict-2.ensures.kept first.kept.tally.1)))
+    ]

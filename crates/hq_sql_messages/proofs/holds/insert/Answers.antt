@@ -8,7 +8,7 @@ use Rattle.hq_sql_messages.proofs.holds.insert.Goals as goal
 
 pub returns-in_err-there-clause-kept : goal.returns-in_err-there-clause-kept
 returns-in_err-there-clause-kept g c = write_failed _ _ hold_insert_text _ _ hold_insert_known
-    refl c.in_err-there.ensures.survives _ c.in_err-there.ensures.runs
+    refl c.in_err-there.ensures.survives _ (λ clean. (c.in_err-there.ensures.runs clean).0)
 
 pub returns-clause-made : goal.returns-clause-made
 returns-clause-made g c clean desk =

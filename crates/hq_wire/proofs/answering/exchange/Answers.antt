@@ -1,6 +1,7 @@
 use Rattle.std.proofs.Common.{◌≡◌, Result, Ok, Err, refl, sym, ap, ◌∙◌, subst}
 use Rattle.hq_values.specs.Readers.{ReadsIn}
 use Rattle.hq_values.specs.declared.failure.Refusal.{Refusal}
+use Rattle.hq_requests.specs.Spans.{whom_seen}
 use Rattle.hq_requests.specs.Calls.{Asked, CallOf, CallOfAll, IsKnown, asked_seen, call_of}
 use Rattle.hq_rules.specs.Each.{each_call}
 use Rattle.hq_requests.proofs.Whose.{whose_all, whose_call}
@@ -34,7 +35,8 @@ returns-in-Ok-CallOfAll-clause-done g c =
     let old = c.args.desk.now in
     let new = c.call_all.new.desk in
     let so = c.call_all.ensures.done in
-    let called : call_of d x ≡ Ok (CallOfAll (each_call c.in-Ok-CallOfAll.each)) =
+    let called : call_of d x ≡ Ok (CallOfAll (whom_seen c.in-Ok-CallOfAll.span)
+    (each_call c.in-Ok-CallOfAll.each)) =
     c.in-Ok-CallOfAll.ensures.call ∙ (λ i. Ok (asked_seen (c.in-Ok-CallOfAll.field-0-is i))) in
     told_once sight d old new (ask_of d x) c.call_all.result so.0 so.1
     (subst (λ (asked : Result Asked Refusal). Exchanged sight d old
@@ -80,5 +82,6 @@ returns-in-Ok-CallOf-clause-customer g c = c.call_reply.ensures.customer
 pub returns-in-Ok-CallOfAll-clause-customer : goal.returns-in-Ok-CallOfAll-clause-customer
 returns-in-Ok-CallOfAll-clause-customer g c =
     c.call_all.ensures.customer
-    ∙ sym (whose_all c.args.directory.now c.args.exchange.now (each_call c.in-Ok-CallOfAll.each)
+    ∙ sym (whose_all c.args.directory.now c.args.exchange.now
+    (whom_seen c.in-Ok-CallOfAll.span) (each_call c.in-Ok-CallOfAll.each)
     (c.in-Ok-CallOfAll.ensures.call ∙ (λ i. Ok (asked_seen (c.in-Ok-CallOfAll.field-0-is i)))))

@@ -10,6 +10,6 @@ invariant-loop-customer g l = record {
   so_far : SoFar (with_refusals g.M.Memory.refused g.D.Acts.sight)
       l.directory l.at (each_call l.each) l.fn.desk
       (map name_of (take l.customer-index l.customers)) l.desk l.body.items l.is_first;
-  room : vec_len l.body + (length l.customers * l.room + 93) ≤ vec_capacity l.body
+  room : vec_len l.body + (length l.customers * l.room + 135) ≤ vec_capacity l.body
       + l.customer-index * l.room;
 }

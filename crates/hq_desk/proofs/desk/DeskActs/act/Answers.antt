@@ -1,9 +1,10 @@
 use Rattle.std.proofs.Common.{◌≡◌, inl, inr, ⊎_elim, Err, sym, subst, ap, ◌∙◌}
+use Rattle.std.specs.Prelude.{⊤}
 use Rattle.std.proofs.lemmas.Result.{err_from_is_err_and}
 use Rattle.hq_tables.specs.Sound.{Sound}
 use Rattle.hq_tables.specs.Tables.{write_all}
 use Rattle.hq_rules.specs.Desks.{AnswersAre}
-use Rattle.hq_reads.proofs.Reading.{changes_on, no_memory_on, rests_on}
+use Rattle.hq_reads.proofs.Reading.{changes_on, made_on, no_memory_on, rests_on}
 use Rattle.hq_soundness.proofs.Soundness.{shared_sound}
 use Rattle.hq_desk.proofs.desk.DeskActs.act.Goals as goal
 
@@ -34,6 +35,7 @@ returns-in_err-apply-clause-kept g c =
     record {
       none = both.none;
       ours = both.ours;
+      round = both.round;
       quiet = both.quiet;
       tally = both.tally;
       cause = both.cause;
@@ -53,6 +55,7 @@ returns-in_err-bytes-clause-kept g c =
     record {
       none = kept.none;
       ours = kept.ours;
+      round = kept.round;
       quiet = kept.quiet;
       tally = kept.tally;
       cause = kept.cause;
@@ -78,3 +81,19 @@ returns-in_err-apply-clause-stops g c = λ clean ours sound rests.
           c.as_slice.ensures ∙ (λ i. write_all name ((decided i).changes) (same i))))
           (left.1 t may),
     )
+
+pub returns-clause-kept : goal.returns-clause-kept
+returns-clause-kept g c =
+    let both = made_on {Z = ⊤} _ (AnswersAre (g.R.Render.takes c.args.render.now) c.args.call
+    → g.M.Memory.refused) g.S.Shelf.sight _ _ _ _ _ tt c.in_ok-decision.ensures.kept
+    c.in_ok-apply.ensures.kept in
+    record {
+      none = both.none;
+      ours = both.ours;
+      round = both.round;
+      quiet = both.quiet;
+      tally = both.tally;
+      cause = both.cause;
+      rests = both.rests;
+      shut = both.shut;
+    }

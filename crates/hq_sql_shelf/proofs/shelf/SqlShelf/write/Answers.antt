@@ -67,6 +67,7 @@ returns-in-Ok-clause-kept g c =
     record {
       none = λ clean ours opened. tt;
       ours = λ clean ours opened. (made_after g c clean.0 ours).0;
+      round = λ clean either t back. tt;
       quiet = λ clean. first.quiet (open_stands c.ready.new.self.standing mid
           c.in_ok-ready.ensures.open
           (clean_before mid new c.in-Ok.ensures.kept.quiet clean.0));
@@ -102,6 +103,7 @@ returns-in-Err-clause-kept g c =
     record {
       none = end.same;
       ours = end.ours;
+      round = λ clean either t back. tt;
       quiet = end.quiet;
       tally = end.tally;
       cause = end.cause;

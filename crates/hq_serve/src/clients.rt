@@ -1,0 +1,303 @@
+//! One client of several, none of which waits for another: its request is gathered, and its
+//! response leaves, as far as its socket gives and takes without a wait.
+
+ghost use Rattle.hq_serve.specs.Clients.{TriesOf};
+
+use crate::listening::Limits;
+use crate::sockets::Stream;
+use hq_http::{Gathered, Gathering, Input};
+use hq_memory::Memory;
+use hq_values::EngineFault;
+use std::io::{self, ErrorKind};
+use std::time::{Duration, Instant};
+
+/// How often one client is read or written before the others have their turn.
+const MOST_TRIES: u32 = 32;
+
+/// How often what a client still sends is read at most, when its response went out.
+const MOST_THROWN: u32 = 4_096;
+
+/// How many seconds a client whose response went out has to end its side.
+const LINGER_SECONDS: u64 = 1;
+
+/// How far a client has come.
+#[derive(Drop)]
+pub(crate) enum Phase {
+    /// Its request comes.
+    Asking(Gathering),
+    /// What it asks for has come, and is to be answered.
+    Asked(Input),
+    /// What it asks for is done in a round.
+    InRound,
+    /// Its response leaves: all its bytes, and how many of them went out.
+    Answered(Vec<u8>, usize),
+    /// Its response went out. What it still sends is thrown away, so many reads more.
+    Leaving(u32),
+}
+
+/// By when a client has to go on. `None` is no limit, where the clock tells none.
+#[derive(Clone, Copy, Drop)]
+pub(crate) struct Deadlines {
+    /// By when the phase has to have ended.
+    pub phase: Option<Instant>,
+    /// By when a byte has to come or go.
+    pub idle: Option<Instant>,
+}
+
+/// A client.
+#[derive(Drop)]
+pub(crate) struct Client {
+    /// Its connection, which never waits.
+    pub stream: Stream,
+    /// How far it has come.
+    pub phase: Phase,
+    /// By when it has to go on.
+    pub deadlines: Deadlines,
+}
+
+/// What became of a client in a turn.
+#[derive(Drop)]
+pub(crate) enum Turned {
+    /// It stays until its socket gives or takes more.
+    Waits(Client),
+    /// It stays, and goes on in the next turn.
+    GoesOn(Client),
+    /// It is done with.
+    Left,
+    /// It failed, or took too long.
+    Failed(EngineFault),
+}
+
+/// What an attempt at a socket gave.
+#[derive(Drop)]
+enum Tried {
+    /// So many bytes.
+    Bytes(usize),
+    /// Nothing, for a signal.
+    Again,
+    /// It would have waited.
+    Waits,
+    /// It is closed.
+    Closed,
+    /// It failed.
+    Failed,
+}
+
+/// What the answer of a socket tells.
+fn outcome_of(answer: io::Result<usize>) -> Tried
+    ensures { TriesOf answer result }
+{
+    match answer {
+        Ok(0) => Tried::Closed,
+        Ok(count) => Tried::Bytes(count),
+        Err(error) => match error.kind() {
+            ErrorKind::Interrupted => Tried::Again,
+            ErrorKind::WouldBlock => Tried::Waits,
+            _ => Tried::Failed,
+        },
+    }
+}
+
+/// An instant so long from now; `None` where no clock counts as far.
+fn after(now: Option<Instant>, time: Duration) -> Option<Instant> {
+    now?.checked_add(time)
+}
+
+/// Whether an instant has come.
+fn is_past(end: Option<Instant>, now: Option<Instant>) -> bool {
+    match (end, now) {
+        (Some(end), Some(now)) => end <= now,
+        _ => false,
+    }
+}
+
+/// Those of a phase that begins now, within these limits.
+pub(crate) fn deadlines_from(now: Option<Instant>, limits: Limits) -> Deadlines {
+    Deadlines {
+        phase: after(now, limits.request),
+        idle: after(now, limits.idle),
+    }
+}
+
+impl Client {
+    /// One that was accepted now.
+    pub fn new<M: Memory>(memory: M, stream: Stream, deadlines: Deadlines) -> Client {
+        Client {
+            stream,
+            phase: Phase::Asking(Gathering::new(memory)),
+            deadlines,
+        }
+    }
+
+    /// Whether it took longer than it may.
+    fn is_late(&self, now: Option<Instant>) -> bool {
+        is_past(self.deadlines.phase, now) || is_past(self.deadlines.idle, now)
+    }
+
+    /// Reads and writes as much as is there, and as its turn allows.
+    pub fn turn<M: Memory>(self, memory: M, limits: Limits, now: Option<Instant>) -> Turned {
+        let late = self.is_late(now);
+        let Client {
+            stream,
+            phase,
+            deadlines,
+        } = self;
+        match phase {
+            Phase::Asking(_) if late => Turned::Failed(EngineFault::Read),
+            Phase::Asking(gathering) => {
+                let idle = after(now, limits.idle);
+                gather(memory, stream, gathering, deadlines, idle)
+            }
+            Phase::Asked(Input::Nothing) | Phase::InRound => Turned::Left,
+            Phase::Asked(input) => Turned::Waits(Client {
+                stream,
+                phase: Phase::Asked(input),
+                deadlines,
+            }),
+            Phase::Answered(_, _) if late => Turned::Failed(EngineFault::Write),
+            Phase::Answered(bytes, sent) => {
+                let idle = after(now, limits.idle);
+                send(
+                    stream,
+                    bytes,
+                    sent,
+                    deadlines,
+                    idle,
+                    after(now, Duration::from_secs(LINGER_SECONDS)),
+                )
+            }
+            Phase::Leaving(_) if late => Turned::Left,
+            Phase::Leaving(left) => throw_away(stream, left, deadlines),
+        }
+    }
+}
+
+/// A client that goes on with its request in the next turn, or when more of it comes.
+fn asking(stream: Stream, gathering: Gathering, deadlines: Deadlines) -> Client {
+    Client {
+        stream,
+        phase: Phase::Asking(gathering),
+        deadlines,
+    }
+}
+
+/// A client whose request has come.
+fn asked(stream: Stream, input: Input, deadlines: Deadlines) -> Turned {
+    Turned::GoesOn(Client {
+        stream,
+        phase: Phase::Asked(input),
+        deadlines,
+    })
+}
+
+/// Gathers what came of a request. Where any did, more has to come by `idle`.
+fn gather<M: Memory>(
+    memory: M,
+    stream: Stream,
+    gathering: Gathering,
+    deadlines: Deadlines,
+    idle: Option<Instant>,
+) -> Turned {
+    let mut gathering = gathering;
+    let mut deadlines = deadlines;
+    let mut chunk = [0; 4_096];
+    for _ in 0..MOST_TRIES {
+        match outcome_of(stream.read(&mut chunk)) {
+            Tried::Bytes(count) => {
+                deadlines.idle = idle;
+                match gathering.more(memory, &chunk[..count]) {
+                    Gathered::Open(more) => gathering = more,
+                    Gathered::Done(input) => return asked(stream, input, deadlines),
+                }
+            }
+            Tried::Again => {}
+            Tried::Waits => return Turned::Waits(asking(stream, gathering, deadlines)),
+            Tried::Closed => {
+                let input = gathering.end();
+                return asked(stream, input, deadlines);
+            }
+            Tried::Failed => return Turned::Failed(EngineFault::Read),
+        }
+    }
+    Turned::GoesOn(asking(stream, gathering, deadlines))
+}
+
+/// A client whose response went out; it has to end its side by this instant.
+fn leaving(stream: Stream, end: Option<Instant>) -> Turned {
+    if stream.end_writing().is_err() {
+        return Turned::Left;
+    }
+    Turned::GoesOn(Client {
+        stream,
+        phase: Phase::Leaving(MOST_THROWN),
+        deadlines: Deadlines {
+            phase: end,
+            idle: end,
+        },
+    })
+}
+
+/// A client whose response has not left yet.
+fn answered(stream: Stream, bytes: Vec<u8>, sent: usize, deadlines: Deadlines) -> Client {
+    Client {
+        stream,
+        phase: Phase::Answered(bytes, sent),
+        deadlines,
+    }
+}
+
+/// Sends what is left of a response. Where any was taken, more has to be by `idle`; and where all
+/// was, the client has to end its side by `end`.
+fn send(
+    stream: Stream,
+    bytes: Vec<u8>,
+    sent: usize,
+    deadlines: Deadlines,
+    idle: Option<Instant>,
+    end: Option<Instant>,
+) -> Turned {
+    let mut sent = sent;
+    let mut deadlines = deadlines;
+    for _ in 0..MOST_TRIES {
+        let rest = bytes.as_slice().get(sent..).unwrap_or(&[]);
+        if rest.is_empty() {
+            return leaving(stream, end);
+        }
+        match outcome_of(stream.write(rest)) {
+            Tried::Bytes(count) => {
+                deadlines.idle = idle;
+                sent = sent.saturating_add(count);
+            }
+            Tried::Again => {}
+            Tried::Waits => return Turned::Waits(answered(stream, bytes, sent, deadlines)),
+            Tried::Closed | Tried::Failed => return Turned::Failed(EngineFault::Write),
+        }
+    }
+    Turned::GoesOn(answered(stream, bytes, sent, deadlines))
+}
+
+/// Throws away what a client still sends, so many reads more.
+fn throw_away(stream: Stream, left: u32, deadlines: Deadlines) -> Turned {
+    let mut left = left;
+    let mut thrown = [0; 4_096];
+    for _ in 0..MOST_TRIES {
+        match outcome_of(stream.read(&mut thrown)) {
+            Tried::Bytes(_) | Tried::Again => match left.checked_sub(1) {
+                None => return Turned::Left,
+                Some(fewer) => left = fewer,
+            },
+            Tried::Waits => return Turned::Waits(leaver(stream, left, deadlines)),
+            Tried::Closed | Tried::Failed => return Turned::Left,
+        }
+    }
+    Turned::GoesOn(leaver(stream, left, deadlines))
+}
+
+/// A client that has still to end its side.
+fn leaver(stream: Stream, left: u32, deadlines: Deadlines) -> Client {
+    Client {
+        stream,
+        phase: Phase::Leaving(left),
+        deadlines,
+    }
+}

@@ -1,0 +1,279 @@
+//! The clients of a listening socket, several at once.
+
+ghost use Rattle.std.specs.Prelude.{◌≤◌};
+ghost use Rattle.hq_serve.specs.Listening.{connections_left};
+
+use crate::clients::{Client, Phase, Turned, deadlines_from};
+use crate::connections::Connections;
+use crate::listening::{Limits, tell};
+use crate::sockets::{Listener, Stream};
+use hq_http::Input;
+use hq_memory::Memory;
+use mio::unix::SourceFd;
+use mio::{Events, Interest, Poll, Token};
+use std::alloc::Global;
+use std::io::{self, Write};
+use std::net::Net;
+use std::time::{Duration, Instant};
+
+/// How many clients are served at once at most; others wait until they are accepted.
+const MOST_CLIENTS: usize = 256;
+
+/// How many events one wait tells at most. What they tell is not asked: each client has its turn.
+const MOST_EVENTS: usize = 16;
+
+/// How many seconds to wait at most where the clock does not tell the time.
+const LONGEST_WAIT_SECONDS: u64 = 1;
+
+/// Clients that are served at once, and what waits for their sockets.
+#[derive(Drop)]
+pub(crate) struct Waiting {
+    slots: Vec<Option<Client>>,
+    poll: Poll,
+    events: Events,
+    busy: bool,
+    /// One could not be accepted.
+    refused: bool,
+    /// The place behind that of the client whose request was taken last.
+    next: usize,
+}
+
+/// As many free places as there may be clients.
+fn free_slots(alloc: Global) -> Option<Vec<Option<Client>>> {
+    let mut slots = Vec::new(alloc);
+    for _ in 0..MOST_CLIENTS {
+        slots.push(None).ok()?;
+    }
+    Some(slots)
+}
+
+/// Whether a socket is watched, and never waits.
+fn watch(poll: &Poll, stream: &Stream) -> bool {
+    let descriptor = stream.descriptor();
+    let both = Interest::READABLE.add(Interest::WRITABLE);
+    stream.never_wait().is_ok()
+        && poll
+            .registry()
+            .register(&mut SourceFd(&descriptor), Token(1), both)
+            .is_ok()
+}
+
+/// Whether a listening socket is watched, and never waits.
+fn watch_listener(poll: &Poll, listener: &Listener) -> bool {
+    let descriptor = listener.descriptor();
+    listener.never_wait().is_ok()
+        && poll
+            .registry()
+            .register(&mut SourceFd(&descriptor), Token(0), Interest::READABLE)
+            .is_ok()
+}
+
+/// The earlier of two instants, where there are any.
+fn earlier(one: Option<Instant>, other: Option<Instant>) -> Option<Instant> {
+    match (one, other) {
+        (Some(one), Some(other)) => Some(one.min(other)),
+        (Some(one), None) => Some(one),
+        (None, other) => other,
+    }
+}
+
+/// What a client asked for, where that has come; it is in the round then.
+fn take_asked(slot: &mut Option<Client>) -> Option<Input> {
+    let Some(client) = slot.take() else {
+        return None;
+    };
+    let Client {
+        stream,
+        phase,
+        deadlines,
+    } = client;
+    match phase {
+        Phase::Asked(input) => {
+            *slot = Some(Client {
+                stream,
+                phase: Phase::InRound,
+                deadlines,
+            });
+            Some(input)
+        }
+        phase => {
+            *slot = Some(Client {
+                stream,
+                phase,
+                deadlines,
+            });
+            None
+        }
+    }
+}
+
+impl Waiting {
+    /// No clients yet; `None` where the system or the memory refused.
+    pub fn new<C: Net + AllocGlobal>(rt: &C, listener: &Listener) -> Option<Waiting> {
+        let poll = Poll::new(rt).ok()?;
+        if !watch_listener(&poll, listener) {
+            return None;
+        }
+        Some(Waiting {
+            slots: free_slots(rt.alloc())?,
+            poll,
+            events: Events::with_capacity(rt.alloc(), MOST_EVENTS).ok()?,
+            busy: true,
+            refused: false,
+            next: 0,
+        })
+    }
+
+    /// Whether all that came are served, and no more come: so many are left, or one was refused.
+    pub fn is_over(&self, left: usize) -> bool {
+        (left == 0 || self.refused) && self.slots.iter().all(|slot| slot.is_none())
+    }
+
+    /// Accepts what waits, as long as there are free places; and none any more, once one could not
+    /// be accepted.
+    pub fn admit<M: Memory>(
+        &mut self,
+        memory: M,
+        connections: &mut Connections,
+        limits: Limits,
+        now: Option<Instant>,
+    )
+        ensures { connections_left connections.new ≤ connections_left connections.old }
+    {
+        if !self.refused {
+            self.refused = self.accept_all(memory, connections, limits, now).is_err();
+        }
+    }
+
+    /// Accepts what waits, as long as there are free places. An error tells that one that waits
+    /// could not be accepted.
+    fn accept_all<M: Memory>(
+        &mut self,
+        memory: M,
+        connections: &mut Connections,
+        limits: Limits,
+        now: Option<Instant>,
+    ) -> io::Result<()>
+        ensures { connections_left connections.new ≤ connections_left connections.old }
+    {
+        for slot in self.slots.iter_mut() {
+            if slot.is_none() {
+                match connections.accept()? {
+                    None => return Ok(()),
+                    Some(stream) => {
+                        if watch(&self.poll, &stream) {
+                            let deadlines = deadlines_from(now, limits);
+                            *slot = Some(Client::new(memory, stream, deadlines));
+                        }
+                        self.busy = true;
+                    }
+                }
+            }
+        }
+        Ok(())
+    }
+
+    /// Has each client read and write as much as is there. What one ends in is told.
+    pub fn turn<M: Memory, E: Write>(
+        &mut self,
+        memory: M,
+        limits: Limits,
+        now: Option<Instant>,
+        errors: &mut E,
+    ) {
+        for slot in self.slots.iter_mut() {
+            if let Some(client) = slot.take() {
+                match client.turn(memory, limits, now) {
+                    Turned::Waits(client) => *slot = Some(client),
+                    Turned::GoesOn(client) => {
+                        *slot = Some(client);
+                        self.busy = true;
+                    }
+                    Turned::Left => self.busy = true,
+                    Turned::Failed(fault) => {
+                        tell(errors, fault);
+                        self.busy = true;
+                    }
+                }
+            }
+        }
+    }
+
+    /// The next client whose request has come, with its place: from that of the one before it on,
+    /// and then from the first, so that none waits for ever.
+    pub fn next_asked(&mut self) -> Option<(usize, Input)> {
+        let found = match self.asked_from(self.next) {
+            None => self.asked_from(0),
+            found => found,
+        };
+        if let Some((place, _)) = &found {
+            self.next = place.saturating_add(1);
+        }
+        found
+    }
+
+    /// The first client, from a place on, whose request has come.
+    fn asked_from(&mut self, from: usize) -> Option<(usize, Input)> {
+        let mut place = from;
+        for slot in self.slots.iter_mut().skip(from) {
+            if let Some(input) = take_asked(slot) {
+                return Some((place, input));
+            }
+            place = place.saturating_add(1);
+        }
+        None
+    }
+
+    /// Whether the request of any client has come.
+    pub fn is_asked(&self) -> bool {
+        self.slots.iter().any(|slot| match slot {
+            Some(client) => matches!(client.phase, Phase::Asked(_)),
+            None => false,
+        })
+    }
+
+    /// What the client of a place asks for waits for a later round.
+    pub fn put_back(&mut self, place: usize, input: Input) {
+        if let Some(Some(client)) = self.slots.get_mut(place) {
+            client.phase = Phase::Asked(input);
+        }
+        self.next = place;
+        self.busy = true;
+    }
+
+    /// Has a response leave to the client of a place.
+    pub fn answer(&mut self, place: usize, bytes: Vec<u8>, limits: Limits, now: Option<Instant>) {
+        if let Some(Some(client)) = self.slots.get_mut(place) {
+            client.phase = Phase::Answered(bytes, 0);
+            client.deadlines = deadlines_from(now, limits);
+        }
+        self.busy = true;
+    }
+
+    /// By when the first of the clients has to go on.
+    fn first_deadline(&self) -> Option<Instant> {
+        let mut first = None;
+        for slot in self.slots.iter() {
+            if let Some(client) = slot {
+                first = earlier(first, client.deadlines.phase);
+                first = earlier(first, client.deadlines.idle);
+            }
+        }
+        first
+    }
+
+    /// Waits until a socket gives or takes more, or a client takes too long; not at all, where one
+    /// can go on.
+    pub fn wait(&mut self, now: Option<Instant>) {
+        if self.busy {
+            self.busy = false;
+            return;
+        }
+        let time = match (self.first_deadline(), now) {
+            (Some(end), Some(now)) => Some(end.duration_since(now)),
+            (None, Some(_)) => None,
+            _ => Some(Duration::from_secs(LONGEST_WAIT_SECONDS)),
+        };
+        let _waited = self.poll.poll(&mut self.events, time);
+    }
+}

@@ -1,0 +1,4 @@
+pub mod InTurns
+pub mod Inside
+pub mod OnDesks
+pub mod Served
