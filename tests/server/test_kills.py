@@ -7,8 +7,7 @@ while it starts, too. After each start, before anybody else asks:
 
 1. What each customer has is what it was answered: its messages with their states, its lines, and its usage, in which all
    accepted and deleted recipients of all the time are counted. No queue ID was given twice.
-2. Of the calls under way, at most one of each client, each is done or not. Of all together at most one is done, since the
-   server serves one connection after another.
+2. Of the calls under way, at most one of each client, each is done or not. Several may be done, since they share a commit.
 3. A third customer, cedar, that changes nothing, reads byte for byte what it read at first: under load, too.
 
 The seed is told; without one the clock gives it.
@@ -272,7 +271,6 @@ class Kills:
         self.wanted = self.wanted or filled(server)
         found = [settled(server, it) for it in self.customers]
         under_way, done = (sum(it) for it in zip(*found))
-        expect(done <= 1, done, "calls under way are done")
         told = read_by_cedar(server)
         expect(told == self.wanted, "cedar reads", told, "and not", self.wanted)
         self.counts.update(under_way=under_way, done=done)

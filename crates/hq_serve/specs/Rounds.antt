@@ -21,8 +21,8 @@ pub record DoesRound {D : Type 0} (sight : DeskSight D) (d : Directory) (count :
   pub served : ServedInRound sight d old asks replies new
 
 -- Whatever comes over the socket, the desk does some rounds one after another, and nothing else; of
--- so many connections no more than one exchange each. All of them together are replied to as one run
--- is, and to every customer they are its own machine alone.
+-- so many connections no more than one exchange each. All of them are replied to as one run is, and
+-- to every customer they are its own machine alone.
 pub record DoesRounds {D : Type 0} (sight : DeskSight D) (d : Directory) (connections : ℕ)
     (old new : D) : Type 0 where
   pub asked : List (List Ask)

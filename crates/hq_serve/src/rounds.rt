@@ -132,7 +132,7 @@ impl<L: Log> Answers<'_, '_, L> {
         true
     }
 
-    /// The exchanges of the next round, at most so many. The time of their replies counts from here.
+    /// The exchanges of the next round, at most so many. Their replies' time counts from here.
     fn take_round<M: JsonMemory>(&mut self, memory: M, most: usize) -> Round
         ensures { length result.exchanges.items ≤ most }
     {

@@ -2,3 +2,4 @@ pub mod InTurns
 pub mod Inside
 pub mod OnDesks
 pub mod Served
+pub mod Wanted

@@ -2,7 +2,8 @@ use Rattle.std.proofs.Common.{inl, map, refl, ap, ◌∙◌, length}
 use Rattle.std.proofs.lemmas.List.{length-map}
 use Rattle.hq_desk.specs.Desks.{on}
 use Rattle.hq_wire.specs.Exchanges.{ask_of, with_refusals}
-use Rattle.hq_together.proofs.Served.{wanted, wants}
+use Rattle.hq_together.proofs.Served.{wanted}
+use Rattle.hq_together.proofs.Wanted.{wants}
 use Rattle.hq_serve.proofs.rounds.do_round.Goals as goal
 
 pub returns-in-Err : goal.returns-in-Err

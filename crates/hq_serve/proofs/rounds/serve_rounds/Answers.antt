@@ -63,7 +63,8 @@ returns g c =
 pub loop-init : goal.loop-init
 loop-init g c = (
   omega arith,
-  none_done (with_refusals g.M.Memory.refused (on g.S.Shelf.sight)) c.args.directory.now c.args.desk,
+  none_done (with_refusals g.M.Memory.refused (on g.S.Shelf.sight)) c.args.directory.now
+      c.args.desk,
 )
 
 pub loop-preserved : goal.loop-preserved
