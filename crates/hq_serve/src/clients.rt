@@ -129,44 +129,56 @@ impl Client {
         }
     }
 
-    /// Whether it took longer than it may.
+    /// Whether it took longer than it may. One that is not answered yet does not.
     fn is_late(&self, now: Option<Instant>) -> bool {
-        is_past(self.deadlines.phase, now) || is_past(self.deadlines.idle, now)
+        match self.phase {
+            Phase::Asked(_) | Phase::InRound => false,
+            _ => is_past(self.deadlines.phase, now) || is_past(self.deadlines.idle, now),
+        }
     }
 
-    /// Reads and writes as much as is there, and as its turn allows.
+    /// It stays, where its socket would have waited, unless it took longer than it may.
+    fn unless_late(self, now: Option<Instant>) -> Turned {
+        if !self.is_late(now) {
+            return Turned::Waits(self);
+        }
+        match self.phase {
+            Phase::Asking(_) => Turned::Failed(EngineFault::Read),
+            Phase::Answered(_, _) => Turned::Failed(EngineFault::Write),
+            _ => Turned::Left,
+        }
+    }
+
+    /// Reads and writes as much as is there, and as its turn allows. It takes too long only where
+    /// its socket gives and takes nothing more: the desk may have been busy meanwhile.
     pub fn turn<M: Memory>(self, memory: M, limits: Limits, now: Option<Instant>) -> Turned {
-        let late = self.is_late(now);
+        match self.go_on(memory, limits, now) {
+            Turned::Waits(client) => client.unless_late(now),
+            turned => turned,
+        }
+    }
+
+    /// Reads and writes as much as is there, and as its turn allows, however long it took.
+    fn go_on<M: Memory>(self, memory: M, limits: Limits, now: Option<Instant>) -> Turned {
         let Client {
             stream,
             phase,
             deadlines,
         } = self;
+        let idle = after(now, limits.idle);
         match phase {
-            Phase::Asking(_) if late => Turned::Failed(EngineFault::Read),
-            Phase::Asking(gathering) => {
-                let idle = after(now, limits.idle);
-                gather(memory, stream, gathering, deadlines, idle)
-            }
-            Phase::Asked(Input::Nothing) | Phase::InRound => Turned::Left,
+            Phase::Asking(gathering) => gather(memory, stream, gathering, deadlines, idle),
+            // (there was no memory for its response)
+            Phase::InRound => Turned::Failed(EngineFault::Write),
             Phase::Asked(input) => Turned::Waits(Client {
                 stream,
                 phase: Phase::Asked(input),
                 deadlines,
             }),
-            Phase::Answered(_, _) if late => Turned::Failed(EngineFault::Write),
             Phase::Answered(bytes, sent) => {
-                let idle = after(now, limits.idle);
-                send(
-                    stream,
-                    bytes,
-                    sent,
-                    deadlines,
-                    idle,
-                    after(now, Duration::from_secs(LINGER_SECONDS)),
-                )
+                let end = after(now, Duration::from_secs(LINGER_SECONDS));
+                send(stream, bytes, sent, deadlines, idle, end)
             }
-            Phase::Leaving(_) if late => Turned::Left,
             Phase::Leaving(left) => throw_away(stream, left, deadlines),
         }
     }
@@ -181,8 +193,11 @@ fn asking(stream: Stream, gathering: Gathering, deadlines: Deadlines) -> Client 
     }
 }
 
-/// A client whose request has come.
+/// A client whose request has come, or one that asked for nothing.
 fn asked(stream: Stream, input: Input, deadlines: Deadlines) -> Turned {
+    if matches!(input, Input::Nothing) {
+        return Turned::Left;
+    }
     Turned::GoesOn(Client {
         stream,
         phase: Phase::Asked(input),

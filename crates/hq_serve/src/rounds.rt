@@ -166,8 +166,10 @@ impl<L: Log> Answers<'_, '_, L> {
     }
 }
 
-/// Does a round of a desk, and sends its replies. It does no more exchanges than the round has.
-fn do_round<S: Rounds, L: Log, M: JsonMemory>(
+/// Does a round of a desk, and sends its replies; the clients' time to take them counts from there.
+/// It does no more exchanges than the round has.
+fn do_round<C: Clock, S: Rounds, L: Log, M: JsonMemory>(
+    rt: &C,
     memory: M,
     desk: Desk<S>,
     directory: &Directory,
@@ -178,6 +180,7 @@ fn do_round<S: Rounds, L: Log, M: JsonMemory>(
         (length round_of.now.exchanges.items) desk result }
 {
     let (replies, desk) = round(memory, desk, directory, round_of.exchanges.as_slice());
+    answers.now = Instant::now(rt).ok();
     match replies {
         Ok(replies) => answers.send_all(round_of, replies.as_slice()),
         Err(_) => answers.send_all(round_of, &[]),
@@ -269,7 +272,7 @@ pub fn serve_rounds<C: Clock + Net + AllocGlobal, S: Rounds, E: Write, L: Log, M
         };
         let round_of = answers.take_round(memory, most);
         done = done.saturating_add(round_of.exchanges.len());
-        desk = do_round(memory, desk, directory, &round_of, &mut answers);
+        desk = do_round(rt, memory, desk, directory, &round_of, &mut answers);
     }
     (end_of(connections.left() as usize), desk)
 }
