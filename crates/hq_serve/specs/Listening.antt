@@ -17,8 +17,8 @@ Accepts old new (Ok None) = new ≡ old
 Accepts old new (Err error) = (0 < connections_left old) × (new ≡ old)
 
 -- Why no more are served, of so many that came, so many that are left, and so many exchanges that
--- were done: none is left; or one that is left could not be accepted; or the clock told no moment,
--- and the one that came last is not served.
+-- were done. None is left; or some are left; or the clock told no moment, and more came than
+-- exchanges were done.
 abbrev pub IsOver : ServiceEnd → ℕ → ℕ → ℕ → Type 0
 IsOver Done came left done = left ≡ 0
 IsOver Network came left done = 0 < left

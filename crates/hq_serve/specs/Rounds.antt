@@ -34,7 +34,7 @@ pub record DoesRounds {D : Type 0} (sight : DeskSight D) (d : Directory) (connec
   pub alone : OnOpenSound sight.store old new (Alone (sight.host old) d (all_in asked)
       (all_in replied) (sight.store.tables old) (sight.store.tables new))
 
--- none is left; or one that is left could not be accepted
+-- none is left; or some are left
 abbrev pub IsOverSo : ℕ → ServiceEnd → Type 0
 IsOverSo left why = (came done : ℕ) → IsOver why came left done
 

@@ -58,7 +58,7 @@ pub(crate) struct Client {
 /// What became of a client in a turn.
 #[derive(Drop)]
 pub(crate) enum Turned {
-    /// It stays until its socket gives or takes more.
+    /// It stays until its socket gives or takes more, or the desk answers it.
     Waits(Client),
     /// It stays, and goes on in the next turn.
     GoesOn(Client),
@@ -119,6 +119,16 @@ pub(crate) fn deadlines_from(now: Option<Instant>, limits: Limits) -> Deadlines 
     }
 }
 
+impl Deadlines {
+    /// The same, so much later.
+    fn put_off(self, time: Duration) -> Deadlines {
+        Deadlines {
+            phase: after(self.phase, time),
+            idle: after(self.idle, time),
+        }
+    }
+}
+
 impl Client {
     /// One that was accepted now.
     pub fn new<M: Memory>(memory: M, stream: Stream, deadlines: Deadlines) -> Client {
@@ -129,7 +139,20 @@ impl Client {
         }
     }
 
-    /// Whether it took longer than it may. One that is not answered yet does not.
+    /// How many bytes its response holds, until all of them went out.
+    pub fn held(&self) -> usize {
+        match &self.phase {
+            Phase::Answered(bytes, _) => bytes.len(),
+            _ => 0,
+        }
+    }
+
+    /// Gives it so much more time.
+    pub fn put_off(&mut self, time: Duration) {
+        self.deadlines = self.deadlines.put_off(time);
+    }
+
+    /// Whether it took longer than it may. One whose request has come waits for the desk instead.
     fn is_late(&self, now: Option<Instant>) -> bool {
         match self.phase {
             Phase::Asked(_) | Phase::InRound => false,

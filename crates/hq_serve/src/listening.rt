@@ -5,14 +5,15 @@ use std::io::Write;
 use std::rt::Clock;
 use std::time::{Duration, SystemTime};
 
-/// How long a client may take. A limit of zero leaves no time, so that no connection is replied to.
+/// How long a client may take where its socket gives or takes nothing. A limit of zero leaves no
+/// time to wait: what came already is served.
 #[derive(Clone, Copy, Debug, PartialEq, Eq)]
 pub struct Limits {
     /// From one byte that comes or goes to the next.
     pub idle: Duration,
     /// For its whole request to arrive, from the acceptance of the connection on, however its bytes
-    /// are cut; and as long again for its response to be taken, from when that begins to leave.
-    /// What its round takes between them is not counted.
+    /// are cut. Its response has as long again, from when that begins to leave. The time of rounds
+    /// is not counted, its own or others'.
     pub request: Duration,
 }
 
@@ -21,10 +22,10 @@ pub struct Limits {
 pub enum ServiceEnd {
     /// All that were to come came.
     Done,
-    /// One that was to come could not be accepted.
+    /// One that was to come could not be accepted, or none can be waited for.
     Network,
     /// The clock tells no time, or one that is no moment of the desk. The connections that are open
-    /// are closed with no reply.
+    /// are closed: requests get no reply, and responses that leave are cut.
     Clock,
 }
 

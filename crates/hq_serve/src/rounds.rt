@@ -29,7 +29,7 @@ use std::time::Instant;
 const MOST_TOGETHER: usize = 64;
 
 /// What takes long is done alone, so that it holds up no other of its round: calls of all
-/// customers, reports, imports, and moves of many messages.
+/// customers, sweeps, reports, imports, and moves of many messages.
 fn is_long(path: &str) -> bool {
     let word = path.splitn(4, '/').nth(2).unwrap_or("");
     matches!(path, "/relay/usage" | "/relay/due")
@@ -180,7 +180,9 @@ fn do_round<C: Clock, S: Rounds, L: Log, M: JsonMemory>(
         (length round_of.now.exchanges.items) desk result }
 {
     let (replies, desk) = round(memory, desk, directory, round_of.exchanges.as_slice());
+    let begun = answers.now;
     answers.now = Instant::now(rt).ok();
+    answers.waiting.put_off(begun, answers.now);
     match replies {
         Ok(replies) => answers.send_all(round_of, replies.as_slice()),
         Err(_) => answers.send_all(round_of, &[]),
@@ -199,26 +201,27 @@ fn end_of(left: usize) -> ServiceEnd
 }
 
 /// Serves the connections that are to come, several at once, and then no more. Exchanges whose
-/// requests have come share a round, 64 at most: one commit makes them stand together, and no
-/// response leaves before it. What takes long, as a sweep, a report or a move of many messages, has
-/// a round of its own.
+/// requests have come share a round, 64 at most. One commit makes them stand together, and no
+/// response leaves before it. A long call, as a report, has a round of its own.
 ///
-/// All exchanges together are a run, of one at most for each connection that came, each at the
-/// moment of its round: to every customer its replies, and what is kept of it, are those that it
-/// would have alone. What is refused before it is a request does nothing. Requests and replies take
-/// their room from `memory`.
+/// All exchanges together are a run, of one at most for each connection that came, at the moments
+/// of their rounds. Each customer gets the replies, and keeps the records, that it would have
+/// alone. What is refused before it is a request does nothing. Requests and replies take their room
+/// from `memory`.
 ///
-/// No client waits for another that is slow, or takes nothing: each is read and written as far as
-/// its socket gives and takes, 256 at once at most. One that fails, or takes longer than the limits
-/// allow, is told in a line, `hq: input` while its request comes and `hq: output` while its
-/// response leaves. What is replied to is told in the log, which changes nothing of this.
+/// No client waits for another that is slow, or takes nothing: 256 at once at most are read and
+/// written as far as their sockets go. While responses hold 64 MB, no more requests are taken. A
+/// client that fails, or takes longer than the limits allow, is told in a line. That is `hq: input`
+/// while its request comes, and `hq: output` while its response leaves. The log, which changes
+/// nothing of this, is told each reply.
 ///
 /// When a response went out, what its client still sends is thrown away until the client ends its
-/// side, for a second and 4,096 reads at most: a connection closed before that would be reset, and
+/// side, for a second and 4,096 reads at most. A connection closed before that would be reset, and
 /// its response lost.
 ///
-/// It ends with `Done` once all have come and been served, and not before; and with `Network` once
-/// one could not be accepted, and those that came have been served.
+/// It ends with `Done` once all have come and been served, and not before. It ends with `Network`
+/// once one could not be accepted, and those that came have been served; or where sockets cannot be
+/// watched at all. It ends with `Clock` where the clock tells no moment for a round.
 pub fn serve_rounds<C: Clock + Net + AllocGlobal, S: Rounds, E: Write, L: Log, M: JsonMemory>(
     rt: &C,
     memory: M,
@@ -244,7 +247,7 @@ pub fn serve_rounds<C: Clock + Net + AllocGlobal, S: Rounds, E: Write, L: Log, M
     let mut done: usize = 0;
     for _ in 0..u64::MAX {
         let now = Instant::now(rt).ok();
-        waiting.admit(memory, connections, limits, now);
+        waiting.admit(memory, connections, limits, now, errors);
         waiting.turn(memory, limits, now, errors);
         let left = connections.left() as usize;
         if waiting.is_over(left) {

@@ -9,6 +9,7 @@ use crate::listening::{Limits, tell};
 use crate::sockets::{Listener, Stream};
 use hq_http::Input;
 use hq_memory::Memory;
+use hq_values::EngineFault;
 use mio::unix::SourceFd;
 use mio::{Events, Interest, Poll, Token};
 use std::alloc::Global;
@@ -19,8 +20,12 @@ use std::time::{Duration, Instant};
 /// How many clients are served at once at most; others wait until they are accepted.
 const MOST_CLIENTS: usize = 256;
 
-/// How many events one wait tells at most. What they tell is not asked: each client has its turn.
-const MOST_EVENTS: usize = 16;
+/// How many events one wait tells at most: one of each client, and one of the listening socket.
+/// What they tell is not asked: each client has its turn.
+const MOST_EVENTS: usize = 257;
+
+/// Once responses hold so many bytes, no more requests are taken until some of these went out.
+const MOST_HELD: usize = 67_108_864;
 
 /// How many seconds to wait at most where the clock does not tell the time.
 const LONGEST_WAIT_SECONDS: u64 = 1;
@@ -130,29 +135,32 @@ impl Waiting {
     }
 
     /// Accepts what waits, as long as there are free places; and none any more, once one could not
-    /// be accepted.
-    pub fn admit<M: Memory>(
+    /// be accepted. One that cannot be waited for is told, and closed.
+    pub fn admit<M: Memory, E: Write>(
         &mut self,
         memory: M,
         connections: &mut Connections,
         limits: Limits,
         now: Option<Instant>,
+        errors: &mut E,
     )
         ensures { connections_left connections.new ≤ connections_left connections.old }
     {
         if !self.refused {
-            self.refused = self.accept_all(memory, connections, limits, now).is_err();
+            let accepted = self.accept_all(memory, connections, limits, now, errors);
+            self.refused = accepted.is_err();
         }
     }
 
     /// Accepts what waits, as long as there are free places. An error tells that one that waits
     /// could not be accepted.
-    fn accept_all<M: Memory>(
+    fn accept_all<M: Memory, E: Write>(
         &mut self,
         memory: M,
         connections: &mut Connections,
         limits: Limits,
         now: Option<Instant>,
+        errors: &mut E,
     ) -> io::Result<()>
         ensures { connections_left connections.new ≤ connections_left connections.old }
     {
@@ -164,6 +172,8 @@ impl Waiting {
                         if watch(&self.poll, &stream) {
                             let deadlines = deadlines_from(now, limits);
                             *slot = Some(Client::new(memory, stream, deadlines));
+                        } else {
+                            tell(errors, EngineFault::Read);
                         }
                         self.busy = true;
                     }
@@ -224,12 +234,37 @@ impl Waiting {
         None
     }
 
-    /// Whether the request of any client has come.
+    /// Whether responses hold as many bytes as they may.
+    fn is_full(&self) -> bool {
+        let mut held: usize = 0;
+        for slot in self.slots.iter() {
+            if let Some(client) = slot {
+                held = held.saturating_add(client.held());
+            }
+        }
+        held >= MOST_HELD
+    }
+
+    /// Whether the request of any client has come, and may be taken.
     pub fn is_asked(&self) -> bool {
-        self.slots.iter().any(|slot| match slot {
+        let asked = self.slots.iter().any(|slot| match slot {
             Some(client) => matches!(client.phase, Phase::Asked(_)),
             None => false,
-        })
+        });
+        asked && !self.is_full()
+    }
+
+    /// Gives each client as much more time as passed between two instants.
+    pub fn put_off(&mut self, from: Option<Instant>, to: Option<Instant>) {
+        let (Some(from), Some(to)) = (from, to) else {
+            return;
+        };
+        let time = to.duration_since(from);
+        for slot in self.slots.iter_mut() {
+            if let Some(client) = slot {
+                client.put_off(time);
+            }
+        }
     }
 
     /// What the client of a place asks for waits for a later round.
@@ -255,8 +290,10 @@ impl Waiting {
         let mut first = None;
         for slot in self.slots.iter() {
             if let Some(client) = slot {
-                first = earlier(first, client.deadlines.phase);
-                first = earlier(first, client.deadlines.idle);
+                if !matches!(client.phase, Phase::Asked(_)) {
+                    first = earlier(first, client.deadlines.phase);
+                    first = earlier(first, client.deadlines.idle);
+                }
             }
         }
         first
