@@ -64,7 +64,7 @@ Options:
                                    a free one; or unix: and a path. Example: --listen 127.0.0.1:8025 [default: 127.0.0.1:8025]
       --count <N>                  How many connections are served before it ends, 1 to 1000000.
                                    Example: --count 100 [default: 1000000]
-      --idle-timeout <SECONDS>     How long a client may take for one read or one write,
+      --idle-timeout <SECONDS>     How long a client may take from one byte to the next,
                                    in seconds, 1 to 3600. Example: --idle-timeout 10 [default: 30]
       --request-timeout <SECONDS>  How long a client may take to send its whole request,
                                    in seconds, 1 to 3600; for the response it is as long again.
@@ -74,10 +74,10 @@ Options:
                                    Example: --log desk.log
   -h, --help                       Print help
 
-When it listens it prints the address that was bound, `listening on 127.0.0.1:8025`. It serves one
-connection after another, each with one request, which is answered and closed. One that is reset or
-too slow before its whole request has come is told as `hq: input` on standard error, and one that is
-so before its whole response is written as `hq: output`; the next one is served.
+When it listens it prints the address that was bound, `listening on 127.0.0.1:8025`. It serves many
+connections at once, each with one request, which is answered and closed. One that is reset or too
+slow before its whole request has come is told as `hq: input` on standard error, and one that is so
+before its whole response is written as `hq: output`; the others are served.
 
 Example of a directory, the file customers.csv:
   name,key,messages,bytes,lines,notices,delay

@@ -37,7 +37,7 @@ pub struct Serve<'w> {
     pub listen: &'w str,
     /// How many connections are served.
     pub count: u32,
-    /// How long a client may take for one read or one write, in seconds.
+    /// How long a client may take from one byte to the next, in seconds.
     pub idle_timeout: u32,
     /// How long a client may take to send its whole request, in seconds.
     pub request_timeout: u32,

@@ -58,10 +58,10 @@ pub(crate) const SERVE: &str = "Serve the customers of a directory over HTTP/1.1
 
 /// What a request and its directory are, how it is served, and examples of its calls.
 pub(crate) const AFTER_SERVE: &str = "\
-When it listens it prints the address that was bound, `listening on 127.0.0.1:8025`. It serves one
-connection after another, each with one request, which is answered and closed. One that is reset or
-too slow before its whole request has come is told as `hq: input` on standard error, and one that is
-so before its whole response is written as `hq: output`; the next one is served.
+When it listens it prints the address that was bound, `listening on 127.0.0.1:8025`. It serves many
+connections at once, each with one request, which is answered and closed. One that is reset or too
+slow before its whole request has come is told as `hq: input` on standard error, and one that is so
+before its whole response is written as `hq: output`; the others are served.
 
 Example of a directory, the file customers.csv:
   name,key,messages,bytes,lines,notices,delay
@@ -150,7 +150,7 @@ How many connections are served before it ends, 1 to 1000000.
 Example: --count 100";
 
 pub(crate) const IDLE_TIMEOUT: &str = "\
-How long a client may take for one read or one write,
+How long a client may take from one byte to the next,
 in seconds, 1 to 3600. Example: --idle-timeout 10";
 
 pub(crate) const REQUEST_TIMEOUT: &str = "\
