@@ -1,0 +1,83 @@
+"""Counts the commits of a server whose clients ask at once.
+
+The server is stopped (SIGSTOP) until each client has sent its whole request, so that all of them have come when it goes on.
+How often it syncs its file tells how many commits there were. A library counts the syncs (tests/support/interpose.c).
+
+1. 64 calls that change something share one commit, and 65 take two.
+2. Calls that only read take none.
+3. A report among calls that change something is done alone, between two commits.
+4. Each client gets the response to its own request: it moves a message, or reads one whose spool name is its own.
+"""
+import json
+import signal
+import subprocess
+import time
+
+import pytest
+from serving import ACME, HEADER, RELAY, Server, batch_line, expect, request, submission, words
+
+ROWS = f"acme,{ACME},1000,500000000,2000,1000,14400\n"
+MESSAGES, TOGETHER = 70, 64
+HOLD, SHOW, REPORT = "hold", "show", "report"
+
+
+@pytest.fixture
+def filled(program, folder):
+    """A folder with a store of so many messages, each with a spool name of its own."""
+    (folder / "customers.csv").write_text(HEADER + ROWS)
+    lines = [batch_line(int(time.time()), "POST", "/relay/submit/acme", RELAY, submission(f"spool-{it + 1}"))
+             for it in range(MESSAGES)]
+    ended = subprocess.run(words(program, "batch", "store"), input="".join(f"{it}\n" for it in lines).encode(),
+                           capture_output=True, cwd=folder, check=True)
+    expect(ended.stdout.count(b"200 ") == MESSAGES, "submissions gave", ended.stdout[:300])
+    return folder
+
+
+def sent(kind, number):
+    """The request of a client, for the message of its number."""
+    if kind == REPORT:
+        return request("GET", "/v1/report", ACME)
+    method, path = ("POST", "hold") if kind == HOLD else ("GET", "message")
+    return request(method, f"/v1/{path}/{number:010X}", ACME)
+
+
+def is_its_own(kind, number, told):
+    """Whether a response is that of the request of this client."""
+    head, _, body = told.partition(b"\r\n\r\n")
+    found = json.loads(body)
+    if not head.startswith(b"HTTP/1.1 200 OK\r\n"):
+        return False
+    if kind == SHOW:
+        return (found["id"], found["spool"]) == (f"{number:010X}", f"spool-{number}")
+    return "changed" not in found if kind == REPORT else found == {"changed": 1}
+
+
+def syncs_of(program, folder, library, kinds):
+    """How often a server syncs whose clients ask these at once, each for the message of its place."""
+    counts = folder / "counts"
+    more = {"LD_PRELOAD": library, "CALLS": str(counts)}
+    with Server(words(program, "serve", "store"), folder, len(kinds), **more) as server:
+        server.process.send_signal(signal.SIGSTOP)
+        clients = [(kind, place + 1, server.connect()) for place, kind in enumerate(kinds)]
+        for kind, number, client in clients:
+            client.sendall(sent(kind, number))
+        server.process.send_signal(signal.SIGCONT)
+        for kind, number, client in clients:
+            told = server.received(client)
+            expect(is_its_own(kind, number, told), kind, number, "got", told[:300])
+    return int(counts.read_text().split()[1])
+
+
+@pytest.mark.parametrize("kinds, commits", [
+    ([SHOW] * 2, 0),
+    ([SHOW, HOLD], 1),
+    ([HOLD, SHOW] * (TOGETHER // 2), 1),
+    ([HOLD] * TOGETHER, 1),
+    ([HOLD] * (TOGETHER + 1), 2),
+    ([HOLD] * 3 + [REPORT] + [HOLD] * 3, 2),
+    ([REPORT, HOLD, HOLD], 1),
+], ids=["reads", "two", "mixed", "as-many-as-share", "one-more", "a-report-between", "a-report-first"])
+def test_commits(program, filled, library, kinds, commits):
+    least = syncs_of(program, filled, library, [SHOW])
+    found = syncs_of(program, filled, library, kinds)
+    expect(found - least == commits, len(kinds), "calls took", found - least, "commits, and not", commits)
