@@ -1,7 +1,8 @@
 """Counts the commits of a server whose clients ask at once.
 
 The server is stopped (SIGSTOP) until each client has sent its whole request, so that all of them have come when it goes on.
-How often it syncs its file tells how many commits there were. A library counts the syncs (tests/support/interpose.c).
+How often it syncs its file, beside a server of one call, tells how many commits there were: each further one takes one sync. A
+library counts the syncs (tests/support/interpose.c).
 
 1. 64 calls that change something share one commit, and 65 take two.
 2. Calls that only read take none.
@@ -52,13 +53,13 @@ def is_its_own(kind, number, told):
     return "changed" not in found if kind == REPORT else found == {"changed": 1}
 
 
-def syncs_of(program, folder, library, kinds):
-    """How often a server syncs whose clients ask these at once, each for the message of its place."""
+def syncs_of(program, folder, library, kinds, first=1):
+    """How often a server syncs whose clients ask these at once, each for a message: the first, and those behind it."""
     counts = folder / "counts"
     more = {"LD_PRELOAD": library, "CALLS": str(counts)}
     with Server(words(program, "serve", "store"), folder, len(kinds), **more) as server:
         server.process.send_signal(signal.SIGSTOP)
-        clients = [(kind, place + 1, server.connect()) for place, kind in enumerate(kinds)]
+        clients = [(kind, number, server.connect()) for number, kind in enumerate(kinds, first)]
         for kind, number, client in clients:
             client.sendall(sent(kind, number))
         server.process.send_signal(signal.SIGCONT)
@@ -78,6 +79,9 @@ def syncs_of(program, folder, library, kinds):
     ([REPORT, HOLD, HOLD], 1),
 ], ids=["reads", "two", "mixed", "as-many-as-share", "one-more", "a-report-between", "a-report-first"])
 def test_commits(program, filled, library, kinds, commits):
-    least = syncs_of(program, filled, library, [SHOW])
+    none = syncs_of(program, filled, library, [SHOW])
+    one = syncs_of(program, filled, library, [HOLD], MESSAGES)
+    expect(none < one, "a call that changes something takes", one, "syncs, and one that reads", none)
+    wanted = one + commits - 1 if commits else none
     found = syncs_of(program, filled, library, kinds)
-    expect(found - least == commits, len(kinds), "calls took", found - least, "commits, and not", commits)
+    expect(found == wanted, len(kinds), "calls took", found, "syncs, and not", wanted)
