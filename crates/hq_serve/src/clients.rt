@@ -25,13 +25,13 @@ const LINGER_SECONDS: u64 = 1;
 pub(crate) enum Phase {
     /// Its request comes.
     Asking(Gathering),
-    /// What it asks for has come, and is to be answered.
+    /// Its request came, or cannot be read. The desk has still to answer it.
     Asked(Input),
-    /// What it asks for is done in a round.
+    /// The desk does its request in a round.
     InRound,
     /// Its response leaves: all its bytes, and how many of them went out.
     Answered(Vec<u8>, usize),
-    /// Its response went out. What it still sends is thrown away, so many reads more.
+    /// Its response went out. The server reads so many times more, and discards what comes.
     Leaving(u32),
 }
 

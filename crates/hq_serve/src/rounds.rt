@@ -28,8 +28,8 @@ use std::time::Instant;
 /// How many exchanges share a round at most.
 const MOST_TOGETHER: usize = 64;
 
-/// What takes long is done alone, so that it holds up no other of its round: calls of all
-/// customers, sweeps, reports, imports, and moves of many messages.
+/// Whether a call takes long: a call of all customers, a sweep, a report, an import, or a move of
+/// many messages. It gets a round of its own, and so delays no other reply of its round.
 fn is_long(path: &str) -> bool {
     let word = path.splitn(4, '/').nth(2).unwrap_or("");
     matches!(path, "/relay/usage" | "/relay/due")
@@ -153,8 +153,7 @@ impl<L: Log> Answers<'_, '_, L> {
         round
     }
 
-    /// Sends the replies of a round; where there are none, each client is told that memory was
-    /// wanted.
+    /// Sends the replies of a round. Where there are none, each client gets 90.
     fn send_all(&mut self, round: &Round, replies: &[Reply<'_>]) {
         let mut replies = replies.iter();
         for (place, exchange) in round.places.iter().zip(round.exchanges.iter()) {
@@ -206,7 +205,7 @@ fn end_of(left: usize) -> ServiceEnd
 ///
 /// All exchanges together are a run, of one at most for each connection that came, at the moments
 /// of their rounds. Each customer gets the replies, and keeps the records, that it would have
-/// alone. What is refused before it is a request does nothing. Requests and replies take their room
+/// alone. The desk does nothing for bytes that are no request. Requests and replies take their room
 /// from `memory`.
 ///
 /// No client waits for another that is slow, or takes nothing: 256 at once at most are read and
