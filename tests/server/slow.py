@@ -15,6 +15,8 @@ MESSAGES, RECIPIENTS = 400, [f"{it:0100}@{'d' * 60}.example" for it in range(100
 IDLE, WHOLE, BUSY = 2, 4, 20
 # Clients that begin a request at once, and go no further.
 HALVES = 20
+# Bytes of responses from which on no more requests are taken, and clients whose reports are as many.
+MOST_HELD, HOLDERS = 67_108_864, 10
 
 
 def cut(server, least, dribble):
@@ -53,9 +55,7 @@ def wait_of_another(server):
 def is_served_at_once(server):
     """Another client that asks now has its response before a slow one is cut, which would be told."""
     wait_of_another(server)
-    unread = array.array("i", [0])
-    fcntl.ioctl(server.process.stderr, termios.FIONREAD, unread)
-    expect(unread[0] == sum(len(line) + 1 for line in server.errors), "another waited until a slow client was cut")
+    expect(unread_errors(server) == sum(len(line) + 1 for line in server.errors), "another waited until a slow client was cut")
 
 
 def begin_a_request(server):
@@ -81,6 +81,33 @@ def takes_nothing(server):
         server.told("hq: output")
 
 
+def unread_errors(server):
+    """How many bytes stand on standard error that nobody has read."""
+    unread = array.array("i", [0])
+    fcntl.ioctl(server.process.stderr, termios.FIONREAD, unread)
+    return unread[0]
+
+
+def hold_what_may_be_held(server):
+    """While clients that take nothing hold so many bytes, no more requests are taken; with one client fewer they are."""
+    sent = request("GET", "/v1/report", ACME)
+    length = len(server.body_of(sent))
+    expect((HOLDERS - 1) * (length + 200) < MOST_HELD <= HOLDERS * length, "a report has", length, "bytes")
+    clients = []
+    for number in range(HOLDERS):
+        if number == HOLDERS - 1:
+            is_served_at_once(server)
+        clients.append(server.connect())
+        clients[-1].sendall(sent)
+        expect(select.select([clients[-1]], [], [], LONGEST)[0], "a report does not begin")
+    told = unread_errors(server)
+    wait_of_another(server)
+    expect(unread_errors(server) > told, "a request was taken before a client that takes nothing was cut")
+    for client in clients:
+        client.close()
+        server.told("hq: output")
+
+
 def keeps_its_connection(server):
     """A client that has its response, and does not end its side, keeps no other waiting."""
     with server.connect() as client:
@@ -94,7 +121,7 @@ def keeps_its_connection(server):
 def slow_clients(program, folder, listen):
     """Each of them, at an address or at a path."""
     asked = words(program, "serve", None, "--idle-timeout", str(IDLE), "--request-timeout", str(WHOLE))
-    with Server(asked, folder, MESSAGES + HALVES + 10, listen) as server:
+    with Server(asked, folder, MESSAGES + HALVES + HOLDERS + 13, listen) as server:
         cut(server, IDLE, None)
         server.ask(request("GET", "/v1/usage", ACME), 200, USED)
         cut(server, WHOLE, 0.3)
@@ -102,5 +129,6 @@ def slow_clients(program, folder, listen):
         keeps_its_connection(server)
         begin_a_request(server)
         takes_nothing(server)
+        hold_what_may_be_held(server)
         server.ask(request("GET", "/v1/usage", BIRCH), 200, USED)
     return server.answered
