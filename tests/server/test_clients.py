@@ -14,11 +14,11 @@ Over a store in memory and over one in a file, each response compared whole with
    its lines on standard error are just these, and nobody listens there any more.
 
 Over the file a second process is refused meanwhile, and afterwards a second server, at once on the same address, and a
-batch show what the first one kept. A server with limits of 2 and 4 seconds cuts a client that says nothing, one that sends
-a byte now and then, and one that takes nothing of a long response. Meanwhile it serves others, also beside half a request of
-each of 20 clients, until responses hold 64 MB (slow.py). An address that cannot be printed is `hq: output`. A clock that tells no moment of the desk, and
-a connection that cannot be accepted, end the server with `hq: clock` and `hq: network` (tests/support/interpose.c makes both
-so). What comes through a proxy is for tests/server/test_proxy.py.
+batch show what the first one kept. A server with limits of 2 and 4 seconds cuts a client that says nothing, one that sends a
+byte now and then, and one that takes nothing of a long response. Meanwhile it serves others, also beside half a request of
+each of 20 clients, until responses hold 64 MB (slow.py). An address that cannot be printed is `hq: output`. A clock that
+tells no moment of the desk, and a connection that cannot be accepted, end the server with `hq: clock` and `hq: network`
+(tests/support/interpose.c makes both so). What comes through a proxy is for tests/server/test_proxy.py.
 """
 import json
 import shutil
