@@ -3,4 +3,9 @@ pub mod OnHolds
 pub mod MessageTexts
 pub mod Backs
 pub mod SetWhere
+pub mod PutBack
+pub mod AllRows
+pub mod SetAll
+pub mod MoveTexts
 pub mod OnMessages
+pub mod OnMoves

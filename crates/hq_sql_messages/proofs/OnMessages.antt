@@ -54,7 +54,7 @@ use Rattle.hq_sql_messages.proofs.MessageTexts as text
 abbrev Key : Type 0
 Key = List ℕ × ℕ
 
-abbrev messages_table : DeskTable MessageRow Key store.Row
+abbrev pub messages_table : DeskTable MessageRow Key store.Row
 messages_table = record {
   kind = record {
     encode = message_stored;
@@ -130,7 +130,7 @@ page_shown old new c after limit rows desk h =
     (last_key (number_order j.1.serial k.1.serial))) limit (λ xs. refl) rows h
 
 -- and of those that may be tried by a moment
-state_below : (s : QueueState) → nat_lt (state_code s) 2 ≡ not (is_on_hold s)
+pub state_below : (s : QueueState) → nat_lt (state_code s) 2 ≡ not (is_on_hold s)
 state_below Incoming = refl
 state_below Deferred = refl
 state_below Hold = refl

@@ -10,8 +10,9 @@ ghost use Rattle.hq_sql.specs.Kept.{Shows, Yields, Writes, Adds, Intact};
 ghost use Rattle.hq_sql.specs.Kept.{KeepsCommitted};
 ghost use Rattle.hq_sql.specs.Rows.{hold_shown};
 ghost use Rattle.hq_sql_messages.specs.Holds.{hold_row, with_hold, without_hold, with_reason};
+ghost use Rattle.hq_sql_messages.specs.Moves.{without_holds};
 
-use crate::{hold_rows, hold_values};
+use crate::{hold_rows, hold_values, message_values};
 use hq_sql::SqliteMemory;
 use hq_sql::bind::message_key;
 use hq_values::{Name, Serial, Text};
@@ -74,6 +75,22 @@ pub fn remove<S: Alter, M: SqliteMemory>(
         "DELETE FROM holds WHERE customer = ?1 AND serial = ?2",
         &params,
     )?;
+    Ok(())
+}
+
+/// Drops the reasons of all messages of the customer.
+pub fn remove_all<S: Alter, M: SqliteMemory>(
+    memory: M,
+    conn: &mut Connection<S>,
+    customer: &Name,
+) -> Result<(), Error>
+    ensures made { Writes (state S.Store conn.old) (state S.Store conn.new) result
+        (without_holds customer.now) }
+    ensures kept { KeepsCommitted (state S.Store conn.old) (state S.Store conn.new) }
+    ensures cause { IfErr result (HasCause M.refused M.failed) }
+{
+    let params = message_values::customer(customer);
+    memory.execute(conn, "DELETE FROM holds WHERE customer = ?1", &params)?;
     Ok(())
 }
 

@@ -9,3 +9,4 @@ pub mod holds;
 pub mod message_rows;
 mod message_values;
 pub mod messages;
+pub mod moves;

@@ -7,6 +7,7 @@ ghost use Rattle.hq_rows.specs.Lookups.{message_row};
 ghost use Rattle.hq_sql.specs.Rows.{sender_of, state_code, message_columns};
 ghost use Rattle.hq_sql_messages.specs.Messages.{above_number, message_page_columns, spool_columns};
 ghost use Rattle.hq_sql_messages.specs.Messages.{due_page_columns};
+ghost use Rattle.hq_sql_messages.specs.Moves.{customer_columns, released_columns};
 
 use hq_kept::{Message, QueueState};
 use hq_sql::bind::{RowLimit, serial, small};
@@ -114,5 +115,22 @@ pub(crate) fn due<'a>(
         ValueRef::Int(after(last)),
         ValueRef::Int(moment(at)),
         ValueRef::Int(most.rows),
+    ]
+}
+
+/// What all rows of a customer are asked with.
+pub(crate) fn customer<'a>(customer: &'a Name) -> [ValueRef<'a>; 1]
+    ensures { bound result ≡ customer_columns customer.now }
+{
+    [ValueRef::Text(customer.as_str().as_bytes())]
+}
+
+/// What the messages on hold are released with.
+pub(crate) fn release<'a>(customer: &'a Name, at: Moment) -> [ValueRef<'a>; 2]
+    ensures { bound result ≡ released_columns customer.now at }
+{
+    [
+        ValueRef::Text(customer.as_str().as_bytes()),
+        ValueRef::Int(moment(at)),
     ]
 }

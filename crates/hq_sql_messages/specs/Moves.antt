@@ -1,0 +1,59 @@
+-- What the statements on all messages of a customer find and leave.
+-- Inner: it serves proofs alone, and no promise rests on it.
+use Rattle.std.specs.Prelude.{ℕ, Bool, true, false, not, ◌&&◌, cond, List, [], ◌∷◌, map, filter}
+use Rattle.std.specs.Ordering.{eq_by_cmp}
+use Rattle.std.specs.FinMap.{entries, retain_keys}
+use Rattle.sqlite.specs.declared.types.Value.TheVariants.{Text}
+use Rattle.sqlite.specs.Order as sqlite
+use Rattle.hq_keyed.specs.Values.{number}
+use Rattle.hq_kept.specs.Messages.{is_on_hold}
+use Rattle.hq_kept.specs.declared.message.QueueState.TheVariants.{Deferred, Hold}
+use Rattle.hq_owned.specs.Owned.{map_values}
+use Rattle.hq_tables.specs.Tables.{Tables, Row, text_cmp}
+
+-- a row that is on hold, or one that is not
+abbrev pub is_standing : Bool → Row → Bool
+is_standing true r = is_on_hold r.state
+is_standing false r = not (is_on_hold r.state)
+
+-- the serials of a customer's messages that are on hold, or of those that are not
+abbrev pub serials_of : List ℕ → Bool → Tables → List ℕ
+serials_of customer on_hold t =
+    map (λ (e : (List ℕ × ℕ) × Row). e.0.1)
+    (filter (λ (e : (List ℕ × ℕ) × Row). eq_by_cmp text_cmp customer e.0.0
+    && is_standing on_hold e.1) (entries t.messages))
+
+abbrev pub held_row : Row → Row
+held_row r = record r { state = Hold }
+
+abbrev pub released_row : ℕ → Row → Row
+released_row at r = record r { state = Deferred; next_try = at }
+
+-- every row of the customer that passes, changed
+abbrev pub all_set : List ℕ → Bool → (Row → Row) → Tables → Tables
+all_set customer on_hold f t = record t {
+  messages = map_values (λ (k : List ℕ × ℕ) (r : Row).
+      cond (eq_by_cmp text_cmp customer k.0 && is_standing on_hold r) (f r) r) t.messages;
+}
+
+-- all messages of the customer are on hold
+abbrev pub all_held : List ℕ → Tables → Tables
+all_held customer t = all_set customer false held_row t
+
+-- those on hold are deferred, to be tried from a moment on
+abbrev pub all_released : List ℕ → ℕ → Tables → Tables
+all_released customer at t = all_set customer true (released_row at) t
+
+-- no reason of the customer's messages stands
+abbrev pub without_holds : List ℕ → Tables → Tables
+without_holds customer t = record t {
+  holds = retain_keys t.holds (λ (k : List ℕ × ℕ). not (eq_by_cmp text_cmp customer k.0));
+}
+
+-- what all rows of a customer are asked with
+abbrev pub customer_columns : List ℕ → sqlite.Row
+customer_columns customer = Text customer ∷ []
+
+-- what those on hold are released with
+abbrev pub released_columns : List ℕ → ℕ → sqlite.Row
+released_columns customer at = Text customer ∷ number at ∷ []
