@@ -27,7 +27,7 @@ use Rattle.hq_sql.specs.Rows.{sender_of}
 use Rattle.hq_sql.specs.Rows.{state_code, message_stored, message_read, message_shown}
 use Rattle.hq_sql.specs.Tables.{IsDesk, Leaves, tables_in}
 use Rattle.hq_sql.proofs.Statements.{lists_entries, drops}
-use Rattle.hq_sql_messages.specs.Moves.{is_standing, serials_of, held_row}
+use Rattle.hq_sql_messages.specs.Moves.{is_standing, standing_serials, held_row}
 use Rattle.hq_sql_messages.specs.Moves.{released_row, all_held, all_released, without_holds}
 use Rattle.hq_sql_messages.specs.Moves.{customer_columns, released_columns}
 use Rattle.hq_sql_messages.proofs.Backs.{message_back}
@@ -77,7 +77,7 @@ serials_are rows found h =
 
 pub held_shown : (old new : State) (c : List ℕ) (rows : List Row) → IsDesk old.now →
     Shown text.held_text (customer_columns c) old new rows
-    → map (λ r. (message_shown r).serial) rows ≡ serials_of c true (tables_in old.now)
+    → map (λ r. (message_shown r).serial) rows ≡ standing_serials c true (tables_in old.now)
 held_shown old new c rows desk h =
     serials_are rows _ (lists_entries messages_table old new desk text.held_text _ _
     text.held_known refl refl refl (customer_columns c) message_shown (λ k. refl)
@@ -87,7 +87,7 @@ held_shown old new c rows desk h =
 
 pub queued_shown : (old new : State) (c : List ℕ) (rows : List Row) → IsDesk old.now →
     Shown text.queued_text (customer_columns c) old new rows
-    → map (λ r. (message_shown r).serial) rows ≡ serials_of c false (tables_in old.now)
+    → map (λ r. (message_shown r).serial) rows ≡ standing_serials c false (tables_in old.now)
 queued_shown old new c rows desk h =
     serials_are rows _ (lists_entries messages_table old new desk text.queued_text _ _
     text.queued_known refl refl refl (customer_columns c) message_shown (λ k. refl)

@@ -105,16 +105,14 @@ module _ {X : Type 0} (key : X → ℤ) where
 
   same_first : (x : X) (xs ys : List X) → AreSame xs ys → AreSame (x ∷ xs) (x ∷ ys)
   same_first x xs ys h u =
-      let it = h u.1 in
-      (
+      let it = h u.1 in (
         (it.1.0 (key x) u.0, it.0),
         (λ k m. (m.0, it.1.0 k m.1), λ l. it.1.1 (insert_by key l x)),
       )
 
   same_turned : (x y : X) (xs : List X) → AreSame (x ∷ y ∷ xs) (y ∷ x ∷ xs)
   same_turned x y xs u =
-      let back : int_eq (key y) (key x) ≡ false = let apart = u.0.0 in grind (arith, ints) in
-      (
+      let back : int_eq (key y) (key x) ≡ false = let apart = u.0.0 in grind (arith, ints) in (
         ((back, u.1.0), (u.0.1, u.1.1)),
         (
           λ k m. (m.1.0, (m.0, m.1.1)),

@@ -17,8 +17,8 @@ is_standing true r = is_on_hold r.state
 is_standing false r = not (is_on_hold r.state)
 
 -- the serials of a customer's messages that are on hold, or of those that are not
-abbrev pub serials_of : List ℕ → Bool → Tables → List ℕ
-serials_of customer on_hold t =
+abbrev pub standing_serials : List ℕ → Bool → Tables → List ℕ
+standing_serials customer on_hold t =
     map (λ (e : (List ℕ × ℕ) × Row). e.0.1)
     (filter (λ (e : (List ℕ × ℕ) × Row). eq_by_cmp text_cmp customer e.0.0
     && is_standing on_hold e.1) (entries t.messages))

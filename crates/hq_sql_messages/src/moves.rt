@@ -7,7 +7,7 @@ ghost use Rattle.hq_sql.specs.Causes.{HasCause};
 ghost use Rattle.hq_sql.specs.Rows.{message_shown};
 ghost use Rattle.hq_sql.specs.Kept.{Shows, Writes, Intact};
 ghost use Rattle.hq_sql.specs.Kept.{KeepsCommitted};
-ghost use Rattle.hq_sql_messages.specs.Moves.{serials_of, all_held, all_released};
+ghost use Rattle.hq_sql_messages.specs.Moves.{standing_serials, all_held, all_released};
 
 use crate::{message_rows, message_values};
 use hq_sql::lent::Taker;
@@ -39,7 +39,7 @@ fn held<S: Alter, M: SqliteMemory>(
     customer: &Name,
 ) -> Result<Vec<Serial>, Error>
     ensures found { Shows (state S.Store conn.old) (state S.Store conn.new) result
-        (λ serials. serials.items) (serials_of customer.now true) }
+        (λ serials. serials.items) (standing_serials customer.now true) }
     ensures kept { Intact (state S.Store conn.old) (state S.Store conn.new) result }
     ensures cause { IfErr result (HasCause M.refused M.failed) }
 {
@@ -63,7 +63,7 @@ fn queued<S: Alter, M: SqliteMemory>(
     customer: &Name,
 ) -> Result<Vec<Serial>, Error>
     ensures found { Shows (state S.Store conn.old) (state S.Store conn.new) result
-        (λ serials. serials.items) (serials_of customer.now false) }
+        (λ serials. serials.items) (standing_serials customer.now false) }
     ensures kept { Intact (state S.Store conn.old) (state S.Store conn.new) result }
     ensures cause { IfErr result (HasCause M.refused M.failed) }
 {
@@ -89,7 +89,7 @@ pub fn serials<S: Alter, M: SqliteMemory>(
     on_hold: bool,
 ) -> Result<Vec<Serial>, Error>
     ensures found { Shows (state S.Store conn.old) (state S.Store conn.new) result
-        (λ serials. serials.items) (λ t. serials_of customer.now on_hold t) }
+        (λ serials. serials.items) (λ t. standing_serials customer.now on_hold t) }
     ensures kept { Intact (state S.Store conn.old) (state S.Store conn.new) result }
     ensures cause { IfErr result (HasCause M.refused M.failed) }
 {
