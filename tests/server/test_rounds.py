@@ -8,11 +8,14 @@ library counts the syncs (tests/support/interpose.c).
 2. Calls that only read take none.
 3. A report among calls that change something is done alone, between two commits.
 4. Each client gets the response to its own request: it moves a message, or reads one whose spool name is its own.
+5. Clients that ask again as soon as they have their responses share commits, where a sync takes 30 milliseconds: a round is delayed
+   for those whose responses have just left.
 """
 import json
 import signal
 import subprocess
 import time
+from concurrent.futures import ThreadPoolExecutor
 
 import pytest
 from serving import ACME, HEADER, RELAY, Server, batch_line, expect, request, submission, words
@@ -20,6 +23,8 @@ from serving import ACME, HEADER, RELAY, Server, batch_line, expect, request, su
 ROWS = f"acme,{ACME},1000,500000000,2000,1000,14400\n"
 MESSAGES, TOGETHER = 70, 64
 HOLD, SHOW, REPORT = "hold", "show", "report"
+# As many clients that ask again, so often each, and how many commits that may take: without a delay it is two for each turn.
+CLIENTS, TURNS, MOST_COMMITS = 8, 10, 15
 
 
 @pytest.fixture
@@ -85,3 +90,23 @@ def test_commits(program, filled, library, kinds, commits):
     wanted = one + commits - 1 if commits else none
     found = syncs_of(program, filled, library, kinds)
     expect(found == wanted, len(kinds), "calls took", found, "syncs, and not", wanted)
+
+
+def asks_again(server, number):
+    """Holds and releases a message by turns, each time as soon as the response to the one before is there."""
+    for turn in range(TURNS):
+        with server.connect() as client:
+            client.sendall(request("POST", f"/v1/{('hold', 'release')[turn % 2]}/{number:010X}", ACME))
+            told = server.received(client)
+        expect(is_its_own(HOLD, number, told), number, turn, "got", told[:300])
+
+
+def test_clients_that_ask_again_share_commits(program, filled, library):
+    one = syncs_of(program, filled, library, [HOLD], MESSAGES)
+    counts = filled / "counts"
+    more = {"LD_PRELOAD": library, "CALLS": str(counts), "SYNC_TAKES": "30"}
+    with Server(words(program, "serve", "store"), filled, CLIENTS * TURNS, **more) as server:
+        with ThreadPoolExecutor(CLIENTS) as clients:
+            list(clients.map(asks_again, [server] * CLIENTS, range(1, CLIENTS + 1)))
+    commits = int(counts.read_text().split()[1]) - one + 1
+    expect(TURNS <= commits <= MOST_COMMITS, CLIENTS * TURNS, "calls took", commits, "commits")

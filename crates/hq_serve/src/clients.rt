@@ -147,6 +147,11 @@ impl Client {
         }
     }
 
+    /// Whether its request came, or cannot be read, and the desk has still to answer it.
+    pub fn has_asked(&self) -> bool {
+        matches!(self.phase, Phase::Asked(_))
+    }
+
     /// Gives it so much more time.
     pub fn put_off(&mut self, time: Duration) {
         self.deadlines = self.deadlines.put_off(time);

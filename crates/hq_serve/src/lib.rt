@@ -4,6 +4,7 @@
 
 mod clients;
 mod connections;
+mod delay;
 mod listening;
 mod places;
 mod rounds;

@@ -26,7 +26,7 @@ use std::rt::Clock;
 use std::time::Instant;
 
 /// How many exchanges share a round at most.
-const MOST_TOGETHER: usize = 64;
+pub(crate) const MOST_TOGETHER: usize = 64;
 
 /// Whether a call takes long: a call of all customers, a sweep, a report, an import, or a move of
 /// many messages. It gets a round of its own, and so delays no other reply of its round.
@@ -182,6 +182,8 @@ fn do_round<C: Clock, S: Rounds, L: Log, M: JsonMemory>(
     let begun = answers.now;
     answers.now = Instant::now(rt).ok();
     answers.waiting.put_off(begun, answers.now);
+    let count = round_of.exchanges.len();
+    answers.waiting.delay_next(count, begun, answers.now);
     match replies {
         Ok(replies) => answers.send_all(round_of, replies.as_slice()),
         Err(_) => answers.send_all(round_of, &[]),
@@ -260,7 +262,7 @@ pub fn serve_rounds<C: Clock + Net + AllocGlobal, S: Rounds, E: Write, L: Log, M
         let Some(at) = moment_now(rt) else {
             return (ServiceEnd::Clock, desk);
         };
-        if !waiting.is_asked() {
+        if !waiting.is_ready(now) {
             waiting.wait(now);
             continue;
         }

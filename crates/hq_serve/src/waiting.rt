@@ -5,7 +5,9 @@ ghost use Rattle.hq_serve.specs.Listening.{connections_left};
 
 use crate::clients::{Client, Phase, Turned, deadlines_from};
 use crate::connections::Connections;
+use crate::delay::RoundDelay;
 use crate::listening::{Limits, tell};
+use crate::rounds::MOST_TOGETHER;
 use crate::sockets::{Listener, Stream};
 use hq_http::Input;
 use hq_memory::Memory;
@@ -14,6 +16,7 @@ use mio::unix::SourceFd;
 use mio::{Events, Interest, Poll, Token};
 use std::alloc::Global;
 use std::io::{self, Write};
+use std::mem;
 use std::net::Net;
 use std::time::{Duration, Instant};
 
@@ -41,6 +44,7 @@ pub(crate) struct Waiting {
     refused: bool,
     /// The place behind that of the client whose request was taken last.
     next: usize,
+    delay: RoundDelay,
 }
 
 /// As many free places as there may be clients.
@@ -84,29 +88,11 @@ fn earlier(one: Option<Instant>, other: Option<Instant>) -> Option<Instant> {
 
 /// What a client asked for, where that has come; it is in the round then.
 fn take_asked(slot: &mut Option<Client>) -> Option<Input> {
-    let Some(client) = slot.take() else {
-        return None;
-    };
-    let Client {
-        stream,
-        phase,
-        deadlines,
-    } = client;
-    match phase {
-        Phase::Asked(input) => {
-            *slot = Some(Client {
-                stream,
-                phase: Phase::InRound,
-                deadlines,
-            });
-            Some(input)
-        }
+    let client = slot.as_mut()?;
+    match mem::replace(&mut client.phase, Phase::InRound) {
+        Phase::Asked(input) => Some(input),
         phase => {
-            *slot = Some(Client {
-                stream,
-                phase,
-                deadlines,
-            });
+            client.phase = phase;
             None
         }
     }
@@ -126,6 +112,7 @@ impl Waiting {
             busy: true,
             refused: false,
             next: 0,
+            delay: RoundDelay::default(),
         })
     }
 
@@ -236,22 +223,28 @@ impl Waiting {
 
     /// Whether responses hold as many bytes as they may.
     fn is_full(&self) -> bool {
-        let mut held: usize = 0;
-        for slot in self.slots.iter() {
-            if let Some(client) = slot {
-                held = held.saturating_add(client.held());
-            }
-        }
-        held >= MOST_HELD
+        let clients = self.slots.iter().flatten();
+        clients.fold(0, |held: usize, client| held.saturating_add(client.held())) >= MOST_HELD
     }
 
-    /// Whether the request of any client has come, and may be taken.
-    pub fn is_asked(&self) -> bool {
-        let asked = self.slots.iter().any(|slot| match slot {
-            Some(client) => matches!(client.phase, Phase::Asked(_)),
-            None => false,
-        });
-        asked && !self.is_full()
+    /// How many clients' requests have come.
+    fn asked(&self) -> usize {
+        let clients = self.slots.iter().flatten();
+        clients.filter(|client| client.has_asked()).count()
+    }
+
+    /// Whether a round may begin: the request of a client has come, responses do not hold too much,
+    /// and no more requests are waited for.
+    pub fn is_ready(&self, now: Option<Instant>) -> bool {
+        let asked = self.asked();
+        asked != 0 && !self.is_full() && self.delay.until(asked, now).is_none()
+    }
+
+    /// Behind a round of so many exchanges: the next one waits a little for as many, and for those
+    /// whose requests have come.
+    pub fn delay_next(&mut self, count: usize, from: Option<Instant>, to: Option<Instant>) {
+        let hoped = self.asked().saturating_add(count).min(MOST_TOGETHER);
+        self.delay = RoundDelay::behind(hoped, from, to);
     }
 
     /// Gives each client as much more time as passed between two instants.
@@ -260,10 +253,8 @@ impl Waiting {
             return;
         };
         let time = to.duration_since(from);
-        for slot in self.slots.iter_mut() {
-            if let Some(client) = slot {
-                client.put_off(time);
-            }
+        for client in self.slots.iter_mut().flatten() {
+            client.put_off(time);
         }
     }
 
@@ -288,25 +279,24 @@ impl Waiting {
     /// By when the first of the clients has to go on.
     fn first_deadline(&self) -> Option<Instant> {
         let mut first = None;
-        for slot in self.slots.iter() {
-            if let Some(client) = slot {
-                if !matches!(client.phase, Phase::Asked(_)) {
-                    first = earlier(first, client.deadlines.phase);
-                    first = earlier(first, client.deadlines.idle);
-                }
+        for client in self.slots.iter().flatten() {
+            if !client.has_asked() {
+                first = earlier(first, client.deadlines.phase);
+                first = earlier(first, client.deadlines.idle);
             }
         }
         first
     }
 
-    /// Waits until a socket gives or takes more, or a client takes too long; not at all, where one
-    /// can go on.
+    /// Waits until a socket gives or takes more, a client takes too long, or a round has waited long
+    /// enough; not at all, where one can go on.
     pub fn wait(&mut self, now: Option<Instant>) {
         if self.busy {
             self.busy = false;
             return;
         }
-        let time = match (self.first_deadline(), now) {
+        let delayed = self.delay.until(self.asked(), now);
+        let time = match (earlier(self.first_deadline(), delayed), now) {
             (Some(end), Some(now)) => Some(end.duration_since(now)),
             (None, Some(_)) => None,
             _ => Some(Duration::from_secs(LONGEST_WAIT_SECONDS)),

@@ -1,3 +1,7 @@
 pub mod Owing
 pub mod Recounted
 pub mod Steps
+pub mod EachMoved
+pub mod MovedRows
+pub mod AllMoved
+pub mod DoneAs

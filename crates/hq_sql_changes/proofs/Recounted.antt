@@ -2,21 +2,18 @@
 -- said.
 use Rattle.std.proofs.Common.{◌≡◌, ℕ, ◌+◌, ◌-◌, List, [], ◌∷◌, Bool, nat_eq, subst, true, false}
 use Rattle.std.proofs.Common.{cond, sym, refl, ap, ◌∙◌, Some, None, Option, arith}
-use Rattle.std.specs.Prelude.{option_map, Result, OnOk}
+use Rattle.std.specs.Prelude.{option_map}
 use Rattle.std.specs.Ordering.{eq_by_cmp}
 use Rattle.std.specs.Cmp.Lexicographic.{nat_list_cmp_total}
 use Rattle.std.specs.FinMap.{get, insert, get-insert, same_map}
 use Rattle.std.proofs.lemmas.Bool.Decides.{nat_tests}
 use Rattle.std.proofs.lemmas.Map.Lookups.{exact_bytes}
-use Rattle.sqlite.specs.declared.error.Error.{Error}
-use Rattle.sqlite.specs.State.{State}
 use Rattle.hq_kept.specs.declared.account.Counts.{Counts}
 use Rattle.hq_tables.specs.declared.account.Account.{Account}
 use Rattle.hq_tables.specs.declared.change.Change.{Change}
 use Rattle.hq_tables.specs.declared.change.Change.TheVariants.{PutHead, PutMessage, DropMessage}
 use Rattle.hq_tables.specs.declared.change.Change.TheVariants.{PutLine, DropLine, PutMark}
-use Rattle.hq_tables.specs.declared.change.Change.TheVariants.{AddNotice}
-use Rattle.hq_tables.specs.declared.change.Change.TheVariants.{DropNoticesBelow, PutEnds}
+use Rattle.hq_tables.specs.declared.change.Change.TheVariants.{AddNotice, DropNoticesBelow, PutEnds}
 use Rattle.hq_tables.specs.declared.change.Change.TheVariants.{DropEndsTo}
 use Rattle.hq_tables.specs.Readings.{kept_in}
 use Rattle.hq_tables.specs.Sound.{AreCounted}
@@ -26,11 +23,8 @@ use Rattle.hq_isolation.proofs.Accounts.{Heads, or_opening, counted_own}
 use Rattle.hq_isolation.proofs.Counted.{found_after, counts_stay}
 use Rattle.hq_tables.proofs.Orders.{message_total, message_exact}
 use Rattle.hq_owned.specs.Owned.{given}
-use Rattle.hq_sql.specs.Tables.{tables_in}
 use Rattle.hq_sql_recipients.proofs.InPlace.{put_same}
-use Rattle.hq_sql_open.specs.Transactions.{Commits}
 use Rattle.hq_sql_changes.specs.Accounts.{resized, counted_at, made_by, made_by_all}
-use Rattle.hq_sql_changes.specs.Transacted.{KeepsTransaction, LeavesTables}
 
 -- ---- a head row that is written twice
 
@@ -163,6 +157,12 @@ heads_made c serial size t h = cases (get t.messages (c, serial)) refl where
   cases None is = refl
   cases (Some r) is = by_size r (nat_eq r.size size) refl is
 
+-- one that is put with the size that it has leaves the heads as they are
+pub heads_kept : (c : List ℕ) (serial size : ℕ) (t : Tables) → AreCounted t →
+    Some size ≡ option_map (λ (r : Row). r.size) (get t.messages (c, serial)) →
+    counted (with_message size) c (uncounted_message c serial t) ≡ t.heads
+heads_kept c serial size t h e = sym (size_same c serial size t e ∙ heads_made c serial size t h)
+
 made_is : (c : List ℕ) (ch : Change) (t : Tables) → AreCounted t → made_by c ch t ≡ write c ch t
 made_is c (PutHead head) t h = refl
 made_is c (PutMessage m) t h = ap (λ (heads : Heads). record (write c (PutMessage m) t) {
@@ -182,18 +182,3 @@ pub made_all_is : (c : List ℕ) (chs : List Change) (t : Tables) → AreCounted
 made_all_is c [] t h = refl
 made_all_is c (ch ∷ chs) t h = ap (made_by_all c chs) (made_is c ch t h)
     ∙ made_all_is c chs (write c ch t) (counts_stay c (ch ∷ []) t h)
-
-pub all_committed : (new : State) (c : List ℕ) (chs : List Change) (t : Tables) → AreCounted t →
-    {X : Type 0} (r : Result X Error) → OnOk r (Commits new (made_by_all c chs t)) →
-    OnOk r (Commits new (write_all c chs t))
-all_committed new c chs t h r = subst (λ u. OnOk r (Commits new u)) (made_all_is c chs t h)
-
-pub all_kept : {X : Type 0} (old new : State) (r : Result X Error) (c : List ℕ) (chs : List Change)
-    → KeepsTransaction old new r (made_by_all c chs (tables_in old.committed)) →
-    KeepsTransaction old new r (write_all c chs (tables_in old.committed))
-all_kept old new r c chs k = record {
-  kept = k.kept;
-  quiet = k.quiet;
-  stops = λ rest counted. subst (LeavesTables old new)
-      (made_all_is c chs (tables_in old.committed) counted) (k.stops rest counted);
-}

@@ -1,2 +1,4 @@
 pub mod Accounts
 pub mod Transacted
+pub mod Moved
+pub mod Done

@@ -199,7 +199,7 @@ fn make_behind_head<S: Alter, M: SqliteMemory>(
 /// Makes all changes in order, up to the first that fails. From a head, a dropped message or a new
 /// line on, the head row is owed. A change that stands alone is made by itself.
 #[cycle(making)]
-pub fn make_all<S: Alter, M: SqliteMemory>(
+pub(crate) fn make_all<S: Alter, M: SqliteMemory>(
     memory: M,
     conn: &mut Connection<S>,
     customer: &Name,
@@ -224,46 +224,4 @@ pub fn make_all<S: Alter, M: SqliteMemory>(
             }
         },
     }
-}
-
-/// Makes all changes in order, in one transaction, whatever the counts are. Without changes none
-/// begins.
-fn transact<S: Alter, M: SqliteMemory>(
-    memory: M,
-    conn: &mut Connection<S>,
-    customer: &Name,
-    changes: &[Change],
-) -> Result<(), Error>
-    ensures made { HasCleanDisk (state S.Store conn.new) → IsAtRest (state S.Store conn.old)
-        → OnOk result (Commits (state S.Store conn.new)
-        (made_by_all customer.now changes.now (tables_in (state S.Store conn.old).committed))) }
-    ensures kept { KeepsTransaction (state S.Store conn.old) (state S.Store conn.new) result
-        (made_by_all customer.now changes.now (tables_in (state S.Store conn.old).committed)) }
-    ensures cause { IfErr result (HasCause M.refused M.failed) }
-{
-    if changes.is_empty() {
-        return Ok(());
-    }
-    begin(memory, conn)?;
-    make_all(memory, conn, customer, changes)?;
-    sees_database(conn);
-    commit(memory, conn)
-}
-
-/// Makes all changes in order, in one transaction.
-pub fn apply<S: Alter, M: SqliteMemory>(
-    memory: M,
-    conn: &mut Connection<S>,
-    customer: &Name,
-    changes: &[Change],
-) -> Result<(), Error>
-    ensures made { HasCleanDisk (state S.Store conn.new) → IsAtRest (state S.Store conn.old)
-        → AreCounted (tables_in (state S.Store conn.old).committed)
-        → OnOk result (Commits (state S.Store conn.new)
-        (write_all customer.now changes.now (tables_in (state S.Store conn.old).committed))) }
-    ensures kept { KeepsTransaction (state S.Store conn.old) (state S.Store conn.new) result
-        (write_all customer.now changes.now (tables_in (state S.Store conn.old).committed)) }
-    ensures cause { IfErr result (HasCause M.refused M.failed) }
-{
-    transact(memory, conn, customer, changes)
 }

@@ -11,14 +11,13 @@ use Rattle.hq_values.specs.declared.failure.Fault.TheVariants.{Closed}
 use Rattle.hq_keyed.proofs.Left.{clean_before}
 use Rattle.hq_keyed.specs.Left.{LeavesNoMore}
 use Rattle.hq_tables.specs.Shelves.{Keeps, KeepsOnErr}
-use Rattle.hq_tables.specs.declared.change.Change.{Change}
 use Rattle.hq_tables.specs.Sound.{AreCounted}
-use Rattle.hq_tables.specs.Tables.{Tables, write_all}
-use Rattle.hq_isolation.proofs.Counted.{counts_stay}
+use Rattle.hq_tables.specs.Tables.{Tables}
 use Rattle.hq_sql.specs.Kept.{Intact, KeepsCommitted, Writes}
 use Rattle.hq_sql.specs.Tables.{Leaves, tables_in}
-use Rattle.hq_sql_changes.specs.Accounts.{made_by_all}
-use Rattle.hq_sql_changes.proofs.Recounted.{made_all_is}
+use Rattle.hq_sql_changes.specs.Done.{made_of, worked}
+use Rattle.hq_sql_changes.specs.declared.work.Work.{Work}
+use Rattle.hq_sql_changes.proofs.DoneAs.{counts_done, done_is}
 use Rattle.hq_sql_shelf.specs.Shelf.{HoldsTables}
 use Rattle.hq_sql_shelf.specs.Rounds.{GoesBackTo, IsInRound, ended_round, sight_inside}
 use Rattle.hq_sql_shelf.specs.declared.rounds.SqlRound.{SqlRound}
@@ -31,9 +30,9 @@ over_conn s conn = record s { shelf = record s.shelf { conn = conn } }
 abbrev pub IsOpenSame : {S M : Type 0} → SqlRound S M → SqlRound S M → Type 0
 IsOpenSame old mid = (mid ≡ old) × (old.over ≡ false)
 
--- what making changes says of those that were made
-abbrev pub Makes : State → State → List ℕ → List Change → Type 0
-Makes old new c chs = IsTrue old.is_open → Writes {X = ⊤} old new (Ok tt) (made_by_all c chs)
+-- what making says of the work that was done
+abbrev pub Makes : State → State → List ℕ → Work → Type 0
+Makes old new c work = IsTrue old.is_open → Writes {X = ⊤} old new (Ok tt) (made_of c work)
 
 module _ {S M : Type 0} (g : Ghosts S) (old : SqlRound S M) where
   -- it goes back to the same
@@ -89,18 +88,18 @@ module _ {S M : Type 0} (g : Ghosts S) (old : SqlRound S M) where
     stops = λ clean either. (λ desk. desk, λ t may. may);
   }
 
-  -- what changes leave
-  made_here : (conn : Held S) (c : List ℕ) (chs : List Change) →
-      Makes (state g old.shelf.conn) (state g conn) c chs →
+  -- what work leaves
+  made_here : (conn : Held S) (c : List ℕ) (work : Work) →
+      Makes (state g old.shelf.conn) (state g conn) c work →
       HasCleanDisk (state g conn) → IsInRound (state g old.shelf.conn) →
       Leaves (state g old.shelf.conn) (state g conn)
-      (write_all c chs (tables_in (state g old.shelf.conn).now))
-  made_here conn c chs made clean ours =
+      (worked c work (tables_in (state g old.shelf.conn).now))
+  made_here conn c work made clean ours =
       subst (Leaves (state g old.shelf.conn) (state g conn))
-      (made_all_is c chs (tables_in (state g old.shelf.conn).now) ours.holds.counted)
+      (done_is c work (tables_in (state g old.shelf.conn).now) ours.holds.counted)
       (made ours.is_open clean ours.holds.desk)
 
-  -- it goes back to the same behind changes, made or not
+  -- it goes back to the same behind work, done or not
   still_back : (conn : Held S) → old.over ≡ false →
       KeepsCommitted (state g old.shelf.conn) (state g conn) → HasCleanDisk (state g conn) →
       IsInRound (state g old.shelf.conn) ⊎ (old.over ≡ true) → (t : Tables) →
@@ -110,22 +109,22 @@ module _ {S M : Type 0} (g : Ghosts S) (old : SqlRound S M) where
       (kept.stops ours.holds.desk ours.mode) (kept.kept clean ours.holds.desk ours.mode) t back)
       (λ (closed : old.over ≡ true). absurd (true≢false (sym closed ∙ over))) either
 
-  -- changes that are made
-  changed_here : (conn : Held S) (c : List ℕ) (chs : List Change) → old.over ≡ false →
-      Makes (state g old.shelf.conn) (state g conn) c chs →
+  -- work that is done
+  changed_here : (conn : Held S) (c : List ℕ) (work : Work) → old.over ≡ false →
+      Makes (state g old.shelf.conn) (state g conn) c work →
       KeepsCommitted (state g old.shelf.conn) (state g conn) →
       KeepsOnErr {X = ⊤} (sight_inside (state g)) old (over_conn old conn) (Ok tt)
-  changed_here conn c chs over made kept = record {
+  changed_here conn c work over made kept = record {
     none = λ clean ours opened. tt;
     ours = λ clean ours opened.
-        let left = made_here conn c chs made clean ours in
+        let left = made_here conn c work made clean ours in
         record {
           is_open = left.is_open;
           mode = subst IsTrue (sym left.mode) ours.mode;
           holds = record {
             desk = left.desk;
             counted = subst AreCounted (sym left.tables)
-                (counts_stay c chs (tables_in (state g old.shelf.conn).now) ours.holds.counted);
+                (counts_done c work (tables_in (state g old.shelf.conn).now) ours.holds.counted);
           };
         };
     round = still_back conn over kept;
@@ -174,24 +173,24 @@ module _ {S M : Type 0} (g : Ghosts S) (old : SqlRound S M) where
         (subst (λ s. Intact {X = Y} (state g s.shelf.conn) (state g conn) (Err error)) is.0
         kept)))
 
-    pub made : (conn : Held S) (c : List ℕ) (chs : List Change) →
-        Makes (state g mid.shelf.conn) (state g conn) c chs → HasCleanDisk (state g conn) →
+    pub made : (conn : Held S) (c : List ℕ) (work : Work) →
+        Makes (state g mid.shelf.conn) (state g conn) c work → HasCleanDisk (state g conn) →
         IsInRound (state g old.shelf.conn) →
         tables_in (state g conn).now
-        ≡ write_all c chs (tables_in (state g old.shelf.conn).now)
-    made conn c chs makes clean ours = (made_here conn c chs
-        (subst (λ s. Makes (state g s.shelf.conn) (state g conn) c chs) is.0 makes) clean
+        ≡ worked c work (tables_in (state g old.shelf.conn).now)
+    made conn c work makes clean ours = (made_here conn c work
+        (subst (λ s. Makes (state g s.shelf.conn) (state g conn) c work) is.0 makes) clean
         ours).tables
 
-    pub changed : (conn : Held S) (c : List ℕ) (chs : List Change) →
-        Makes (state g mid.shelf.conn) (state g conn) c chs →
+    pub changed : (conn : Held S) (c : List ℕ) (work : Work) →
+        Makes (state g mid.shelf.conn) (state g conn) c work →
         KeepsCommitted (state g mid.shelf.conn) (state g conn) →
         KeepsOnErr {X = ⊤} (sight_inside (state g)) old (over_conn mid conn) (Ok tt)
-    changed conn c chs makes kept =
+    changed conn c work makes kept =
         subst (λ s. KeepsOnErr {X = ⊤} (sight_inside (state g)) old (over_conn s conn) (Ok tt))
         (sym is.0)
-        (changed_here conn c chs is.1
-        (subst (λ s. Makes (state g s.shelf.conn) (state g conn) c chs) is.0 makes)
+        (changed_here conn c work is.1
+        (subst (λ s. Makes (state g s.shelf.conn) (state g conn) c work) is.0 makes)
         (subst (λ s. KeepsCommitted (state g s.shelf.conn) (state g conn)) is.0 kept))
 
     pub unchanged : (conn : Held S) (new : SqlRound S M) (fault : Fault) →

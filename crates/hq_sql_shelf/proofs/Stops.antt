@@ -11,18 +11,19 @@ use Rattle.hq_keyed.specs.Left.{IsQuiet, LeavesNoMore}
 use Rattle.hq_keyed.proofs.Left.{clean_before}
 use Rattle.hq_schema.specs.Schema.{desk_schema}
 use Rattle.hq_values.specs.declared.failure.Fault.{Fault}
-use Rattle.hq_tables.specs.declared.change.Change.{Change}
 use Rattle.hq_tables.specs.Shelves.{Keeps, StopLeavesTables, StopLeavesNoMore}
 use Rattle.hq_tables.specs.Sound.{AreCounted}
-use Rattle.hq_tables.specs.Tables.{Tables, write_all}
-use Rattle.hq_isolation.proofs.Counted.{counts_stay}
+use Rattle.hq_tables.specs.Tables.{Tables}
 use Rattle.hq_sql.specs.Tables.{tables_in}
 use Rattle.hq_sql_open.specs.Found.{HoldDesk, desk_with, tables_with}
 use Rattle.hq_sql_open.specs.declared.transaction.Standing.TheVariants.{Open}
 use Rattle.hq_sql_shelf.specs.declared.shelf.SqlShelf.{SqlShelf}
 use Rattle.hq_sql_shelf.specs.Shelf.{IsWholeDesk, IsOurs, HoldsTables, sight_over, is_gone}
 use Rattle.hq_sql_shelf.specs.Stops.{LeavesWhole, LeavesOnly}
+use Rattle.hq_sql_changes.specs.Done.{worked}
 use Rattle.hq_sql_changes.specs.Transacted.{LeavesTables, KeepsTransaction}
+use Rattle.hq_sql_changes.specs.declared.work.Work.{Work}
+use Rattle.hq_sql_changes.proofs.DoneAs.{counts_done}
 use Rattle.hq_sql_shelf.proofs.Ours.{at_rest, open_stands}
 
 -- ---- trees
@@ -94,26 +95,26 @@ module _ {S M : Type 0} (refused failed : Type 0) (g : Ghosts S) (law : LeavesCo
         λ t left. sym left.2 ∙ (only left.0 left.1).1,
       )
 
-  -- and where the tables are those before with changes made
-  pub changes_leave : (old mid : SqlShelf S M) (new : Held S) (customer : List ℕ)
-      (changes : List Change) {X Y : Type 0} (ready : Result X Fault) (made : Result Y Error) →
+  -- and where the tables are those before with work done
+  pub work_leaves : (old mid : SqlShelf S M) (new : Held S) (customer : List ℕ)
+      (work : Work) {X Y : Type 0} (ready : Result X Fault) (made : Result Y Error) →
       IsLive (state g old.conn) → Keeps (sight_over refused failed (state g)) old mid ready →
       is_gone mid.standing ≡ false → mid.standing ≡ Open →
       LeavesNoMore (state g old.conn) (state g mid.conn) →
       KeepsTransaction (state g mid.conn) (state g new) made
-      (write_all customer changes (tables_in (state g mid.conn).committed)) →
+      (worked customer work (tables_in (state g mid.conn).committed)) →
       IsOurs (state g old.conn) → LeavesWhole (state g old.conn) (state g new)
       (tables_in (state g old.conn).committed)
-      (write_all customer changes (tables_in (state g old.conn).committed))
-  changes_leave old mid new customer changes ready made live first stays stands less kept ours
+      (worked customer work (tables_in (state g old.conn).committed))
+  work_leaves old mid new customer work ready made live first stays stands less kept ours
       clean db may =
       let seen = open_stands mid.standing (state g mid.conn) stands
       (clean_before (state g mid.conn) (state g new) kept.quiet clean) in
       let owned = first.ours seen ours stays in
       written_leaves g law old.conn mid.conn new _ live ours
-      (counts_stay customer changes (tables_in (state g old.conn).committed) ours.holds.counted)
+      (counts_done customer work (tables_in (state g old.conn).committed) ours.holds.counted)
       kept.quiet less (subst (λ t. LeavesTables (state g mid.conn) (state g new)
-      (write_all customer changes t)) (first.same seen ours stays)
+      (worked customer work t)) (first.same seen ours stays)
       (kept.stops (at_rest (state g mid.conn) owned) owned.holds.counted)) clean db may
 
   -- an open desk that some call left so leaves what it has committed

@@ -4,7 +4,9 @@ ghost use Rattle.std.specs.Prelude.{◌≡◌, false, OnOk};
 ghost use Rattle.sqlite.specs.Held.{state};
 ghost use Rattle.hq_values.specs.declared.failure.Fault.TheVariants.{Closed};
 ghost use Rattle.hq_keyed.specs.Left.{LeavesNoMore};
-ghost use Rattle.hq_tables.specs.Shelves.{Keeps};
+ghost use Rattle.hq_tables.specs.Shelves.{Keeps, KeepsOnErr, OnClean};
+ghost use Rattle.hq_sql.specs.Tables.{tables_in};
+ghost use Rattle.hq_sql_changes.specs.Done.{worked};
 ghost use Rattle.hq_sql_open.specs.Standings.{Settles};
 ghost use Rattle.hq_sql_shelf.specs.Rounds.{ended_round, sight_inside};
 
@@ -13,7 +15,7 @@ use crate::shelf::SqlShelf;
 use hq_kept::{Action, Class, End, Line, LookupKey, Mark, Message, Notice, Pattern};
 use hq_rounds::Rounds;
 use hq_sql::SqliteMemory;
-use hq_sql_changes::{account, make_all};
+use hq_sql_changes::{Work, account};
 use hq_sql_lines::{line_pages, lines, marks};
 use hq_sql_notices::{end_pages, notice_pages, notices};
 use hq_sql_open::transaction::{Standing, begin, commit, sees_database, settle};
@@ -50,6 +52,20 @@ impl<S: Alter, M: SqliteMemory> SqlRound<S, M> {
             return Err(self.end());
         }
         Ok(())
+    }
+
+    /// Does the work on the customer's rows, in the transaction.
+    pub(crate) fn make(&mut self, customer: &Name, work: Work<'_>) -> Result<(), Fault>
+        ensures made { OnClean (sight_inside (state S.Store)) self.old self.new
+            (OnOk result (tables_in (state S.Store self.new.shelf.conn).now
+            ≡ worked customer.now work (tables_in (state S.Store self.old.shelf.conn).now))) }
+        ensures kept { KeepsOnErr (sight_inside (state S.Store)) self.old self.new result }
+    {
+        self.ready()?;
+        match work.make(self.shelf.memory, &mut self.shelf.conn, customer) {
+            Ok(()) => Ok(()),
+            Err(_) => Err(self.end()),
+        }
     }
 }
 
@@ -216,11 +232,7 @@ impl<S: Alter, M: SqliteMemory> Shelf for SqlRound<S, M> {
     }
 
     fn apply(&mut self, customer: &Name, changes: &[Change]) -> Result<(), Fault> {
-        self.ready()?;
-        match make_all(self.shelf.memory, &mut self.shelf.conn, customer, changes) {
-            Ok(()) => Ok(()),
-            Err(_) => Err(self.end()),
-        }
+        self.make(customer, Work::Changes(changes))
     }
 
     fn faults(&self) -> u64 {

@@ -3,15 +3,15 @@ use Rattle.std.specs.Prelude.{⊤}
 use Rattle.sqlite.specs.Held.{state}
 use Rattle.sqlite.specs.State.{HasCleanDisk}
 use Rattle.hq_keyed.proofs.Left.{clean_before}
-use Rattle.hq_isolation.proofs.Counted.{counts_stay}
 use Rattle.hq_tables.specs.Shelves.{StopLeavesTables}
-use Rattle.hq_tables.specs.Tables.{write_all}
 use Rattle.hq_sql.specs.Tables.{tables_in}
+use Rattle.hq_sql_changes.specs.Done.{worked}
+use Rattle.hq_sql_changes.proofs.DoneAs.{counts_done}
 use Rattle.hq_sql_open.specs.Found.{tables_with}
 use Rattle.hq_sql_shelf.specs.Shelf.{IsOurs, sight_over}
 use Rattle.hq_sql_shelf.proofs.Ours.{at_rest, committed_ours, open_stands}
 use Rattle.hq_sql_shelf.proofs.Reading.{ended}
-use Rattle.hq_sql_shelf.proofs.Stops.{changes_leave, still_leaves}
+use Rattle.hq_sql_shelf.proofs.Stops.{work_leaves, still_leaves}
 use Rattle.hq_sql_shelf.proofs.shelf.SqlShelf.write.Given.{Over}
 use Rattle.hq_sql_shelf.proofs.shelf.SqlShelf.write.Goals as goal
 
@@ -20,15 +20,15 @@ use Rattle.hq_sql_shelf.proofs.shelf.SqlShelf.write.Goals as goal
 pub returns-in-Ok-clause-stops : goal.returns-in-Ok-clause-stops
 returns-in-Ok-clause-stops g c =
     let first = c.in_ok-ready.ensures.kept in
-    changes_leave g.M.Memory.refused g.M.SqliteMemory.failed g.S.Store g.met.S.Store.settled
+    work_leaves g.M.Memory.refused g.M.SqliteMemory.failed g.S.Store g.met.S.Store.settled
     c.args.self.now c.ready.new.self c.apply.new.conn
-    c.args.customer.now c.args.changes.now _ _ c.sees_database.ensures first first.tally.1
+    c.args.customer.now c.args.work _ _ c.sees_database.ensures first first.tally.1
     c.in_ok-ready.ensures.open c.in_ok-ready.ensures.stops c.in-Ok.ensures.kept
 
 made_after : (g : Over) (c : goal.In-Ok g) → HasCleanDisk (state g.S.Store c.apply.new.conn) →
     IsOurs (state g.S.Store c.args.self.now.conn) → IsOurs (state g.S.Store c.apply.new.conn)
     × (tables_in (state g.S.Store c.apply.new.conn).committed
-    ≡ write_all c.args.customer.now c.args.changes.now
+    ≡ worked c.args.customer.now c.args.work
     (tables_in (state g.S.Store c.args.self.now.conn).committed))
 made_after g c clean ours =
     let first = c.in_ok-ready.ensures.kept in
@@ -38,10 +38,10 @@ made_after g c clean ours =
     (clean_before mid new c.in-Ok.ensures.kept.quiet clean) in
     let owned = first.ours seen ours first.tally.1 in
     let made = c.in-Ok.ensures.made clean (at_rest mid owned) owned.holds.counted in (
-      committed_ours new _ made (counts_stay c.args.customer.now c.args.changes.now
+      committed_ours new _ made (counts_done c.args.customer.now c.args.work
           (tables_in mid.committed) owned.holds.counted),
       ap tables_in (sym made.settled.now) ∙ made.tables
-          ∙ ap (write_all c.args.customer.now c.args.changes.now)
+          ∙ ap (worked c.args.customer.now c.args.work)
           (first.same seen ours first.tally.1),
     )
 
@@ -83,9 +83,9 @@ pub returns-in-Err-clause-stops : goal.returns-in-Err-clause-stops
 returns-in-Err-clause-stops g c ours clean db may =
     let first = c.in_ok-ready.ensures.kept in
     let settles = c.give_up.ensures.kept in
-    changes_leave g.M.Memory.refused g.M.SqliteMemory.failed g.S.Store g.met.S.Store.settled
+    work_leaves g.M.Memory.refused g.M.SqliteMemory.failed g.S.Store g.met.S.Store.settled
     c.args.self.now c.ready.new.self c.apply.new.conn
-    c.args.customer.now c.args.changes.now _ _ c.sees_database.ensures first first.tally.1
+    c.args.customer.now c.args.work _ _ c.sees_database.ensures first first.tally.1
     c.in_ok-ready.ensures.open c.in_ok-ready.ensures.stops c.in-Err.ensures.kept ours
     (clean_before (state g.S.Store c.apply.new.conn) (state g.S.Store c.give_up.new.self.conn)
     settles.quiet clean) db (settles.stops clean db may)
