@@ -1,10 +1,16 @@
 //! The desk over any shelf: what a call does. The shelf is asked before memory is wanted, since a
 //! closed one answers 93 alone.
 
-ghost use Rattle.std.specs.Prelude.{◌≡◌};
-ghost use Rattle.hq_desk.specs.Desks.{shelf_of, host_of};
+ghost use Rattle.std.specs.Prelude.{◌≡◌, IfOk, OnOk};
+ghost use Rattle.hq_tables.specs.Shelves.{KeepsOnErr, OnSound, OnOpenSound, StopLeavesWhole};
+ghost use Rattle.hq_tables.specs.Sound.{Sound};
+ghost use Rattle.hq_rules.specs.Desks.{AnswersAre, or_memory, stepped};
+ghost use Rattle.hq_rules.specs.Desks.{IsRendered, IsSomeAnswer};
+ghost use Rattle.hq_desk.specs.Desks.{on, shelf_of, host_of};
 
+use crate::moving::{move_all, move_asked};
 use hq_kept::Entry;
+use hq_moves::MovesAll;
 use hq_reads::decide;
 use hq_rules::{Acts, Call, CsvMemory, Render, Rendered};
 use hq_tables::Shelf;
@@ -41,11 +47,41 @@ impl<S: Shelf + Drop> Desk<S> {
         let Desk { shelf, host } = self;
         (shelf, host)
     }
+
+    /// Does a call by the customer's records that the decision needs, each of which is read.
+    fn act_by_reading<R: Render, M: CsvMemory>(
+        &mut self,
+        memory: M,
+        at: Moment,
+        entry: &Entry,
+        call: Call,
+        render: &R,
+    ) -> Result<Rendered, Fault>
+        ensures answer { OnSound (on S.sight).store self.old self.new
+            (IfOk result (IsRendered (R.text render.now)
+            (stepped (on S.sight) self.old entry.now at call).0)) }
+        ensures tables { OnSound (on S.sight).store self.old self.new
+            (OnOk result ((on S.sight).store.tables self.new
+            ≡ (stepped (on S.sight) self.old entry.now at call).1)) }
+        ensures sound { OnOpenSound (on S.sight).store self.old self.new
+            (Sound ((on S.sight).store.tables self.new)) }
+        ensures stops { OnSound (on S.sight).store self.old self.new
+            (StopLeavesWhole (on S.sight).store self.old self.new
+            (stepped (on S.sight) self.old entry.now at call).1) }
+        ensures shown { IfOk result (IsSomeAnswer (R.text render.now) (R.fits render.now)) }
+        ensures kept { KeepsOnErr (or_memory (AnswersAre (R.takes render.now) call → M.refused)
+            (on S.sight).store) self.old self.new result }
+        ensures host { host_of self.new ≡ host_of self.old }
+    {
+        let decision = decide(&mut self.shelf, &self.host, memory, at, entry, call)?;
+        let number = decision.answer.number();
+        let bytes = render.render(memory, &decision.answer)?;
+        self.shelf.apply(&entry.name, decision.changes.as_slice())?;
+        Ok(Rendered { number, bytes })
+    }
 }
 
-impl<S: Shelf + Drop> Acts for Desk<S> {
-    ghost use Rattle.hq_desk.specs.Desks.{on};
-
+impl<S: MovesAll + Drop> Acts for Desk<S> {
     ghost sight = { on S.sight };
 
     fn act<R: Render, M: CsvMemory>(
@@ -56,10 +92,9 @@ impl<S: Shelf + Drop> Acts for Desk<S> {
         call: Call,
         render: &R,
     ) -> Result<Rendered, Fault> {
-        let decision = decide(&mut self.shelf, &self.host, memory, at, entry, call)?;
-        let number = decision.answer.number();
-        let bytes = render.render(memory, &decision.answer)?;
-        self.shelf.apply(&entry.name, decision.changes.as_slice())?;
-        Ok(Rendered { number, bytes })
+        match move_asked(&call, at) {
+            Some(by) => move_all(&mut self.shelf, memory, entry, &by, render),
+            None => self.act_by_reading(memory, at, entry, call, render),
+        }
     }
 }

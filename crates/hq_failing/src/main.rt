@@ -9,9 +9,9 @@ use hq_batch::{EngineFault, batch, words};
 use hq_desk::Desk;
 use hq_lists::ListShelf;
 use hq_log::NoLog;
+use hq_moves::MovesAll;
 use hq_settings::{Settings, Trouble, set_up};
 use hq_sql_shelf::SqlShelf;
-use hq_tables::Shelf;
 use hq_trial::{FailingShelf, Failure};
 use hq_values::Fault;
 use hq_words::RelayKey;
@@ -52,7 +52,7 @@ fn failure(how: &str, number: &str) -> Result<Failure, TrialError> {
 }
 
 /// Replies to the lines of standard input over this shelf behind one that fails.
-fn reply_over<S: Shelf + Drop>(
+fn reply_over<S: MovesAll + Drop>(
     rt: &HostRuntime,
     shelf: S,
     failure: Failure,

@@ -8,6 +8,7 @@ use crate::list_rows::ListRows;
 use crate::{ends, heads, lines, marks, messages, notices};
 use hq_kept::{Action, Class, End, Line, LookupKey, Mark, Message, Notice, Pattern};
 use hq_memory::Memory;
+use hq_moves::MovesAll;
 use hq_tables::{Account, Change, Shelf};
 use hq_values::{Fault, Items, Label, Moment, Name, Serial, Spool};
 use std::marker::Model;
@@ -24,8 +25,7 @@ pub struct ListShelf<M: Memory> {
 /// order of their places; and each customer of whom there is a message or a line has a head.
 impl<M: Memory> Model for ListShelf<M> {
     ghost use Rattle.hq_lists.specs.declared.list_rows.ListRows.{ListRows};
-    ghost use Rattle.hq_lists.specs.Lists.{tables_of};
-    ghost use Rattle.hq_lists.specs.Lists.{AreInOrder};
+    ghost use Rattle.hq_lists.specs.Lists.{AreInOrder, tables_of};
     ghost use Rattle.hq_tables.specs.Sound.{AreCounted};
 
     ghost Value = { ListRows };
@@ -130,13 +130,8 @@ impl<M: Memory> Shelf for ListShelf<M> {
         after: Option<&Pattern>,
         limit: usize,
     ) -> Result<Items<Line>, Fault> {
-        Ok(lines::page_in(
-            self.memory,
-            self.rows.lines.as_slice(),
-            customer,
-            after,
-            limit,
-        )?)
+        let rows = self.rows.lines.as_slice();
+        Ok(lines::page_in(self.memory, rows, customer, after, limit)?)
     }
 
     fn mark(&mut self, customer: &Name, label: &Label) -> Result<Option<Mark>, Fault> {
@@ -188,3 +183,6 @@ impl<M: Memory> Shelf for ListShelf<M> {
         0
     }
 }
+
+/// It has no better way.
+impl<M: Memory> MovesAll for ListShelf<M> {}

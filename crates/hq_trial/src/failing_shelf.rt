@@ -6,6 +6,9 @@ ghost use Rattle.hq_trial.specs.Shelves.{inner_of, trial_of, greatest_limit_of};
 
 use crate::failure::{Failure, Trial};
 use hq_kept::{Action, Class, End, Line, LookupKey, Mark, Message, Notice, Pattern};
+use hq_memory::Memory;
+use hq_moves::MovesAll;
+use hq_rules::Move;
 use hq_tables::{Account, Change, Shelf};
 use hq_values::{Fault, Items, Label, Moment, Name, Serial, Spool};
 
@@ -198,5 +201,23 @@ impl<S: Shelf> Shelf for FailingShelf<S> {
 
     fn faults(&self) -> u64 {
         self.trial.faults
+    }
+}
+
+impl<S: MovesAll> MovesAll for FailingShelf<S> {
+    fn moving<M: Memory>(&mut self, memory: M, customer: &Name, by: Move) -> Result<u64, Fault> {
+        let answer = match self.trial.count() {
+            Some(fault) => Err(fault),
+            None => self.inner.moving(memory, customer, by),
+        };
+        self.trial.answer(answer)
+    }
+
+    fn move_all<M: Memory>(&mut self, memory: M, customer: &Name, by: Move) -> Result<(), Fault> {
+        let answer = match self.trial.count() {
+            Some(fault) => Err(fault),
+            None => self.inner.move_all(memory, customer, by),
+        };
+        self.trial.answer(answer)
     }
 }

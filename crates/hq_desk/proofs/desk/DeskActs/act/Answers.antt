@@ -1,57 +1,20 @@
-use Rattle.std.proofs.Common.{◌≡◌, inl, inr, ⊎_elim, Err, sym, subst, ap, ◌∙◌}
-use Rattle.std.specs.Prelude.{⊤}
-use Rattle.std.proofs.lemmas.Result.{err_from_is_err_and}
-use Rattle.hq_tables.specs.Sound.{Sound}
-use Rattle.hq_tables.specs.Tables.{write_all}
+use Rattle.std.proofs.Common.{inr}
 use Rattle.hq_rules.specs.Desks.{AnswersAre}
-use Rattle.hq_reads.proofs.Reading.{changes_on, made_on, no_memory_on, rests_on}
-use Rattle.hq_soundness.proofs.Soundness.{shared_sound}
+use Rattle.hq_rules.specs.declared.answer.Answer.{Answer}
+use Rattle.hq_reads.specs.Memory.{with_memory}
+use Rattle.hq_desk.proofs.Moves.{keeps_wider, one_reason}
 use Rattle.hq_desk.proofs.desk.DeskActs.act.Goals as goal
 
-pub returns-clause-sound : goal.returns-clause-sound
-returns-clause-sound g c = λ clean ours open_ sound.
-    let before = c.in_ok-apply.ensures.kept.quiet clean in
-    let name = c.args.entry.now.name in
-    let t = g.S.Shelf.sight.tables c.args.self.now.shelf in
-    let decided = c.in_ok-decision.ensures.found before ours sound in
-    let same =
-    c.in_ok-decision.ensures.kept.same before ours c.in_ok-decision.ensures.kept.tally.1 in
-    let made = c.in_ok-apply.ensures.made clean
-    (c.in_ok-decision.ensures.kept.ours before ours c.in_ok-decision.ensures.kept.tally.1) in
-    subst Sound
-    (sym (made ∙ ap (λ changes. write_all name changes (g.S.Shelf.sight.tables c.decide.new.shelf))
-    c.as_slice.ensures ∙ (λ i. write_all name ((decided i).changes) (same i))))
-    (shared_sound c.args.self.now.host c.args.entry.now t c.args.at c.args.call sound)
-
-pub returns-in_err-apply-clause-kept : goal.returns-in_err-apply-clause-kept
-returns-in_err-apply-clause-kept g c =
-    let fault =
-    err_from_is_err_and c.from_residual-in_err-apply.result
-    c.from_residual-in_err-apply.ensures.1 in
-    let both = changes_on _ (AnswersAre (g.R.Render.takes c.args.render.now) c.args.call
-    → g.M.Memory.refused) g.S.Shelf.sight _ _ _ _ c.in_err-apply.field-0.0
-    c.from_residual-in_err-apply.result (fault.1 ∙ ap Err fault.2) c.in_ok-decision.ensures.kept
-    c.in_err-apply.ensures.kept in
-    record {
-      none = both.none;
-      ours = both.ours;
-      round = both.round;
-      quiet = both.quiet;
-      tally = both.tally;
-      cause = both.cause;
-      rests = both.rests;
-      shut = both.shut;
-    }
-
-pub returns-in_err-bytes-clause-kept : goal.returns-in_err-bytes-clause-kept
-returns-in_err-bytes-clause-kept g c =
-    let fault =
-    err_from_is_err_and c.from_residual-in_err-bytes.result
-    c.from_residual-in_err-bytes.ensures.1 in
-    let kept = no_memory_on _ (AnswersAre (g.R.Render.takes c.args.render.now) c.args.call
-    → g.M.Memory.refused) g.S.Shelf.sight _ _ _ c.from_residual-in_err-bytes.result
-    (λ all. c.in_err-bytes.ensures.cause (all _ c.in_ok-decision.ensures.kind)) (fault.1
-    ∙ ap Err fault.2) c.in_ok-decision.ensures.kept in
+pub returns-in-Some-clause-kept : goal.returns-in-Some-clause-kept
+returns-in-Some-clause-kept g c =
+    let takes = g.R.Render.takes c.args.render.now in
+    let any = ((answer : Answer) → takes answer) → g.M.Memory.refused in
+    let these = AnswersAre takes c.args.call → g.M.Memory.refused in
+    let sight = g.S.Shelf.sight in
+    let kept = keeps_wider (with_memory any sight) (with_memory these sight).may_answer _ _ _
+    (λ fault may. one_reason any these sight.may_answer
+    (λ why all. why (λ answer. all answer (c.in-Some.ensures.any answer))) fault (inr may))
+    c.move_all.ensures.kept in
     record {
       none = kept.none;
       ours = kept.ours;
@@ -61,39 +24,4 @@ returns-in_err-bytes-clause-kept g c =
       cause = kept.cause;
       rests = kept.rests;
       shut = kept.shut;
-    }
-
-pub returns-in_err-apply-clause-stops : goal.returns-in_err-apply-clause-stops
-returns-in_err-apply-clause-stops g c = λ clean ours sound rests.
-    let before = c.in_err-apply.ensures.kept.quiet clean in
-    let name = c.args.entry.now.name in
-    let sight = g.S.Shelf.sight in
-    let kept = c.in_ok-decision.ensures.kept in
-    let same = kept.same before ours kept.tally.1 in
-    let decided = c.in_ok-decision.ensures.found before ours sound in
-    let left = c.in_err-apply.ensures.stops clean (kept.ours before ours kept.tally.1)
-    (rests_on sight c.args.self.now.shelf c.decide.new.shelf (kept.stops before (inl ours)) same
-    rests) in (
-      left.0,
-      λ t may. ⊎_elim (λ (is : t ≡ sight.tables c.decide.new.shelf). inl (is ∙ same))
-          (λ (is : t ≡ write_all name c.as_slice.result.now (sight.tables c.decide.new.shelf)).
-          inr (is ∙ ap (λ changes. write_all name changes (sight.tables c.decide.new.shelf))
-          c.as_slice.ensures ∙ (λ i. write_all name ((decided i).changes) (same i))))
-          (left.1 t may),
-    )
-
-pub returns-clause-kept : goal.returns-clause-kept
-returns-clause-kept g c =
-    let both = made_on {Z = ⊤} _ (AnswersAre (g.R.Render.takes c.args.render.now) c.args.call
-    → g.M.Memory.refused) g.S.Shelf.sight _ _ _ _ _ tt c.in_ok-decision.ensures.kept
-    c.in_ok-apply.ensures.kept in
-    record {
-      none = both.none;
-      ours = both.ours;
-      round = both.round;
-      quiet = both.quiet;
-      tally = both.tally;
-      cause = both.cause;
-      rests = both.rests;
-      shut = both.shut;
     }
