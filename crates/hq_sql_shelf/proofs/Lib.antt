@@ -5,3 +5,4 @@ pub mod RoundCalls
 pub mod RoundEnds
 pub mod Migrated
 pub mod Causes
+pub mod Moved

@@ -137,7 +137,7 @@ impl<S: Alter, M: SqliteMemory> Shelf for SqlShelf<S, M> {
     }
 
     fn apply(&mut self, customer: &Name, changes: &[Change]) -> Result<(), Fault> {
-        self.write(customer, Work::Changes(changes))
+        self.write(customer, &Work::Changes(changes))
     }
 
     fn faults(&self) -> u64 {

@@ -55,10 +55,10 @@ impl<S: Alter, M: SqliteMemory> SqlRound<S, M> {
     }
 
     /// Does the work on the customer's rows, in the transaction.
-    pub(crate) fn make(&mut self, customer: &Name, work: Work<'_>) -> Result<(), Fault>
+    pub(crate) fn make(&mut self, customer: &Name, work: &Work<'_>) -> Result<(), Fault>
         ensures made { OnClean (sight_inside (state S.Store)) self.old self.new
             (OnOk result (tables_in (state S.Store self.new.shelf.conn).now
-            ≡ worked customer.now work (tables_in (state S.Store self.old.shelf.conn).now))) }
+            ≡ worked customer.now work.now (tables_in (state S.Store self.old.shelf.conn).now))) }
         ensures kept { KeepsOnErr (sight_inside (state S.Store)) self.old self.new result }
     {
         self.ready()?;
@@ -232,7 +232,7 @@ impl<S: Alter, M: SqliteMemory> Shelf for SqlRound<S, M> {
     }
 
     fn apply(&mut self, customer: &Name, changes: &[Change]) -> Result<(), Fault> {
-        self.make(customer, Work::Changes(changes))
+        self.make(customer, &Work::Changes(changes))
     }
 
     fn faults(&self) -> u64 {

@@ -23,10 +23,10 @@ impl<S: Alter, M: SqliteMemory> SqlShelf<S, M> {
     /// Wherever in it the process or its machine stops, the disk holds the trees of a desk with the
     /// tables before it or with those after it, and after `Ok` with those after it alone (`stops`,
     /// `durable`). It closes the shelf only where the connection is gone (`gone`).
-    pub fn write(&mut self, customer: &Name, work: Work<'_>) -> Result<(), Fault>
+    pub fn write(&mut self, customer: &Name, work: &Work<'_>) -> Result<(), Fault>
         ensures made { OnClean (sight_over M.refused M.failed (state S.Store)) self.old self.new
             (OnOk result (tables_in (state S.Store self.new.conn).committed
-            ≡ worked customer.now work
+            ≡ worked customer.now work.now
             (tables_in (state S.Store self.old.conn).committed))) }
         ensures kept { KeepsOnErr (sight_over M.refused M.failed (state S.Store)) self.old self.new
             result }
@@ -36,10 +36,10 @@ impl<S: Alter, M: SqliteMemory> SqlShelf<S, M> {
         ensures stops { IsOurs (state S.Store self.old.conn)
             → LeavesWhole (state S.Store self.old.conn) (state S.Store self.new.conn)
             (tables_in (state S.Store self.old.conn).committed)
-            (worked customer.now work (tables_in (state S.Store self.old.conn).committed)) }
+            (worked customer.now work.now (tables_in (state S.Store self.old.conn).committed)) }
         ensures durable { HasCleanDisk (state S.Store self.new.conn)
             → IsOurs (state S.Store self.old.conn)
-            → OnOk result (LeavesOnly (state S.Store self.new.conn) (worked customer.now work
+            → OnOk result (LeavesOnly (state S.Store self.new.conn) (worked customer.now work.now
             (tables_in (state S.Store self.old.conn).committed))) }
     {
         sees_database(&self.conn);

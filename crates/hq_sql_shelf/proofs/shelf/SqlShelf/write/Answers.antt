@@ -22,13 +22,13 @@ returns-in-Ok-clause-stops g c =
     let first = c.in_ok-ready.ensures.kept in
     work_leaves g.M.Memory.refused g.M.SqliteMemory.failed g.S.Store g.met.S.Store.settled
     c.args.self.now c.ready.new.self c.apply.new.conn
-    c.args.customer.now c.args.work _ _ c.sees_database.ensures first first.tally.1
+    c.args.customer.now c.args.work.now _ _ c.sees_database.ensures first first.tally.1
     c.in_ok-ready.ensures.open c.in_ok-ready.ensures.stops c.in-Ok.ensures.kept
 
 made_after : (g : Over) (c : goal.In-Ok g) → HasCleanDisk (state g.S.Store c.apply.new.conn) →
     IsOurs (state g.S.Store c.args.self.now.conn) → IsOurs (state g.S.Store c.apply.new.conn)
     × (tables_in (state g.S.Store c.apply.new.conn).committed
-    ≡ worked c.args.customer.now c.args.work
+    ≡ worked c.args.customer.now c.args.work.now
     (tables_in (state g.S.Store c.args.self.now.conn).committed))
 made_after g c clean ours =
     let first = c.in_ok-ready.ensures.kept in
@@ -38,10 +38,10 @@ made_after g c clean ours =
     (clean_before mid new c.in-Ok.ensures.kept.quiet clean) in
     let owned = first.ours seen ours first.tally.1 in
     let made = c.in-Ok.ensures.made clean (at_rest mid owned) owned.holds.counted in (
-      committed_ours new _ made (counts_done c.args.customer.now c.args.work
+      committed_ours new _ made (counts_done c.args.customer.now c.args.work.now
           (tables_in mid.committed) owned.holds.counted),
       ap tables_in (sym made.settled.now) ∙ made.tables
-          ∙ ap (worked c.args.customer.now c.args.work)
+          ∙ ap (worked c.args.customer.now c.args.work.now)
           (first.same seen ours first.tally.1),
     )
 
@@ -85,7 +85,7 @@ returns-in-Err-clause-stops g c ours clean db may =
     let settles = c.give_up.ensures.kept in
     work_leaves g.M.Memory.refused g.M.SqliteMemory.failed g.S.Store g.met.S.Store.settled
     c.args.self.now c.ready.new.self c.apply.new.conn
-    c.args.customer.now c.args.work _ _ c.sees_database.ensures first first.tally.1
+    c.args.customer.now c.args.work.now _ _ c.sees_database.ensures first first.tally.1
     c.in_ok-ready.ensures.open c.in_ok-ready.ensures.stops c.in-Err.ensures.kept ours
     (clean_before (state g.S.Store c.apply.new.conn) (state g.S.Store c.give_up.new.self.conn)
     settles.quiet clean) db (settles.stops clean db may)
