@@ -13,6 +13,7 @@ mod calls;
 mod file;
 mod known;
 mod migrating;
+mod moves;
 mod rounds;
 mod shelf;
 mod writing;
