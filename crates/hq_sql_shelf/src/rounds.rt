@@ -34,7 +34,7 @@ pub struct SqlRound<S: Alter, M: SqliteMemory> {
 
 impl<S: Alter, M: SqliteMemory> SqlRound<S, M> {
     /// Ends the round, so that it does not stand. The fault is counted.
-    fn end(&mut self) -> Fault
+    pub(crate) fn end(&mut self) -> Fault
         ensures over { self.new ≡ ended_round self.old }
         ensures told { result ≡ Closed }
     {
@@ -44,7 +44,7 @@ impl<S: Alter, M: SqliteMemory> SqlRound<S, M> {
     }
 
     /// Makes ready for a call: one that is over refuses every call.
-    fn ready(&mut self) -> Result<(), Fault>
+    pub(crate) fn ready(&mut self) -> Result<(), Fault>
         ensures kept { Keeps (sight_inside (state S.Store)) self.old self.new result }
         ensures same { OnOk result ((self.new ≡ self.old) × (self.old.over ≡ false)) }
     {
