@@ -288,8 +288,8 @@ impl Waiting {
         first
     }
 
-    /// Waits until a socket gives or takes more, a client takes too long, or a round has waited long
-    /// enough; not at all, where one can go on.
+    /// Waits until a socket gives or takes more, a client takes too long, or the delay of a round
+    /// ends; not at all, where one can go on.
     pub fn wait(&mut self, now: Option<Instant>) {
         if self.busy {
             self.busy = false;

@@ -357,7 +357,8 @@ module _ (c : List ℕ) (t : Tables) (sound : Sound t) where
       (not owns) o None
   left_at k true e None there = no_reason (among c (is_standing true) k (messages_in c t))
   left_at k false e None there = no_reason (among c (is_standing true) k (messages_in c t))
-  left_at k true e (Some reason) there = ap (λ b. cond b None (Some reason)) (loses k reason there e)
+  left_at k true e (Some reason) there = ap (λ b. cond b None (Some reason))
+      (loses k reason there e)
   left_at k false e (Some reason) there = ap (λ b. cond b None (Some reason))
       (none_among c (is_standing true) k (messages_in c t) e)
 

@@ -3,7 +3,7 @@
 use crate::shelf::SqlShelf;
 use hq_kept::{Action, Class, End, Line, LookupKey, Mark, Message, Notice, Pattern};
 use hq_sql::SqliteMemory;
-use hq_sql_changes::{Work, account};
+use hq_sql_changes::account;
 use hq_sql_lines::{line_pages, lines, marks};
 use hq_sql_notices::{end_pages, notice_pages, notices};
 use hq_sql_queue::queued;
@@ -137,7 +137,7 @@ impl<S: Alter, M: SqliteMemory> Shelf for SqlShelf<S, M> {
     }
 
     fn apply(&mut self, customer: &Name, changes: &[Change]) -> Result<(), Fault> {
-        self.write(customer, &Work::Changes(changes))
+        self.write(customer, changes)
     }
 
     fn faults(&self) -> u64 {

@@ -20,7 +20,7 @@ impl<S: Alter, M: SqliteMemory> MovesAll for SqlShelf<S, M> {
     }
 
     fn move_all<N: Memory>(&mut self, _memory: N, customer: &Name, by: Move) -> Result<(), Fault> {
-        self.write(customer, &Work::MoveAll(by))
+        self.do_work(customer, &Work::MoveAll(by))
     }
 }
 

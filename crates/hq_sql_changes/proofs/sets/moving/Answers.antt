@@ -8,6 +8,7 @@ use Rattle.hq_sql_changes.proofs.sets.moving.Goals as goal
 pub returns-clause-found : goal.returns-clause-found
 returns-clause-found g c clean desk =
     let t = tables_in (state g.S.Store c.args.conn.now).now in
-    ap (λ (serials : List ℕ). length serials) (c.as_slice.ensures.value ∙ c.in_ok-serials.ensures.found clean desk)
+    ap (λ (serials : List ℕ). length serials)
+    (c.as_slice.ensures.value ∙ c.in_ok-serials.ensures.found clean desk)
     ∙ ap (λ b. length (standing_serials c.args.customer.now b t)) c.is_of_held.ensures
     ∙ count_same c.args.customer.now c.args.by t

@@ -12,8 +12,8 @@ use Rattle.hq_sql_shelf.specs.Shelf.{IsOurs, sight_over}
 use Rattle.hq_sql_shelf.proofs.Ours.{at_rest, committed_ours, open_stands}
 use Rattle.hq_sql_shelf.proofs.Reading.{ended}
 use Rattle.hq_sql_shelf.proofs.Stops.{work_leaves, still_leaves}
-use Rattle.hq_sql_shelf.proofs.shelf.SqlShelf.write.Given.{Over}
-use Rattle.hq_sql_shelf.proofs.shelf.SqlShelf.write.Goals as goal
+use Rattle.hq_sql_shelf.proofs.shelf.SqlShelf.do_work.Given.{Over}
+use Rattle.hq_sql_shelf.proofs.shelf.SqlShelf.do_work.Goals as goal
 
 -- ---- it was made
 
