@@ -8,6 +8,9 @@ const PART: u32 = 3;
 /// The shortest delay that is worth while, as waits for sockets end by whole milliseconds.
 const SHORTEST_MILLISECONDS: u64 = 1;
 
+/// The longest delay.
+const LONGEST_MILLISECONDS: u64 = 10;
+
 /// How many requests the next round is delayed for, and until when. Clients that got their
 /// responses together ask again together, and else would wait for the commit of others.
 #[derive(Default, Drop)]
@@ -22,7 +25,8 @@ impl RoundDelay {
         let (Some(from), Some(to)) = (from, to) else {
             return RoundDelay::default();
         };
-        let time = to.duration_since(from) / PART;
+        let longest = Duration::from_millis(LONGEST_MILLISECONDS);
+        let time = (to.duration_since(from) / PART).min(longest);
         if time < Duration::from_millis(SHORTEST_MILLISECONDS) {
             return RoundDelay::default();
         }
@@ -35,9 +39,6 @@ impl RoundDelay {
     /// Until when the round is delayed, where so many requests have come; `None` where it is not.
     pub fn until(&self, come: usize, now: Option<Instant>) -> Option<Instant> {
         let until = self.until?;
-        if come < self.hoped && now? < until {
-            return Some(until);
-        }
-        None
+        (come < self.hoped && now? < until).then_some(until)
     }
 }

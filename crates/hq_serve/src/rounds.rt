@@ -62,6 +62,12 @@ struct Round {
 }
 
 impl Round {
+    /// How many of its calls take no long time.
+    fn short_calls(&self) -> usize {
+        let calls = self.exchanges.iter();
+        calls.filter(|call| !is_long(call.path.as_str())).count()
+    }
+
     /// Adds what the client of a place asks for; an error tells that there is no memory for it.
     fn add(&mut self, place: usize, exchange: Exchange) -> Result<(), AllocError> {
         self.places.push(place)?;
@@ -182,8 +188,8 @@ fn do_round<C: Clock, S: Rounds, L: Log, M: JsonMemory>(
     let begun = answers.now;
     answers.now = Instant::now(rt).ok();
     answers.waiting.put_off(begun, answers.now);
-    let count = round_of.exchanges.len();
-    answers.waiting.delay_next(count, begun, answers.now);
+    let calls = round_of.short_calls();
+    answers.waiting.delay_next(calls, begun, answers.now);
     match replies {
         Ok(replies) => answers.send_all(round_of, replies.as_slice()),
         Err(_) => answers.send_all(round_of, &[]),

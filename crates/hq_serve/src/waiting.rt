@@ -211,12 +211,10 @@ impl Waiting {
 
     /// The first client, from a place on, whose request has come.
     fn asked_from(&mut self, from: usize) -> Option<(usize, Input)> {
-        let mut place = from;
-        for slot in self.slots.iter_mut().skip(from) {
+        for (place, slot) in self.slots.iter_mut().enumerate().skip(from) {
             if let Some(input) = take_asked(slot) {
                 return Some((place, input));
             }
-            place = place.saturating_add(1);
         }
         None
     }
@@ -240,7 +238,7 @@ impl Waiting {
         asked != 0 && !self.is_full() && self.delay.until(asked, now).is_none()
     }
 
-    /// Behind a round of so many exchanges: the next one waits a little for as many, and for those
+    /// Behind a round of so many short calls: the next one waits a little for as many, and for those
     /// whose requests have come.
     pub fn delay_next(&mut self, count: usize, from: Option<Instant>, to: Option<Instant>) {
         let hoped = self.asked().saturating_add(count).min(MOST_TOGETHER);
