@@ -1,44 +1,51 @@
 //! How long a round is delayed, so that more requests share its commit.
 
+use crate::rounds::MOST_TOGETHER;
 use std::time::{Duration, Instant};
 
 /// A round is delayed at most by this part of the time that the one before it took.
 const PART: u32 = 3;
 
-/// The shortest delay that is worth while, as waits for sockets end by whole milliseconds.
-const SHORTEST_MILLISECONDS: u64 = 1;
-
-/// The longest delay.
-const LONGEST_MILLISECONDS: u64 = 10;
+/// The shortest delay that is worth while, since waits for sockets end by whole milliseconds; and
+/// the longest.
+const MILLISECONDS: (u64, u64) = (1, 10);
 
 /// How many requests the next round is delayed for, and until when. Clients that got their
 /// responses together ask again together, and else would wait for the commit of others.
 #[derive(Default, Drop)]
 pub(crate) struct RoundDelay {
     hoped: usize,
+    counted: bool,
     until: Option<Instant>,
 }
 
 impl RoundDelay {
-    /// That behind a round from one instant to another. It is none where it would be too short.
-    pub fn behind(hoped: usize, from: Option<Instant>, to: Option<Instant>) -> RoundDelay {
+    /// That after a round of so many calls. It is none where they are none, or it would be too
+    /// short.
+    pub fn after(calls: usize, from: Option<Instant>, to: Option<Instant>) -> RoundDelay {
         let (Some(from), Some(to)) = (from, to) else {
             return RoundDelay::default();
         };
-        let longest = Duration::from_millis(LONGEST_MILLISECONDS);
+        let longest = Duration::from_millis(MILLISECONDS.1);
         let time = (to.duration_since(from) / PART).min(longest);
-        if time < Duration::from_millis(SHORTEST_MILLISECONDS) {
+        if calls == 0 || time < Duration::from_millis(MILLISECONDS.0) {
             return RoundDelay::default();
         }
         RoundDelay {
-            hoped,
+            hoped: calls,
+            counted: false,
             until: to.checked_add(time),
         }
     }
 
     /// Until when the round is delayed, where so many requests have come; `None` where it is not.
-    pub fn until(&self, come: usize, now: Option<Instant>) -> Option<Instant> {
+    /// Those that have come when it is asked first are hoped for too: they came during the round.
+    pub fn until(&mut self, come: usize, now: Option<Instant>) -> Option<Instant> {
         let until = self.until?;
+        if !self.counted {
+            self.counted = true;
+            self.hoped = self.hoped.saturating_add(come).min(MOST_TOGETHER);
+        }
         (come < self.hoped && now? < until).then_some(until)
     }
 }

@@ -7,7 +7,6 @@ use crate::clients::{Client, Phase, Turned, deadlines_from};
 use crate::connections::Connections;
 use crate::delay::RoundDelay;
 use crate::listening::{Limits, tell};
-use crate::rounds::MOST_TOGETHER;
 use crate::sockets::{Listener, Stream};
 use hq_http::Input;
 use hq_memory::Memory;
@@ -44,6 +43,7 @@ pub(crate) struct Waiting {
     refused: bool,
     /// The place behind that of the client whose request was taken last.
     next: usize,
+    /// How long the next round is delayed.
     delay: RoundDelay,
 }
 
@@ -79,11 +79,7 @@ fn watch_listener(poll: &Poll, listener: &Listener) -> bool {
 
 /// The earlier of two instants, where there are any.
 fn earlier(one: Option<Instant>, other: Option<Instant>) -> Option<Instant> {
-    match (one, other) {
-        (Some(one), Some(other)) => Some(one.min(other)),
-        (Some(one), None) => Some(one),
-        (None, other) => other,
-    }
+    one.into_iter().chain(other).min()
 }
 
 /// What a client asked for, where that has come; it is in the round then.
@@ -181,17 +177,15 @@ impl Waiting {
         for slot in self.slots.iter_mut() {
             if let Some(client) = slot.take() {
                 match client.turn(memory, limits, now) {
-                    Turned::Waits(client) => *slot = Some(client),
-                    Turned::GoesOn(client) => {
+                    Turned::Waits(client) => {
                         *slot = Some(client);
-                        self.busy = true;
+                        continue;
                     }
-                    Turned::Left => self.busy = true,
-                    Turned::Failed(fault) => {
-                        tell(errors, fault);
-                        self.busy = true;
-                    }
+                    Turned::GoesOn(client) => *slot = Some(client),
+                    Turned::Left => {}
+                    Turned::Failed(fault) => tell(errors, fault),
                 }
+                self.busy = true;
             }
         }
     }
@@ -233,16 +227,15 @@ impl Waiting {
 
     /// Whether a round may begin: the request of a client has come, responses do not hold too much,
     /// and no more requests are waited for.
-    pub fn is_ready(&self, now: Option<Instant>) -> bool {
+    pub fn is_ready(&mut self, now: Option<Instant>) -> bool {
         let asked = self.asked();
-        asked != 0 && !self.is_full() && self.delay.until(asked, now).is_none()
+        let delayed = self.delay.until(asked, now).is_some();
+        asked != 0 && !delayed && !self.is_full()
     }
 
-    /// Behind a round of so many short calls: the next one waits a little for as many, and for those
-    /// whose requests have come.
-    pub fn delay_next(&mut self, count: usize, from: Option<Instant>, to: Option<Instant>) {
-        let hoped = self.asked().saturating_add(count).min(MOST_TOGETHER);
-        self.delay = RoundDelay::behind(hoped, from, to);
+    /// After a round of so many short calls, the next one waits a little for as many more.
+    pub fn delay_next(&mut self, calls: usize, from: Option<Instant>, to: Option<Instant>) {
+        self.delay = RoundDelay::after(calls, from, to);
     }
 
     /// Gives each client as much more time as passed between two instants.
