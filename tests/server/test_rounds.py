@@ -8,8 +8,8 @@ library counts the syncs (tests/support/interpose.c).
 2. Calls that only read take none.
 3. A report among calls that change something is done alone, between two commits.
 4. Each client gets the response to its own request: it moves a message, or reads one whose spool name is its own.
-5. Clients that ask again as soon as they have their responses share commits, where a sync takes 30 milliseconds: a round is delayed
-   for those whose responses have just left.
+5. Clients that ask again as soon as they have their responses share commits with those that asked meanwhile, where a sync takes
+   long: a round is delayed for them. A client that asks alone waits for its sync alone.
 """
 import json
 import signal
@@ -25,6 +25,8 @@ MESSAGES, TOGETHER = 70, 64
 HOLD, SHOW, REPORT = "hold", "show", "report"
 # As many clients that ask again, so often each, and how many commits that may take: without a delay it is two for each turn.
 CLIENTS, TURNS, MOST_COMMITS = 8, 10, 15
+# How long a sync takes in milliseconds, and how many more a client may wait that asks alone: a delay would be ten.
+SYNC, MORE = 30, 8
 
 
 @pytest.fixture
@@ -92,21 +94,48 @@ def test_commits(program, filled, library, kinds, commits):
     expect(found == wanted, len(kinds), "calls took", found, "syncs, and not", wanted)
 
 
-def asks_again(server, number):
+def moves(server, number, times, waits):
     """Holds and releases a message by turns, each time as soon as the response to the one before is there."""
-    for turn in range(TURNS):
+    for turn in range(times):
+        begun = time.monotonic()
         with server.connect() as client:
             client.sendall(request("POST", f"/v1/{('hold', 'release')[turn % 2]}/{number:010X}", ACME))
             told = server.received(client)
         expect(is_its_own(HOLD, number, told), number, turn, "got", told[:300])
+        waits.append((time.monotonic() - begun) * 1000)
+
+
+def commits_of(program, folder, library, one, times, milliseconds, later=()):
+    """How many commits a server makes whose clients move so often each, some of them later; and how long each call waited."""
+    counts, waits = folder / "counts", []
+    more = {"LD_PRELOAD": library, "CALLS": str(counts), "SYNC_TAKES": str(milliseconds)}
+    with Server(words(program, "serve", "store"), folder, sum(times), **more) as server:
+        with ThreadPoolExecutor(len(times)) as clients:
+            asked = []
+            for number, count in enumerate(times, 1):
+                if number in later:
+                    time.sleep(milliseconds / 4000)
+                asked.append(clients.submit(moves, server, number, count, waits))
+            for it in asked:
+                it.result()
+    return int(counts.read_text().split()[1]) - one + 1, waits
 
 
 def test_clients_that_ask_again_share_commits(program, filled, library):
     one = syncs_of(program, filled, library, [HOLD], MESSAGES)
-    counts = filled / "counts"
-    more = {"LD_PRELOAD": library, "CALLS": str(counts), "SYNC_TAKES": "30"}
-    with Server(words(program, "serve", "store"), filled, CLIENTS * TURNS, **more) as server:
-        with ThreadPoolExecutor(CLIENTS) as clients:
-            list(clients.map(asks_again, [server] * CLIENTS, range(1, CLIENTS + 1)))
-    commits = int(counts.read_text().split()[1]) - one + 1
+    commits, _ = commits_of(program, filled, library, one, [TURNS] * CLIENTS, SYNC)
     expect(TURNS <= commits <= MOST_COMMITS, CLIENTS * TURNS, "calls took", commits, "commits")
+
+
+def test_clients_that_ask_again_share_the_commit_of_those_that_asked_meanwhile(program, filled, library):
+    one = syncs_of(program, filled, library, [HOLD], MESSAGES)
+    # (a machine that is busy for ten milliseconds may part them once)
+    tried = [commits_of(program, filled, library, one, [2, 1], 10 * SYNC, later=[2])[0] for _ in range(3)]
+    expect(2 in tried, "two calls of one client, and one of another meanwhile, took", tried, "commits")
+
+
+def test_a_client_alone_waits_for_its_sync_alone(program, filled, library):
+    one = syncs_of(program, filled, library, [HOLD], MESSAGES)
+    commits, waits = commits_of(program, filled, library, one, [TURNS], SYNC)
+    expect(commits == TURNS, TURNS, "calls took", commits, "commits")
+    expect(min(waits) < SYNC + MORE, "a client waited", min(waits), "milliseconds at least")
