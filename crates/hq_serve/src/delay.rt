@@ -6,8 +6,7 @@ use std::time::{Duration, Instant};
 /// A round is delayed at most by this part of the time that the one before it took.
 const PART: u32 = 3;
 
-/// The shortest delay that is worth while, since waits for sockets end by whole milliseconds; and
-/// the longest.
+/// The shortest delay, since waits for sockets end by whole milliseconds, and the longest.
 const MILLISECONDS: (u64, u64) = (1, 10);
 
 /// How many requests the next round is delayed for, and until when. Clients that got their

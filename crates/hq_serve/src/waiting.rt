@@ -286,7 +286,8 @@ impl Waiting {
             self.busy = false;
             return;
         }
-        let delayed = self.delay.until(self.asked(), now);
+        let asked = self.asked();
+        let delayed = self.delay.until(asked, now);
         let time = match (earlier(self.first_deadline(), delayed), now) {
             (Some(end), Some(now)) => Some(end.duration_since(now)),
             (None, Some(_)) => None,
