@@ -105,15 +105,15 @@ def moves(server, number, times, waits):
         waits.append((time.monotonic() - begun) * 1000)
 
 
-def commits_of(program, folder, library, one, times, milliseconds, later=()):
-    """How many commits a server makes whose clients move so often each, some of them later; and how long each call waited."""
+def commits_of(program, folder, library, one, times, milliseconds, later=(), first=1):
+    """How many commits a server makes whose clients move a message so often each, some later; and how long each call waited."""
     counts, waits = folder / "counts", []
     more = {"LD_PRELOAD": library, "CALLS": str(counts), "SYNC_TAKES": str(milliseconds)}
     with Server(words(program, "serve", "store"), folder, sum(times), **more) as server:
         with ThreadPoolExecutor(len(times)) as clients:
             asked = []
-            for number, count in enumerate(times, 1):
-                if number in later:
+            for number, count in enumerate(times, first):
+                if number - first in later:
                     time.sleep(milliseconds / 4000)
                 asked.append(clients.submit(moves, server, number, count, waits))
             for it in asked:
@@ -130,7 +130,7 @@ def test_clients_that_ask_again_share_commits(program, filled, library):
 def test_clients_that_ask_again_share_the_commit_of_those_that_asked_meanwhile(program, filled, library):
     one = syncs_of(program, filled, library, [HOLD], MESSAGES)
     # (a machine that is busy for ten milliseconds may part them once)
-    tried = [commits_of(program, filled, library, one, [2, 1], 10 * SYNC, later=[2])[0] for _ in range(3)]
+    tried = [commits_of(program, filled, library, one, [2, 1], 10 * SYNC, [1], first)[0] for first in (1, 3, 5)]
     expect(2 in tried, "two calls of one client, and one of another meanwhile, took", tried, "commits")
 
 
