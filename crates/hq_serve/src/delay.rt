@@ -19,8 +19,7 @@ pub(crate) struct RoundDelay {
 }
 
 impl RoundDelay {
-    /// That after a round of so many calls. It is none where they are none, or it would be too
-    /// short.
+    /// That after a round of so many calls: none after no call, or where it would be too short.
     pub fn after(calls: usize, from: Option<Instant>, to: Option<Instant>) -> RoundDelay {
         let (Some(from), Some(to)) = (from, to) else {
             return RoundDelay::default();
@@ -37,14 +36,17 @@ impl RoundDelay {
         }
     }
 
-    /// Until when the round is delayed, where so many requests have come; `None` where it is not.
-    /// Those that have come when it is asked first are hoped for too: they came during the round.
-    pub fn until(&mut self, come: usize, now: Option<Instant>) -> Option<Instant> {
-        let until = self.until?;
+    /// Hopes for those too that came during the round, as they are counted first after it.
+    pub fn count(&mut self, come: usize) {
         if !self.counted {
             self.counted = true;
             self.hoped = self.hoped.saturating_add(come).min(MOST_TOGETHER);
         }
+    }
+
+    /// Until when the round is delayed, where so many requests have come; `None` where it is not.
+    pub fn until(&self, come: usize, now: Option<Instant>) -> Option<Instant> {
+        let until = self.until?;
         (come < self.hoped && now? < until).then_some(until)
     }
 }

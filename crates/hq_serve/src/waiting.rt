@@ -43,7 +43,6 @@ pub(crate) struct Waiting {
     refused: bool,
     /// The place behind that of the client whose request was taken last.
     next: usize,
-    /// How long the next round is delayed.
     delay: RoundDelay,
 }
 
@@ -188,6 +187,8 @@ impl Waiting {
                 self.busy = true;
             }
         }
+        let asked = self.asked();
+        self.delay.count(asked);
     }
 
     /// The next client whose request has come, with its place: from that of the one before it on,
@@ -225,12 +226,10 @@ impl Waiting {
         clients.filter(|client| client.has_asked()).count()
     }
 
-    /// Whether a round may begin: the request of a client has come, responses do not hold too much,
-    /// and no more requests are waited for.
-    pub fn is_ready(&mut self, now: Option<Instant>) -> bool {
+    /// Whether a round may begin: a request has come, responses hold not too much, no delay is left.
+    pub fn is_ready(&self, now: Option<Instant>) -> bool {
         let asked = self.asked();
-        let delayed = self.delay.until(asked, now).is_some();
-        asked != 0 && !delayed && !self.is_full()
+        asked != 0 && !self.is_full() && self.delay.until(asked, now).is_none()
     }
 
     /// After a round of so many short calls, the next one waits a little for as many more.
@@ -286,8 +285,7 @@ impl Waiting {
             self.busy = false;
             return;
         }
-        let asked = self.asked();
-        let delayed = self.delay.until(asked, now);
+        let delayed = self.delay.until(self.asked(), now);
         let time = match (earlier(self.first_deadline(), delayed), now) {
             (Some(end), Some(now)) => Some(end.duration_since(now)),
             (None, Some(_)) => None,
