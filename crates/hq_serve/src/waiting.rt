@@ -226,7 +226,7 @@ impl Waiting {
         clients.filter(|client| client.has_asked()).count()
     }
 
-    /// Whether a round may begin: a request has come, responses hold not too much, no delay is left.
+    /// Whether a round may begin: a request has come, there is room for responses, and no delay.
     pub fn is_ready(&self, now: Option<Instant>) -> bool {
         let asked = self.asked();
         asked != 0 && !self.is_full() && self.delay.until(asked, now).is_none()
