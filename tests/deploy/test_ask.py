@@ -53,6 +53,15 @@ class Asking:
         (self.bin / "hq").write_text(f'#!/bin/sh\nid -u >>{self.folder}/users\nexec {program} "$@"\n')
         (self.bin / "hq").chmod(0o755)
 
+    def fail_once(self):
+        """Has the next run of `hq` end as over a store that another process has let go of since."""
+        program = (self.bin / "hq").resolve()
+        (self.bin / "hq").unlink()
+        once = f"rmdir {self.folder}/once 2>/dev/null && {{ echo 'hq: 91 Disk' >&2; exit 1; }}"
+        (self.folder / "once").mkdir()
+        (self.bin / "hq").write_text(f'#!/bin/sh\n{once}\nexec {program} "$@"\n')
+        (self.bin / "hq").chmod(0o755)
+
     def users(self):
         return set((self.folder / "users").read_text().split())
 
@@ -130,7 +139,15 @@ def test_a_store_that_another_process_has(asking, desk):
     """The settings name another address: the store is locked, and that is told."""
     settings = asking.folder / "north.env"
     settings.write_text("HOST=relay.example\nLISTEN=unix:/nobody/there\n")
-    asking.refused(f"hq: 91 Disk: another process may have {asking.folder}/north.db", "queue", "acme")
+    asking.refused(f"hq: another process has the store, hq: 91 Disk: {asking.folder}/north.db", "queue", "acme")
+
+
+def test_a_store_that_another_process_had_a_moment_ago(asking, folder, program):
+    Desk(folder, program, "north", ROWS)
+    asking.submit(submission("s1"))
+    asking.fail_once()
+    expect("0000000001" in asking.done("queue", "acme"), "the queue lacks its message")
+    expect(not (folder / "once").exists(), "hq was not run twice")
 
 
 def test_without_a_store(asking, folder, program):

@@ -33,6 +33,7 @@ import pytest
 from serving import ACME, BIRCH, DIRECTORY, LONGEST, RELAY, Server, expect, listens, request, submission, words
 from slow import USED, slow_clients
 
+TAKEN = b"hq: another process has the store\nhq: 91 Disk\n"
 QUEUED = '{{"id":"{:010X}","recipients":["bob@far.example"],"refused":[],"state":"incoming","verdict":"queued"}}'
 
 
@@ -245,7 +246,7 @@ def all_clients(program, folder, store=None):
             expect(server.made == before + count, client.__name__, "made", server.made - before, "connections")
         if store:
             told = run(program, folder, words(program, "batch", store))
-            expect(told == (1, b"", b"hq: 91 Disk\n"), "beside the server a batch gave", told)
+            expect(told == (1, b"", TAKEN), "beside the server a batch gave", told)
         told = is_kept(server, begun)
     return server.answered, told, server.address
 

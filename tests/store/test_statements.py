@@ -13,7 +13,7 @@ from pathlib import Path
 
 import needs
 import pytest
-from serving import ACME, DIRECTORY, HEADER, RELAY, batch_line, expect, words
+from serving import ACME, BIRCH, DIRECTORY, HEADER, RELAY, batch_line, expect, words
 from tool import Workers
 
 TABLE = Path(__file__).resolve().parent / "statements.txt"
@@ -55,6 +55,8 @@ BEFORE = [
     submit("s3", "a@far.example"), line("POST", "/v1/hold/0000000003"),
     submit("s4", "a@far.example", "b@far.example"), outcome(4, 1, a="failed"), load("jan", "x.example", "y.example", "z.example"),
 ]
+# The one that is refused.
+MISSING = line("POST", "/v1/hold/00000000FF")
 CALLED = {
     "submission without lines": submit("s5", "a@far.example", customer="birch"),
     "submission by eight keys": submit("s5", "a@far.example"),
@@ -66,11 +68,14 @@ CALLED = {
     "message deleted": line("DELETE", "/v1/message/0000000002"),
     "hold": line("POST", "/v1/hold/0000000002"),
     "hold of what is on hold": line("POST", "/v1/hold/0000000003"),
+    "hold of a message that is missing": MISSING,
     "release": line("POST", "/v1/release/0000000003"),
     "requeue": line("POST", "/v1/requeue/0000000003"),
     "hold of all four": line("POST", "/v1/hold-all"),
+    "hold of all, of whom there is none": batch_line(START, "POST", "/v1/hold-all", BIRCH, None),
     "release of all four": line("POST", "/v1/release-all"),
     "deletion of all four": line("POST", "/v1/delete-all"),
+    "deletion of all, of whom there is none": batch_line(START, "POST", "/v1/delete-all", BIRCH, None),
     "search by a pattern": line("POST", "/v1/find", {**entry("a.example"), "after": None}),
     "hold of the three that a pattern is for": line("POST", "/v1/hold-matching", entry("a.example")),
     "release of the one on hold by a pattern": line("POST", "/v1/release-matching", entry("a.example")),
@@ -126,11 +131,13 @@ def statements(program, folder, place, *called):
     """The statements of a run of the lines, with these behind them."""
     told = folder / f"callgrind.{place}"
     asked = ["valgrind", "-q", "--tool=callgrind", f"--callgrind-out-file={told}", *words(program, "batch")]
-    lines = "".join(f"{it}\n" for it in [*BEFORE, *called])
+    calls = [*BEFORE, *called]
+    lines = "".join(f"{it}\n" for it in calls)
     ended = subprocess.run(asked, input=lines.encode(), capture_output=True, cwd=folder, timeout=300)
     replies = ended.stdout.decode().splitlines()
-    are_well = ended.returncode == 0 and len(replies) == len(BEFORE) + len(called)
-    expect(are_well and all(it.startswith("200 ") for it in replies), called, "gave", replies[-1:], ended.stderr)
+    are_well = ended.returncode == 0 and len(replies) == len(calls) and all(
+        reply.startswith("404 " if one == MISSING else "200 ") for one, reply in zip(calls, replies))
+    expect(are_well, called, "gave", replies[-1:], ended.stderr)
     return counted(told.read_text())
 
 

@@ -25,10 +25,14 @@ from pathlib import Path
 
 import pytest
 import stores_stops
-from serving import expect
+from serving import expect, words
 from stores_files import (DIRECTORY, EXAMPLES, HOLD, MIGRATION, READERS, STEPS, batch, copied, expect_migration, expect_sound,
                           old_version, replies_of, run, sqlite3)
 from tool import Workers
+from words_runs import IMPORT, MOVE, QUEUE, SWEEP, SWEEP_ALL, USAGE, asked
+
+# What is printed first of a store that another process holds.
+TAKEN = b"hq: another process has the store\n"
 
 
 # ---- the examples
@@ -53,10 +57,10 @@ def example(program, place, folder):
 
 # ---- openings
 
-def refused(program, path, fault):
-    """Nothing is read or written, and the fault is told."""
+def refused(program, path, fault, before=b""):
+    """Nothing is read or written, and the fault is told, behind these lines."""
     ended = run(batch(program, path), READERS)
-    expect((ended.returncode, ended.stdout, ended.stderr) == (1, b"", b"hq: %s\n" % fault), path, ended)
+    expect((ended.returncode, ended.stdout, ended.stderr) == (1, b"", before + b"hq: %s\n" % fault), path, ended)
 
 
 def no_desks(program, folder):
@@ -94,14 +98,32 @@ def openings(program, folder):
     held_by_another(program, later)
 
 
+def told_of_a_holder(program, store):
+    """Each word tells that another process has the store, where that is why it did nothing."""
+    lines = store.parent / "lines.csv"
+    lines.write_text("class,pattern,action\n")
+    files = {"directory": str(DIRECTORY), "store": str(store), "file": str(lines)}
+    nobody = "--sender", "<>"
+    given = [("queue", QUEUE), ("history", QUEUE), ("hold", MOVE, *nobody), ("release", MOVE, *nobody), ("delete", MOVE, *nobody),
+             ("usage", USAGE), ("import", IMPORT), ("sweep", SWEEP), ("sweep", SWEEP_ALL)]
+    asks = [[program, *asked(word, options, **files), *more] for word, options, *more in given]
+    served = words(program, "serve", store, "--listen", "127.0.0.1:0", "--count", "1", directory=DIRECTORY)
+    for it in (*asks, served):
+        ended = run(it, b"")
+        expect((ended.returncode, ended.stdout, ended.stderr) == (1, b"", TAKEN + b"hq: 91 Disk\n"), it, ended)
+    ended = run([program, *asked("queue", QUEUE, **files, customer="nobody")], b"")
+    expect((ended.returncode, ended.stderr) == (1, b"hq: 13 NoCustomer\n"), "another trouble beside its holder", ended)
+
+
 def held_by_another(program, store):
     """While a batch has a store, no other word gets it."""
     with subprocess.Popen(batch(program, store), stdin=subprocess.PIPE, stdout=subprocess.PIPE) as holder:
         holder.stdin.write(HOLD)
         holder.stdin.flush()
         expect(holder.stdout.readline().startswith(b"200 "), store, "its holder")
-        refused(program, store, b"91 Disk")
-        expect_migration(program, store, 1, b"", b"hq: 91 Disk\n")
+        refused(program, store, b"91 Disk", TAKEN)
+        expect_migration(program, store, 1, b"", TAKEN + b"hq: 91 Disk\n")
+        told_of_a_holder(program, store)
         holder.stdin.close()
         holder.stdout.read()
     expect(holder.returncode == 0, store, "its holder")

@@ -1,6 +1,6 @@
-//! What an administrator has done at the desk by one word: one call of one customer, that the
-//! directory names, or a round, one call of each of its customers, over any shelf; and what is
-//! printed of the answers.
+//! The calls that an administrator's words make, over any shelf. A word makes one call of one
+//! customer that the directory names, or a round: one call of each of its customers. The crate
+//! writes each answer as it is printed.
 #![tactic(auto)]
 
 mod customer;

@@ -5,7 +5,7 @@ ghost use Rattle.hq_admin.specs.Performs.{Performs};
 use crate::printed::Printed;
 use hq_desk::Desk;
 use hq_kept::Entry;
-use hq_moves::MovesAll;
+use hq_moves::MovesMessages;
 use hq_rules::{Acts, Call, Rendered};
 use hq_values::{Fault, Host, Moment};
 use std::alloc::Global;
@@ -26,7 +26,7 @@ pub struct AdminCall {
 /// Does the call that is asked for, over a shelf that it gives back. It answers 0 and what is
 /// printed, or a refusal's number and its text; after a fault nothing was changed, unless the store
 /// is closed then.
-pub fn perform<S: MovesAll + Drop>(
+pub fn perform<S: MovesMessages + Drop>(
     alloc: Global,
     shelf: S,
     request: AdminCall,

@@ -7,14 +7,14 @@ use crate::batch;
 use hq_bodies::JsonMemory;
 use hq_desk::Desk;
 use hq_log::Log;
-use hq_moves::MovesAll;
+use hq_moves::MovesMessages;
 use hq_settings::{Settings, Trouble};
 use std::io::{Read, Write};
 
 /// Replies to the lines of an input for the customers of these settings, over a shelf that is
 /// dropped when the input has ended, and tells each in the log. It ends in want of memory only
 /// where `memory` refused a request; then nothing is read or written.
-pub fn run_batch<S: MovesAll + Drop, R: Read, W: Write, L: Log, M: JsonMemory>(
+pub fn run_batch<S: MovesMessages + Drop, R: Read, W: Write, L: Log, M: JsonMemory>(
     memory: M,
     shelf: S,
     settings: Settings,

@@ -8,12 +8,12 @@ ghost use Rattle.hq_rules.specs.Desks.{AnswersAre, or_memory, stepped};
 ghost use Rattle.hq_rules.specs.Desks.{IsRendered, IsSomeAnswer};
 ghost use Rattle.hq_desk.specs.Desks.{on, shelf_of, host_of};
 
-use crate::moving::{move_all, move_asked};
+use crate::dropping::{apply_decision, deletes_all};
+use crate::moving::{move_all, move_asked, move_one, one_asked};
 use hq_kept::Entry;
-use hq_moves::MovesAll;
+use hq_moves::MovesMessages;
 use hq_reads::decide;
 use hq_rules::{Acts, Call, CsvMemory, Render, Rendered};
-use hq_tables::Shelf;
 use hq_values::{Fault, Host, Moment};
 
 /// The desk of all customers, over a shelf that keeps their tables.
@@ -23,7 +23,7 @@ pub struct Desk<S> {
     host: Host,
 }
 
-impl<S: Shelf + Drop> Desk<S> {
+impl<S: MovesMessages + Drop> Desk<S> {
     /// A desk over a shelf, for a relay of this name. It takes no memory.
     pub fn new(shelf: S, host: Host) -> Desk<S>
         ensures shelf { shelf_of result ≡ shelf }
@@ -73,15 +73,16 @@ impl<S: Shelf + Drop> Desk<S> {
             (on S.sight).store) self.old self.new result }
         ensures host { host_of self.new ≡ host_of self.old }
     {
+        let all = deletes_all(&call);
         let decision = decide(&mut self.shelf, &self.host, memory, at, entry, call)?;
         let number = decision.answer.number();
         let bytes = render.render(memory, &decision.answer)?;
-        self.shelf.apply(&entry.name, decision.changes.as_slice())?;
+        apply_decision(&mut self.shelf, &entry.name, all, &decision)?;
         Ok(Rendered { number, bytes })
     }
 }
 
-impl<S: MovesAll + Drop> Acts for Desk<S> {
+impl<S: MovesMessages + Drop> Acts for Desk<S> {
     ghost sight = { on S.sight };
 
     fn act<R: Render, M: CsvMemory>(
@@ -92,6 +93,9 @@ impl<S: MovesAll + Drop> Acts for Desk<S> {
         call: Call,
         render: &R,
     ) -> Result<Rendered, Fault> {
+        if let Some(asked) = one_asked(&call, at) {
+            return move_one(&mut self.shelf, memory, entry, &asked, render);
+        }
         match move_asked(&call, at) {
             Some(by) => move_all(&mut self.shelf, memory, entry, &by, render),
             None => self.act_by_reading(memory, at, entry, call, render),

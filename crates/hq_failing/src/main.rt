@@ -9,7 +9,7 @@ use hq_batch::{EngineFault, batch, words};
 use hq_desk::Desk;
 use hq_lists::ListShelf;
 use hq_log::NoLog;
-use hq_moves::MovesAll;
+use hq_moves::MovesMessages;
 use hq_settings::{Settings, Trouble, set_up};
 use hq_sql_shelf::SqlShelf;
 use hq_trial::{FailingShelf, Failure};
@@ -52,7 +52,7 @@ fn failure(how: &str, number: &str) -> Result<Failure, TrialError> {
 }
 
 /// Replies to the lines of standard input over this shelf behind one that fails.
-fn reply_over<S: MovesAll + Drop>(
+fn reply_over<S: MovesMessages + Drop>(
     rt: &HostRuntime,
     shelf: S,
     failure: Failure,

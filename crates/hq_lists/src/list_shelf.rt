@@ -8,7 +8,7 @@ use crate::list_rows::ListRows;
 use crate::{ends, heads, lines, marks, messages, notices};
 use hq_kept::{Action, Class, End, Line, LookupKey, Mark, Message, Notice, Pattern};
 use hq_memory::Memory;
-use hq_moves::MovesAll;
+use hq_moves::MovesMessages;
 use hq_tables::{Account, Change, Shelf};
 use hq_values::{Fault, Items, Label, Moment, Name, Serial, Spool};
 use std::marker::Model;
@@ -184,5 +184,5 @@ impl<M: Memory> Shelf for ListShelf<M> {
     }
 }
 
-/// It has no better way.
-impl<M: Memory> MovesAll for ListShelf<M> {}
+/// The plain lists read and change the messages one by one.
+impl<M: Memory> MovesMessages for ListShelf<M> {}

@@ -6,7 +6,8 @@ ghost use Rattle.hq_words.specs.Asked.{given_of};
 ghost use Rattle.hq_main.specs.Runs.{ServesBuiltin, BatchEnds, DoesWord, Commands};
 
 use crate::rounds::{do_sweep, print_round};
-use hq_batch::{check, print, refuse, run_batch, show, tell};
+use crate::stores::{explain, print_over, tell_over};
+use hq_batch::{check, refuse, run_batch, show, tell};
 use hq_lists::ListShelf;
 use hq_log::{NoLog, log_of};
 use hq_settings::{Trouble, builtin_settings, set_up};
@@ -66,19 +67,26 @@ fn do_word<R: Read, W: Write, E: Write>(
     match asked {
         Word::Serve(given) => {
             let served = serve_http(rt, given, output, errors);
-            tell(served, errors)
+            tell_over(rt, given.store, served, errors)
         }
-        Word::Batch(batch) => tell(run_given(rt, batch, input, output), errors),
+        Word::Batch(batch) => {
+            let ended = run_given(rt, batch, input, output);
+            tell_over(rt, batch.store, ended, errors)
+        }
         Word::Check(given) => check(rt, given, output, errors),
-        Word::Queue(given) => print(queue(rt, given), output, errors),
-        Word::History(given) => print(history(rt, given), output, errors),
-        Word::Hold(given) => print(hold(rt, given), output, errors),
-        Word::Release(given) => print(release(rt, given), output, errors),
-        Word::Delete(given) => print(delete(rt, given), output, errors),
-        Word::Usage(given) => print_round(usage(rt, given), output, errors),
-        Word::Import(given) => print(import(rt, given), output, errors),
+        Word::Queue(given) => print_over(rt, given.store, queue(rt, given), output, errors),
+        Word::History(given) => print_over(rt, given.store, history(rt, given), output, errors),
+        Word::Hold(given) => print_over(rt, given.store, hold(rt, given), output, errors),
+        Word::Release(given) => print_over(rt, given.store, release(rt, given), output, errors),
+        Word::Delete(given) => print_over(rt, given.store, delete(rt, given), output, errors),
+        Word::Usage(given) => {
+            let done = usage(rt, given);
+            explain(rt, given.store, &done, errors);
+            print_round(done, output, errors)
+        }
+        Word::Import(given) => print_over(rt, given.store, import(rt, given), output, errors),
         Word::Sweep(given) => do_sweep(rt, given, output, errors),
-        Word::Migrate(given) => print(migrate(rt, given), output, errors),
+        Word::Migrate(given) => print_over(rt, given.store, migrate(rt, given), output, errors),
     }
 }
 

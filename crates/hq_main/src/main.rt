@@ -6,6 +6,7 @@
 
 mod command;
 mod rounds;
+mod stores;
 
 use command::command;
 use hq_batch::{not_begun, words};

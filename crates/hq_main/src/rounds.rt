@@ -3,8 +3,9 @@
 ghost use Rattle.std.specs.Prelude.{◌≡◌, option_map};
 ghost use Rattle.hq_main.specs.Rounds.{DoesSweep, IsRoundPrinted};
 
+use crate::stores::{explain, print_over};
 use hq_admin::ToldAll;
-use hq_batch::{print, print_all, tell};
+use hq_batch::{print_all, tell};
 use hq_settings::Trouble;
 use hq_sql_admin::{sweep, sweep_all};
 use hq_sql_shelf::FileShelf;
@@ -46,7 +47,11 @@ pub(crate) fn do_sweep<W: Write, E: Write>(
         (W.contents output.old) (W.contents output.new) result }
 {
     match given.customer {
-        Some(name) => print(sweep(rt, given, name), output, errors),
-        None => print_round(sweep_all(rt, given), output, errors),
+        Some(name) => print_over(rt, given.store, sweep(rt, given, name), output, errors),
+        None => {
+            let done = sweep_all(rt, given);
+            explain(rt, given.store, &done, errors);
+            print_round(done, output, errors)
+        }
     }
 }

@@ -1,7 +1,7 @@
-//! A shelf that moves all messages of a customer at once; by reading and changing them one by one,
-//! where it has no better way.
+//! A shelf that moves one message of a customer, and moves or drops all at once; by reading and
+//! changing each, where it has no better way.
 #![tactic(auto)]
 
-mod moves_all;
+mod moves_messages;
 
-pub use moves_all::MovesAll;
+pub use moves_messages::MovesMessages;

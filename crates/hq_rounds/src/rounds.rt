@@ -5,14 +5,14 @@ ghost use Rattle.hq_values.specs.declared.failure.Fault.{Fault};
 ghost use Rattle.hq_values.specs.declared.failure.Fault.TheVariants.{Closed};
 ghost use Rattle.hq_rounds.specs.Rounds.{BeginsRound, EndsRound, StaysOut};
 
-use hq_moves::MovesAll;
+use hq_moves::MovesMessages;
 
 /// A shelf on which a round can be begun: all that is done in it stands in the end, or none of it.
 /// One commit makes it stand, in place of one for each call.
-pub trait Rounds: MovesAll + Drop {
+pub trait Rounds: MovesMessages + Drop {
     /// The shelf while a round is open. A call that fails closes it: it answers 93, as every call
     /// from then on does, and the round does not stand.
-    type Round: MovesAll + Drop;
+    type Round: MovesMessages + Drop;
 
     /// Begins a round; or the shelf comes back, as it was or closed. It counts no fault.
     fn begin(self) -> Result<Self::Round, Self>

@@ -3,11 +3,14 @@
 use crate::rounds::MOST_TOGETHER;
 use std::time::{Duration, Instant};
 
-/// A round is delayed at most by this part of the time that the one before it took.
-const PART: u32 = 3;
+/// The longest delay is the time of the round before, divided by this.
+const PARTS: u32 = 3;
 
-/// The shortest delay, since waits for sockets end by whole milliseconds, and the longest.
-const MILLISECONDS: (u64, u64) = (1, 10);
+/// The shortest delay, since waits for sockets end by whole milliseconds.
+const SHORTEST_MILLISECONDS: u64 = 1;
+
+/// The longest delay.
+const LONGEST_MILLISECONDS: u64 = 10;
 
 /// How many requests the next round is delayed for, and until when. Clients that got their
 /// responses together ask again together, and else would wait for the commit of others.
@@ -19,14 +22,15 @@ pub(crate) struct RoundDelay {
 }
 
 impl RoundDelay {
-    /// That after a round of so many calls: none after no call, or where it would be too short.
+    /// The delay behind a round of so many calls. There is none behind no call, or where it would
+    /// be too short.
     pub fn after(calls: usize, from: Option<Instant>, to: Option<Instant>) -> RoundDelay {
         let (Some(from), Some(to)) = (from, to) else {
             return RoundDelay::default();
         };
-        let longest = Duration::from_millis(MILLISECONDS.1);
-        let time = (to.duration_since(from) / PART).min(longest);
-        if calls == 0 || time < Duration::from_millis(MILLISECONDS.0) {
+        let longest = Duration::from_millis(LONGEST_MILLISECONDS);
+        let time = (to.duration_since(from) / PARTS).min(longest);
+        if calls == 0 || time < Duration::from_millis(SHORTEST_MILLISECONDS) {
             return RoundDelay::default();
         }
         RoundDelay {
@@ -36,8 +40,8 @@ impl RoundDelay {
         }
     }
 
-    /// Hopes for those too that came during the round, as they are counted first after it.
-    pub fn count(&mut self, come: usize) {
+    /// Adds the requests that came during the round. Only its first call behind a round adds any.
+    pub fn hope_for(&mut self, come: usize) {
         if !self.counted {
             self.counted = true;
             self.hoped = self.hoped.saturating_add(come).min(MOST_TOGETHER);

@@ -50,8 +50,7 @@ fn is_left_behind(rt: &HostRuntime, path: &str) -> bool {
     }
 }
 
-/// A socket that listens at a path, for its owner and its group, in the place of one that was left
-/// behind.
+/// A socket that listens at a path, for its owner and its group, in place of one left behind.
 fn bind_path(rt: &HostRuntime, path: &str) -> io::Result<UnixListener> {
     if is_left_behind(rt, path) {
         fs::remove_file(rt, path)?;

@@ -172,7 +172,7 @@ impl<L: Log> Answers<'_, '_, L> {
 }
 
 /// Does a round of a desk, and sends its replies; the clients' time to take them counts from there.
-/// It does no more exchanges than the round has.
+/// It does no more exchanges than the round has. It may delay the next round.
 fn do_round<C: Clock, S: Rounds, L: Log, M: JsonMemory>(
     rt: &C,
     memory: M,
@@ -209,22 +209,20 @@ fn end_of(left: usize) -> ServiceEnd
 
 /// Serves the connections that are to come, several at once, and then no more. Exchanges whose
 /// requests have come share a round, 64 at most. One commit makes them stand together, and no
-/// response leaves before it. A long call, as a report, has a round of its own.
+/// response leaves before it. A round waits up to 10 milliseconds for clients of the one before it,
+/// so that they share its commit. A long call, as a report, has a round of its own.
 ///
-/// All exchanges together are a run, of one at most for each connection that came, at the moments
-/// of their rounds. Each customer gets the replies, and keeps the records, that it would have
-/// alone. The desk does nothing for bytes that are no request. Requests and replies take their room
-/// from `memory`.
+/// All exchanges are one run, of one at most for each connection that came, at the moments of their
+/// rounds. Each customer gets the replies, and keeps the records, that it would have alone. The
+/// desk does nothing for bytes that are no request. Requests and replies take room from `memory`.
 ///
 /// No client waits for another that is slow, or takes nothing: 256 at once at most are read and
 /// written as far as their sockets go. While responses hold 64 MB, no more requests are taken. A
-/// client that fails, or takes longer than the limits allow, is told in a line. That is `hq: input`
-/// while its request comes, and `hq: output` while its response leaves. The log, which changes
-/// nothing of this, is told each reply.
+/// client that fails, or exceeds a limit, is told in a line: `hq: input` while its request comes,
+/// and `hq: output` while its response leaves. The log is told each reply, and may lose it.
 ///
-/// When a response went out, what its client still sends is thrown away until the client ends its
-/// side, for a second and 4,096 reads at most. A connection closed before that would be reset, and
-/// its response lost.
+/// Behind a response, further bytes of a client are thrown away until the client ends its side, for
+/// a second and 4,096 reads at most. Else the connection would be reset, and its response lost.
 ///
 /// It ends with `Done` once all have come and been served, and not before. It ends with `Network`
 /// once one could not be accepted, and those that came have been served; or where sockets cannot be

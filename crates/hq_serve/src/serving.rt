@@ -114,8 +114,7 @@ fn write_reply<W: Write>(writer: &mut W, reply: &Reply<'_>) -> io::Result<()>
 /// machine of one customer, started from its own state and given its share of the calls alone; a
 /// call that is replied to with 503 does not count.
 ///
-/// What is replied is told in one line of the log, unless that loses lines, and the log changes
-/// nothing of all this.
+/// The log has one line of the reply, unless it loses lines, and changes nothing of all this.
 ///
 /// An error is `Read` or `TooManyReads`: no head had ended, or the body of one was not whole, and
 /// nothing was done and nothing written; or `Write`: what was asked was done, and a beginning of

@@ -134,8 +134,7 @@ impl Waiting {
         }
     }
 
-    /// Accepts what waits, as long as there are free places. An error tells that one that waits
-    /// could not be accepted.
+    /// Accepts what waits, while there are free places. An error tells that one was not accepted.
     fn accept_all<M: Memory, E: Write>(
         &mut self,
         memory: M,
@@ -188,7 +187,7 @@ impl Waiting {
             }
         }
         let asked = self.asked();
-        self.delay.count(asked);
+        self.delay.hope_for(asked);
     }
 
     /// The next client whose request has come, with its place: from that of the one before it on,
@@ -232,7 +231,8 @@ impl Waiting {
         asked != 0 && !self.is_full() && self.delay.until(asked, now).is_none()
     }
 
-    /// After a round of so many short calls, the next one waits a little for as many more.
+    /// After a round of so many short calls, delays the next one for as many requests, and for
+    /// those that came meanwhile.
     pub fn delay_next(&mut self, calls: usize, from: Option<Instant>, to: Option<Instant>) {
         self.delay = RoundDelay::after(calls, from, to);
     }

@@ -1,4 +1,4 @@
-//! One call over a store in a file.
+//! One call over a store in a file, and whether another process has one.
 
 ghost use Rattle.std.specs.Prelude.{⊤};
 ghost use Rattle.sqlite.specs.Held.{state};
@@ -11,8 +11,23 @@ use hq_settings::Trouble;
 use hq_sql_shelf::{FileShelf, SqlShelf, open_file};
 use hq_tables::Shelf;
 use hq_values::Fault;
-use sqlite::Alter;
+use sqlite::{Alter, Connection, Error, ErrorCode};
 use std::alloc::Global;
+use std::fs;
+
+/// Whether another process has the store of a path. A store that nobody has is opened, and closed
+/// again. Where there is no file, none is made.
+pub fn is_taken(rt: &HostRuntime, store: &str) -> bool {
+    // (a path without a file is opened as a new store)
+    match fs::metadata(rt, store) {
+        Ok(found) if found.is_file() => {}
+        _ => return false,
+    }
+    matches!(
+        Connection::open(rt, store),
+        Err(Error::SqliteFailure(ErrorCode::DatabaseBusy))
+    )
+}
 
 /// Does what is asked for over a store as it was opened; or tells why it could not be opened.
 fn perform_opened<S: Alter + Drop>(

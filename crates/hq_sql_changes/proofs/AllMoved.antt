@@ -118,7 +118,7 @@ module _ (f : Key → Row → Row) (keeps : (k : Key) (r : Row) → (f k r).size
       go true more = λ i. keeps e.0 e.1 i ∷ more i
       go false more = more
 
-  kept_same : (d : List ℕ) (t : Tables) →
+  pub kept_same : (d : List ℕ) (t : Tables) →
       kept_in d (record t { messages = map_values f t.messages }) ≡ kept_in d t
   unfolding changed
   kept_same d t = kept_of_sizes (rows_of text_cmp d (entries (map_values f t.messages)))

@@ -97,7 +97,7 @@ module _ (c : List ℕ) (serial : ℕ) (rs : Recipients) (placed : AllPlaced rs)
 
 -- ---- one message, put with its size and its recipients
 
-put_kept : (c : List ℕ) (n : Message) (r : Row) (t : Tables) → AreCounted t →
+pub put_kept : (c : List ℕ) (n : Message) (r : Row) (t : Tables) → AreCounted t →
     AllPlaced t.recipients → get t.messages (c, n.serial) ≡ Some r → r.size ≡ n.size →
     pending_of c n.serial t.recipients ≡ n.pending → write c (PutMessage n) t ≡ record t {
       messages = insert t.messages (c, n.serial) (row_of n);
@@ -213,7 +213,7 @@ abbrev pub reason_each : List ℕ → Move → List Message → Holds → Holds
 reason_each c by [] hs = hs
 reason_each c by (m ∷ ms) hs = reason_each c by ms (reason_one c by m hs)
 
-write_all-append : (c : List ℕ) (xs ys : List Change) (t : Tables) →
+pub write_all-append : (c : List ℕ) (xs ys : List Change) (t : Tables) →
     write_all c (xs ++ ys) t ≡ write_all c ys (write_all c xs t)
 write_all-append c [] ys t = refl
 write_all-append c (x ∷ xs) ys t = write_all-append c xs ys (write c x t)

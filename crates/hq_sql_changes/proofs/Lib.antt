@@ -1,7 +1,11 @@
 pub mod Owing
 pub mod Recounted
 pub mod Steps
+pub mod Reasoned
 pub mod EachMoved
 pub mod MovedRows
 pub mod AllMoved
+pub mod OneMoved
+pub mod DroppedRows
+pub mod AllDropped
 pub mod DoneAs

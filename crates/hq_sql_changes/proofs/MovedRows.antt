@@ -41,11 +41,11 @@ moved_row Hold r = cond (is_standing false r) (held_row r) r
 moved_row (Release at) r = cond (is_standing true r) (released_row at r) r
 
 -- whether a key is that of a message whose row passes
-abbrev among : List ℕ → (Row → Bool) → Key → List Message → Bool
+abbrev pub among : List ℕ → (Row → Bool) → Key → List Message → Bool
 among c passes k ms = list_any (λ (m : Message). passes (row_of m)
     && eq_by_cmp message_cmp k (c, m.serial)) ms
 
-abbrev every : Row → Bool
+abbrev pub every : Row → Bool
 every r = true
 
 not_among : (c : List ℕ) (passes : Row → Bool) (x : ℕ) (ms : List Message) → NotAmong x ms →
@@ -185,7 +185,7 @@ some_among c t passes k r owns pass (e ∷ es) h =
     go true is f rest = some_here c t passes k e es owns (tells_apart message_exact k e.0 is)
         (ap passes (same_some e.1 r f) ∙ pass)
 
-among_all : (c : List ℕ) (t : Tables) (k : Key) (r : Row) → get t.messages k ≡ Some r →
+pub among_all : (c : List ℕ) (t : Tables) (k : Key) (r : Row) → get t.messages k ≡ Some r →
     among c every k (messages_in c t) ≡ eq_by_cmp text_cmp c k.0
 among_all c t k r there = go (eq_by_cmp text_cmp c k.0) refl
   where
@@ -317,7 +317,7 @@ reasons_released c at (m ∷ ms) hs k = go (is_on_hold m.state)
 
 -- who has a reason is on hold, and so loses it
 module _ (c : List ℕ) (t : Tables) (sound : Sound t) where
-  has_row : (k : Key) (reason : List ℕ) → get t.holds k ≡ Some reason →
+  pub has_row : (k : Key) (reason : List ℕ) → get t.holds k ≡ Some reason →
       (r : Row) × (get t.messages k ≡ Some r)
   has_row k reason there = go (get t.messages k) refl
     where

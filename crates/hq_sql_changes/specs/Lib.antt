@@ -1,4 +1,6 @@
 pub mod Accounts
 pub mod Transacted
 pub mod Moved
+pub mod Dropped
+pub mod OneMoved
 pub mod Done

@@ -116,7 +116,7 @@ fn make_owing_from<S: Alter, M: SqliteMemory>(
 /// Makes all changes in order, where the customer's head row is still to be set to this account. It
 /// is written once, behind those that change the account.
 #[cycle(making)]
-fn make_owing<S: Alter, M: SqliteMemory>(
+pub(crate) fn make_owing<S: Alter, M: SqliteMemory>(
     memory: M,
     conn: &mut Connection<S>,
     customer: &Name,

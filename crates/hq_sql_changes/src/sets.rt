@@ -1,12 +1,14 @@
 //! A move of all messages of a customer, made in sets: their rows together, and their reasons.
 
-ghost use Rattle.std.specs.Prelude.{◌≡◌, IfErr, IsTrue, length};
+ghost use Rattle.std.specs.Prelude.{◌≡◌, false, IfErr, IsTrue, length};
 ghost use Rattle.sqlite.specs.Held.{state};
+ghost use Rattle.hq_values.specs.Words.{customer_hold};
 ghost use Rattle.hq_tables.specs.Readings.{read_tables};
 ghost use Rattle.hq_rules.specs.Queues.{moves_of};
 ghost use Rattle.hq_rules.specs.declared.call.Move.TheVariants.{Hold};
 ghost use Rattle.hq_sql.specs.Causes.{HasCause};
 ghost use Rattle.hq_sql.specs.Kept.{Intact, KeepsCommitted, Writes, Yields};
+ghost use Rattle.hq_sql_messages.specs.Moves.{standing_serials};
 ghost use Rattle.hq_sql_changes.specs.Moved.{moves_from, set_moved, with_reasons};
 
 use hq_rules::Move;
@@ -38,9 +40,8 @@ pub fn moving<S: Alter, M: SqliteMemory>(
     Ok(serials.as_slice().len() as u64)
 }
 
-/// Gives these messages the reason.
-#[cycle(giving)]
-fn give_reasons<S: Alter, M: SqliteMemory>(
+/// Gives these messages the reason, one after another.
+fn give_each<S: Alter, M: SqliteMemory>(
     memory: M,
     conn: &mut Connection<S>,
     customer: &Name,
@@ -53,13 +54,31 @@ fn give_reasons<S: Alter, M: SqliteMemory>(
     ensures kept { KeepsCommitted (state S.Store conn.old) (state S.Store conn.new) }
     ensures cause { IfErr result (HasCause M.refused M.failed) }
 {
-    match serials {
-        [] => Ok(()),
-        [first, rest @ ..] => {
-            holds::put(memory, conn, customer, *first, reason)?;
-            give_reasons(memory, conn, customer, reason, rest)
-        }
+    for serial in serials {
+        holds::put(memory, conn, customer, *serial, reason)?;
     }
+    Ok(())
+}
+
+/// Gives the reason of a hold to all messages of the customer that are not on hold. One statement
+/// does where none of them has a reason. Otherwise they get it one after another: a store made
+/// elsewhere may have such rows.
+fn give_queued<S: Alter, M: SqliteMemory>(
+    memory: M,
+    conn: &mut Connection<S>,
+    customer: &Name,
+) -> Result<(), Error>
+    ensures made { Writes (state S.Store conn.old) (state S.Store conn.new) result
+        (λ t. with_reasons customer.now customer_hold (standing_serials customer.now false t) t) }
+    ensures kept { KeepsCommitted (state S.Store conn.old) (state S.Store conn.new) }
+    ensures cause { IfErr result (HasCause M.refused M.failed) }
+{
+    let reason = Text::customer_hold(memory)?;
+    if holds::insert_for_queued(memory, conn, customer, &reason)? {
+        let serials = moves::serials(memory, conn, customer, false)?;
+        give_each(memory, conn, customer, &reason, serials.as_slice())?;
+    }
+    Ok(())
 }
 
 /// Puts all messages of the customer on hold that are not: first their reasons, and then their
@@ -74,9 +93,7 @@ fn hold_all<S: Alter, M: SqliteMemory>(
     ensures kept { KeepsCommitted (state S.Store conn.old) (state S.Store conn.new) }
     ensures cause { IfErr result (HasCause M.refused M.failed) }
 {
-    let serials = moves::serials(memory, conn, customer, false)?;
-    let reason = Text::customer_hold(memory)?;
-    give_reasons(memory, conn, customer, &reason, serials.as_slice())?;
+    give_queued(memory, conn, customer)?;
     moves::hold_all(memory, conn, customer)
 }
 

@@ -16,8 +16,7 @@ use hq_sql_open::transaction::{begin, commit, sees_database};
 use hq_values::Name;
 use sqlite::{Alter, Connection, Error};
 
-/// Does the work in one transaction, whatever the counts are. Where there is nothing to do none
-/// begins.
+/// Does the work in one transaction, whatever the counts are. For a list of no changes none begins.
 fn transact<S: Alter, M: SqliteMemory>(
     memory: M,
     conn: &mut Connection<S>,
@@ -31,7 +30,7 @@ fn transact<S: Alter, M: SqliteMemory>(
         (made_of customer.now work.now (tables_in (state S.Store conn.old).committed)) }
     ensures cause { IfErr result (HasCause M.refused M.failed) }
 {
-    if work.is_empty() {
+    if work.has_no_changes() {
         return Ok(());
     }
     begin(memory, conn)?;

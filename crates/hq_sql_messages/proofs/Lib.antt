@@ -5,7 +5,10 @@ pub mod Backs
 pub mod SetWhere
 pub mod PutBack
 pub mod AllRows
+pub mod AllPut
 pub mod SetAll
 pub mod MoveTexts
 pub mod OnMessages
 pub mod OnMoves
+pub mod OnQueued
+pub mod OnOneMove

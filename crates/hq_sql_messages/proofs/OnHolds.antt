@@ -76,7 +76,7 @@ hold_got old new q rows desk h =
     text.hold_read_known (message_key_columns q) hold_shown (λ k. refl) (λ xs. refl) q
     (λ k. key_tests q k []) rows h
 
-holds_guard : Guard schema.desk_schema holds_table.place holds_table.kind
+pub holds_guard : Guard schema.desk_schema holds_table.place holds_table.kind
 unfolding first_key
 holds_guard = record {
   order = plain;

@@ -86,7 +86,7 @@ messages_table = record {
   set = λ db rows. refl;
 }
 
-key_tests : (q : Key) (k : ℤ × MessageRow) (more : Row) →
+pub key_tests : (q : Key) (k : ℤ × MessageRow) (more : Row) →
     list_all (holds ((Text q.0 ∷ number q.1 ∷ more) ∷ message_stored k ∷ [])) text.message_key ≡
     eq_by_cmp message_cmp q (message_key k.1)
 key_tests q k more = then_term (text_is k.1.customer q.0) (last_term (number_is k.1.serial q.1))

@@ -29,6 +29,7 @@ use Rattle.hq_sql.specs.Tables.{IsDesk, Leaves, tables_in}
 use Rattle.hq_sql.proofs.Statements.{lists_entries, drops}
 use Rattle.hq_sql_messages.specs.Moves.{is_standing, standing_serials, held_row}
 use Rattle.hq_sql_messages.specs.Moves.{released_row, all_held, all_released, without_holds}
+use Rattle.hq_sql_messages.specs.Moves.{without_messages}
 use Rattle.hq_sql_messages.specs.Moves.{customer_columns, released_columns}
 use Rattle.hq_sql_messages.proofs.Backs.{message_back}
 use Rattle.hq_sql_messages.proofs.OnHolds.{holds_table}
@@ -40,10 +41,10 @@ abbrev Key : Type 0
 Key = List ℕ × ℕ
 
 -- a message of the customer that is on hold, or one that is not
-abbrev stands : List ℕ → Bool → Key × store.Row → Bool
+abbrev pub stands : List ℕ → Bool → Key × store.Row → Bool
 stands c on_hold e = eq_by_cmp text_cmp c e.0.0 && is_standing on_hold e.1
 
-abbrev stands_so : List ℕ → Bool → MessageRow → Bool
+abbrev pub stands_so : List ℕ → Bool → MessageRow → Bool
 stands_so c on_hold r = stands c on_hold (message_key r, message_value r)
 
 state_held : (s : QueueState) → eq_by_cmp nat_cmp 2 (state_code s) ≡ is_on_hold s
@@ -57,7 +58,7 @@ held_tests : (c : List ℕ) (more : Row) (k : ℤ × MessageRow) →
 held_tests c more k = then_term (text_is k.1.customer c)
     (last_term (number_is (state_code k.1.state) 2 ∙ state_held k.1.state))
 
-queued_tests : (c : List ℕ) (more : Row) (k : ℤ × MessageRow) →
+pub queued_tests : (c : List ℕ) (more : Row) (k : ℤ × MessageRow) →
     list_all (holds ((Text c ∷ more) ∷ message_stored k ∷ [])) text.queued_terms ≡ stands_so c
     false k.1
 queued_tests c more k = then_term (text_is k.1.customer c)
@@ -97,17 +98,17 @@ queued_shown old new c rows desk h =
 
 -- ---- writing
 
-abbrev held : MessageRow → MessageRow
+abbrev pub held : MessageRow → MessageRow
 held r = record r { state = Hold }
 
-abbrev released : ℕ → MessageRow → MessageRow
+abbrev pub released : ℕ → MessageRow → MessageRow
 released at r = record r { state = Deferred; next_try = at }
 
-hold_row : (c : List ℕ) (k : ℤ × MessageRow) →
+pub hold_row : (params : Row) (k : ℤ × MessageRow) →
     cast_row (record schema.messages { tree = 3 })
-    (drop 1 (eval_all text.hold_row (customer_columns c ∷ message_stored k ∷ []))) ≡
-    message_stored (k.0, held k.1)
-hold_row c k =
+    (drop 1 (eval_all text.hold_row (params ∷ message_stored k ∷ []))) ≡ message_stored
+    (k.0, held k.1)
+hold_row params k =
     then_value (cast_int k.0) (then_value refl
     (then_value (cast_int (pos k.1.serial))
     (then_value refl (then_value refl (then_value (cast_int (pos k.1.size))
@@ -129,14 +130,14 @@ release_row c at k =
     (then_value (cast_int (pos at))
     (then_value (cast_int (pos k.1.attempts)) (then_value (cast_int _) refl))))))))))
 
-value_set : (b : Bool) (x : MessageRow) (f : MessageRow → MessageRow)
+pub value_set : (b : Bool) (x : MessageRow) (f : MessageRow → MessageRow)
     (g : store.Row → store.Row) → message_value (f x) ≡ g (message_value x) →
     message_value (cond b (f x) x) ≡ cond b (g (message_value x)) (message_value x)
 value_set true x f g e = e
 value_set false x f g e = refl
 
 -- the sender of a row that can be read back can be read
-sender_back : (k : ℤ × MessageRow) → message_read (message_stored k) ≡ k.1 →
+pub sender_back : (k : ℤ × MessageRow) → message_read (message_stored k) ≡ k.1 →
     sender_of (sender_text k.1.sender) ≡ k.1.sender
 sender_back k h = ap (λ (r : MessageRow). r.sender) h
 
@@ -149,7 +150,7 @@ all_were_held old new c count desk h =
     (λ k r. cond (stands c false (k, r)) (held_row r) r) (λ x. refl)
     (λ x. value_set (stands_so c false x) x held held_row refl)
     (λ k back. message_back (held k.1) k.0 (sender_back k back)) (queued_tests c [])
-    (λ k. refl) (hold_row c) h
+    (λ k. refl) (hold_row (customer_columns c)) h
 
 pub all_were_released : (old new : State) (c : List ℕ) (at : ℕ) (count : ℕ) → IsDesk old.now →
     Executes text.release_text (released_columns c at) old new (Ok count) →
@@ -166,6 +167,14 @@ pub reasons_deleted : (old new : State) (c : List ℕ) (count : ℕ) → IsDesk 
     Executes text.reasons_text (customer_columns c) old new (Ok count) →
     Leaves old new (without_holds c (tables_in old.now))
 reasons_deleted old new c count desk h =
-    drops holds_table old new desk text.reasons_text text.reason_terms text.reasons_known
+    drops holds_table old new desk text.reasons_text text.own_terms text.reasons_known
+    (customer_columns c) count (λ k. eq_by_cmp text_cmp c k.0)
+    (λ k. last_term (text_is k.1.customer c)) h
+
+pub messages_deleted : (old new : State) (c : List ℕ) (count : ℕ) → IsDesk old.now →
+    Executes text.delete_text (customer_columns c) old new (Ok count) →
+    Leaves old new (without_messages c (tables_in old.now))
+messages_deleted old new c count desk h =
+    drops messages_table old new desk text.delete_text text.own_terms text.delete_known
     (customer_columns c) count (λ k. eq_by_cmp text_cmp c k.0)
     (λ k. last_term (text_is k.1.customer c)) h

@@ -1,3 +1,4 @@
 pub mod Holds
 pub mod Messages
 pub mod Moves
+pub mod OneMove

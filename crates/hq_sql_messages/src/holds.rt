@@ -10,7 +10,7 @@ ghost use Rattle.hq_sql.specs.Kept.{Shows, Yields, Writes, Adds, Intact};
 ghost use Rattle.hq_sql.specs.Kept.{KeepsCommitted};
 ghost use Rattle.hq_sql.specs.Rows.{hold_shown};
 ghost use Rattle.hq_sql_messages.specs.Holds.{hold_row, with_hold, without_hold, with_reason};
-ghost use Rattle.hq_sql_messages.specs.Moves.{without_holds};
+ghost use Rattle.hq_sql_messages.specs.Moves.{AddsAll, without_holds, with_queued_held};
 
 use crate::{hold_rows, hold_values, message_values};
 use hq_sql::SqliteMemory;
@@ -78,7 +78,7 @@ pub fn remove<S: Alter, M: SqliteMemory>(
     Ok(())
 }
 
-/// Drops the reasons of all messages of the customer.
+/// Drops all reasons of the customer.
 pub fn remove_all<S: Alter, M: SqliteMemory>(
     memory: M,
     conn: &mut Connection<S>,
@@ -115,6 +115,30 @@ fn insert<S: Alter, M: SqliteMemory>(
         &params,
     )?;
     Ok(there)
+}
+
+/// Adds the reason of each message of the customer that is not on hold, in one statement. It tells
+/// whether one of them had a reason: then nothing changed. The reason is kept even where it is
+/// empty.
+pub fn insert_for_queued<S: Alter, M: SqliteMemory>(
+    memory: M,
+    conn: &mut Connection<S>,
+    customer: &Name,
+    reason: &Text,
+) -> Result<bool, Error>
+    ensures made { AddsAll (state S.Store conn.old) (state S.Store conn.new) result
+        (with_queued_held customer.now reason.now) }
+    ensures kept { KeepsCommitted (state S.Store conn.old) (state S.Store conn.new) }
+    ensures cause { IfErr result (HasCause M.refused M.failed) }
+{
+    let params = hold_values::reasoned(customer, reason);
+    let had = memory.try_insert(
+        conn,
+        "INSERT INTO holds (customer, serial, hold_reason) \
+         SELECT customer, serial, ?2 FROM messages WHERE customer = ?1 AND state < 2",
+        &params,
+    )?;
+    Ok(had)
 }
 
 /// Sets the reason of a message: a new row replaces the one that is there.

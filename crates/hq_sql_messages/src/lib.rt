@@ -10,3 +10,4 @@ pub mod message_rows;
 mod message_values;
 pub mod messages;
 pub mod moves;
+pub mod one_move;

@@ -102,3 +102,17 @@ pub(crate) fn first_size<M: SqliteMemory>(memory: M, rows: &[Row]) -> Result<Opt
         Some(row) => Ok(Some(small(memory, row, 4)?)),
     }
 }
+
+/// The state of the message of the first row.
+pub(crate) fn first_state<M: SqliteMemory>(
+    memory: M,
+    rows: &[Row],
+) -> Result<Option<QueueState>, Error>
+    ensures { EndsSo M.refused M.failed result (λ found. found
+        ≡ option_map (λ r. (message_value (message_shown r)).state) (slice_get rows.now 0)) }
+{
+    match rows.first() {
+        None => Ok(None),
+        Some(row) => Ok(Some(state(memory, row, 6)?)),
+    }
+}

@@ -8,6 +8,7 @@ ghost use Rattle.hq_sql.specs.Rows.{sender_of, state_code, message_columns};
 ghost use Rattle.hq_sql_messages.specs.Messages.{above_number, message_page_columns, spool_columns};
 ghost use Rattle.hq_sql_messages.specs.Messages.{due_page_columns};
 ghost use Rattle.hq_sql_messages.specs.Moves.{customer_columns, released_columns};
+ghost use Rattle.hq_sql_messages.specs.OneMove.{one_released_columns};
 
 use hq_kept::{Message, QueueState};
 use hq_sql::bind::{RowLimit, serial, small};
@@ -74,7 +75,7 @@ pub(crate) fn message<'a>(customer: &'a Name, message: &'a Message) -> [ValueRef
     ]
 }
 
-/// What a spool name is asked with.
+/// The parameters of the query of a message by its spool name.
 pub(crate) fn spool<'a>(customer: &'a Name, spool: &'a Spool) -> [ValueRef<'a>; 2]
     ensures { bound result ≡ spool_columns customer.now spool.now }
 {
@@ -84,7 +85,7 @@ pub(crate) fn spool<'a>(customer: &'a Name, spool: &'a Spool) -> [ValueRef<'a>; 
     ]
 }
 
-/// What a page is asked with.
+/// The parameters of the query of a page.
 pub(crate) fn page<'a>(
     customer: &'a Name,
     last: Option<Serial>,
@@ -100,7 +101,7 @@ pub(crate) fn page<'a>(
     ]
 }
 
-/// What a page of messages that may be tried by a moment is asked with.
+/// The parameters of the query of a page of messages that may be tried by a moment.
 pub(crate) fn due<'a>(
     customer: &'a Name,
     at: Moment,
@@ -118,19 +119,30 @@ pub(crate) fn due<'a>(
     ]
 }
 
-/// What all rows of a customer are asked with.
+/// The parameters of a statement on all rows of a customer.
 pub(crate) fn customer<'a>(customer: &'a Name) -> [ValueRef<'a>; 1]
     ensures { bound result ≡ customer_columns customer.now }
 {
     [ValueRef::Text(customer.as_str().as_bytes())]
 }
 
-/// What the messages on hold are released with.
+/// The parameters of the release of all messages of a customer.
 pub(crate) fn release<'a>(customer: &'a Name, at: Moment) -> [ValueRef<'a>; 2]
     ensures { bound result ≡ released_columns customer.now at }
 {
     [
         ValueRef::Text(customer.as_str().as_bytes()),
+        ValueRef::Int(moment(at)),
+    ]
+}
+
+/// The parameters of the release of one message.
+pub(crate) fn release_one<'a>(customer: &'a Name, key: Serial, at: Moment) -> [ValueRef<'a>; 3]
+    ensures { bound result ≡ one_released_columns (customer.now, key) at }
+{
+    [
+        ValueRef::Text(customer.as_str().as_bytes()),
+        ValueRef::Int(serial(key)),
         ValueRef::Int(moment(at)),
     ]
 }

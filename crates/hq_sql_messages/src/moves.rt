@@ -1,5 +1,5 @@
-//! The rows of all messages of a customer at once: which are on hold, and how all are put there or
-//! released.
+//! The rows of all messages of a customer at once: which are on hold, and how all are put there,
+//! released or dropped.
 
 ghost use Rattle.std.specs.Prelude.{◌≡◌, [], ◌∷◌, ◌++◌, true, false, IfErr};
 ghost use Rattle.sqlite.specs.Held.{state};
@@ -8,6 +8,7 @@ ghost use Rattle.hq_sql.specs.Rows.{message_shown};
 ghost use Rattle.hq_sql.specs.Kept.{Shows, Writes, Intact};
 ghost use Rattle.hq_sql.specs.Kept.{KeepsCommitted};
 ghost use Rattle.hq_sql_messages.specs.Moves.{standing_serials, all_held, all_released};
+ghost use Rattle.hq_sql_messages.specs.Moves.{without_messages};
 
 use crate::{message_rows, message_values};
 use hq_sql::lent::Taker;
@@ -56,7 +57,7 @@ fn held<S: Alter, M: SqliteMemory>(
     Ok(taken.serials)
 }
 
-/// The serials of those that are not.
+/// The serials of the customer's messages that are not on hold, in order.
 fn queued<S: Alter, M: SqliteMemory>(
     memory: M,
     conn: &mut Connection<S>,
@@ -139,5 +140,22 @@ pub fn release_all<S: Alter, M: SqliteMemory>(
         "UPDATE messages SET state = 1, next_try = ?2 WHERE customer = ?1 AND state = 2",
         &params,
     )?;
+    Ok(())
+}
+
+/// Drops the rows of all messages of the customer. Their recipients and reasons stay, and the head
+/// row still counts the messages.
+pub fn remove_all<S: Alter, M: SqliteMemory>(
+    memory: M,
+    conn: &mut Connection<S>,
+    customer: &Name,
+) -> Result<(), Error>
+    ensures made { Writes (state S.Store conn.old) (state S.Store conn.new) result
+        (without_messages customer.now) }
+    ensures kept { KeepsCommitted (state S.Store conn.old) (state S.Store conn.new) }
+    ensures cause { IfErr result (HasCause M.refused M.failed) }
+{
+    let params = message_values::customer(customer);
+    memory.execute(conn, "DELETE FROM messages WHERE customer = ?1", &params)?;
     Ok(())
 }

@@ -38,6 +38,7 @@ use Rattle.hq_sql.specs.Rows.{status_read, status_column, recipient_columns, rec
 use Rattle.hq_sql.specs.Rows.{recipient_read, recipient_shown}
 use Rattle.hq_sql_recipients.specs.Places.{is_of, is_beside}
 use Rattle.hq_sql_recipients.specs.Recipients.{with_recipient, without_beside, range_columns}
+use Rattle.hq_sql_recipients.specs.Recipients.{without_all, owner_columns}
 use Rattle.hq_sql_recipients.proofs.InPlace.{Recipients, recipient_total, recipient_exact}
 use Rattle.hq_sql_recipients.proofs.Texts as text
 
@@ -220,3 +221,11 @@ pub beside_dropped : (old new : State) (c : List ℕ) (serial n count : ℕ) →
 beside_dropped old new c serial n count desk h =
     drops recipients_table old new desk text.beside_text text.beside_terms text.beside_known
     (range_columns c serial n) count (is_beside c serial n) (beside_tests c serial n) h
+
+pub all_dropped : (old new : State) (c : List ℕ) (count : ℕ) → IsDesk old.now →
+    Executes text.own_text (owner_columns c) old new (Ok count) →
+    Leaves old new (without_all c (tables_in old.now))
+all_dropped old new c count desk h =
+    drops recipients_table old new desk text.own_text text.own_terms text.own_known
+    (owner_columns c) count (λ k. eq_by_cmp text_cmp c k.0)
+    (λ k. last_term (text_is k.1.customer c)) h

@@ -83,3 +83,15 @@ pub beside_known : Orders desk_schema beside_text (Delete 3
     (record { lets = []; body = query_of 6 beside_terms (col 1 0 ∷ []) }))
 unfolding understood everything
 beside_known = record { is = refl; plain = (refl, refl) }
+
+-- all recipients of a customer
+abbrev pub own_terms : List Term
+own_terms = at 1 0 ∷ []
+
+abbrev pub own_text : List ℕ
+own_text = codes "DELETE FROM recipients WHERE customer = ?1"
+
+pub own_known : Orders desk_schema own_text (Delete 3
+    (record { lets = []; body = query_of 6 own_terms (col 1 0 ∷ []) }))
+unfolding understood everything
+own_known = record { is = refl; plain = (refl, refl) }

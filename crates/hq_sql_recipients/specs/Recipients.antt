@@ -1,6 +1,7 @@
 -- What the statements on recipients leave.
 -- Inner: it serves proofs alone, and no promise rests on it.
 use Rattle.std.specs.Prelude.{◌≡◌, ℕ, Bool, true, not, List, [], ◌∷◌, Option, None, Result, OnOk}
+use Rattle.std.specs.Ordering.{eq_by_cmp}
 use Rattle.std.specs.FinMap.{insert, retain_keys}
 use Rattle.sqlite.specs.declared.types.Value.TheVariants.{Text}
 use Rattle.sqlite.specs.declared.error.Error.{Error}
@@ -10,7 +11,7 @@ use Rattle.hq_keyed.specs.Values.{number}
 use Rattle.hq_kept.specs.declared.message.Pending.{Pending}
 use Rattle.hq_rows.specs.declared.rows.RecipientRow.{RecipientRow}
 use Rattle.hq_rows.specs.Listed.{recipient_key, recipient_value}
-use Rattle.hq_tables.specs.Tables.{Tables, deal}
+use Rattle.hq_tables.specs.Tables.{Tables, text_cmp, deal}
 use Rattle.hq_sql.specs.Tables.{IsDesk, Leaves, tables_in}
 use Rattle.hq_sql_recipients.specs.Places.{is_beside}
 
@@ -35,11 +36,22 @@ without_beside customer serial n t = record t {
   recipients = retain_keys t.recipients (λ k. not (is_beside customer serial n k));
 }
 
+-- no recipient of the customer's messages stands
+abbrev pub without_all : List ℕ → Tables → Tables
+without_all customer t = record t {
+  recipients = retain_keys t.recipients
+      (λ (k : List ℕ × (ℕ × ℕ)). not (eq_by_cmp text_cmp customer k.0));
+}
+
 -- the message has these recipients, at the places 1, 2, .., and no other
 abbrev pub with_pending : List ℕ → ℕ → List Pending → Tables → Tables
 with_pending customer serial pending t = record t {
   recipients = deal customer serial pending t.recipients;
 }
+
+-- the parameters of a statement on all recipients of a customer
+abbrev pub owner_columns : List ℕ → Row
+owner_columns customer = Text customer ∷ []
 
 -- what those at no place of 1 to n are asked with
 abbrev pub range_columns : List ℕ → ℕ → ℕ → Row

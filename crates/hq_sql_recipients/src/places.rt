@@ -9,7 +9,7 @@ ghost use Rattle.hq_sql.specs.Causes.{EndsSo};
 ghost use Rattle.hq_sql.specs.Rows.{value_text, status_read, status_column};
 ghost use Rattle.hq_sql.specs.Rows.{recipient_columns, recipient_shown};
 ghost use Rattle.hq_sql_recipients.specs.Places.{is_far, StandsAfter};
-ghost use Rattle.hq_sql_recipients.specs.Recipients.{recipient_row, range_columns};
+ghost use Rattle.hq_sql_recipients.specs.Recipients.{recipient_row, range_columns, owner_columns};
 
 use hq_kept::{Pending, Status};
 use hq_sql::{Limits, SqliteMemory, bind, read, values};
@@ -61,6 +61,13 @@ pub(crate) fn columns<'a>(
         ValueRef::Text(status_str(&recipient.status).as_bytes()),
         ValueRef::Text(recipient.text.as_str().as_bytes()),
     ]
+}
+
+/// The parameters of a statement on all recipients of a customer.
+pub(crate) fn owner<'a>(customer: &'a Name) -> [ValueRef<'a>; 1]
+    ensures { bound result ≡ owner_columns customer.now }
+{
+    [ValueRef::Text(customer.as_str().as_bytes())]
 }
 
 /// A message, and the last place of its list.

@@ -1,4 +1,5 @@
-//! The table of recipients: those of one message read, put in their places, and dropped.
+//! The table of recipients: statements read, put and drop those of one message, and drop those of
+//! all.
 
 ghost use Rattle.std.specs.Prelude.{[], map, filter, IfErr};
 ghost use Rattle.std.specs.FinMap.{get, entries};
@@ -12,7 +13,7 @@ ghost use Rattle.hq_sql.specs.Kept.{Shows, Yields, Writes, Inserts, Updates, Int
 ghost use Rattle.hq_sql.specs.Kept.{KeepsCommitted};
 ghost use Rattle.hq_sql_recipients.specs.Places.{is_of};
 ghost use Rattle.hq_sql_recipients.specs.Recipients.{Puts, recipient_row, with_recipient};
-ghost use Rattle.hq_sql_recipients.specs.Recipients.{without_beside, with_pending};
+ghost use Rattle.hq_sql_recipients.specs.Recipients.{without_beside, without_all, with_pending};
 
 use crate::places;
 use hq_kept::Pending;
@@ -203,4 +204,20 @@ pub fn remove<S: Alter, M: SqliteMemory>(
     ensures cause { IfErr result (HasCause M.refused M.failed) }
 {
     drop_beside(memory, conn, customer, serial, 0)
+}
+
+/// Drops all recipients of the customer.
+pub fn remove_all<S: Alter, M: SqliteMemory>(
+    memory: M,
+    conn: &mut Connection<S>,
+    customer: &Name,
+) -> Result<(), Error>
+    ensures made { Writes (state S.Store conn.old) (state S.Store conn.new) result
+        (without_all customer.now) }
+    ensures kept { KeepsCommitted (state S.Store conn.old) (state S.Store conn.new) }
+    ensures cause { IfErr result (HasCause M.refused M.failed) }
+{
+    let params = places::owner(customer);
+    memory.execute(conn, "DELETE FROM recipients WHERE customer = ?1", &params)?;
+    Ok(())
 }

@@ -1,16 +1,52 @@
-//! Moves of all messages of a customer, over the statements of the store.
+//! Moves of one message and of all, and the deletion of all, over the statements of the store.
+
+ghost use Rattle.std.specs.Prelude.{◌≡◌, drop};
 
 use crate::rounds::SqlRound;
 use crate::shelf::SqlShelf;
 use hq_memory::Memory;
-use hq_moves::MovesAll;
+use hq_moves::MovesMessages;
 use hq_rules::Move;
 use hq_sql::SqliteMemory;
-use hq_sql_changes::{Work, moving};
-use hq_values::{Fault, Name};
+use hq_sql_changes::{Work, moving, would_move};
+use hq_tables::Change;
+use hq_values::{Fault, Name, Serial};
 use sqlite::Alter;
 
-impl<S: Alter, M: SqliteMemory> MovesAll for SqlShelf<S, M> {
+/// The changes behind the first `dropped`; none, where there are no more.
+fn behind(changes: &[Change], dropped: usize) -> &[Change]
+    ensures { result.now ≡ drop dropped changes.now }
+{
+    match changes.get(dropped..) {
+        Some(rest) => rest,
+        None => &[],
+    }
+}
+
+impl<S: Alter, M: SqliteMemory> MovesMessages for SqlShelf<S, M> {
+    fn would_move(
+        &mut self,
+        customer: &Name,
+        serial: Serial,
+        by: Move,
+    ) -> Result<Option<bool>, Fault> {
+        self.ready()?;
+        match would_move(self.memory, &mut self.conn, customer, serial, by) {
+            Ok(moves) => Ok(moves),
+            Err(error) => Err(self.give_up(error)),
+        }
+    }
+
+    fn move_one<N: Memory>(
+        &mut self,
+        _memory: N,
+        customer: &Name,
+        serial: Serial,
+        by: Move,
+    ) -> Result<(), Fault> {
+        self.do_work(customer, &Work::MoveOne(serial, by))
+    }
+
     fn moving<N: Memory>(&mut self, _memory: N, customer: &Name, by: Move) -> Result<u64, Fault> {
         self.ready()?;
         match moving(self.memory, &mut self.conn, customer, by) {
@@ -22,9 +58,47 @@ impl<S: Alter, M: SqliteMemory> MovesAll for SqlShelf<S, M> {
     fn move_all<N: Memory>(&mut self, _memory: N, customer: &Name, by: Move) -> Result<(), Fault> {
         self.do_work(customer, &Work::MoveAll(by))
     }
+
+    fn apply_dropping_all(
+        &mut self,
+        customer: &Name,
+        changes: &[Change],
+        dropped: usize,
+    ) -> Result<(), Fault> {
+        self.do_work(customer, &Work::DropAllThen(behind(changes, dropped)))
+    }
 }
 
-impl<S: Alter, M: SqliteMemory> MovesAll for SqlRound<S, M> {
+impl<S: Alter, M: SqliteMemory> MovesMessages for SqlRound<S, M> {
+    fn would_move(
+        &mut self,
+        customer: &Name,
+        serial: Serial,
+        by: Move,
+    ) -> Result<Option<bool>, Fault> {
+        self.ready()?;
+        match would_move(
+            self.shelf.memory,
+            &mut self.shelf.conn,
+            customer,
+            serial,
+            by,
+        ) {
+            Ok(moves) => Ok(moves),
+            Err(_) => Err(self.end()),
+        }
+    }
+
+    fn move_one<N: Memory>(
+        &mut self,
+        _memory: N,
+        customer: &Name,
+        serial: Serial,
+        by: Move,
+    ) -> Result<(), Fault> {
+        self.make(customer, &Work::MoveOne(serial, by))
+    }
+
     fn moving<N: Memory>(&mut self, _memory: N, customer: &Name, by: Move) -> Result<u64, Fault> {
         self.ready()?;
         match moving(self.shelf.memory, &mut self.shelf.conn, customer, by) {
@@ -35,5 +109,14 @@ impl<S: Alter, M: SqliteMemory> MovesAll for SqlRound<S, M> {
 
     fn move_all<N: Memory>(&mut self, _memory: N, customer: &Name, by: Move) -> Result<(), Fault> {
         self.make(customer, &Work::MoveAll(by))
+    }
+
+    fn apply_dropping_all(
+        &mut self,
+        customer: &Name,
+        changes: &[Change],
+        dropped: usize,
+    ) -> Result<(), Fault> {
+        self.make(customer, &Work::DropAllThen(behind(changes, dropped)))
     }
 }

@@ -47,7 +47,8 @@ impl<S: Alter, M: SqliteMemory> SqlShelf<S, M> {
         self.do_work(customer, &Work::Changes(changes))
     }
 
-    /// Does the work on the customer's rows, or nothing: what `write` and `MovesAll::move_all` do.
+    /// Does the work on the customer's rows, or nothing: what `write` and the changes of
+    /// `MovesMessages` do.
     pub(crate) fn do_work(&mut self, customer: &Name, work: &Work<'_>) -> Result<(), Fault>
         ensures made { OnClean (sight_over M.refused M.failed (state S.Store)) self.old self.new
             (OnOk result (tables_in (state S.Store self.new.conn).committed

@@ -7,7 +7,7 @@ ghost use Rattle.hq_trial.specs.Shelves.{inner_of, trial_of, greatest_limit_of};
 use crate::failure::{Failure, Trial};
 use hq_kept::{Action, Class, End, Line, LookupKey, Mark, Message, Notice, Pattern};
 use hq_memory::Memory;
-use hq_moves::MovesAll;
+use hq_moves::MovesMessages;
 use hq_rules::Move;
 use hq_tables::{Account, Change, Shelf};
 use hq_values::{Fault, Items, Label, Moment, Name, Serial, Spool};
@@ -204,7 +204,7 @@ impl<S: Shelf> Shelf for FailingShelf<S> {
     }
 }
 
-impl<S: MovesAll> MovesAll for FailingShelf<S> {
+impl<S: MovesMessages> MovesMessages for FailingShelf<S> {
     fn moving<M: Memory>(&mut self, memory: M, customer: &Name, by: Move) -> Result<u64, Fault> {
         let answer = match self.trial.count() {
             Some(fault) => Err(fault),
@@ -217,6 +217,46 @@ impl<S: MovesAll> MovesAll for FailingShelf<S> {
         let answer = match self.trial.count() {
             Some(fault) => Err(fault),
             None => self.inner.move_all(memory, customer, by),
+        };
+        self.trial.answer(answer)
+    }
+
+    fn would_move(
+        &mut self,
+        customer: &Name,
+        serial: Serial,
+        by: Move,
+    ) -> Result<Option<bool>, Fault> {
+        let answer = match self.trial.count() {
+            Some(fault) => Err(fault),
+            None => self.inner.would_move(customer, serial, by),
+        };
+        self.trial.answer(answer)
+    }
+
+    fn move_one<M: Memory>(
+        &mut self,
+        memory: M,
+        customer: &Name,
+        serial: Serial,
+        by: Move,
+    ) -> Result<(), Fault> {
+        let answer = match self.trial.count() {
+            Some(fault) => Err(fault),
+            None => self.inner.move_one(memory, customer, serial, by),
+        };
+        self.trial.answer(answer)
+    }
+
+    fn apply_dropping_all(
+        &mut self,
+        customer: &Name,
+        changes: &[Change],
+        dropped: usize,
+    ) -> Result<(), Fault> {
+        let answer = match self.trial.count() {
+            Some(fault) => Err(fault),
+            None => self.inner.apply_dropping_all(customer, changes, dropped),
         };
         self.trial.answer(answer)
     }

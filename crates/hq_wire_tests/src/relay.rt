@@ -4,7 +4,7 @@ use hq_desk::Desk;
 use hq_kept::{Customer, Entry, Quota};
 use hq_lists::ListShelf;
 use hq_memory::own_text;
-use hq_tables::Shelf;
+use hq_moves::MovesMessages;
 use hq_values::{Fail as Failure, Host, Key, Moment, Name};
 use hq_wire::{Directory, Exchange, Reply, are_customers, exchange};
 use std::alloc::Global;
@@ -71,7 +71,7 @@ pub fn directory(rt: &(impl Abort + AllocGlobal)) -> Result<Directory, Failure> 
 }
 
 /// A desk over this shelf.
-pub fn desk_over<S: Shelf + Drop>(alloc: Global, shelf: S) -> Result<Desk<S>, Failure> {
+pub fn desk_over<S: MovesMessages + Drop>(alloc: Global, shelf: S) -> Result<Desk<S>, Failure> {
     Ok(Desk::new(shelf, Host::parse(alloc, "relay.example")?))
 }
 

@@ -1,37 +1,55 @@
-use Rattle.std.proofs.Common.{◌≡◌, inl, inr, ⊎_elim, Err, sym, subst, ap, ◌∙◌}
+use Rattle.std.proofs.Common.{Err, sym, subst, ap, ◌∙◌}
 use Rattle.std.specs.Prelude.{⊤}
 use Rattle.std.proofs.lemmas.Result.{err_from_is_err_and}
 use Rattle.hq_tables.specs.Sound.{Sound}
 use Rattle.hq_tables.specs.Tables.{write_all}
 use Rattle.hq_rules.specs.Desks.{AnswersAre}
-use Rattle.hq_reads.proofs.Reading.{changes_on, made_on, no_memory_on, rests_on}
+use Rattle.hq_reads.proofs.Reading.{changes_on, made_on, no_memory_on}
+use Rattle.hq_moves.proofs.Moving.{left_on}
 use Rattle.hq_soundness.proofs.Soundness.{shared_sound}
+use Rattle.hq_desk.proofs.Moves.{drops_still}
 use Rattle.hq_desk.proofs.desk.Desk.act_by_reading.Goals as goal
+
+pub returns-clause-tables : goal.returns-clause-tables
+returns-clause-tables g c = λ clean ours sound.
+    let before = c.in_ok-apply_decision.ensures.kept.quiet clean in
+    let name = c.args.entry.now.name in
+    let sight = g.S.Shelf.sight in
+    let kept = c.in_ok-decision.ensures.kept in
+    let same = kept.same before ours kept.tally.1 in
+    let decided = c.in_ok-decision.ensures.found before ours sound in
+    let drops = drops_still c.args.self.now.host c.args.entry.now
+    (sight.tables c.args.self.now.shelf) (sight.tables c.decide.new.shelf) c.args.at c.args.call
+    c.deletes_all-all.result c.in_ok-decision.decision c.deletes_all-all.ensures decided same in
+    c.in_ok-apply_decision.ensures.made clean (kept.ours before ours kept.tally.1)
+    (subst Sound (sym same) sound) drops ∙ (λ i. write_all name ((decided i).changes) (same i))
 
 pub returns-clause-sound : goal.returns-clause-sound
 returns-clause-sound g c = λ clean ours open_ sound.
-    let before = c.in_ok-apply.ensures.kept.quiet clean in
+    let before = c.in_ok-apply_decision.ensures.kept.quiet clean in
     let name = c.args.entry.now.name in
-    let t = g.S.Shelf.sight.tables c.args.self.now.shelf in
+    let sight = g.S.Shelf.sight in
+    let t = sight.tables c.args.self.now.shelf in
+    let kept = c.in_ok-decision.ensures.kept in
+    let same = kept.same before ours kept.tally.1 in
     let decided = c.in_ok-decision.ensures.found before ours sound in
-    let same =
-    c.in_ok-decision.ensures.kept.same before ours c.in_ok-decision.ensures.kept.tally.1 in
-    let made = c.in_ok-apply.ensures.made clean
-    (c.in_ok-decision.ensures.kept.ours before ours c.in_ok-decision.ensures.kept.tally.1) in
-    subst Sound
-    (sym (made ∙ ap (λ changes. write_all name changes (g.S.Shelf.sight.tables c.decide.new.shelf))
-    c.as_slice.ensures ∙ (λ i. write_all name ((decided i).changes) (same i))))
+    let drops = drops_still c.args.self.now.host c.args.entry.now
+    (sight.tables c.args.self.now.shelf) (sight.tables c.decide.new.shelf) c.args.at c.args.call
+    c.deletes_all-all.result c.in_ok-decision.decision c.deletes_all-all.ensures decided same in
+    let made = c.in_ok-apply_decision.ensures.made clean (kept.ours before ours kept.tally.1)
+    (subst Sound (sym same) sound) drops in
+    subst Sound (sym (made ∙ (λ i. write_all name ((decided i).changes) (same i))))
     (shared_sound c.args.self.now.host c.args.entry.now t c.args.at c.args.call sound)
 
-pub returns-in_err-apply-clause-kept : goal.returns-in_err-apply-clause-kept
-returns-in_err-apply-clause-kept g c =
+pub returns-in_err-apply_decision-clause-kept : goal.returns-in_err-apply_decision-clause-kept
+returns-in_err-apply_decision-clause-kept g c =
     let fault =
-    err_from_is_err_and c.from_residual-in_err-apply.result
-    c.from_residual-in_err-apply.ensures.1 in
+    err_from_is_err_and c.from_residual-in_err-apply_decision.result
+    c.from_residual-in_err-apply_decision.ensures.1 in
     let both = changes_on _ (AnswersAre (g.R.Render.takes c.args.render.now) c.args.call
-    → g.M.Memory.refused) g.S.Shelf.sight _ _ _ _ c.in_err-apply.field-0.0
-    c.from_residual-in_err-apply.result (fault.1 ∙ ap Err fault.2) c.in_ok-decision.ensures.kept
-    c.in_err-apply.ensures.kept in
+    → g.M.Memory.refused) g.S.Shelf.sight _ _ _ _ c.in_err-apply_decision.field-0.0
+    c.from_residual-in_err-apply_decision.result (fault.1 ∙ ap Err fault.2)
+    c.in_ok-decision.ensures.kept c.in_err-apply_decision.ensures.kept in
     record {
       none = both.none;
       ours = both.ours;
@@ -63,30 +81,43 @@ returns-in_err-bytes-clause-kept g c =
       shut = kept.shut;
     }
 
-pub returns-in_err-apply-clause-stops : goal.returns-in_err-apply-clause-stops
-returns-in_err-apply-clause-stops g c = λ clean ours sound rests.
-    let before = c.in_err-apply.ensures.kept.quiet clean in
+pub returns-in_err-apply_decision-clause-stops : goal.returns-in_err-apply_decision-clause-stops
+returns-in_err-apply_decision-clause-stops g c = λ clean ours sound.
+    let before = c.in_err-apply_decision.ensures.kept.quiet clean in
     let name = c.args.entry.now.name in
     let sight = g.S.Shelf.sight in
     let kept = c.in_ok-decision.ensures.kept in
     let same = kept.same before ours kept.tally.1 in
     let decided = c.in_ok-decision.ensures.found before ours sound in
-    let left = c.in_err-apply.ensures.stops clean (kept.ours before ours kept.tally.1)
-    (rests_on sight c.args.self.now.shelf c.decide.new.shelf (kept.stops before (inl ours)) same
-    rests) in (
-      left.0,
-      λ t may. ⊎_elim (λ (is : t ≡ sight.tables c.decide.new.shelf). inl (is ∙ same))
-          (λ (is : t ≡ write_all name c.as_slice.result.now (sight.tables c.decide.new.shelf)).
-          inr (is ∙ ap (λ changes. write_all name changes (sight.tables c.decide.new.shelf))
-          c.as_slice.ensures ∙ (λ i. write_all name ((decided i).changes) (same i))))
-          (left.1 t may),
-    )
+    let drops = drops_still c.args.self.now.host c.args.entry.now
+    (sight.tables c.args.self.now.shelf) (sight.tables c.decide.new.shelf) c.args.at c.args.call
+    c.deletes_all-all.result c.in_ok-decision.decision c.deletes_all-all.ensures decided same in
+    left_on g.M.Memory.refused sight _ _ _ _ _ _ kept before ours
+    (λ i. write_all name ((decided i).changes) (same i))
+    (c.in_err-apply_decision.ensures.stops clean (kept.ours before ours kept.tally.1)
+    (subst Sound (sym same) sound) drops)
+
+pub returns-clause-stops : goal.returns-clause-stops
+returns-clause-stops g c = λ clean ours sound.
+    let before = c.in_ok-apply_decision.ensures.kept.quiet clean in
+    let name = c.args.entry.now.name in
+    let sight = g.S.Shelf.sight in
+    let kept = c.in_ok-decision.ensures.kept in
+    let same = kept.same before ours kept.tally.1 in
+    let decided = c.in_ok-decision.ensures.found before ours sound in
+    let drops = drops_still c.args.self.now.host c.args.entry.now
+    (sight.tables c.args.self.now.shelf) (sight.tables c.decide.new.shelf) c.args.at c.args.call
+    c.deletes_all-all.result c.in_ok-decision.decision c.deletes_all-all.ensures decided same in
+    left_on g.M.Memory.refused sight _ _ _ _ _ _ kept before ours
+    (λ i. write_all name ((decided i).changes) (same i))
+    (c.in_ok-apply_decision.ensures.stops clean (kept.ours before ours kept.tally.1)
+    (subst Sound (sym same) sound) drops)
 
 pub returns-clause-kept : goal.returns-clause-kept
 returns-clause-kept g c =
     let both = made_on {Z = ⊤} _ (AnswersAre (g.R.Render.takes c.args.render.now) c.args.call
     → g.M.Memory.refused) g.S.Shelf.sight _ _ _ _ _ tt c.in_ok-decision.ensures.kept
-    c.in_ok-apply.ensures.kept in
+    c.in_ok-apply_decision.ensures.kept in
     record {
       none = both.none;
       ours = both.ours;

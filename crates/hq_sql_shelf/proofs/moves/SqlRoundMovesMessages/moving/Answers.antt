@@ -1,0 +1,16 @@
+use Rattle.sqlite.specs.Held.{state}
+use Rattle.hq_sql_shelf.specs.Rounds.{sight_inside}
+use Rattle.hq_sql_shelf.proofs.Moved.{keeps_more}
+use Rattle.hq_sql_shelf.proofs.RoundCalls.{answered, failed}
+use Rattle.hq_sql_shelf.proofs.moves.SqlRoundMovesMessages.moving.Goals as goal
+
+pub returns-in-Ok-clause-kept : goal.returns-in-Ok-clause-kept
+returns-in-Ok-clause-kept g c = keeps_more g.N.Memory.refused (sight_inside (state g.S.Store)) _ _ _
+    (answered g.S.Store c.args.self.now c.ready.new.self
+    c.in_ok-ready.ensures.same c.moving.new.conn _ _ c.in-Ok.ensures.kept)
+
+pub returns-in-Err-clause-kept : goal.returns-in-Err-clause-kept
+returns-in-Err-clause-kept g c = keeps_more g.N.Memory.refused (sight_inside (state g.S.Store)) _ _
+    _ (failed g.S.Store c.args.self.now c.ready.new.self
+    c.in_ok-ready.ensures.same c.moving.new.conn _ c.end.new.self c.end.result c.end.ensures.over
+    c.end.ensures.told c.in-Err.ensures.kept)
