@@ -6,7 +6,8 @@ and cleans. What hangs or fails for one customer holds up no other.
 """
 import threading
 import time
-from typing import Callable, Dict, List
+from contextlib import contextmanager
+from typing import Callable, Dict, Iterator, List, Set
 
 import log
 from book import Book
@@ -42,6 +43,9 @@ class Delivery:
         self.cleaning = Cleaning(settings, spool, book, self.names)
         # Outcomes, notices, sweeps and clean-up of a customer wait for each other.
         self.locks = {it: threading.Lock() for it in settings.customers}
+        # Customers whose outcomes wait for the lock, and whose failures want room for a notice.
+        self.turned_away: Set[str] = set()
+        self.want_room: Set[str] = set()
         self.ending = threading.Event()
         self.handover = Handover(settings, desk, spool, self.handed, self.names, self.resting)
         self.telling = Turns(settings.sessions, settings.pause, self.tell)
@@ -92,8 +96,9 @@ class Delivery:
             while self.handed.under_way():
                 looked = self.see_after(looked)
                 self.wait()
+        # (what is known of lost attempts is in the journal; each telling gives a turn at mailing)
         for customer in self.settings.customers:
-            self.mailing.add(customer)
+            self.telling.add(customer)
         self.wait()
         is_there = self.chores(True, True) and self.is_there()
         self.wait()
@@ -102,10 +107,16 @@ class Delivery:
 
     def wait(self) -> None:
         """Returns when no customer waits for a turn."""
-        while self.handover.is_working() or any(it.waiting for it in self.turns):
+        while self.handover.is_working() or self.is_working():
             for it in self.turns:
                 it.wait()
             time.sleep(BETWEEN_LOOKS / 10)
+
+    def is_working(self) -> bool:
+        """Whether a customer waits for a turn of either kind, or has it."""
+        # (both at one moment: before a turn ends it may give one of the other kind)
+        with self.telling.guard, self.mailing.guard:
+            return bool(self.telling.waiting or self.mailing.waiting)
 
     def is_there(self) -> bool:
         """Whether no customer's last turn has failed."""
@@ -153,26 +164,42 @@ class Delivery:
     # ---- turns of a customer
 
     def tell(self, customer: str) -> bool:
-        """Tells a customer's outcomes. Where its notices are being mailed, that has it told behind."""
+        """Tells a customer's outcomes. Whatever else has its lock has them told behind."""
+        # (first, so that a lock that is let go of just now is not missed)
+        self.turned_away.add(customer)
         if not self.locks[customer].acquire(blocking=False):
             return False
+        self.turned_away.discard(customer)
         try:
-            untold = self.book.untold(customer)
-            self.reports.tell(customer, untold)
+            if not self.reports.tell(customer, self.book.untold(customer)):
+                self.want_room.add(customer)
         finally:
             self.locks[customer].release()
         self.mailing.add(customer)
         return False
 
     def mail(self, customer: str) -> bool:
-        """Mails a customer's notices, and has told what waited for that."""
-        with self.locks[customer]:
+        """Mails a customer's notices, and has told what waited for their room."""
+        with self.locked(customer):
             are_mailed = self.notices.send(customer)
             if are_mailed:
                 self.book.all_mailed(customer)
-        if are_mailed and self.book.untold(customer):
+        if are_mailed and customer in self.want_room:
+            self.want_room.discard(customer)
             self.telling.add(customer)
         return False
+
+    @contextmanager
+    def locked(self, customer: str) -> Iterator[None]:
+        """Has a customer's lock. Outcomes that came meanwhile are told behind, whether or not its
+        notices could be mailed: these may be tried again and again."""
+        try:
+            with self.locks[customer]:
+                yield
+        finally:
+            if customer in self.turned_away:
+                self.turned_away.discard(customer)
+                self.telling.add(customer)
 
     def ended(self, attempt: Attempt, outcomes: List[Dict[str, str]]) -> None:
         """Nothing more is awaited of an attempt. Without an outcome its message may be due again."""
@@ -190,7 +217,7 @@ class Delivery:
             self.mailing.add(customer.name)
             if not (is_sweep or is_cleaning):
                 return
-            with self.locks[customer.name]:
+            with self.locked(customer.name):
                 are_mailed = self.notices.unmailed(customer.name) == []
                 if is_sweep and self.sweep(customer):
                     are_mailed = self.notices.send(customer.name)

@@ -14,31 +14,39 @@ class Reports:
     def __init__(self, desk: Desk, book: Book, names: Names, notices: Notices):
         self.desk, self.book, self.names, self.notices = desk, book, names, notices
 
-    def tell(self, customer: str, spools: List[str]) -> None:
-        """Tells the outcomes of names.
+    def tell(self, customer: str, spools: List[str]) -> bool:
+        """Tells the outcomes of names, and tells whether none of them waits for room of a notice.
 
         What the desk does not take stays in the journal, and until it is told the message is not
         tried again. Away is raised where the desk is.
         """
         told: List[Tuple[Report, bool]] = []
+        has_room = True
         try:
             for spool in spools:
                 report = self.book.report(customer, spool)
-                if report:
+                if report and is_failure(report) and not self.has_room(report):
+                    has_room = False
+                elif report:
                     told += self.tell_one(report)
+            return has_room
         finally:
             # (many are written down as told at once: the desk takes each again, and says so)
             if told:
                 self.book.all_reported(told)
 
+    def has_room(self, report: Report) -> bool:
+        """Whether the notice of a failure pushes out none that waits; else that is logged."""
+        has_room = self.notices.has_room_for(report.customer, 1)
+        if not has_room:
+            log.error("no room for a notice", customer=report.customer, id=report.id,
+                      spool=report.spool)
+        return has_room
+
     def tell_one(self, report: Optional[Report]) -> List[Tuple[Report, bool]]:
         """Tells one, as the desk takes it; the report that it took, if it did, and whether its
         message left the queue by it."""
         while report:
-            if is_failure(report) and not self.notices.has_room_for(report.customer, 1):
-                log.error("no room for a notice", customer=report.customer, id=report.id,
-                          spool=report.spool)
-                return []
             try:
                 reply = self.desk.outcome(report.customer, report.id, report.attempt,
                                           report.outcomes)
