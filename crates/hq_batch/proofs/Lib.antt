@@ -1,4 +1,6 @@
 pub mod Logging
+pub mod InRounds
+pub mod Lined
 pub mod Replying
 pub mod Ends
 pub mod Printed

@@ -20,7 +20,7 @@ module _ {D : Type 0} (d : Directory) (request : Option LineRequest) (before aft
   of_line : (asked : Option Exchange) → HoldsLine request before r after asked →
       Appends old new (log_line_behind lost
       (asked_entry d (moment_of request) asked r.status r.body milliseconds)) →
-      IsLineLogged d request before after r lost old new
+      IsLineLogged d request (after ≡ before) r lost old new
   of_line (Some x) (q, is_request, is) told = record {
     known = Some q;
     known_as = inl (sym is_request);
@@ -54,7 +54,7 @@ pub logged_as : {D : Type 0} (sight : DeskSight D) (d : Directory) (request : Op
     (told : Answered) (replied : Replied) → begun_lost ≡ lost → begun ≡ old →
     IsLineToLog told replied → (sends : SendsLine sight d before request replied after) →
     IsTold told begun_lost begun new →
-    IsLineLogged d request before after sends.told lost old new
+    IsLineLogged d request (after ≡ before) sends.told lost old new
 logged_as sight d request before after lost begun_lost old begun new told replied same_lost same is
     sends line =
     let entry = told_as d told (moment_of request) replied.asked replied.reply sends.told.status

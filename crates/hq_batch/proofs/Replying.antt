@@ -1,5 +1,5 @@
 -- The steps of the lines together are the replies to all of them.
-use Rattle.std.proofs.Common.{◌≡◌, ℕ, Bool, List, [], ◌∷◌, map, Option, Result, Ok, Err, refl, ap}
+use Rattle.std.proofs.Common.{◌≡◌, ℕ, List, [], ◌∷◌, map, Option, Result, Ok, Err, refl, ap}
 use Rattle.std.proofs.Common.{◌∙◌, subst}
 use Rattle.std.specs.Bool.{⊤}
 use Rattle.hq_values.specs.Turns.{InTurn}
@@ -15,7 +15,7 @@ use Rattle.hq_values.specs.declared.engine.EngineFault.TheVariants.{Read, Write,
 use Rattle.hq_values.specs.declared.engine.EngineFault.TheVariants.{WantOfMemory}
 use Rattle.hq_values.specs.declared.engine.EngineFault.{EngineFault}
 use Rattle.hq_batch.specs.Batches.{ask_in, reply_line, Replied}
-use Rattle.hq_batch.specs.Steps.{LineStep}
+use Rattle.hq_batch.specs.Steps.{LineStep, LogSeen}
 use Rattle.hq_batch.specs.declared.front.Front.{Front}
 
 module _ {D : Type 0} (sight : DeskSight D) where
@@ -24,10 +24,9 @@ module _ {D : Type 0} (sight : DeskSight D) where
   Turns d old asked lines new = (rs : List SeenReply) × (lines ≡ map reply_line rs)
       × InTurn (Exchanged sight d) old (map (ask_in d) asked) rs new
 
-module _ {D L M : Type 0} (sight : DeskSight D) (is_losing : L → Bool)
-    (contents : L → Option (List ℕ)) where
+module _ {D L M : Type 0} (sight : DeskSight D) (log_of : L → LogSeen) where
   turns : (old new : Front D L M) (asked : List (Option LineRequest)) (lines : List (List ℕ)) →
-      InTurn (LineStep sight is_losing contents) old asked lines new →
+      InTurn (LineStep sight log_of) old asked lines new →
       Turns sight old.directory.now old.desk.now asked lines new.desk.now
   turns old new [] [] p = ([], refl, ap (λ f. f.desk.now) p)
   turns old new [] (line ∷ lines) p = absurd p
@@ -35,13 +34,16 @@ module _ {D L M : Type 0} (sight : DeskSight D) (is_losing : L → Bool)
   turns old new (q ∷ asked) (line ∷ lines) p =
       let rest = turns p.0 new asked lines p.2 in
       let later = subst (λ d. InTurn (Exchanged sight d.now) p.0.desk.now (map (ask_in d.now) asked)
-      rest.0 new.desk.now) p.1.directory rest.2 in
-      (p.1.reply ∷ rest.0, (λ i. p.1.line_is i ∷ rest.1 i), (p.0.desk.now, p.1.done, later))
+      rest.0 new.desk.now) p.1.directory rest.2 in (
+        p.1.answered.reply ∷ rest.0,
+        (λ i. p.1.answered.line_is i ∷ rest.1 i),
+        (p.0.desk.now, p.1.answered.done, later),
+      )
 
   -- they are served together
   pub replied : (old new : Front D L M) (asked : List (Option LineRequest))
       (lines : List (List ℕ)) →
-      InTurn (LineStep sight is_losing contents) old asked lines new →
+      InTurn (LineStep sight log_of) old asked lines new →
       Replied sight old.directory.now old.desk.now asked lines new.desk.now
   replied old new asked lines p =
       let all = turns old new asked lines p in (
@@ -52,7 +54,7 @@ module _ {D L M : Type 0} (sight : DeskSight D) (is_losing : L → Bool)
       )
 
   same_desk : (old new : Front D L M) (asked : List (Option LineRequest)) (lines : List (List ℕ)) →
-      InTurn (LineStep sight is_losing contents) old asked lines new →
+      InTurn (LineStep sight log_of) old asked lines new →
       new.desk.ghost_name ≡ old.desk.ghost_name
   same_desk old new [] [] p = ap (λ f. f.desk.ghost_name) p
   same_desk old new [] (line ∷ lines) p = absurd p
@@ -62,7 +64,7 @@ module _ {D L M : Type 0} (sight : DeskSight D) (is_losing : L → Bool)
   -- however the loop ends, the desk is the one that was lent
   pub lent_desk : {X : Type 0} (old new : Front D L M) → (X → new ≡ old) →
       (start end : Streams) (result : Result ⊤ EngineFault) →
-      InputEnds (λ asked lines. InTurn (LineStep sight is_losing contents) old asked lines new) X
+      InputEnds (λ asked lines. InTurn (LineStep sight log_of) old asked lines new) X
       start end result →
       new.desk.ghost_name ≡ old.desk.ghost_name
   lent_desk old new same start end (Ok x) p = same_desk old new _ p.0.replies p.0.done_all

@@ -1,4 +1,6 @@
 pub mod Batches
+pub mod InRounds
+pub mod Waiting
 pub mod Steps
 pub mod Printing
 pub mod Runs

@@ -5,11 +5,12 @@ use Rattle.hq_tables.specs.Shelves.{Sight}
 use Rattle.hq_desk.specs.Desks.{host_of, on, shelf_of}
 use Rattle.hq_desk.specs.declared.desk.Desk.{Desk}
 use Rattle.hq_settings.specs.declared.settings.Settings.{Settings}
-use Rattle.hq_lines.specs.Ends.{InputEnds}
+use Rattle.hq_lines.specs.Ends.{InputEnds, RoundsEnd}
 use Rattle.hq_lines.specs.Fields.{LineRequest}
 use Rattle.hq_lines.specs.Lines.{Streams}
 use Rattle.hq_values.specs.declared.engine.EngineFault.{EngineFault}
 use Rattle.hq_batch.specs.Batches.{Replied}
+use Rattle.hq_batch.specs.InRounds.{RepliedInRounds}
 use Rattle.hq_settings.specs.Troubles.{trouble_of}
 use Rattle.hq_settings.specs.declared.trouble.Trouble.{Trouble}
 
@@ -30,6 +31,29 @@ abbrev pub RunEnds : (List (Option LineRequest) → List (List ℕ) → Type 0) 
 RunEnds done untouched old new (Ok _) = InputEnds done ⊥ old new (Ok tt)
 RunEnds done untouched old new (Err trouble) = (fault : EngineFault) × (trouble ≡ trouble_of fault)
     × InputEnds done untouched old new (Err fault)
+
+-- ---- in rounds
+
+-- What lines ask for is replied to in rounds, as a batch of the customers of these settings, with a
+-- desk over this shelf, by a memory that may have refused.
+pub record ServesInRounds {S : Type 0} (refused : Type 0) (sight : Sight S) (settings : Settings)
+    (shelf : S) (asked : List (List (Option LineRequest))) (lines : List (List (List ℕ))) : Type 0
+  where
+    pub old : Desk S
+    pub host_is : host_of old ≡ settings.host
+    pub shelf_is : shelf_of old ≡ shelf
+    pub new : Desk S
+    pub replied : RepliedInRounds (with_refusals refused (on sight)) settings.directory old asked
+        lines new
+
+-- how a run in rounds ends
+abbrev pub RoundsRunEnd : (List (List (Option LineRequest)) → List (List (List ℕ)) → Type 0) →
+    Type 0 → Streams → Streams → Result ⊤ Trouble → Type 0
+RoundsRunEnd done untouched old new (Ok _) = RoundsEnd done ⊥ old new (Ok tt)
+RoundsRunEnd done untouched old new (Err trouble) = (fault : EngineFault)
+    × (trouble ≡ trouble_of fault) × RoundsEnd done untouched old new (Err fault)
+
+-- ---- the exit status
 
 -- the exit status of a run
 abbrev pub status : Result ⊤ Trouble → ℕ

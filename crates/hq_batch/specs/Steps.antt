@@ -1,9 +1,11 @@
 -- The step of one line, as the loop over lines sees it: words of the crate's own functions. The
 -- claim on the log rests on them.
 -- Inner: it serves proofs alone, and no promise rests on it.
-use Rattle.std.specs.Prelude.{◌≡◌, ◌⊎◌, ℕ, Bool, false, List, Option, Some, None, string_bytes}
-use Rattle.std.specs.Prelude.{option_map, option_and_then}
+use Rattle.std.specs.Prelude.{◌≡◌, ◌⊎◌, ℕ, Bool, false, List, map, Option, Some, None}
+use Rattle.std.specs.Prelude.{⊤, Result, string_bytes, option_map, option_and_then}
 use Rattle.std.specs.Io.KnownBytes.{Appends}
+use Rattle.hq_values.specs.Turns.{InTurn}
+use Rattle.hq_desk.specs.declared.desk.Desk.{Desk}
 use Rattle.hq_requests.specs.Named.{customer_asked, customer_named, customer_told}
 use Rattle.hq_log.specs.Lines.{LogEntry, log_line_behind}
 use Rattle.hq_log.specs.declared.keeping.Answered.{Answered}
@@ -13,9 +15,14 @@ use Rattle.hq_wire.specs.Exchanges.{Exchanged}
 use Rattle.hq_values.specs.Refusals.{no_memory}
 use Rattle.hq_wire.specs.Replies.{SeenReply, IsSent, reply_of_fault}
 use Rattle.hq_requests.specs.declared.exchanges.Exchange.{Exchange}
+use Rattle.hq_together.specs.Together.{GoesBack}
 use Rattle.hq_lines.specs.Fields.{LineRequest}
+use Rattle.hq_lines.specs.Rounds.{DoesFirst}
+use Rattle.hq_batch.specs.Waiting.{lines_waiting}
 use Rattle.hq_batch.specs.Batches.{ask_in, reply_line}
+use Rattle.hq_batch.specs.InRounds.{RoundReplied}
 use Rattle.hq_batch.specs.declared.front.Front.{Front}
+use Rattle.hq_batch.specs.declared.rounds.RoundFront.{RoundFront}
 use Rattle.hq_batch.specs.declared.front.Replied.{Replied}
 
 -- the exchange that a line asks for
@@ -68,27 +75,71 @@ batch_entry d at known r milliseconds = record {
 
 -- Its line is in the log; lines were lost before, or not. What the line asks for is known, unless
 -- there was no room for its exchange, which is told, and nothing was done.
-pub record IsLineLogged {D : Type 0} (d : Directory) (request : Option LineRequest)
-    (before after : D) (r : SeenReply) (lost : Bool) (old new : Option (List ℕ)) : Type 0 where
+pub record IsLineLogged (d : Directory) (request : Option LineRequest) (nothing_done : Type 0)
+    (r : SeenReply) (lost : Bool) (old new : Option (List ℕ)) : Type 0 where
   pub known : Option LineRequest
   pub known_as : (known ≡ request)
-      ⊎ ((known ≡ None) × (r ≡ reply_of_fault no_memory) × (after ≡ before))
+      ⊎ ((known ≡ None) × (r ≡ reply_of_fault no_memory) × nothing_done)
   pub milliseconds : Option ℕ
   pub told : Appends old new
       (log_line_behind lost (batch_entry d (moment_of request) known r milliseconds))
 
--- The step of a line, and its reply as it is written; the directory stays, and so does the desk
--- that is lent.
-pub record LineStep {D L M : Type 0} (sight : DeskSight D) (is_losing : L → Bool)
-    (contents : L → Option (List ℕ)) (old : Front D L M) (request : Option LineRequest)
-    (line : List ℕ) (new : Front D L M) : Type 0 where
-  pub directory : new.directory ≡ old.directory
-  pub same_desk : new.desk.ghost_name ≡ old.desk.ghost_name
+-- What is seen of a log: whether it loses lines, and what it holds.
+pub record LogSeen : Type 0 where
+  pub lost : Bool
+  pub holds : Option (List ℕ)
+
+abbrev pub log_seen : {L : Type 0} → (L → Bool) → (L → Option (List ℕ)) → L → LogSeen
+log_seen is_losing contents log = record { lost = is_losing log; holds = contents log }
+
+-- unless the log loses lines, it has one of this line
+abbrev pub LogsLine : Directory → Type 0 → LogSeen → Option LineRequest → SeenReply → LogSeen →
+    Type 0
+LogsLine d nothing_done old request r new = new.lost ≡ false →
+    IsLineLogged d request nothing_done r old.lost old.holds new.holds
+
+-- A line is replied to by itself, and told in the log.
+pub record LineAnswered {D : Type 0} (sight : DeskSight D) (d : Directory) (old : D)
+    (log_old : LogSeen) (request : Option LineRequest) (line : List ℕ) (new : D)
+    (log_new : LogSeen) : Type 0 where
   pub reply : SeenReply
   pub line_is : line ≡ reply_line reply
-  pub done : Exchanged sight old.directory.now old.desk.now (ask_in old.directory.now request) reply
-      new.desk.now
-  -- unless the log loses lines, it has one of this step
-  pub logged : is_losing new.log.now ≡ false →
-      IsLineLogged old.directory.now request old.desk.now new.desk.now reply
-      (is_losing old.log.now) (contents old.log.now) (contents new.log.now)
+  pub done : Exchanged sight d old (ask_in d request) reply new
+  pub logged : LogsLine d (new ≡ old) log_old request reply log_new
+
+-- The step of a line, and its reply as it is written; the directory stays, and so does the desk
+-- that is lent.
+pub record LineStep {D L M : Type 0} (sight : DeskSight D) (seen : L → LogSeen)
+    (old : Front D L M) (request : Option LineRequest) (line : List ℕ) (new : Front D L M) : Type 0
+  where
+    pub directory : new.directory ≡ old.directory
+    pub same_desk : new.desk.ghost_name ≡ old.desk.ghost_name
+    pub answered : LineAnswered sight old.directory.now old.desk.now (seen old.log.now) request
+        line new.desk.now (seen new.log.now)
+
+-- ---- in rounds
+
+-- A round of a desk, and each of its lines in the log. Where what a line asks for is not told
+-- there, nothing of the round was done.
+pub record RoundAnswered {D : Type 0} (sight : DeskSight D) (d : Directory) (old : D × LogSeen)
+    (asked : List (Option LineRequest)) (lines : List (List ℕ)) (new : D × LogSeen) : Type 0 where
+  pub replied : RoundReplied sight d old.0 asked lines new.0
+  pub logged : InTurn (LogsLine d (GoesBack sight d old.0 (map (ask_in d) asked) new.0)) old.1
+      asked replied.replies new.1
+
+-- Rounds one after another; the directory stays, and the desk that was there is there again.
+abbrev pub AnswersInRounds : {S L M : Type 0} → DeskSight (Desk S) → (L → LogSeen) →
+    RoundFront S L M → List (List (Option LineRequest)) → List (List (List ℕ)) →
+    RoundFront S L M → Type 0
+AnswersInRounds {S} sight seen old asked lines new = (new.directory ≡ old.directory)
+    × ((before : Desk S) → old.desk ≡ Some before → (after : Desk S) × (new.desk ≡ Some after)
+    × InTurn (RoundAnswered sight old.directory.now) (before, seen old.log.now) asked lines
+    (after, seen new.log.now))
+
+-- of the lines that waited, and of those that came, the first are answered, and the rest waits
+abbrev pub DoesLines : {S L M E : Type 0} → DeskSight (Desk S) → (L → LogSeen) →
+    List (Option LineRequest) → RoundFront S L M → RoundFront S L M → Option (List ℕ) →
+    Option (List ℕ) → Result ⊤ E → Type 0
+DoesLines {M = M} {E = E} sight seen came old new write_old write_new result = DoesFirst {E = E}
+    (AnswersInRounds {M = M} sight seen) (λ front. lines_waiting front.waiting.exchanges.items)
+    came old new write_old write_new result

@@ -1,10 +1,12 @@
 //! The desk as what answers the lines of a batch.
 
 ghost use Rattle.hq_wire.specs.Exchanges.{with_refusals};
-ghost use Rattle.std.specs.Prelude.{◌≡◌, Some};
+ghost use Rattle.std.specs.Prelude.{◌≡◌, List, Some, ℕ};
 ghost use Rattle.hq_memory.specs.Making.{MadeIn};
 ghost use Rattle.hq_lines.specs.Fields.{request_in, line_request};
-ghost use Rattle.hq_batch.specs.Steps.{IsOfLine, IsLineToLog, LineStep, SendsLine};
+ghost use Rattle.hq_lines.specs.Written.{GoesOut};
+ghost use Rattle.hq_batch.specs.Steps.{IsOfLine, IsLineToLog, LineAnswered, LineStep, SendsLine};
+ghost use Rattle.hq_batch.specs.Steps.{log_seen};
 
 use crate::writing::write_reply;
 use hq_bodies::JsonMemory;
@@ -18,7 +20,10 @@ use std::alloc::AllocError;
 use std::io::{self, Write};
 
 /// The exchange that a line asks for.
-fn exchange_of<M: Memory>(memory: M, line: &RequestLine<'_>) -> Result<Exchange, AllocError>
+pub(crate) fn exchange_of<M: Memory>(
+    memory: M,
+    line: &RequestLine<'_>,
+) -> Result<Exchange, AllocError>
     ensures { MadeIn M.refused result (λ asked. IsOfLine asked (line_request line.now)) }
 {
     Ok(Exchange {
@@ -98,8 +103,31 @@ fn line_reply<'d, D: Acts, M: JsonMemory>(
     }
 }
 
+/// Replies to a line by itself, tells the log, and writes the reply. At an error a beginning of the
+/// reply went out; all else is done.
+pub(crate) fn answer_alone<D: Acts, L: Log, M: JsonMemory, W: Write>(
+    memory: M,
+    desk: &mut D,
+    directory: &Directory,
+    log: &mut L,
+    line: &[u8],
+    writer: &mut W,
+) -> io::Result<()>
+    ensures { (reply : List ℕ)
+        × LineAnswered (with_refusals M.refused D.sight) directory.now desk.old
+        (log_seen L.is_losing L.contents log.old) (request_in line.now) reply desk.new
+        (log_seen L.is_losing L.contents log.new)
+        × GoesOut (W.contents writer.old) (W.contents writer.new) reply result }
+{
+    log.begin();
+    let replied = line_reply(memory, desk, directory, line);
+    log.replied(&replied.answered());
+    write_reply(&replied.reply, writer)
+}
+
 /// The desk with the directory of its customers, a log, and the memory that requests and replies
-/// take. The memory is lent: a value of any type beside the lent desk might hold a part of it.
+/// take: it replies to each line by itself. The memory is lent: a value of any type beside the lent
+/// desk might hold a part of it.
 #[derive(Drop)]
 pub struct Front<'d, 'l, 'm, D, L, M> {
     pub memory: &'m M,
@@ -109,12 +137,33 @@ pub struct Front<'d, 'l, 'm, D, L, M> {
 }
 
 impl<D: Acts, L: Log, M: JsonMemory> Answers for Front<'_, '_, '_, D, L, M> {
-    ghost steps = { LineStep (with_refusals M.refused D.sight) L.is_losing L.contents };
+    ghost use Rattle.std.specs.Prelude.{[], refl};
+    ghost use Rattle.hq_values.specs.Turns.{InTurn};
+    ghost use Rattle.hq_values.proofs.Turns.{turns_on};
+    ghost use Rattle.hq_lines.specs.Rounds.{OneEach};
 
-    fn answer<W: Write>(&mut self, line: &[u8], writer: &mut W) -> io::Result<()> {
-        self.log.begin();
-        let replied = line_reply(*self.memory, self.desk, self.directory, line);
-        self.log.replied(&replied.answered());
-        write_reply(&replied.reply, writer)
+    ghost does = { InTurn (OneEach (LineStep (with_refusals M.refused D.sight)
+        (log_seen L.is_losing L.contents))) };
+
+    ghost waiting = { λ _. [] };
+
+    ghost none_does = { λ state. refl };
+
+    ghost does_on = { turns_on (OneEach (LineStep (with_refusals M.refused D.sight)
+        (log_seen L.is_losing L.contents))) };
+
+    fn take<W: Write>(&mut self, line: &[u8], writer: &mut W) -> io::Result<()> {
+        answer_alone(
+            *self.memory,
+            self.desk,
+            self.directory,
+            self.log,
+            line,
+            writer,
+        )
+    }
+
+    fn answer_waiting<W: Write>(&mut self, _writer: &mut W) -> io::Result<()> {
+        Ok(())
     }
 }

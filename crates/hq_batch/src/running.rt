@@ -1,14 +1,25 @@
 //! A batch over a shelf.
 
 ghost use Rattle.std.specs.Prelude.{◌≡◌};
-ghost use Rattle.hq_batch.specs.Runs.{ServesOver, RunEnds};
+ghost use Rattle.hq_desk.specs.Desks.{on};
+ghost use Rattle.hq_desk.specs.declared.desk.Desk.{Desk};
+ghost use Rattle.hq_lines.specs.Ends.{RoundsEnd};
+ghost use Rattle.hq_wire.specs.Exchanges.{with_refusals};
+ghost use Rattle.hq_batch.specs.InRounds.{RepliedInRounds};
+ghost use Rattle.hq_batch.specs.Runs.{RoundsRunEnd, RunEnds, ServesInRounds, ServesOver};
 
 use crate::batch;
+use crate::rounds::RoundFront;
+use crate::waiting::Waiting;
 use hq_bodies::JsonMemory;
 use hq_desk::Desk;
+use hq_lines::answer_lines;
 use hq_log::Log;
 use hq_moves::MovesMessages;
+use hq_rounds::Rounds;
 use hq_settings::{Settings, Trouble};
+use hq_values::EngineFault;
+use hq_wire::Directory;
 use std::io::{Read, Write};
 
 /// Replies to the lines of an input for the customers of these settings, over a shelf that is
@@ -30,5 +41,58 @@ pub fn run_batch<S: MovesMessages + Drop, R: Read, W: Write, L: Log, M: JsonMemo
     let Settings { host, directory } = settings;
     let mut desk = Desk::new(shelf, host);
     batch(memory, input, output, &mut desk, &directory, log)?;
+    Ok(())
+}
+
+/// Replies to the lines of an input in rounds, with a desk that is dropped when the input has
+/// ended.
+fn serve_in_rounds<S: Rounds, R: Read, W: Write, L: Log, M: JsonMemory>(
+    memory: M,
+    desk: Desk<S>,
+    directory: &Directory,
+    input: &mut R,
+    output: &mut W,
+    log: &mut L,
+) -> Result<(), EngineFault>
+    ensures { RoundsEnd (λ asked lines. (new : Desk S) × RepliedInRounds
+        (with_refusals M.refused (on S.sight)) directory.now desk asked lines new)
+        (M.refused × (input.new ≡ input.old) × (output.new ≡ output.old))
+        (record { input = R.remaining input.old; output = W.contents output.old })
+        (record { input = R.remaining input.new; output = W.contents output.new }) result }
+{
+    let Ok(waiting) = Waiting::new(memory) else {
+        return Err(EngineFault::WantOfMemory);
+    };
+    let mut front = RoundFront {
+        memory: &memory,
+        desk: Some(desk),
+        directory,
+        log,
+        waiting,
+    };
+    answer_lines(memory, input, output, &mut front)
+}
+
+/// Replies to the lines of an input as `run_batch` does, in rounds: lines that one read gave share
+/// a commit, 64 of them at most, and no reply leaves before it.
+///
+/// After a fault of writing the lines are done up to those of the round whose replies could not be
+/// written, and no other; the replies of the rounds before went out whole.
+pub fn run_batch_in_rounds<S: Rounds, R: Read, W: Write, L: Log, M: JsonMemory>(
+    memory: M,
+    shelf: S,
+    settings: Settings,
+    input: &mut R,
+    output: &mut W,
+    log: &mut L,
+) -> Result<(), Trouble>
+    ensures { RoundsRunEnd (ServesInRounds M.refused S.sight settings shelf)
+        (M.refused × (input.new ≡ input.old) × (output.new ≡ output.old))
+        (record { input = R.remaining input.old; output = W.contents output.old })
+        (record { input = R.remaining input.new; output = W.contents output.new }) result }
+{
+    let Settings { host, directory } = settings;
+    let desk = Desk::new(shelf, host);
+    serve_in_rounds(memory, desk, &directory, input, output, log)?;
     Ok(())
 }

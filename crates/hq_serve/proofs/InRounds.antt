@@ -14,6 +14,7 @@ use Rattle.hq_wire.specs.Runs.{AllReplied}
 use Rattle.hq_wire.proofs.Alone.{alone}
 use Rattle.hq_together.specs.Sessions.{all_in}
 use Rattle.hq_together.specs.Together.{ServedInRound}
+use Rattle.hq_together.proofs.InRounds.{alone_as_one, replied_as_one}
 use Rattle.hq_serve.specs.Listening.{IsOver}
 use Rattle.hq_serve.specs.Rounds.{DoesRound, DoesRounds, ServesRounds}
 use Rattle.hq_serve.specs.declared.listening.ServiceEnd.{ServiceEnd}
@@ -34,25 +35,12 @@ one_behind (xs ∷ xss) ys = ap (λ ts. xs ++ ts) (one_behind xss ys)
     ∙ sym (append_assoc xs (all_in xss) ys)
 
 module _ {D : Type 0} (sight : DeskSight D) (d : Directory) where
-  abbrev tables : D → Tables
-  tables = sight.store.tables
-
-  abbrev Replied : List ℕ → Tables → List Ask → List SeenReply → Tables → Type 0
-  Replied host = AllReplied sight.store.may_answer host d
-
   -- so far so many exchanges were done, in rounds
   pub record RoundsDone (done : ℕ) (old new : D) : Type 0 where
     pub asked : List (List Ask)
     pub replied : List (List SeenReply)
     pub counted : length (all_in asked) ≡ done
     pub served : InTurn (ServedInRound sight d) old asked replied new
-    pub all : OnOpenSound sight.store old new (Replied (sight.host old) (tables old)
-        (all_in asked) (all_in replied) (tables new))
-    pub sound : OnOpenSound sight.store old new (Sound (tables new))
-    pub ours : OnOpenSound sight.store old new (sight.store.is_ours new)
-    pub quiet : sight.store.is_clean new → sight.store.is_clean old
-    pub stays_open : sight.store.is_closed new ≡ false → sight.store.is_closed old ≡ false
-    pub host : sight.host new ≡ sight.host old
 
   pub none_done : (desk : D) → RoundsDone 0 desk desk
   none_done desk = record {
@@ -60,12 +48,6 @@ module _ {D : Type 0} (sight : DeskSight D) (d : Directory) where
     replied = [];
     counted = refl;
     served = refl;
-    all = λ clean ours open_ sound. refl;
-    sound = λ clean ours open_ sound. sound;
-    ours = λ clean ours open_ sound. ours;
-    quiet = λ clean. clean;
-    stays_open = λ open_. open_;
-    host = refl;
   }
 
   -- one round more
@@ -84,34 +66,6 @@ module _ {D : Type 0} (sight : DeskSight D) (d : Directory) where
         served = turns_on (ServedInRound sight d) old mid new so.asked (one.asks ∷ [])
             so.replied (one.replies ∷ []) so.served
             (one_turn (ServedInRound sight d) mid new one.asks one.replies it);
-        all = λ clean ours open_ sound.
-            let before = it.quiet clean in
-            let opened = it.stays_open open_ in
-            let mine = so.ours before ours opened sound in
-            let fit = so.sound before ours opened sound in
-            subst (λ asks. Replied (sight.host old) (tables old) asks
-            (all_in (so.replied ++ one.replies ∷ [])) (tables new))
-            (sym (one_behind so.asked one.asks))
-            (subst (λ rs. Replied (sight.host old) (tables old) (all_in so.asked ++ one.asks) rs
-            (tables new)) (sym (one_behind so.replied one.replies))
-            (turns_on (MayReply sight.store.may_answer (sight.host old) d) (tables old)
-            (tables mid) (tables new) (all_in so.asked) one.asks (all_in so.replied) one.replies
-            (so.all before ours opened sound)
-            (subst (λ h. Replied h (tables mid) one.asks one.replies (tables new)) so.host
-            (it.replied clean mine open_ fit))));
-        sound = λ clean ours open_ sound.
-            let before = it.quiet clean in
-            let opened = it.stays_open open_ in
-            it.sound clean (so.ours before ours opened sound) open_
-            (so.sound before ours opened sound);
-        ours = λ clean ours open_ sound.
-            let before = it.quiet clean in
-            let opened = it.stays_open open_ in
-            it.ours clean (so.ours before ours opened sound) open_
-            (so.sound before ours opened sound);
-        quiet = λ clean. so.quiet (it.quiet clean);
-        stays_open = λ open_. so.stays_open (it.stays_open open_);
-        host = it.host ∙ so.host;
       }
 
   -- what was done of the connections that came
@@ -124,10 +78,8 @@ module _ {D : Type 0} (sight : DeskSight D) (d : Directory) where
         replied = so.replied;
         one_each = omega (arith, counted, few);
         served = so.served;
-        as_one = so.all;
-        alone = λ clean ours open_ sound. alone sight.store.may_answer (sight.host old) d
-            (tables old) (tables new) (all_in so.asked) (all_in so.replied)
-            (so.all clean ours open_ sound);
+        as_one = replied_as_one sight d old new so.asked so.replied so.served;
+        alone = alone_as_one sight d old new so.asked so.replied so.served;
       }
 
   -- why no more are served

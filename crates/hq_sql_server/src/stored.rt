@@ -5,7 +5,7 @@ ghost use Rattle.sqlite.specs.Held.{state};
 ghost use Rattle.hq_sql_shelf.specs.Shelf.{sight_over};
 ghost use Rattle.hq_sql_server.specs.Stored.{OpenedEnds, MemoryEnds, StoreEnds};
 
-use hq_batch::run_batch;
+use hq_batch::run_batch_in_rounds;
 use hq_log::Log;
 use hq_settings::{Settings, Trouble};
 use hq_sql_shelf::{FileShelf, SqlShelf, open_file};
@@ -15,8 +15,8 @@ use sqlite::Alter;
 use std::alloc::Global;
 use std::io::{Read, Write};
 
-/// Replies to the lines of an input for the customers of these settings, over a store as it was
-/// opened; or tells why it could not be opened, and then nothing is read or written.
+/// Replies to the lines of an input for the customers of these settings, in rounds over a store as
+/// it was opened; or tells why it could not be opened, and then nothing is read or written.
 fn run_opened<S: Alter + Drop, R: Read, W: Write, L: Log>(
     rt: &HostRuntime,
     opened: Result<SqlShelf<S, Global>, Fault>,
@@ -31,7 +31,7 @@ fn run_opened<S: Alter + Drop, R: Read, W: Write, L: Log>(
         (record { input = R.remaining input.new; output = W.contents output.new }) result }
 {
     let shelf = opened?;
-    run_batch(rt.alloc(), shelf, settings, input, output, log)
+    run_batch_in_rounds(rt.alloc(), shelf, settings, input, output, log)
 }
 
 /// Serves the customers from an empty desk, whose store stands in memory.
@@ -53,7 +53,8 @@ fn run_memory<R: Read, W: Write, L: Log>(
 /// Replies to the lines of an input for the customers of these settings, over the store of a path,
 /// which is made where it is missing, or without a path over an empty one in memory. A store that
 /// cannot be opened is told as 90, 91, 92 or 93; then, and where there is no memory to begin with,
-/// nothing is read or written. Each reply is told in the log.
+/// nothing is read or written. Each reply is told in the log. Lines that are there together share a
+/// commit, as `run_batch_in_rounds` says.
 pub fn run_stored<R: Read, W: Write, L: Log>(
     rt: &HostRuntime,
     store: Option<&str>,

@@ -47,7 +47,7 @@ module _ {D : Type 0} (sight : DeskSight D) (d : Directory) where
   Rounds = InTurn (ServedInRound sight d)
 
   -- what is clean behind rounds was clean
-  was_clean : (old new : D) (asked : List (List Ask)) (replied : List (List SeenReply)) →
+  pub was_clean : (old new : D) (asked : List (List Ask)) (replied : List (List SeenReply)) →
       Rounds old asked replied new → sight.store.is_clean new → sight.store.is_clean old
   was_clean old new [] [] h clean = subst sight.store.is_clean h clean
   was_clean old new [] (rs ∷ replied) h clean = absurd h

@@ -1,3 +1,4 @@
+pub mod InRounds
 pub mod InTurns
 pub mod Inside
 pub mod OnDesks

@@ -20,7 +20,7 @@ use Rattle.hq_wire.proofs.Exchanging.{no_deeds}
 use Rattle.hq_across.specs.Answered.{as_asked}
 use Rattle.hq_across.proofs.Running.{idle}
 use Rattle.hq_together.specs.Together.{IsRoundSession}
-use Rattle.hq_together.proofs.Inside.{all_after, all_done, whole, replied}
+use Rattle.hq_together.proofs.Inside.{all_after, all_done, whole}
 
 abbrev pub wants : List Ask → List SeenReply
 wants asks = map (λ (a : Ask). reply_of_fault no_memory) asks

@@ -2,7 +2,7 @@ use Rattle.std.proofs.Common.{◌≡◌, Err, refl}
 use Rattle.std.proofs.lemmas.Result.{err_from_is_err_and}
 use Rattle.hq_wire.specs.Exchanges.{with_refusals}
 use Rattle.hq_desk.specs.Desks.{on}
-use Rattle.hq_lines.proofs.Steps.{ends_as}
+use Rattle.hq_lines.proofs.Told.{ends_as}
 use Rattle.hq_batch.specs.Batches.{Replied}
 use Rattle.hq_batch.specs.Runs.{ServesOver}
 use Rattle.hq_batch.proofs.running.run_batch.Goals as goal

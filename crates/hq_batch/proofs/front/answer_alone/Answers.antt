@@ -1,9 +1,9 @@
 use Rattle.hq_wire.specs.Exchanges.{with_refusals}
-use Rattle.std.proofs.Common.{◌≡◌, ◌∷◌, ◌++◌, [], refl, sym}
+use Rattle.std.proofs.Common.{◌≡◌, ◌∷◌, ◌++◌, [], sym}
 use Rattle.hq_wire.specs.Replies.{seen}
 use Rattle.hq_batch.proofs.Logging.{logged_as}
 use Rattle.hq_batch.specs.Batches.{reply_line, three_digits}
-use Rattle.hq_batch.proofs.front.FrontAnswers.answer.Goals as goal
+use Rattle.hq_batch.proofs.front.answer_alone.Goals as goal
 
 pub returns : goal.returns
 returns g c =
@@ -14,8 +14,6 @@ returns g c =
     ++ 10 ∷ []) in (
       line,
       record {
-        directory = refl;
-        same_desk = refl;
         reply = so.told;
         line_is = same;
         done = so.done;

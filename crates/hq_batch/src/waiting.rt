@@ -1,0 +1,60 @@
+//! The lines that wait for a round.
+
+ghost use Rattle.std.specs.Prelude.{◌≡◌, ◌≤◌, ◌∷◌, ◌++◌, [], Some, false, true, length};
+ghost use Rattle.hq_memory.specs.Making.{MadeIn};
+ghost use Rattle.hq_lines.specs.Fields.{request_in};
+ghost use Rattle.hq_requests.specs.declared.exchanges.Exchange.{Exchange};
+ghost use Rattle.hq_batch.specs.Waiting.{line_asked};
+
+use crate::front::exchange_of;
+use hq_bodies::JsonMemory;
+use hq_lines::read_line;
+use hq_memory::Memory;
+use hq_wire::Exchange;
+use std::alloc::AllocError;
+
+/// How many lines share a round at most.
+const MOST_TOGETHER: usize = 64;
+
+/// What the lines ask for that wait: no more than a round may have.
+#[derive(Drop)]
+pub struct Waiting {
+    pub exchanges: Vec<Exchange>,
+    ghost few: { length exchanges.items ≤ 64 },
+}
+
+impl Waiting {
+    /// None waits, and there is room for a round.
+    pub fn new<M: Memory>(memory: M) -> Result<Waiting, AllocError>
+        ensures { MadeIn M.refused result (λ waiting. waiting.exchanges.items ≡ []) }
+    {
+        let exchanges = memory.room(MOST_TOGETHER)?;
+        Ok(Waiting { exchanges })
+    }
+
+    /// Has the exchange wait that a line asks for; or leaves it, where as many wait as a round may
+    /// have, the line asks for none, or there is no memory for it.
+    pub fn add<M: JsonMemory>(&mut self, memory: M, line: &[u8]) -> bool
+        ensures added { result ≡ true → (x : Exchange) × (request_in line.now ≡ Some (line_asked x))
+            × (self.new.exchanges.items ≡ self.old.exchanges.items ++ x ∷ []) }
+        ensures left { result ≡ false → self.new.exchanges.items ≡ self.old.exchanges.items }
+    {
+        if self.exchanges.len() >= MOST_TOGETHER {
+            return false;
+        }
+        let Some(line) = read_line(line) else {
+            return false;
+        };
+        let Ok(exchange) = exchange_of(memory, &line) else {
+            return false;
+        };
+        self.exchanges.push(exchange).is_ok()
+    }
+
+    /// Forgets all.
+    pub fn clear(&mut self)
+        ensures { self.new.exchanges.items ≡ [] }
+    {
+        self.exchanges.clear();
+    }
+}
