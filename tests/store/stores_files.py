@@ -1,4 +1,5 @@
 """What the parts of tests/store/test_stores.py share: the lines of their runs, and what sqlite3 finds in a store."""
+import contextlib
 import os
 import shutil
 import subprocess
@@ -52,6 +53,23 @@ def run(asked, lines, **more):
     return subprocess.run(
         asked, input=lines, stdout=subprocess.PIPE, stderr=subprocess.PIPE, env={**os.environ, **more}, timeout=LONGEST
     )
+
+
+def run_alone(asked, lines, **more):
+    """The same, where each line comes behind the reply before, so that none shares a commit; it may be stopped."""
+    told = b""
+    with subprocess.Popen(asked, stdin=subprocess.PIPE, stdout=subprocess.PIPE, env={**os.environ, **more}) as program:
+        with contextlib.suppress(BrokenPipeError):
+            for line in lines:
+                program.stdin.write(line)
+                program.stdin.flush()
+                reply = program.stdout.readline()
+                told += reply
+                if not reply:
+                    break
+        with contextlib.suppress(BrokenPipeError):
+            program.stdin.close()
+        return subprocess.CompletedProcess(asked, program.wait(LONGEST), told)
 
 
 def replies_of(asked, lines):

@@ -5,12 +5,14 @@ from itertools import count
 
 from serving import expect
 from stores_files import (READERS, STEPS, batch, copied, expect_migration, expect_old_or_new, expect_sound, migration, old_version,
-                          on_hold, replies_of, rows_of, run)
+                          on_hold, replies_of, rows_of, run, run_alone)
 
 STOPPED = 77
 COPIES = 400  # messages beside those of an earlier release, a tenth of them on hold
 # How the file is left by a stop: as the calls before it, with half of the write at it, or without what was not synced.
 WAYS = {"plain": {}, "half": {"STOP_HALF": "1"}, "power": {"POWER_GOES": "0"}}
+# Behind which lines a commit comes, where each line comes alone, and where all are there at once: the sweep and the import go alone.
+EACH, ROUNDS = [*range(1, len(STEPS) + 1)], [3, 4, 6, 7, 8]
 NO_MEMORY = b'503 {"error":90,"name":"WantOfMemory"}\n'
 
 
@@ -79,37 +81,43 @@ def told_after(program, lines):
     return replies.splitlines(keepends=True)[len(lines):]
 
 
-def stop(program, library, at, way, wanted, folder):
-    """Stops at one call; answers how many lines were replied to, and whether it was stopped at all."""
+def stop(program, library, at, way, wanted, ends, folder):
+    """Stops at one call; answers how many lines were replied to, and whether it was stopped at all. Found is what was replied to,
+    or that and all lines up to the next of these ends."""
     folder.mkdir()
     store = folder / "store"
-    ended = run(batch(program, store), b"".join(STEPS), LD_PRELOAD=library, STOP_AT=str(at), **WAYS[way])
+    more = {"LD_PRELOAD": library, "STOP_AT": str(at), **WAYS[way]}
+    if ends == ROUNDS:
+        ended = run(batch(program, store), b"".join(STEPS), **more)
+    else:
+        ended = run_alone(batch(program, store), STEPS, **more)
     expect(ended.returncode in (0, STOPPED), at, ended)
     told = ended.stdout.count(b"\n")
     copy = copied(store, folder)
     found = replies_of(batch(program, copy), READERS).splitlines(keepends=True)
-    expect(found in wanted[told:told + 2], "stopped at", at, "told", told, "found", found)
+    end = next((it for it in ends if it > told), told)
+    expect(found in (wanted[told], wanted[end]), "stopped at", at, "told", told, "found", found)
     replies_of(batch(program, store), b"")
     expect_sound(store, folder)
     shutil.rmtree(folder)
     return told, ended.returncode == STOPPED
 
 
-def stops(program, library, workers, folder):
+def stops(program, library, workers, folder, ends):
     wanted = [told_after(program, STEPS[:done]) for done in range(len(STEPS) + 1)]
     expect(all(wanted[it] != wanted[it + 1] for it in range(len(STEPS))), "a step that does nothing")
     tried = Counter()
     for way in WAYS:
         reached = Counter()
         for first in count(1, 64):
-            jobs = [workers.submit(stop, program, library, at, way, wanted, folder / f"stop-{way}-{at}")
+            jobs = [workers.submit(stop, program, library, at, way, wanted, ends, folder / f"stop-{way}-{at}")
                     for at in range(first, first + 64)]
             ended = [job.result() for job in jobs]
             reached.update(told for told, stopped in ended if stopped)
             tried[way] += sum(stopped for _, stopped in ended)
             if not all(stopped for _, stopped in ended):
                 break
-        expect(set(reached) >= set(range(len(STEPS))), "no stop before one of the steps", reached)
+        expect(set(reached) >= {0, *ends[:-1]}, "no stop before one of the ends", reached)
     return tried
 
 

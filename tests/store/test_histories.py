@@ -18,11 +18,13 @@ where each session that was cut leaves nothing, so that what is seen is that ans
 COUNT histories are tried, 200 without it. The seed is told; without one the clock gives it. The same seed draws the same
 lines and places on one version of Python, but not the moments of kills.
 """
+import contextlib
 import json
 import os
 import random
 import shutil
 import subprocess
+import threading
 import time
 from collections import Counter
 from pathlib import Path
@@ -59,17 +61,28 @@ def batch(program, directory, store=None):
 
 
 def run(asked, lines, kill_after=None, **more):
-    """The program over these lines: its status and the replies that were written whole; killed after so many seconds."""
+    """The program over these lines, of which each comes behind the reply before: its status and the replies that were written
+    whole; killed after so many seconds."""
+    replies = []
     with subprocess.Popen(asked, stdin=subprocess.PIPE, stdout=subprocess.PIPE, stderr=subprocess.PIPE,
                           env={**os.environ, **more}) as process:
-        try:
-            output, errors = process.communicate(b"".join(lines), LONGEST if kill_after is None else kill_after)
-        except subprocess.TimeoutExpired:
-            process.kill()
-            output, errors = process.communicate()
-            expect(kill_after is not None, asked, "has not ended")
+        killing = threading.Timer(LONGEST if kill_after is None else kill_after, process.kill)
+        killing.start()
+        with contextlib.suppress(BrokenPipeError):
+            for line in lines:
+                process.stdin.write(line)
+                process.stdin.flush()
+                reply = process.stdout.readline()
+                if not reply.endswith(b"\n"):
+                    break
+                replies.append(reply[:-1])
+        with contextlib.suppress(BrokenPipeError):
+            process.stdin.close()
+        errors = process.stderr.read()
+        process.wait()
+        killing.cancel()
+    expect(kill_after is not None or process.returncode != KILLED, asked, "has not ended")
     expect(process.returncode in (0, STOPPED, KILLED) and errors == b"", asked, "ended with", process.returncode, errors)
-    replies = output.split(b"\n")[:-1]
     expect(process.returncode or len(replies) == len(lines), asked, len(lines), "lines", len(replies), "replies")
     return process.returncode, replies
 

@@ -7,13 +7,12 @@ are compared with those of tests/store/statements.txt, where a line has a count 
 Some calls are made of a customer with a history too, which has one end by then. It needs valgrind, and takes a minute or two.
 """
 import re
-import subprocess
 import tempfile
 from pathlib import Path
 
 import needs
 import pytest
-from serving import ACME, BIRCH, DIRECTORY, HEADER, RELAY, batch_line, expect, words
+from serving import ACME, BIRCH, DIRECTORY, HEADER, RELAY, batch_line, expect, one_by_one, words
 from tool import Workers
 
 TABLE = Path(__file__).resolve().parent / "statements.txt"
@@ -132,12 +131,10 @@ def statements(program, folder, place, *called):
     told = folder / f"callgrind.{place}"
     asked = ["valgrind", "-q", "--tool=callgrind", f"--callgrind-out-file={told}", *words(program, "batch")]
     calls = [*BEFORE, *called]
-    lines = "".join(f"{it}\n" for it in calls)
-    ended = subprocess.run(asked, input=lines.encode(), capture_output=True, cwd=folder, timeout=300)
-    replies = ended.stdout.decode().splitlines()
-    are_well = ended.returncode == 0 and len(replies) == len(calls) and all(
-        reply.startswith("404 " if one == MISSING else "200 ") for one, reply in zip(calls, replies))
-    expect(are_well, called, "gave", replies[-1:], ended.stderr)
+    # (each line comes alone, so that none shares a transaction)
+    replies = one_by_one(asked, calls, folder)
+    are_well = all(reply.startswith("404 " if one == MISSING else "200 ") for one, reply in zip(calls, replies))
+    expect(are_well, called, "gave", replies[-1:])
     return counted(told.read_text())
 
 

@@ -11,8 +11,9 @@
    by all words but `migrate`, which tells how many messages are on hold, then 0; the lines of `asked` get the replies there.
    What is no desk of either version is refused by `migrate` too and stays, and no file is made where there is none.
 4. The process is stopped at each write, sync and cut of the file, with nothing and with half of that write done, and with
-   the power gone there, so that what was not synced is gone. The next opening finds what was replied to, or that and the one line that was under way, as a desk that was never stopped tells
-   it; and sqlite3 finds the file sound.
+   the power gone there, so that what was not synced is gone. The next opening finds what was replied to, or that and what was
+   under way, as a desk that was never stopped tells it; and sqlite3 finds the file sound. Under way is one line, where each comes
+   alone, and else the lines that share a commit.
    A migration is stopped so too, with a tenth of many messages on hold: what is left is version 1 as it was, or version 2
    whole, with a reason for each message on hold and all other rows as they were.
 5. Each request for memory is refused in turn, over plain lists, over memory and over a file. A line is then done and
@@ -182,10 +183,11 @@ def workers():
         yield them
 
 
-def test_stops(program, folder, workers, library):
+@pytest.mark.parametrize("ends", [stores_stops.EACH, stores_stops.ROUNDS], ids=["lines-alone", "lines-together"])
+def test_stops(program, folder, workers, library, ends):
     """The process is stopped at each write, sync and cut of the file, with nothing and with half of that write done, and with
-    the power gone there: what is found is what was replied to, or that and the one line under way."""
-    print(stores_stops.stops(program, library, workers, folder))
+    the power gone there: what is found is what was replied to, or that and what shares the commit under way."""
+    print(stores_stops.stops(program, library, workers, folder, ends))
 
 
 @pytest.mark.parametrize("number", [1, 2])

@@ -84,6 +84,20 @@ def batch_line(at, method, path, key, body=None):
     return " ".join([str(at), method, path, key, *rest])
 
 
+def one_by_one(asked, lines, folder, more=None):
+    """The replies of a batch whose lines come one by one, each behind the reply before; it must end well."""
+    replies = []
+    with subprocess.Popen(asked, stdin=subprocess.PIPE, stdout=subprocess.PIPE, cwd=folder,
+                          env={**os.environ, **(more or {})}) as batch:
+        for line in lines:
+            batch.stdin.write(f"{line}\n".encode())
+            batch.stdin.flush()
+            replies.append(batch.stdout.readline().decode().rstrip("\n"))
+        batch.stdin.close()
+        expect(batch.wait(LONGEST) == 0, "the batch ended by", batch.returncode)
+    return replies
+
+
 # ---- requests and responses as bytes
 
 def request(method, path, key=None, body=b"", *fields):

@@ -1,7 +1,7 @@
--- The step of one line, as the loop over lines sees it: words of the crate's own functions. The
--- claim on the log rests on them.
+-- The step of one line, and of rounds, as the loop over lines sees them: words of the crate's own
+-- functions. The claim on the log rests on that of one line.
 -- Inner: it serves proofs alone, and no promise rests on it.
-use Rattle.std.specs.Prelude.{◌≡◌, ◌⊎◌, ℕ, Bool, false, List, map, Option, Some, None}
+use Rattle.std.specs.Prelude.{◌≡◌, ◌⊎◌, ℕ, Bool, false, List, Option, Some, None}
 use Rattle.std.specs.Prelude.{⊤, Result, string_bytes, option_map, option_and_then}
 use Rattle.std.specs.Io.KnownBytes.{Appends}
 use Rattle.hq_values.specs.Turns.{InTurn}
@@ -15,7 +15,6 @@ use Rattle.hq_wire.specs.Exchanges.{Exchanged}
 use Rattle.hq_values.specs.Refusals.{no_memory}
 use Rattle.hq_wire.specs.Replies.{SeenReply, IsSent, reply_of_fault}
 use Rattle.hq_requests.specs.declared.exchanges.Exchange.{Exchange}
-use Rattle.hq_together.specs.Together.{GoesBack}
 use Rattle.hq_lines.specs.Fields.{LineRequest}
 use Rattle.hq_lines.specs.Rounds.{DoesFirst}
 use Rattle.hq_batch.specs.Waiting.{lines_waiting}
@@ -119,27 +118,16 @@ pub record LineStep {D L M : Type 0} (sight : DeskSight D) (seen : L → LogSeen
 
 -- ---- in rounds
 
--- A round of a desk, and each of its lines in the log. Where what a line asks for is not told
--- there, nothing of the round was done.
-pub record RoundAnswered {D : Type 0} (sight : DeskSight D) (d : Directory) (old : D × LogSeen)
-    (asked : List (Option LineRequest)) (lines : List (List ℕ)) (new : D × LogSeen) : Type 0 where
-  pub replied : RoundReplied sight d old.0 asked lines new.0
-  pub logged : InTurn (LogsLine d (GoesBack sight d old.0 (map (ask_in d) asked) new.0)) old.1
-      asked replied.replies new.1
-
 -- Rounds one after another; the directory stays, and the desk that was there is there again.
-abbrev pub AnswersInRounds : {S L M : Type 0} → DeskSight (Desk S) → (L → LogSeen) →
-    RoundFront S L M → List (List (Option LineRequest)) → List (List (List ℕ)) →
-    RoundFront S L M → Type 0
-AnswersInRounds {S} sight seen old asked lines new = (new.directory ≡ old.directory)
+abbrev pub AnswersInRounds : {S L M : Type 0} → DeskSight (Desk S) → RoundFront S L M →
+    List (List (Option LineRequest)) → List (List (List ℕ)) → RoundFront S L M → Type 0
+AnswersInRounds {S} sight old asked lines new = (new.directory ≡ old.directory)
     × ((before : Desk S) → old.desk ≡ Some before → (after : Desk S) × (new.desk ≡ Some after)
-    × InTurn (RoundAnswered sight old.directory.now) (before, seen old.log.now) asked lines
-    (after, seen new.log.now))
+    × InTurn (RoundReplied sight old.directory.now) before asked lines after)
 
 -- of the lines that waited, and of those that came, the first are answered, and the rest waits
-abbrev pub DoesLines : {S L M E : Type 0} → DeskSight (Desk S) → (L → LogSeen) →
-    List (Option LineRequest) → RoundFront S L M → RoundFront S L M → Option (List ℕ) →
-    Option (List ℕ) → Result ⊤ E → Type 0
-DoesLines {M = M} {E = E} sight seen came old new write_old write_new result = DoesFirst {E = E}
-    (AnswersInRounds {M = M} sight seen) (λ front. lines_waiting front.waiting.exchanges.items)
-    came old new write_old write_new result
+abbrev pub DoesLines : {S L M E : Type 0} → DeskSight (Desk S) → List (Option LineRequest) →
+    RoundFront S L M → RoundFront S L M → Option (List ℕ) → Option (List ℕ) → Result ⊤ E → Type 0
+DoesLines {L = L} {M = M} {E = E} sight came old new write_old write_new result =
+    DoesFirst {E = E} (AnswersInRounds {L = L} {M = M} sight)
+    (λ front. lines_waiting front.waiting.exchanges.items) came old new write_old write_new result

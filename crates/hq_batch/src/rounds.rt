@@ -1,27 +1,24 @@
 //! The desk as what answers the lines of a batch in rounds: those that are there together share one
 //! commit.
 
-ghost use Rattle.std.specs.Prelude.{◌≡◌, ◌≤◌, ◌∷◌, ◌++◌, [], ⊤, ℕ, List, None, Some, map};
-ghost use Rattle.std.specs.Prelude.{length, IfOk, OnErr};
+ghost use Rattle.std.specs.Prelude.{◌≡◌, ◌≤◌, ◌<◌, ◌∷◌, [], ℕ, List, map, length, IfOk, OnErr};
 ghost use Rattle.std.specs.List.{concat};
+ghost use Rattle.hq_values.specs.Refusals.{no_memory};
+ghost use Rattle.hq_values.specs.Turns.{InTurn};
 ghost use Rattle.hq_desk.specs.Desks.{on};
+ghost use Rattle.hq_requests.specs.declared.directory.Directory.{Directory};
+ghost use Rattle.hq_wire.specs.Exchanges.{with_refusals};
+ghost use Rattle.hq_wire.specs.Replies.{reply_of_fault, seen};
 ghost use Rattle.hq_lines.specs.Fields.{request_in};
 ghost use Rattle.hq_lines.specs.Written.{GoesOut};
-ghost use Rattle.hq_requests.specs.Named.{customer_of_exchange, customer_told};
-ghost use Rattle.hq_requests.specs.declared.directory.Directory.{Directory};
-ghost use Rattle.hq_requests.specs.declared.exchanges.Exchange.{Exchange};
-ghost use Rattle.hq_values.specs.Turns.{InTurn};
-ghost use Rattle.hq_wire.specs.Exchanges.{with_refusals};
-ghost use Rattle.hq_values.specs.Refusals.{no_memory};
-ghost use Rattle.hq_wire.specs.Replies.{reply_of_fault, seen};
 ghost use Rattle.hq_batch.specs.Batches.{reply_line};
+ghost use Rattle.hq_batch.specs.InRounds.{RoundReplied, most_lines_together};
+ghost use Rattle.hq_batch.specs.Steps.{AnswersInRounds, DoesLines};
 ghost use Rattle.hq_batch.specs.Waiting.{lines_waiting};
-ghost use Rattle.hq_batch.specs.Steps.{AnswersInRounds, DoesLines, LogsLine, RoundAnswered};
-ghost use Rattle.hq_batch.specs.Steps.{log_seen};
 
 use crate::front::answer_alone;
 use crate::waiting::Waiting;
-use crate::writing::write_reply;
+use crate::writing::write_line;
 use hq_bodies::JsonMemory;
 use hq_desk::Desk;
 use hq_lines::Answers;
@@ -34,16 +31,8 @@ use std::alloc::AllocError;
 use std::io::{self, ErrorKind, Write};
 
 /// Tells each exchange and its reply to the log.
-fn log_replies<L: Log>(log: &mut L, asked: &[Exchange], replies: &[Reply<'_>])
-    ensures { (d : Directory) → map customer_told replies.now
-        ≡ map (customer_of_exchange d) asked.now → InTurn (LogsLine d ⊥)
-        (log_seen L.is_losing L.contents log.old) (lines_waiting asked.now) (map seen replies.now)
-        (log_seen L.is_losing L.contents log.new) }
-{
-    for (place, asked) in asked.iter().enumerate() {
-        let Some(reply) = replies.get(place) else {
-            return;
-        };
+fn log_replies<L: Log>(log: &mut L, asked: &[Exchange], replies: &[Reply<'_>]) {
+    for (asked, reply) in asked.iter().zip(replies) {
         log.replied(&Answered {
             at: Some(asked.at),
             asked: Some(asked),
@@ -52,43 +41,38 @@ fn log_replies<L: Log>(log: &mut L, asked: &[Exchange], replies: &[Reply<'_>])
     }
 }
 
-/// Writes replies as lines, in order. At an error a beginning of them went out.
-fn write_replies<W: Write>(replies: &[Reply<'_>], writer: &mut W) -> io::Result<()>
-    ensures { GoesOut (W.contents writer.old) (W.contents writer.new)
-        (concat (map (λ r. reply_line (seen r)) replies.now)) result }
-{
-    for reply in replies {
-        write_reply(reply, writer)?;
-    }
-    Ok(())
-}
-
 /// Tells the log of each exchange that memory was wanted.
-fn log_wants<L: Log>(log: &mut L, asked: &[Exchange], want: &Reply<'_>)
-    ensures { (d : Directory) → customer_told want.now ≡ None
-        → seen want.now ≡ reply_of_fault no_memory → InTurn (LogsLine d ⊤)
-        (log_seen L.is_losing L.contents log.old) (lines_waiting asked.now)
-        (map (λ x. seen want.now) asked.now) (log_seen L.is_losing L.contents log.new) }
-{
+fn log_wants<L: Log>(log: &mut L, asked: &[Exchange], want: &Reply<'_>) {
     for asked in asked {
         log.replied(&Answered {
             at: Some(asked.at),
-            asked: None,
+            asked: Some(asked),
             reply: &*want,
         });
     }
 }
 
-/// Writes a line for each exchange, that memory was wanted. At an error a beginning of them went
-/// out.
+/// Writes replies as lines, in order, and flushes. At an error a beginning of them went out.
+fn write_replies<W: Write>(replies: &[Reply<'_>], writer: &mut W) -> io::Result<()>
+    ensures { GoesOut (W.contents writer.old) (W.contents writer.new)
+        (concat (map (λ r. reply_line (seen r)) replies.now)) result }
+{
+    for reply in replies {
+        write_line(reply, writer)?;
+    }
+    writer.flush()
+}
+
+/// Writes a line for each exchange, that memory was wanted, and flushes. At an error a beginning of
+/// them went out.
 fn write_wants<W: Write>(asked: &[Exchange], want: &Reply<'_>, writer: &mut W) -> io::Result<()>
     ensures { GoesOut (W.contents writer.old) (W.contents writer.new)
         (concat (map (λ x. reply_line (seen want.now)) asked.now)) result }
 {
-    for asked in asked {
-        write_reply(want, writer)?;
+    for _asked in asked {
+        write_line(want, writer)?;
     }
-    Ok(())
+    writer.flush()
 }
 
 /// Tells the log what a round replied, and writes its replies; or, where there are none, that
@@ -101,16 +85,8 @@ fn tell_round<L: Log, W: Write>(
 ) -> io::Result<()>
     ensures replied { IfOk replies.entry (λ rs. GoesOut (W.contents writer.old)
         (W.contents writer.new) (concat (map (λ r. reply_line (seen r)) rs.items)) result) }
-    ensures logged { IfOk replies.entry (λ rs. (d : Directory) → map customer_told rs.items
-        ≡ map (customer_of_exchange d) asked.now → InTurn (LogsLine d ⊥)
-        (log_seen L.is_losing L.contents log.old) (lines_waiting asked.now) (map seen rs.items)
-        (log_seen L.is_losing L.contents log.new)) }
     ensures wanted { OnErr replies.entry (GoesOut (W.contents writer.old) (W.contents writer.new)
         (concat (map (λ x. reply_line (reply_of_fault no_memory)) asked.now)) result) }
-    ensures wanted_logged { OnErr replies.entry ((d : Directory) → InTurn (LogsLine d ⊤)
-        (log_seen L.is_losing L.contents log.old) (lines_waiting asked.now)
-        (map (λ x. reply_of_fault no_memory) asked.now)
-        (log_seen L.is_losing L.contents log.new)) }
 {
     match replies {
         Ok(replies) => {
@@ -135,11 +111,10 @@ fn do_round<S: Rounds, L: Log, M: JsonMemory, W: Write>(
     asked: &[Exchange],
     writer: &mut W,
 ) -> (io::Result<()>, Desk<S>)
-    requires { length asked.now ≤ 64 }
-    ensures { (lines : List (List ℕ))
-        × RoundAnswered (with_refusals M.refused (on S.sight)) directory.now
-        (desk, log_seen L.is_losing L.contents log.old) (lines_waiting asked.now) lines
-        (result.1, log_seen L.is_losing L.contents log.new)
+    requires some { 0 < length asked.now }
+    requires few { length asked.now ≤ most_lines_together }
+    ensures { (lines : List (List ℕ)) × RoundReplied (with_refusals M.refused (on S.sight))
+        directory.now desk (lines_waiting asked.now) lines result.1
         × GoesOut (W.contents writer.old) (W.contents writer.new) (concat lines) result.0 }
 {
     log.begin();
@@ -153,7 +128,7 @@ fn do_round<S: Rounds, L: Log, M: JsonMemory, W: Write>(
 #[derive(Drop)]
 pub struct RoundFront<'d, 'l, 'm, S, L, M> {
     pub memory: &'m M,
-    /// It is away while a round is done, and never else.
+    /// None only while a round is done, which takes it by value.
     pub desk: Option<Desk<S>>,
     pub directory: &'d Directory,
     pub log: &'l mut L,
@@ -163,14 +138,15 @@ pub struct RoundFront<'d, 'l, 'm, S, L, M> {
 impl<S: Rounds, L: Log, M: JsonMemory> RoundFront<'_, '_, '_, S, L, M> {
     /// Answers the lines that wait, in one round.
     fn answer_round<W: Write>(&mut self, writer: &mut W) -> io::Result<()>
-        ensures answered { DoesLines (with_refusals M.refused (on S.sight))
-            (log_seen L.is_losing L.contents) [] self.old self.new (W.contents writer.old)
+        ensures answered { DoesLines (with_refusals M.refused (on S.sight)) [] self.old self.new
+            (W.contents writer.old)
             (W.contents writer.new) result }
         ensures none_wait { self.new.waiting.exchanges.items ≡ [] }
     {
         if self.waiting.exchanges.is_empty() {
             return Ok(());
         }
+        // (it is there: every round gives it back)
         let Some(desk) = self.desk.take() else {
             self.waiting.clear();
             return Err(io::Error::from(ErrorKind::Other));
@@ -191,8 +167,8 @@ impl<S: Rounds, L: Log, M: JsonMemory> RoundFront<'_, '_, '_, S, L, M> {
     /// Answers a line by itself, where none waits.
     fn answer_by_itself<W: Write>(&mut self, line: &[u8], writer: &mut W) -> io::Result<()>
         requires { self.old.waiting.exchanges.items ≡ [] }
-        ensures { DoesLines (with_refusals M.refused (on S.sight))
-            (log_seen L.is_losing L.contents) (request_in line.now ∷ []) self.old self.new
+        ensures { DoesLines (with_refusals M.refused (on S.sight)) (request_in line.now ∷ [])
+            self.old self.new
             (W.contents writer.old) (W.contents writer.new) result }
     {
         let Some(mut desk) = self.desk.take() else {
@@ -215,8 +191,7 @@ impl<S: Rounds, L: Log, M: JsonMemory> Answers for RoundFront<'_, '_, '_, S, L, 
     ghost use Rattle.std.proofs.Common.{Bor, refl, subst, ◌∙◌};
     ghost use Rattle.hq_values.proofs.Turns.{turns_on};
 
-    ghost does = { AnswersInRounds (with_refusals M.refused (on S.sight))
-        (log_seen L.is_losing L.contents) };
+    ghost does = { AnswersInRounds (with_refusals M.refused (on S.sight)) };
 
     ghost waiting = { λ front. lines_waiting front.waiting.exchanges.items };
 
@@ -230,17 +205,17 @@ impl<S: Rounds, L: Log, M: JsonMemory> Answers for RoundFront<'_, '_, '_, S, L, 
             second.0,
             second.1,
             turns_on
-                (RoundAnswered (with_refusals M.refused (on S.sight)) old.directory.now) _ _ _
+                (RoundReplied (with_refusals M.refused (on S.sight)) old.directory.now) _ _ _
                 asked more replies others first.2
                 (subst (λ (d : Bor Directory). InTurn
-                (RoundAnswered (with_refusals M.refused (on S.sight)) d.now)
-                (first.0, log_seen L.is_losing L.contents mid.log.now) more others
-                (second.0, log_seen L.is_losing L.contents new.log.now)) p.0 second.2),
+                (RoundReplied (with_refusals M.refused (on S.sight)) d.now)
+                first.0 more others second.0) p.0 second.2),
           ),
     ) };
 
-    /// Has a line wait that can be read, where there is memory for its exchange. Where a round is
-    /// full it is done first; each other line is answered by itself, behind those that wait.
+    /// Has a line wait that can be read, unless its call takes long or there is no memory for it.
+    /// Where a round is full it is done first; each other line is answered by itself, behind those
+    /// that wait.
     fn take<W: Write>(&mut self, line: &[u8], writer: &mut W) -> io::Result<()> {
         if self.waiting.add(*self.memory, line) {
             return Ok(());

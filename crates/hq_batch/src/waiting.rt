@@ -4,12 +4,14 @@ ghost use Rattle.std.specs.Prelude.{◌≡◌, ◌≤◌, ◌∷◌, ◌++◌, [
 ghost use Rattle.hq_memory.specs.Making.{MadeIn};
 ghost use Rattle.hq_lines.specs.Fields.{request_in};
 ghost use Rattle.hq_requests.specs.declared.exchanges.Exchange.{Exchange};
+ghost use Rattle.hq_batch.specs.InRounds.{most_lines_together};
 ghost use Rattle.hq_batch.specs.Waiting.{line_asked};
 
 use crate::front::exchange_of;
 use hq_bodies::JsonMemory;
 use hq_lines::read_line;
 use hq_memory::Memory;
+use hq_together::takes_long;
 use hq_wire::Exchange;
 use std::alloc::AllocError;
 
@@ -20,7 +22,7 @@ const MOST_TOGETHER: usize = 64;
 #[derive(Drop)]
 pub struct Waiting {
     pub exchanges: Vec<Exchange>,
-    ghost few: { length exchanges.items ≤ 64 },
+    ghost few: { length exchanges.items ≤ most_lines_together },
 }
 
 impl Waiting {
@@ -32,8 +34,9 @@ impl Waiting {
         Ok(Waiting { exchanges })
     }
 
-    /// Has the exchange wait that a line asks for; or leaves it, where as many wait as a round may
-    /// have, the line asks for none, or there is no memory for it.
+    /// Has the exchange wait that a line asks for. It leaves all as it is where as many wait as a
+    /// round may have, where there is no memory for one more, and where the line asks for none, or
+    /// for a call that takes long.
     pub fn add<M: JsonMemory>(&mut self, memory: M, line: &[u8]) -> bool
         ensures added { result ≡ true → (x : Exchange) × (request_in line.now ≡ Some (line_asked x))
             × (self.new.exchanges.items ≡ self.old.exchanges.items ++ x ∷ []) }
@@ -45,6 +48,9 @@ impl Waiting {
         let Some(line) = read_line(line) else {
             return false;
         };
+        if takes_long(line.path) {
+            return false;
+        }
         let Ok(exchange) = exchange_of(memory, &line) else {
             return false;
         };

@@ -28,15 +28,23 @@ fn three_digits(status: u16) -> [u8; 3]
     ]
 }
 
-/// Writes a reply as a line: its status, a space, its body and a line feed; and flushes. At an
-/// error a beginning of the line went out.
-pub(crate) fn write_reply<W: Write>(reply: &Reply<'_>, writer: &mut W) -> io::Result<()>
+/// Writes a reply as a line: its status, a space, its body and a line feed. At an error a beginning
+/// of the line went out.
+pub(crate) fn write_line<W: Write>(reply: &Reply<'_>, writer: &mut W) -> io::Result<()>
     ensures { GoesOut (W.contents writer.old) (W.contents writer.new)
         (reply_line (seen reply.now)) result }
 {
     write_whole(writer, &three_digits(reply.status))?;
     write_whole(writer, b" ")?;
     write_whole(writer, reply.body.as_bytes())?;
-    write_whole(writer, b"\n")?;
+    write_whole(writer, b"\n")
+}
+
+/// Writes a reply as a line, and flushes. At an error a beginning of the line went out.
+pub(crate) fn write_reply<W: Write>(reply: &Reply<'_>, writer: &mut W) -> io::Result<()>
+    ensures { GoesOut (W.contents writer.old) (W.contents writer.new)
+        (reply_line (seen reply.now)) result }
+{
+    write_line(reply, writer)?;
     writer.flush()
 }

@@ -1,8 +1,8 @@
 //! The program `hq_failing`: it exists to be tried. `hq_failing DIRECTORY lists|memory once|from
-//! NUMBER` replies to lines for the customers of a directory, as the word `batch` of `hq_main`
-//! does, over plain lists or a store in memory that fails: the call of that number of its shelf
-//! with 91, or it and each later one with 93. At the end it tells on standard error how many calls
-//! there were.
+//! NUMBER` replies to lines for the customers of a directory one by one, as the word `batch` of
+//! `hq_main` does without a store, over plain lists or a store in memory that fails: the call of
+//! that number of its shelf with 91, or it and each later one with 93. At the end it tells on
+//! standard error how many calls there were.
 #![tactic(auto)]
 
 use hq_batch::{EngineFault, batch, words};

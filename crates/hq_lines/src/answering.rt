@@ -19,8 +19,8 @@ use std::io::{self, ErrorKind, Read, Write};
 /// The most reads of a batch, 2^26. An interrupted read counts.
 const MOST_READS: u32 = 67_108_864;
 
-/// The bytes that one read may give.
-const CHUNK_BYTES: usize = 4096;
+/// The bytes that one read may give, as many as a pipe of Linux holds.
+const CHUNK_BYTES: usize = 65_536;
 
 /// What answers the requests of a batch, round by round: each line by itself, or those together
 /// that are there already.
@@ -41,9 +41,9 @@ pub trait Answers {
         (replies others : List (List (List ℕ))) → does old asked replies mid
         → does mid more others new → does old (asked ++ more) (replies ++ others) new };
 
-    /// Takes a line that is not empty. It may do rounds of those that wait and of this one, in
-    /// order; it writes their replies, each whole and with its line feed. A round goes by what its
-    /// lines ask for, as `read_line` tells. An error says that of the last round's replies only a
+    /// Takes a line that is not empty, and goes by what `read_line` tells that it asks for. It may
+    /// do rounds of the lines that wait and of this one, in order, and writes their replies, each
+    /// whole and with its line feed. An error says that of the last round's replies only a
     /// beginning was written; the round is done all the same.
     fn take<W: Write>(&mut self, line: &[u8], writer: &mut W) -> io::Result<()>
         ensures { DoesFirst Self.does Self.waiting (request_in line.now ∷ []) self.old self.new
@@ -56,9 +56,9 @@ pub trait Answers {
         ensures none_wait { OnOk result (Self.waiting self.new ≡ []) };
 }
 
-/// Answers the lines of an input in order; those that one read ends wait for no further read. Room
-/// for a line is taken before the first read. The batch ends in want of memory only where the
-/// memory refused a request; then nothing is touched.
+/// Answers the lines of an input in order. Lines that end in what one read gave are answered before
+/// the next read. Room for a line is taken before the first read. The batch ends in want of memory
+/// only where the memory refused a request; then nothing is touched.
 pub fn answer_lines<R: Read, W: Write, A: Answers, M: Memory>(
     memory: M,
     reader: &mut R,

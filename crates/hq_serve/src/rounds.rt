@@ -16,7 +16,7 @@ use hq_desk::Desk;
 use hq_http::{Input, write_response};
 use hq_log::{Answered, Log};
 use hq_rounds::Rounds;
-use hq_together::round;
+use hq_together::{round, takes_long};
 use hq_values::{Fault, Moment};
 use hq_wire::{Directory, Exchange, Reply, fault_reply, refusal_reply};
 use std::alloc::{AllocError, Global};
@@ -27,25 +27,6 @@ use std::time::Instant;
 
 /// How many exchanges share a round at most.
 pub(crate) const MOST_TOGETHER: usize = 64;
-
-/// Whether a call takes long: a call of all customers, a sweep, a report, an import, or a move of
-/// many messages. It gets a round of its own, and so delays no other reply of its round.
-fn is_long(path: &str) -> bool {
-    let word = path.splitn(4, '/').nth(2).unwrap_or("");
-    matches!(path, "/relay/usage" | "/relay/due")
-        || matches!(
-            word,
-            "sweep"
-                | "report"
-                | "import"
-                | "hold-all"
-                | "release-all"
-                | "delete-all"
-                | "hold-matching"
-                | "release-matching"
-                | "delete-matching"
-        )
-}
 
 /// A reply as a response; `None` where there is no memory for it.
 fn response_of(alloc: Global, reply: &Reply<'_>) -> Option<Vec<u8>> {
@@ -65,7 +46,7 @@ impl Round {
     /// How many of its calls take no long time.
     fn short_calls(&self) -> usize {
         let calls = self.exchanges.iter();
-        calls.filter(|call| !is_long(call.path.as_str())).count()
+        calls.filter(|call| !takes_long(call.path.as_str())).count()
     }
 
     /// Adds what the client of a place asks for; an error tells that there is no memory for it.
@@ -124,7 +105,7 @@ impl<L: Log> Answers<'_, '_, L> {
             }
             Input::NoRoom => self.send_want(place, None),
             Input::Request(request) => {
-                let long = is_long(request.path.as_str());
+                let long = takes_long(request.path.as_str());
                 if long && !round.exchanges.is_empty() {
                     self.waiting.put_back(place, Input::Request(request));
                     return false;

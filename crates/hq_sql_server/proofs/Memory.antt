@@ -24,13 +24,13 @@ use Rattle.hq_settings.specs.declared.settings.Settings.{Settings}
 use Rattle.hq_wire.specs.Exchanges.{Ask, with_refusals}
 use Rattle.hq_wire.specs.Replies.{SeenReply}
 use Rattle.hq_wire.specs.Runs.{AllReplied, Alone}
+use Rattle.hq_wire.proofs.Serving.{all_replied}
 use Rattle.hq_lines.specs.Fields.{LineRequest}
 use Rattle.hq_lines.specs.Lines.{Streams}
-use Rattle.hq_lines.specs.Rounds.{one_list}
 use Rattle.hq_batch.specs.Batches.{ask_in}
-use Rattle.hq_batch.specs.Runs.{ServesInRounds}
+use Rattle.hq_batch.specs.Runs.{ServesOver}
 use Rattle.hq_settings.specs.declared.trouble.Trouble.{Trouble}
-use Rattle.hq_batch.proofs.Ends.{rounds_run_end_as}
+use Rattle.hq_batch.proofs.Ends.{run_ends_as}
 use Rattle.hq_sql_server.specs.Stored.{memory, FromEmpty, ServesFromEmpty, OpenedEnds, MemoryEnds}
 
 -- a store in memory is always open
@@ -81,14 +81,16 @@ from_empty settings shelf ours none old new named is asks replies together apart
 serves : (settings : Settings) (shelf : SqlShelf MemStore Global)
     → IsOurs (state over_memory shelf.conn) →
     tables_in (state over_memory shelf.conn).committed ≡ no_tables
-    → (asked : List (List (Option LineRequest))) (lines : List (List (List ℕ))) →
-    ServesInRounds ⊤ memory settings shelf asked lines → ServesFromEmpty settings asked lines
+    → (asked : List (Option LineRequest)) (lines : List (List ℕ)) →
+    ServesOver ⊤ memory settings shelf asked lines → ServesFromEmpty settings asked lines
 serves settings shelf ours none asked lines it = record {
   shelf = shelf;
   over = it;
   from_empty = from_empty settings shelf ours none it.old it.new it.host_is it.shelf_is
-      (map (ask_in settings.directory) (one_list asked)) it.replied.replies it.replied.as_one
-      it.replied.alone;
+      (map (ask_in settings.directory) asked) it.replied.0
+      (all_replied (with_refusals ⊤ (on memory)) settings.directory it.old it.new
+      (map (ask_in settings.directory) asked) it.replied.0 it.replied.2.each)
+      it.replied.2.alone;
 }
 
 pub memory_ends : (settings : Settings) (opened : Result (SqlShelf MemStore Global) Fault)
@@ -98,7 +100,7 @@ pub memory_ends : (settings : Settings) (opened : Result (SqlShelf MemStore Glob
     → OpenedEnds memory settings opened untouched old new result →
     MemoryEnds settings untouched old new result
 memory_ends settings (Ok shelf) untouched old new result ours none p =
-    inl (rounds_run_end_as (ServesInRounds ⊤ memory settings shelf) (ServesFromEmpty settings)
+    inl (run_ends_as (ServesOver ⊤ memory settings shelf) (ServesFromEmpty settings)
     (serves settings shelf ours none) untouched untouched (λ (same : untouched). same) old new
     result p)
 memory_ends settings (Err fault) untouched old new result ours none p = inr (fault, p)

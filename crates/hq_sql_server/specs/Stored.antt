@@ -19,9 +19,8 @@ use Rattle.hq_wire.specs.Replies.{SeenReply}
 use Rattle.hq_wire.specs.Runs.{AllReplied, Alone}
 use Rattle.hq_lines.specs.Fields.{LineRequest}
 use Rattle.hq_lines.specs.Lines.{Streams}
-use Rattle.hq_lines.specs.Rounds.{one_list}
 use Rattle.hq_batch.specs.Batches.{ask_in}
-use Rattle.hq_batch.specs.Runs.{RoundsRunEnd, ServesInRounds}
+use Rattle.hq_batch.specs.Runs.{RoundsRunEnd, RunEnds, ServesInRounds, ServesOver}
 use Rattle.hq_settings.specs.declared.trouble.Trouble.{Trouble}
 use Rattle.hq_settings.specs.declared.trouble.Trouble.TheVariants.{Desk as OfDesk}
 
@@ -29,11 +28,18 @@ use Rattle.hq_settings.specs.declared.trouble.Trouble.TheVariants.{Desk as OfDes
 abbrev pub IsUnopened : Type 0 → Fault → Result ⊤ Trouble → Type 0
 IsUnopened untouched fault result = untouched × (result ≡ Err (OfDesk (AsFault fault)))
 
--- How a run ends over a desk as it was opened: the lines are those of a batch in rounds over this
--- shelf, or there is none.
+-- How a run ends over a desk as it was opened: the lines are those of a batch over this shelf, or
+-- there is none.
 abbrev pub OpenedEnds : {S : Type 0} → Sight S → Settings → Result S Fault → Type 0 → Streams →
     Streams → Result ⊤ Trouble → Type 0
 OpenedEnds sight settings opened untouched old new result = OverOpened
+    (λ shelf. RunEnds (ServesOver ⊤ sight settings shelf) untouched old new result)
+    (λ fault. IsUnopened untouched fault result) opened
+
+-- The same in rounds.
+abbrev pub OpenedInRounds : {S : Type 0} → Sight S → Settings → Result S Fault → Type 0 → Streams →
+    Streams → Result ⊤ Trouble → Type 0
+OpenedInRounds sight settings opened untouched old new result = OverOpened
     (λ shelf. RoundsRunEnd (ServesInRounds ⊤ sight settings shelf) untouched old new result)
     (λ fault. IsUnopened untouched fault result) opened
 
@@ -53,18 +59,18 @@ pub record FromEmpty (settings : Settings) (asks : List Ask) (replies : List See
   pub alone : (on memory).store.is_closed new ≡ false
       → Alone settings.host settings.directory asks replies no_tables ((on memory).store.tables new)
 
--- Lines are replied to as a batch in rounds of these customers over a shelf in memory, which began
--- with empty tables.
-pub record ServesFromEmpty (settings : Settings) (asked : List (List (Option LineRequest)))
-    (lines : List (List (List ℕ))) : Type 0 where
+-- Lines are replied to as a batch of these customers over a shelf in memory, which began with empty
+-- tables.
+pub record ServesFromEmpty (settings : Settings) (asked : List (Option LineRequest))
+    (lines : List (List ℕ)) : Type 0 where
   pub shelf : SqlShelf MemStore Global
-  pub over : ServesInRounds ⊤ memory settings shelf asked lines
-  pub from_empty : FromEmpty settings (map (ask_in settings.directory) (one_list asked))
-      over.replied.replies over.new
+  pub over : ServesOver ⊤ memory settings shelf asked lines
+  pub from_empty : FromEmpty settings (map (ask_in settings.directory) asked) over.replied.0
+      over.new
 
 abbrev pub MemoryEnds : Settings → Type 0 → Streams → Streams → Result ⊤ Trouble → Type 0
 MemoryEnds settings untouched old new result = OverMemory
-    (RoundsRunEnd (ServesFromEmpty settings) untouched old new result)
+    (RunEnds (ServesFromEmpty settings) untouched old new result)
     (λ fault. IsUnopened untouched fault result)
 
 -- ---- in memory, or in the file of a path
@@ -73,4 +79,4 @@ abbrev pub StoreEnds : {S : Type 0} → Sight S → Option (List ℕ) → Settin
     Streams → Result ⊤ Trouble → Type 0
 StoreEnds sight path settings untouched old new result = OverStore sight path
     (MemoryEnds settings untouched old new result)
-    (λ opened. OpenedEnds sight settings opened untouched old new result)
+    (λ opened. OpenedInRounds sight settings opened untouched old new result)

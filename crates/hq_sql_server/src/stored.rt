@@ -3,9 +3,9 @@
 ghost use Rattle.std.specs.Prelude.{◌≡◌, option_map, ⊤};
 ghost use Rattle.sqlite.specs.Held.{state};
 ghost use Rattle.hq_sql_shelf.specs.Shelf.{sight_over};
-ghost use Rattle.hq_sql_server.specs.Stored.{OpenedEnds, MemoryEnds, StoreEnds};
+ghost use Rattle.hq_sql_server.specs.Stored.{MemoryEnds, OpenedEnds, OpenedInRounds, StoreEnds};
 
-use hq_batch::run_batch_in_rounds;
+use hq_batch::{run_batch, run_batch_in_rounds};
 use hq_log::Log;
 use hq_settings::{Settings, Trouble};
 use hq_sql_shelf::{FileShelf, SqlShelf, open_file};
@@ -15,8 +15,8 @@ use sqlite::Alter;
 use std::alloc::Global;
 use std::io::{Read, Write};
 
-/// Replies to the lines of an input for the customers of these settings, in rounds over a store as
-/// it was opened; or tells why it could not be opened, and then nothing is read or written.
+/// Replies to the lines of an input one by one, over a store as it was opened; or tells why it
+/// could not be opened, and then nothing is read or written.
 fn run_opened<S: Alter + Drop, R: Read, W: Write, L: Log>(
     rt: &HostRuntime,
     opened: Result<SqlShelf<S, Global>, Fault>,
@@ -31,10 +31,11 @@ fn run_opened<S: Alter + Drop, R: Read, W: Write, L: Log>(
         (record { input = R.remaining input.new; output = W.contents output.new }) result }
 {
     let shelf = opened?;
-    run_batch_in_rounds(rt.alloc(), shelf, settings, input, output, log)
+    run_batch(rt.alloc(), shelf, settings, input, output, log)
 }
 
-/// Serves the customers from an empty desk, whose store stands in memory.
+/// Serves the customers from an empty desk, whose store stands in memory. Its commits wait for no
+/// disk, so that each line is done by itself.
 fn run_memory<R: Read, W: Write, L: Log>(
     rt: &HostRuntime,
     settings: Settings,
@@ -50,11 +51,30 @@ fn run_memory<R: Read, W: Write, L: Log>(
     run_opened(rt, opened, settings, input, output, log)
 }
 
+/// Replies to the lines of an input in rounds, over a store as it was opened; or tells why it could
+/// not be opened, and then nothing is read or written.
+fn run_in_rounds<S: Alter + Drop, R: Read, W: Write, L: Log>(
+    rt: &HostRuntime,
+    opened: Result<SqlShelf<S, Global>, Fault>,
+    settings: Settings,
+    input: &mut R,
+    output: &mut W,
+    log: &mut L,
+) -> Result<(), Trouble>
+    ensures { OpenedInRounds (sight_over ⊤ ⊤ (state S.Store)) settings opened
+        ((input.new ≡ input.old) × (output.new ≡ output.old))
+        (record { input = R.remaining input.old; output = W.contents output.old })
+        (record { input = R.remaining input.new; output = W.contents output.new }) result }
+{
+    let shelf = opened?;
+    run_batch_in_rounds(rt.alloc(), shelf, settings, input, output, log)
+}
+
 /// Replies to the lines of an input for the customers of these settings, over the store of a path,
 /// which is made where it is missing, or without a path over an empty one in memory. A store that
 /// cannot be opened is told as 90, 91, 92 or 93; then, and where there is no memory to begin with,
-/// nothing is read or written. Each reply is told in the log. Lines that are there together share a
-/// commit, as `run_batch_in_rounds` says.
+/// nothing is read or written. Each reply is told in the log. Over a file, lines that are there
+/// together share a commit, as `run_batch_in_rounds` says.
 pub fn run_stored<R: Read, W: Write, L: Log>(
     rt: &HostRuntime,
     store: Option<&str>,
@@ -71,6 +91,6 @@ pub fn run_stored<R: Read, W: Write, L: Log>(
 {
     match store {
         None => run_memory(rt, settings, input, output, log),
-        Some(path) => run_opened(rt, open_file(rt, path), settings, input, output, log),
+        Some(path) => run_in_rounds(rt, open_file(rt, path), settings, input, output, log),
     }
 }

@@ -2,6 +2,8 @@
 #![tactic(auto)]
 
 pub mod laws;
+mod long;
 mod replying;
 
+pub use long::takes_long;
 pub use replying::round;

@@ -10,4 +10,4 @@ use Rattle.hq_batch.proofs.rounds.write_wants.Given as goal
 abbrev pub invariant-loop-asked : goal.invariant-loop-asked
 invariant-loop-asked g l = Appends (g.W.Write.contents l.fn.writer)
     (g.W.Write.contents l.writer)
-    (concat (map (λ (x : Exchange). reply_line (seen l.fn.want)) (take l.asked-index l.asked)))
+    (concat (map (λ (x : Exchange). reply_line (seen l.fn.want)) (take l._asked-index l.asked)))

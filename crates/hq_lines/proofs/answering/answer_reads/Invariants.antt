@@ -7,5 +7,5 @@ invariant-loop g l = record {
   going : Going g.A.Answers.does g.A.Answers.waiting (g.R.Read.remaining l.fn.reader)
       (g.R.Read.remaining l.reader) (g.W.Write.contents l.fn.writer)
       (g.W.Write.contents l.writer) l.fn.answers l.answers l.line.bytes.items;
-  room : length l.chunk ≡ 4096;
+  room : length l.chunk ≡ 65536;
 }

@@ -1,0 +1,14 @@
+use Rattle.std.specs.Prelude.{⊤}
+use Rattle.sqlite.specs.Held.{state}
+use Rattle.hq_sql_shelf.specs.Shelf.{sight_over}
+use Rattle.hq_batch.specs.Runs.{ServesInRounds}
+use Rattle.hq_batch.proofs.Ends.{rounds_run_end_as}
+use Rattle.hq_sql_server.proofs.stored.run_in_rounds.Goals as goal
+
+pub returns : goal.returns
+returns g c =
+    let serves = ServesInRounds ⊤ (sight_over ⊤ ⊤ (state g.S.Store)) c.args.settings
+    c.in_ok-shelf.shelf in
+    rw c.in_ok-shelf.was (rounds_run_end_as serves serves (λ asked lines served. served) _ _
+    (λ same. (same.1, same.2)) _ _ c.run_batch_in_rounds.result
+    c.run_batch_in_rounds.ensures)
