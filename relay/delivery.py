@@ -21,7 +21,7 @@ from notices import Notices
 from outcomes import Outcomes
 from reports import Reports
 from resting import Resting
-from settings import Customer, Settings
+from settings import Settings
 from spool import Spool
 from turns import Turns
 
@@ -100,10 +100,11 @@ class Delivery:
         for customer in self.settings.customers:
             self.telling.add(customer)
         self.wait()
-        is_there = self.chores(True, True) and self.is_there()
+        everyone = self.settings.customers
+        is_there = self.chores({*everyone}, {*everyone}, waits=True)
         self.wait()
         self.end()
-        return is_there
+        return is_there and self.is_there()
 
     def wait(self) -> None:
         """Returns when no customer waits for a turn."""
@@ -130,14 +131,20 @@ class Delivery:
         self.handover.look()
 
     def keep_house(self) -> None:
-        """Sweeps and cleans by the timers, until `end`."""
+        """Sweeps and cleans by the timers, until `end`. Who was passed over has its turn at each
+        `pause`."""
         swept = cleaned = float("-inf")
+        to_sweep: Set[str] = set()
+        to_clean: Set[str] = set()
         while not self.ending.is_set():
             now = time.monotonic()
-            is_sweep = now >= swept + self.settings.sweep_every
-            is_cleaning = now >= cleaned + self.settings.clean_every
-            self.chores(is_sweep, is_cleaning)
-            swept, cleaned = now if is_sweep else swept, now if is_cleaning else cleaned
+            if now >= swept + self.settings.sweep_every:
+                swept = now
+                to_sweep.update(self.settings.customers)
+            if now >= cleaned + self.settings.clean_every:
+                cleaned = now
+                to_clean.update(self.settings.customers)
+            self.chores(to_sweep, to_clean, waits=False)
             self.ending.wait(self.settings.pause)
 
     def watch(self) -> None:
@@ -190,13 +197,17 @@ class Delivery:
         return False
 
     @contextmanager
-    def locked(self, customer: str) -> Iterator[None]:
-        """Has a customer's lock. Outcomes that came meanwhile are told behind, whether or not its
-        notices could be mailed: these may be tried again and again."""
+    def locked(self, customer: str, waits: bool = True) -> Iterator[bool]:
+        """Has a customer's lock, or tells that something else has it. Outcomes that came meanwhile
+        are told behind, whether or not its notices could be mailed: these may be tried again and
+        again."""
+        if not self.locks[customer].acquire(blocking=waits):
+            yield False
+            return
         try:
-            with self.locks[customer]:
-                yield
+            yield True
         finally:
+            self.locks[customer].release()
             if customer in self.turned_away:
                 self.turned_away.discard(customer)
                 self.telling.add(customer)
@@ -211,24 +222,43 @@ class Delivery:
 
     # ---- sweeps and clean-up
 
-    def chores(self, is_sweep: bool, is_cleaning: bool) -> bool:
-        """Has notices mailed, sweeps and cleans; whether the desk was there."""
-        def work(customer: Customer) -> None:
-            self.mailing.add(customer.name)
-            if not (is_sweep or is_cleaning):
-                return
-            with self.locked(customer.name):
-                are_mailed = self.notices.unmailed(customer.name) == []
-                if is_sweep and self.sweep(customer):
-                    are_mailed = self.notices.send(customer.name)
-                # (a notice that waits wants the header of its message)
-                if is_cleaning and are_mailed:
-                    self.book.all_mailed(customer.name)
-                    self.cleaning.clean(customer.name, self.handed.spools_under_way(customer.name))
-        is_there = self.for_each(work)
-        if is_cleaning and is_there:
+    def chores(self, to_sweep: Set[str], to_clean: Set[str], waits: bool) -> bool:
+        """Cleans and sweeps these, and has everybody's notices mailed; whether the desk was there.
+        Unless it `waits`, it passes over whose lock something else has: a mailing may hang."""
+        is_cleaning, is_there = bool(to_clean), True
+        for it in self.settings.customers:
+            # (behind a sweep, its notices would hold up the clean-up)
+            is_there = (self.do_for(it, to_clean, self.clean, waits)
+                        and self.do_for(it, to_sweep, self.sweep, waits) and is_there)
+            # (by threads of their own, since the next hop may hang)
+            self.mailing.add(it)
+        if is_cleaning and is_there and not to_clean:
             self.clean_up()
         return is_there
+
+    def do_for(self, customer: str, wanted: Set[str], work: Callable[[str], None],
+               waits: bool) -> bool:
+        """Does something for a customer who wants it; whether the desk was there. One that is
+        passed over wants it still."""
+        if customer not in wanted or self.ending.is_set():
+            return True
+        try:
+            with self.locked(customer, waits) as is_mine:
+                if is_mine:
+                    wanted.discard(customer)
+                    work(customer)
+        except Away as error:
+            log.error("desk away", customer=customer, why=error)
+            return False
+        except Exception as error:
+            log.error("round failed", customer=customer, why=repr(error))
+        return True
+
+    def clean(self, customer: str) -> None:
+        """Cleans a customer up, unless a notice waits: it wants the header of its message."""
+        if self.notices.unmailed(customer) == []:
+            self.book.all_mailed(customer)
+            self.cleaning.clean(customer, self.handed.spools_under_way(customer))
 
     def clean_up(self) -> None:
         """Removes what belongs to no customer's message any more."""
@@ -238,25 +268,10 @@ class Delivery:
         except Exception as error:
             log.error("not cleaned", why=repr(error))
 
-    def for_each(self, work: Callable[[Customer], None]) -> bool:
-        """Does something for each customer; whether the desk was there for all of them."""
-        is_there = True
-        for customer in self.settings.customers.values():
-            if self.ending.is_set():
-                break
-            try:
-                work(customer)
-            except Away as error:
-                log.error("desk away", customer=customer.name, why=error)
-                is_there = False
-            except Exception as error:
-                log.error("round failed", customer=customer.name, why=repr(error))
-        return is_there
-
-    def sweep(self, customer: Customer) -> bool:
+    def sweep(self, name: str) -> None:
         """Sweeps a customer, unless that might push out notices that were not mailed, or give up
         what was handed over, or delivered and is still to be told."""
-        name, now = customer.name, time.time()
+        now = time.time()
         with self.handover.listing[name]:
             entries = list(self.desk.messages(name))
             busy = self.handed.spools_under_way(name)
@@ -265,8 +280,7 @@ class Delivery:
             if (is_late or self.book.untold(name)
                     or not self.notices.has_room_for(name, len(entries))):
                 log.error("not swept: notices or outcomes wait", customer=name)
-                return False
+                return
             reply = self.desk.sweep(name)
         if any(reply.values()):
             log.info("sweep", customer=name, **reply)
-        return True

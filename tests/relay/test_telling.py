@@ -1,4 +1,5 @@
-"""When outcomes are told that come while the customer's notices are mailed, that want room for a notice, or that the desk refuses.
+"""When outcomes are told that come while the customer's notices are mailed, that want room for a notice, or that the desk refuses;
+and when customers are swept and cleaned while a mailing hangs.
 
 A whole delivery works, with its threads and its book. The desk and the next hop of notices are the test's, and no Postfix runs.
 """
@@ -11,7 +12,7 @@ import log
 import pytest
 from book import Book, Report
 from delivery import Delivery
-from desk import Desk, Refused
+from desk import Away, Desk, Refused
 from handed import Attempt
 from mailing import DONE, LATER, Hop
 from serving import expect, until
@@ -63,6 +64,26 @@ class Told(Desk):
         return {"expired": 0, "notices": 0, "warned": 0}
 
 
+class House(Told):
+    """A desk of several customers, of whom acme has the notices. It knows whom it was to sweep. As it sweeps acme, it makes so many
+    more notices, or is away."""
+
+    def __init__(self, *notices, makes=0, is_away=False):
+        super().__init__(*notices)
+        self.makes, self.is_away, self.swept = makes, is_away, []
+
+    def ask(self, path, body=None, timeout=None):
+        kind, customer = path.split("/")[2], path.rpartition("/")[2]
+        if kind == "notices" and customer != "acme":
+            return {"notices": []}
+        if kind == "sweep":
+            self.swept.append(customer)
+            self.notices_of += range(1, self.makes + 1) if customer == "acme" else []
+            if self.is_away and customer == "acme":
+                raise Away(path)
+        return super().ask(path, body, timeout)
+
+
 class Hops:
     """All sessions with the next hop: a mail waits at the gate, and is answered so."""
 
@@ -86,13 +107,14 @@ def hops(monkeypatch):
 
 @pytest.fixture
 def delivering(folder, hops):
-    """Makes a delivery for a desk whose customer keeps one notice. It has not begun, and is ended behind the test."""
+    """Makes a delivery for a desk whose customers keep one notice each. It has not begun, and is ended behind the test."""
     made = []
 
-    def make(desk):
+    def make(desk, *customers):
         settings = SimpleNamespace(
-            customers={"acme": Customer("acme", 10, 1000, 1)}, sessions=1, pause=PAUSE, rest=1.0, keep_days=7, lost_after=0.0,
-            settle_after=0.0, reports=folder / "reports", host="relay.example", notices_from="MAILER-DAEMON@relay.example")
+            customers={it: Customer(it, 10, 1000, 1) for it in customers or ("acme",)}, sessions=1, pause=PAUSE, rest=1.0,
+            keep_days=7, lost_after=0.0, settle_after=0.0, sweep_every=3600.0, clean_every=3600.0, reports=folder / "reports",
+            host="relay.example", notices_from="MAILER-DAEMON@relay.example")
         made.append(Delivery(settings, desk, Spool(folder), Book(folder)))
         return made[-1]
     yield make
@@ -100,6 +122,20 @@ def delivering(folder, hops):
     for it in made:
         it.desk.gate.set()
         it.end()
+
+
+@pytest.fixture
+def keeping(delivering, monkeypatch):
+    """Makes a delivery of three customers, each with a content to be cleaned up. `nobodys` are those whose content was left as
+    what belongs to nobody was cleaned up."""
+    def make(desk):
+        found = delivering(desk, "acme", "birch", "cedar")
+        for it in found.settings.customers:
+            found.book.taken(it, f"s-{it}", None, "250 2.0.0 delivered")
+        found.nobodys = []
+        monkeypatch.setattr(found.cleaning, "clean_unknown", lambda: found.nobodys.append(left(found)))
+        return found
+    return make
 
 
 @pytest.fixture
@@ -118,6 +154,16 @@ def comes(found, id, recipient, result):
     """An outcome is journaled, and a turn of telling it given, as when its report was read."""
     found.book.attempted(Report("acme", f"s{id}", id, 1, [outcome(recipient, result)]))
     found.telling.add("acme")
+
+
+def left(found):
+    """The customers whose content was not cleaned up."""
+    return [it for it in found.settings.customers if found.book.uncleaned(it)]
+
+
+def kept(found):
+    """Who was swept, whose content is left, and whose was as what belongs to nobody was cleaned up."""
+    return found.desk.swept, left(found), found.nobodys
 
 
 def begun(work):
@@ -149,7 +195,7 @@ def test_an_outcome_that_comes_during_a_sweep(delivering):
     found = delivering(Told())
     found.desk.gate.clear()
     found.telling.start()
-    sweeping = begun(lambda: found.chores(True, False))
+    sweeping = begun(lambda: found.chores({"acme"}, set(), True))
     expect(found.desk.is_listing.wait(SOON), "nothing is swept")
     comes(found, "A", GOOD, "delivered")
     found.telling.wait()
@@ -218,3 +264,71 @@ def test_a_round_with_an_attempt_that_is_lost(delivering, hops, monkeypatch):
     found.handed.over({"acme.A.1.e": "Q1"}, [])
     found.handed.reported({"acme.A.1.e": [outcome(GOOD, "delivered")]})
     expect(found.once() and found.desk.told == ["A"] and not found.book.untold("acme"), found.desk.told)
+
+
+@pytest.mark.parametrize("answer, uncleaned", [(DONE, []), (LATER, ["acme"])])
+def test_house_while_a_mailing_hangs(keeping, hops, answer, uncleaned):
+    """The others are swept and cleaned meanwhile. That customer is soon behind it, without another sweep of the others, but its
+    content stays where the notice still waits. What belongs to nobody is cleaned up at last."""
+    found = keeping(House(1))
+    hops.answer = answer
+    found.begin_turns()
+    found.mailing.add("acme")
+    expect(hops.is_asked.wait(SOON), "no notice is mailed")
+    for it in found.threads:
+        it.start()
+    meanwhile = ["birch", "cedar"], ["acme"], []
+    until(lambda: kept(found) == meanwhile, "a mailing that hangs holds up the others", SOON / 2)
+    time.sleep(WHILE)
+    expect(kept(found) == meanwhile, kept(found))
+    hops.gate.set()
+    behind = ["birch", "cedar", "acme"], uncleaned, [uncleaned]
+    until(lambda: kept(found) == behind, "who was passed over does not come again", SOON / 2)
+    time.sleep(WHILE)
+    expect(kept(found) == behind, kept(found))
+
+
+def test_house_while_a_notice_of_a_sweep_hangs(keeping, hops):
+    """The others are swept and cleaned meanwhile, and it is mailed at last."""
+    found = keeping(House(makes=1))
+    found.start()
+    wanted = ["acme", "birch", "cedar"], [], [[]]
+    until(lambda: kept(found) == wanted, "a notice of a sweep holds up the others", SOON / 2)
+    expect(hops.is_asked.wait(SOON) and not found.book.last_notice("acme"), "the notice is not under way")
+    hops.gate.set()
+    until(lambda: found.book.last_notice("acme") == 1, "the notice is not mailed", SOON)
+    expect(kept(found) == wanted, kept(found))
+
+
+def test_house_while_notices_wait(keeping, hops, logged):
+    """A sweep that would push them out, and clean-up, are tried once: their customer comes again by the timers alone."""
+    found = keeping(House(1, 2))
+    hops.answer = LATER
+    hops.gate.set()
+    found.start()
+    wanted = ["birch", "cedar"], ["acme"], [["acme"]]
+    until(lambda: kept(found) == wanted, "the others are not kept", SOON)
+    time.sleep(WHILE)
+    expect(kept(found) == wanted and logged == ["not swept: notices or outcomes wait"], kept(found), logged)
+
+
+def test_house_while_the_desk_is_away(keeping, logged):
+    """A sweep that failed is tried again by the timers alone, and what belongs to nobody is not cleaned up."""
+    found = keeping(House(is_away=True))
+    found.start()
+    wanted = ["acme", "birch", "cedar"], [], []
+    until(lambda: kept(found) == wanted, "the others are not kept", SOON)
+    time.sleep(WHILE)
+    expect(kept(found) == wanted and logged == ["desk away"], kept(found), logged)
+
+
+def test_a_round_with_a_lock_that_something_has(keeping):
+    """`deliver --once` waits for it, and sweeps and cleans everybody."""
+    found = keeping(House())
+    with found.locks["birch"]:
+        round_of = begun(found.once)
+        until(lambda: found.desk.swept, "the round sweeps nobody", SOON)
+        time.sleep(WHILE)
+        expect(round_of.is_alive() and found.desk.swept == ["acme"], kept(found))
+    round_of.join(SOON)
+    expect(not round_of.is_alive() and kept(found) == (["acme", "birch", "cedar"], [], [[]]), kept(found))
