@@ -1,6 +1,7 @@
 """Counts the commits of a batch whose lines are there together, and tells what is done where no reply can be written.
 
-A library counts the syncs of the store's file (tests/support/interpose.c), and those of a commit are counted first.
+A library counts the syncs of the store's file (tests/support/interpose.c). Those of a batch with one commit are counted first;
+each further commit takes one more.
 
 1. 64 lines that change something share one commit, 65 take two; lines that only read take none.
 2. A line that cannot be read parts the lines before it from those behind it.
@@ -70,10 +71,11 @@ def syncs_of(program, folder, lines, alone=False):
 ], ids=["reads", "as-many-as-share", "one-more", "a-line-that-cannot-be-read", "one-by-one"])
 def test_commits(program, filled, lines, alone, commits):
     none = syncs_of(program, filled, [shown(MESSAGES)])
-    one = syncs_of(program, filled, [hold(MESSAGES)]) - none
-    expect(one > 0, "a line that changes something takes no sync")
-    found = syncs_of(program, filled, lines, alone) - none
-    expect(found == commits * one, len(lines), "lines took", found, "syncs, and not", commits * one)
+    one = syncs_of(program, filled, [hold(MESSAGES)])
+    expect(none < one, "a line that changes something takes", one, "syncs, and one that reads", none)
+    wanted = one + commits - 1 if commits else none
+    found = syncs_of(program, filled, lines, alone)
+    expect(found == wanted, len(lines), "lines took", found, "syncs, and not", wanted)
 
 
 def test_each_line_gets_its_own_reply(program, filled):
