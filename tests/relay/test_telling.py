@@ -261,7 +261,7 @@ def test_a_round_with_an_attempt_that_is_lost(delivering, hops, monkeypatch):
     hops.gate.set()
     monkeypatch.setattr(instance, "queue", lambda _: SimpleNamespace(has=lambda *_: False, oldest_report=float("inf")))
     found.handed.about([Attempt("acme.A.1.e", "acme", "sA", "A", 1, [GOOD, BAD], "ann@a.example", time.time())])
-    found.handed.over({"acme.A.1.e": "Q1"}, [])
+    found.handed.over({"acme.A.1.e": "F00D"}, [])
     found.handed.reported({"acme.A.1.e": [outcome(GOOD, "delivered")]})
     expect(found.once() and found.desk.told == ["A"] and not found.book.untold("acme"), found.desk.told)
 
