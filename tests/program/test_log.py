@@ -223,9 +223,10 @@ def asked_by_jq(folder):
     """Each line of the page that begins with `jq` is run beside a log that has something for it."""
     page = (ROOT / "docs" / "LOG.md").read_text(encoding="utf-8")
     asked = [it.strip() for it in page.splitlines() if it.strip().startswith("jq ")]
-    expect(len(asked) == 4, "the page has", len(asked), "lines for jq")
+    expect(len(asked) == 5, "the page has", len(asked), "lines for jq")
     with open(folder / "desk.log", "a", encoding="utf-8") as log:
-        for more in (line("acme", "POST", "/v1/delete-all", at=1767225600), line("acme", "GET", "/v1/report", at=1767225601)):
+        for more in (line("acme", "POST", "/v1/delete-all", at=1767225600), line("acme", "GET", "/v1/report", at=1767225601),
+                     line("acme", "POST", "/v1/hold-all", at=1767225602)[:-1] + ',"key":"ci"}'):
             log.write(more.replace('"milliseconds":N', '"milliseconds":1001') + "\n")
     for it in asked:
         done = subprocess.run(it, shell=True, cwd=folder, stdout=subprocess.PIPE, stderr=subprocess.PIPE, timeout=60)

@@ -2,7 +2,8 @@
 
 1. Each folder of tests/examples/ that has lines has the replies that they get too, byte for byte: without words where its
    customers are the built-in ones, those of tests/examples/directory; over a store in memory; over a file that is closed
-   and opened again in the middle; and over a file that is closed and opened again before each line.
+   and opened again in the middle; and over a file that is closed and opened again before each line. Its customers have the
+   keys of its file `keys` too, where it has one.
 2. Each file that this leaves is read, in a copy, by the sqlite3 of Python: `PRAGMA integrity_check` prints ok, the counts
    in `heads` are those of the rows, and messages and recipients belong together.
 3. What is no desk is refused and stays: a text file, a folder, a missing folder, another program's tables, a desk of
@@ -41,16 +42,17 @@ TAKEN = b"hq: another process has the store\n"
 def example(program, place, folder):
     """One folder of lines over plain lists, over memory, and over files that are closed in between."""
     lines, wanted = (place / "lines").read_bytes(), (place / "replies").read_bytes()
-    own = place / "directory"
+    own, keys = place / "directory", place / "keys"
     directory = own if own.exists() else DIRECTORY
+    more = ["--keys", keys] if keys.exists() else []
     if directory == DIRECTORY:
         expect(replies_of([program], lines) == wanted, place, "over plain lists")
-    expect(replies_of(batch(program, None, directory), lines) == wanted, place, "over memory")
+    expect(replies_of([*batch(program, None, directory), *more], lines) == wanted, place, "over memory")
     pieces = lines.splitlines(keepends=True)
     middle = len(pieces) // 2
     for how, parts in (("in halves", [pieces[:middle], pieces[middle:]]), ("line by line", [[it] for it in pieces])):
         store = folder / f"{place.name}-{how}"
-        told = b"".join(replies_of(batch(program, store, directory), b"".join(part)) for part in parts)
+        told = b"".join(replies_of([*batch(program, store, directory), *more], b"".join(part)) for part in parts)
         expect(told == wanted, place, how)
         if store.exists():
             expect_sound(store, folder)

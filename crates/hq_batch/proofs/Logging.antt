@@ -8,7 +8,7 @@ use Rattle.hq_log.specs.Entries.{IsTold}
 use Rattle.hq_log.specs.Lines.{LogEntry, log_line_behind}
 use Rattle.hq_log.specs.declared.keeping.Answered.{Answered}
 use Rattle.hq_log.proofs.Told.{asked_entry, told_as}
-use Rattle.hq_requests.specs.Named.{customer_named}
+use Rattle.hq_requests.specs.Named.{whose_at}
 use Rattle.hq_requests.specs.declared.directory.Directory.{Directory}
 use Rattle.hq_requests.specs.declared.exchanges.Exchange.{Exchange}
 use Rattle.hq_wire.specs.Replies.{SeenReply}
@@ -27,7 +27,7 @@ module _ {D : Type 0} (d : Directory) (request : Option LineRequest) (before aft
     milliseconds = milliseconds;
     told = subst (λ (t : LogEntry). Appends old new (log_line_behind lost t)) (λ i. record {
       at = moment_of request;
-      customer = customer_named d (is.3 i) (is.2 i);
+      whose = whose_at d (is.3 i) (is.2 i);
       method = Some (is.1 i);
       path = Some (is.2 i);
       status = r.status;
@@ -58,7 +58,7 @@ pub logged_as : {D : Type 0} (sight : DeskSight D) (d : Directory) (request : Op
 logged_as sight d request before after lost begun_lost old begun new told replied same_lost same is
     sends line =
     let entry = told_as d told (moment_of request) replied.asked replied.reply sends.told.status
-    sends.told.body line.0 (is.0 ∙ sends.moment) is.1 is.2 sends.customer (sym sends.sent.0)
+    sends.told.body line.0 (is.0 ∙ sends.moment) is.1 is.2 sends.whose (sym sends.sent.0)
     (sym sends.sent.1) in
     of_line d request before after sends.told lost old new line.0 replied.asked sends.holds
     (subst (λ (t : Bool × Option (List ℕ) × LogEntry). Appends t.1 new (log_line_behind t.0 t.2))

@@ -4,13 +4,13 @@ use Rattle.std.specs.Prelude.{Result, Ok, Err}
 use Rattle.hq_values.specs.Refusals.{no_memory}
 use Rattle.hq_values.specs.declared.failure.Fail.TheVariants.{Fault as AsFault}
 use Rattle.hq_rules.specs.declared.render.Rendered.{Rendered}
-use Rattle.hq_settings.specs.Checked.{HasRelay, count_customers}
+use Rattle.hq_settings.specs.Checked.{HasRelay, CountsCustomers}
 use Rattle.hq_settings.specs.Settings.{Named}
 use Rattle.hq_words.specs.Given.{CheckGiven}
 use Rattle.hq_batch.specs.Printing.{IsPrinted}
 use Rattle.hq_settings.specs.declared.trouble.Trouble.{Trouble}
 use Rattle.hq_settings.specs.declared.trouble.Trouble.TheVariants.{Desk}
-use Rattle.hq_settings.specs.Steps.{Then, IsFile, IsRead}
+use Rattle.hq_settings.specs.Steps.{Then, IsFile}
 
 -- that many, on a line
 unfoldable pub count_line : ℕ → List ℕ
@@ -21,14 +21,14 @@ abbrev pub IsCountTold : ℕ → Result Rendered Trouble → Type 0
 IsCountTold count (Ok rendered) = (rendered.number ≡ 0) × (rendered.bytes.items ≡ count_line count)
 IsCountTold count (Err trouble) = trouble ≡ Desk (AsFault no_memory)
 
--- what is told of a file, with the relay or without one
-abbrev pub FileEnds : Option Named → List ℕ → Result Rendered Trouble → Type 0
-FileEnds relay file = Then (IsRead (count_customers relay file)) IsCountTold
+-- what is told of a directory and of the keys beside it, with the relay or without one
+abbrev pub FileEnds : Option (List ℕ) → Option Named → List ℕ → Result Rendered Trouble → Type 0
+FileEnds keys relay file = Then (CountsCustomers relay keys file) IsCountTold
 
 -- How a check ends: with the first trouble of a start, or with the number of its customers.
 abbrev pub CheckEnds : CheckGiven → Result Rendered Trouble → Type 0
 CheckEnds given = Then (HasRelay given.host given.relay_key) (λ relay.
-    Then IsFile (FileEnds relay))
+    Then IsFile (FileEnds given.keys relay))
 
 -- a check ends so, and is printed
 abbrev pub Checks : (Result Rendered Trouble → Type 0) → Type 0 → Option (List ℕ) →

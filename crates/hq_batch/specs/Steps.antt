@@ -6,7 +6,7 @@ use Rattle.std.specs.Prelude.{⊤, Result, string_bytes, option_map, option_and_
 use Rattle.std.specs.Io.KnownBytes.{Appends}
 use Rattle.hq_values.specs.Turns.{InTurn}
 use Rattle.hq_desk.specs.declared.desk.Desk.{Desk}
-use Rattle.hq_requests.specs.Named.{customer_asked, customer_named, customer_told}
+use Rattle.hq_requests.specs.Named.{whose_asked, whose_at, whose_told}
 use Rattle.hq_log.specs.Lines.{LogEntry, log_line_behind}
 use Rattle.hq_log.specs.declared.keeping.Answered.{Answered}
 use Rattle.hq_requests.specs.declared.directory.Directory.{Directory}
@@ -52,7 +52,7 @@ pub record SendsLine {D : Type 0} (sight : DeskSight D) (d : Directory) (old : D
   pub done : Exchanged sight d old (ask_in d request) told new
   pub moment : replied.at ≡ moment_of request
   pub holds : HoldsLine request old told new replied.asked
-  pub customer : customer_told replied.reply ≡ customer_asked d replied.asked
+  pub whose : whose_told replied.reply ≡ whose_asked d replied.asked
 
 -- what the log is told of
 abbrev pub IsLineToLog : Answered → Replied → Type 0
@@ -64,7 +64,7 @@ IsLineToLog told replied = (told.at ≡ replied.at)
 abbrev pub batch_entry : Directory → Option ℕ → Option LineRequest → SeenReply → Option ℕ → LogEntry
 batch_entry d at known r milliseconds = record {
   at = at;
-  customer = option_and_then (λ (q : LineRequest). customer_named d q.key q.path) known;
+  whose = option_and_then (λ (q : LineRequest). whose_at d q.key q.path) known;
   method = option_map (λ (q : LineRequest). q.method) known;
   path = option_map (λ (q : LineRequest). q.path) known;
   status = r.status;

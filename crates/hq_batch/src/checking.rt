@@ -39,18 +39,19 @@ fn count_told(alloc: Global, count: usize) -> Result<Rendered, Trouble>
     }
 }
 
-/// The line that a check prints of a directory, or its trouble.
+/// The line that a check prints of a directory and of the keys beside it, or its trouble.
 fn told_of(
-    alloc: Global,
+    rt: &HostRuntime,
     relay: Option<Relay>,
+    keys: Option<&str>,
     read: Result<Vec<Customer>, DirectoryFail>,
 ) -> Result<Rendered, Trouble>
     requires { IfOk read (λ customers. IsTrue (are_customers customers.items)) }
     ensures { (file : List ℕ) → ReadsDirectory ⊤ (seen_by (λ v. v.items) read) (directory_in file)
-        → FileEnds (option_map relay_seen relay) file result }
+        → FileEnds (option_map (λ k. k.now) keys.entry) (option_map relay_seen relay) file result }
 {
-    let count = count_customers(alloc, relay, read)?;
-    count_told(alloc, count)
+    let count = count_customers(rt, relay, keys, read)?;
+    count_told(rt.alloc(), count)
 }
 
 /// Where a directory is wrong, and what is wrong there, if it is refused.
@@ -63,18 +64,20 @@ fn refusal_in(read: &Result<Vec<Customer>, DirectoryFail>) -> Option<DirectoryRe
 
 /// Prints what is told of a directory, and behind a refusal what is wrong in its row.
 fn print_file<W: Write, E: Write>(
-    alloc: Global,
+    rt: &HostRuntime,
     relay: Option<Relay>,
+    keys: Option<&str>,
     file: &[u8],
     output: &mut W,
     errors: &mut E,
 ) -> u8
-    ensures { Checks (FileEnds (option_map relay_seen relay) file.now) (output.new ≡ output.old)
+    ensures { Checks (FileEnds (option_map (λ k. k.now) keys.entry)
+        (option_map relay_seen relay) file.now) (output.new ≡ output.old)
         (W.contents output.old) (W.contents output.new) result }
 {
-    let read = read_directory(alloc, file);
+    let read = read_directory(rt.alloc(), file);
     let refusal = refusal_in(&read);
-    let status = print(told_of(alloc, relay, read), output, errors);
+    let status = print(told_of(rt, relay, keys, read), output, errors);
     if let Some(refusal) = refusal {
         let _told = writeln!(errors, "hq: row {}{}", refusal.row, refusal.wrong);
     }
@@ -82,9 +85,9 @@ fn print_file<W: Write, E: Write>(
 }
 
 /// Checks what a start would read before it opens its store: the relay's name, its key, the
-/// directory, and the key against it; without a key the other two. Prints how many customers there
-/// are, or tells what a start would tell and, of a directory, what is wrong in its row; and answers
-/// the exit status.
+/// directory, the keys beside it, and the relay's key against both; without a relay's key all but
+/// that. Prints how many customers there are, or tells what a start would tell and, of a directory,
+/// what is wrong in its row; and answers the exit status.
 pub fn check<W: Write, E: Write>(
     rt: &HostRuntime,
     given: &Check,
@@ -102,5 +105,5 @@ pub fn check<W: Write, E: Write>(
         Ok(file) => file,
         Err(trouble) => return print(Err(trouble), output, errors),
     };
-    print_file(rt.alloc(), relay, file.as_slice(), output, errors)
+    print_file(rt, relay, given.keys, file.as_slice(), output, errors)
 }

@@ -83,7 +83,7 @@ fn main(rt: HostRuntime) -> Result<(), TrialError> {
     };
     let failure = failure(how.as_str(), number.as_str())?;
     let key = RelayKey::Given("relaykey00000001");
-    let settings = set_up(&rt, "relay.example", key, directory.as_str()).map_err(
+    let settings = set_up(&rt, "relay.example", key, directory.as_str(), None).map_err(
         TrialError::SetUp,
     )?;
     match store.as_str() {

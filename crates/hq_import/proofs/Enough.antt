@@ -14,7 +14,10 @@ use Rattle.hq_import.specs.Directories.{wrong_at, next_customer, customers_under
 use Rattle.hq_import.specs.Directories.{listed_customers, is_directory_header}
 use Rattle.hq_import.specs.declared.refused.DirectoryRefusal.{DirectoryRefusal}
 use Rattle.hq_import.specs.declared.refused.Wrong.TheVariants.{TooLong, NoRow, Header, TooMany}
-use Rattle.hq_import.specs.First.{first_lines, first_customers}
+use Rattle.hq_import.specs.declared.refused.Wrong.TheVariants.{KeysHeader}
+use Rattle.hq_import.specs.First.{first_lines, first_customers, first_keys}
+use Rattle.hq_import.specs.Keys.{keys_header, keys_in, keys_under, listed_keys, next_key}
+use Rattle.hq_import.specs.declared.keys.NamedKey.{NamedKey}
 use Rattle.hq_rules.specs.Records.{records_in, is_header, under_header}
 use Rattle.hq_rules.specs.TableFiles.{next_line, lines_under, table_lines, table_header}
 
@@ -142,4 +145,49 @@ customers_enough file = fitting (nat_le (length file) 262144)
         (checked (take 1002 (records_in file)) b (wrong_at 0 TooLong) >>= listed_customers) ≡
         (checked (records_in file) b (wrong_at 0 TooLong) >>= listed_customers)
     fitting true = records_enough (records_in file)
+    fitting false = refl
+
+keys_stop : (customers : List Customer) → Stops (next_key customers)
+unfolding next_key
+keys_stop customers earlier row many = (
+  wrong_at (length earlier + 1) TooMany,
+  refused_first (nat_le (length earlier + 1) 1000) (wrong_at (length earlier + 1) TooMany) _
+      (one_too_many (length earlier) many),
+)
+
+-- the rows of a file of keys, of which there is at least one
+abbrev some_keys : List Customer → Bool → List Row → Result (List NamedKey) DirectoryRefusal
+some_keys customers known rows = guard (nat_lt 0 (length rows)) (wrong_at 0 NoRow) >>=
+    (λ some. guard known (wrong_at 0 KeysHeader) >>= (λ known. keys_under customers [] rows))
+
+some_keys_enough : (customers : List Customer) (known : Bool) (rows : List Row) →
+    some_keys customers known (take 1001 rows) ≡ some_keys customers known rows
+unfolding keys_under
+some_keys_enough customers known [] = refl
+some_keys_enough customers false (row ∷ rows) =
+    ap (λ b. guard b (wrong_at 0 NoRow) >>= (λ some. Err (wrong_at 0 KeysHeader)))
+    (positive (length (take 1000 rows)) ∙ sym (positive (length rows)))
+some_keys_enough customers true (row ∷ rows) =
+    ap (λ b. guard b (wrong_at 0 NoRow) >>= (λ some. keys_under customers []
+    (take 1001 (row ∷ rows)))) (positive (length (take 1000 rows)))
+    ∙ enough (next_key customers) (keys_stop customers) (row ∷ rows) 1001 [] refl (lit≤ tt)
+    ∙ ap (λ b. guard b (wrong_at 0 NoRow) >>= (λ some. keys_under customers [] (row ∷ rows)))
+    (sym (positive (length rows)))
+
+key_records_enough : (customers : List Customer) (records : List Row) →
+    listed_keys customers (take 1002 records) ≡ listed_keys customers records
+unfolding listed_keys
+key_records_enough customers [] = refl
+key_records_enough customers (header ∷ rows) =
+    some_keys_enough customers (is_header keys_header header) rows
+
+pub keys_enough : (customers : List Customer) (file : List ℕ) →
+    first_keys customers file ≡ keys_in customers file
+unfolding first_keys keys_in
+keys_enough customers file = fitting (nat_le (length file) 262144)
+  where
+    fitting : (b : Bool) →
+        (checked (take 1002 (records_in file)) b (wrong_at 0 TooLong) >>= listed_keys customers) ≡
+        (checked (records_in file) b (wrong_at 0 TooLong) >>= listed_keys customers)
+    fitting true = key_records_enough customers (records_in file)
     fitting false = refl

@@ -1,6 +1,7 @@
 pub mod Apart
 pub mod Enough
 pub mod Headers
+pub mod Joined
 pub mod Limits
 pub mod Patterns
 pub mod Rows

@@ -33,17 +33,25 @@ wrong_at row wrong = record { row = row; wrong = wrong }
 abbrev pub bad_number : ℕ → Number → DirectoryRefusal
 bad_number row number = wrong_at row (Field (column.Number number))
 
+-- the name at a place of a row, or this refusal
+unfoldable pub name_at : DirectoryRefusal → ℕ → Record → Result (List ℕ) DirectoryRefusal
+name_at bad place fields = do
+  text ← or_refuse bad (text_field place fields)
+  refused_as bad (name_in text)
+
+-- the key at a place of a row, or this refusal
+unfoldable pub key_at : DirectoryRefusal → ℕ → Record → Result (List ℕ) DirectoryRefusal
+key_at bad place fields = do
+  text ← or_refuse bad (text_field place fields)
+  refused_as bad (key_in text)
+
 -- the name of a row, in its first field
 unfoldable pub name_read : ℕ → Record → Result (List ℕ) DirectoryRefusal
-name_read row fields = do
-  text ← or_refuse (wrong_at row (Field column.Name)) (text_field 0 fields)
-  refused_as (wrong_at row (Field column.Name)) (name_in text)
+name_read row fields = name_at (wrong_at row (Field column.Name)) 0 fields
 
 -- the key of a row, in its second field
 unfoldable pub key_read : ℕ → Record → Result (List ℕ) DirectoryRefusal
-key_read row fields = do
-  text ← or_refuse (wrong_at row (Field column.Key)) (text_field 1 fields)
-  refused_as (wrong_at row (Field column.Key)) (key_in text)
+key_read row fields = key_at (wrong_at row (Field column.Key)) 1 fields
 
 -- a number within the limits of its column
 abbrev pub Limited : Number → Type 0

@@ -8,6 +8,8 @@ use Rattle.hq_values.specs.declared.failure.Refusal.TheVariants.{BadCsv}
 use Rattle.hq_kept.specs.declared.pattern.Line.{Line}
 use Rattle.hq_kept.specs.declared.account.Customer.{Customer}
 use Rattle.hq_import.specs.Directories.{wrong_at, listed_customers}
+use Rattle.hq_import.specs.Keys.{listed_keys}
+use Rattle.hq_import.specs.declared.keys.NamedKey.{NamedKey}
 use Rattle.hq_import.specs.declared.refused.DirectoryRefusal.{DirectoryRefusal}
 use Rattle.hq_import.specs.declared.refused.Wrong.TheVariants.{TooLong}
 use Rattle.hq_rules.specs.Records.{Record, records_in, under_header}
@@ -25,3 +27,6 @@ first_lines file = first_rows table_header (BadCsv 0) file >>= lines_under []
 
 unfoldable pub first_customers : List ℕ → Result (List Customer) DirectoryRefusal
 first_customers file = first_records (wrong_at 0 TooLong) file >>= listed_customers
+
+unfoldable pub first_keys : List Customer → List ℕ → Result (List NamedKey) DirectoryRefusal
+first_keys customers file = first_records (wrong_at 0 TooLong) file >>= listed_keys customers

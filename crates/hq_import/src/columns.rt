@@ -1,4 +1,4 @@
-//! The columns of a directory, in the order of its header, and the limits of each.
+//! The columns of a directory and of a file of keys, and the limits of each number.
 
 ghost use Rattle.std.specs.Prelude.{◌≡◌};
 ghost use Rattle.hq_import.specs.Columns.{place, is_in};
@@ -20,13 +20,17 @@ pub enum Number {
     History,
 }
 
-/// A column of a directory.
+/// A column of a directory, or of a file of keys.
 #[derive(Clone, Copy, Debug, PartialEq, Eq, Drop)]
 pub enum Column {
-    /// The customer's name.
+    /// The customer of a key.
+    Customer,
+    /// The name, of a customer or of a key.
     Name,
-    /// Its key.
+    /// The key.
     Key,
+    /// What a key may ask for.
+    Right,
     /// A number.
     Number(Number),
 }

@@ -10,7 +10,8 @@ ghost use Rattle.hq_rules.specs.Fields.{refused_as};
 ghost use Rattle.hq_import.specs.First.{first_customers};
 ghost use Rattle.hq_import.specs.Seen.{KnowsNames, KnowsKeys};
 ghost use Rattle.hq_import.specs.Refused.{ReadsDirectory};
-ghost use Rattle.hq_import.specs.Directories.{wrong_at, name_read, key_read, number_read};
+ghost use Rattle.hq_import.specs.Directories.{wrong_at, name_at, key_at, name_read, key_read};
+ghost use Rattle.hq_import.specs.Directories.{number_read};
 ghost use Rattle.hq_import.specs.Directories.{IsLimited, history_read, quota_read, other_fields};
 ghost use Rattle.hq_import.specs.Directories.{customer_read};
 ghost use Rattle.hq_import.specs.Directories.{next_customer, customers_under, customers_in};
@@ -40,7 +41,7 @@ const HISTORY_HEADER: [&str; 8] = [
 ];
 
 /// What is wrong at a row: at 0 with the header or the whole file.
-fn wrong_at(row: u32, wrong: Wrong) -> DirectoryRefusal
+pub(crate) fn wrong_at(row: u32, wrong: Wrong) -> DirectoryRefusal
     ensures { result ≡ wrong_at row wrong }
 {
     DirectoryRefusal { row, wrong }
@@ -61,14 +62,40 @@ fn refused_at<M: Memory, T: Drop>(
     }
 }
 
+/// The name at a place of a row, or this refusal.
+#[tactic(auto, unfolding(crate::specs::Directories::name_at))]
+pub(crate) fn name_at<M: Memory>(
+    memory: M,
+    bad: DirectoryRefusal,
+    place: usize,
+    record: &ByteRecord,
+) -> Result<Name, DirectoryFail>
+    ensures { ReadsDirectory M.refused result (name_at bad place (fields_of record.now)) }
+{
+    let text = text_field(record, place).ok_or(bad)?;
+    refused_at::<M, _>(bad, Name::parse(memory, text))
+}
+
+/// The key at a place of a row, or this refusal.
+#[tactic(auto, unfolding(crate::specs::Directories::key_at))]
+pub(crate) fn key_at<M: Memory>(
+    memory: M,
+    bad: DirectoryRefusal,
+    place: usize,
+    record: &ByteRecord,
+) -> Result<Key, DirectoryFail>
+    ensures { ReadsDirectory M.refused result (key_at bad place (fields_of record.now)) }
+{
+    let text = text_field(record, place).ok_or(bad)?;
+    refused_at::<M, _>(bad, Key::parse(memory, text))
+}
+
 /// The name of a row, in its first field.
 #[tactic(auto, unfolding(crate::specs::Directories::name_read))]
 fn name_read<M: Memory>(memory: M, row: u32, record: &ByteRecord) -> Result<Name, DirectoryFail>
     ensures { ReadsDirectory M.refused result (name_read row (fields_of record.now)) }
 {
-    let bad = wrong_at(row, Wrong::Field(Column::Name));
-    let text = text_field(record, 0).ok_or(bad)?;
-    refused_at::<M, _>(bad, Name::parse(memory, text))
+    name_at(memory, wrong_at(row, Wrong::Field(Column::Name)), 0, record)
 }
 
 /// The key of a row, in its second field.
@@ -76,9 +103,7 @@ fn name_read<M: Memory>(memory: M, row: u32, record: &ByteRecord) -> Result<Name
 fn key_read<M: Memory>(memory: M, row: u32, record: &ByteRecord) -> Result<Key, DirectoryFail>
     ensures { ReadsDirectory M.refused result (key_read row (fields_of record.now)) }
 {
-    let bad = wrong_at(row, Wrong::Field(Column::Key));
-    let text = text_field(record, 1).ok_or(bad)?;
-    refused_at::<M, _>(bad, Key::parse(memory, text))
+    key_at(memory, wrong_at(row, Wrong::Field(Column::Key)), 1, record)
 }
 
 /// The number of a row in a column, within its limits.

@@ -1,4 +1,4 @@
-//! Why a directory is refused, and how that is told.
+//! Why a directory, or a file of keys, is refused, and how that is told.
 
 ghost use Rattle.std.specs.Prelude.{◌≡◌, Some};
 ghost use Rattle.hq_values.specs.Refusals.{no_memory};
@@ -12,27 +12,35 @@ use hq_values::{Fail, Fault, Refusal};
 use std::alloc::{AllocError, AllocFailed};
 use std::fmt;
 
-/// What is wrong in a directory.
+/// What is wrong in a directory, or in a file of keys.
 #[derive(Clone, Copy, Debug, PartialEq, Eq, Drop)]
 pub enum Wrong {
     /// The file has more than 262,144 bytes.
     TooLong,
     /// There is no row below the header.
     NoRow,
-    /// The header is neither of the two.
+    /// The header of a directory is neither of the two.
     Header,
+    /// The header of a file of keys is another.
+    KeysHeader,
     /// There are more than 1,000 rows.
     TooMany,
     /// A row has not the seven fields of a header without a history.
     Fields,
     /// A row has not the eight fields of a header with one.
     HistoryFields,
+    /// A row of a file of keys has not its four fields.
+    KeyFields,
     /// A field is not as its column has it.
     Field(Column),
-    /// A name stands in a row before.
+    /// The customer of a key is not in the directory.
+    NoCustomer,
+    /// A name stands in a row before; of a key, in a row of the same customer.
     DoubledName,
     /// A key stands in a row before.
     DoubledKey,
+    /// A key beside those of the directory is a customer's own, or stands in a row before.
+    TakenKey,
 }
 
 impl fmt::Display for Wrong {
@@ -44,9 +52,15 @@ impl fmt::Display for Wrong {
             Wrong::TooLong => ": more than 262144 bytes",
             Wrong::NoRow => ": no row below the header",
             Wrong::Header => ": the header is not name,key,messages,bytes,lines,notices,delay",
+            Wrong::KeysHeader => ": the header is not customer,name,key,right",
             Wrong::TooMany => ": more than 1000 rows",
             Wrong::Fields => ": not 7 fields",
             Wrong::HistoryFields => ": not 8 fields",
+            Wrong::KeyFields => ": not 4 fields",
+            Wrong::Field(Column::Customer) => {
+                ", column customer: not 1 to 32 lower-case letters, digits and hyphens"
+            }
+            Wrong::Field(Column::Right) => ", column right: not all or read",
             Wrong::Field(Column::Name) => {
                 ", column name: not 1 to 32 lower-case letters, digits and hyphens"
             }
@@ -69,13 +83,15 @@ impl fmt::Display for Wrong {
             Wrong::Field(Column::Number(Number::History)) => {
                 ", column history: no number from 0 to 1000000"
             }
+            Wrong::NoCustomer => ", column customer: not in the directory",
             Wrong::DoubledName => ", column name: as in a row before",
             Wrong::DoubledKey => ", column key: as in a row before",
+            Wrong::TakenKey => ", column key: as that of a customer or of a row before",
         })
     }
 }
 
-/// Where a directory is wrong, and what is wrong there.
+/// Where a directory, or a file of keys, is wrong, and what is wrong there.
 #[derive(Clone, Copy, Debug, PartialEq, Eq, Drop)]
 pub struct DirectoryRefusal {
     /// The row, from 1 for the first below the header; 0 is the header or the whole file.
@@ -98,10 +114,10 @@ impl DirectoryRefusal {
     }
 }
 
-/// Why a directory was not read: it is refused, or memory ran out.
+/// Why a directory, or a file of keys, was not read: it is refused, or memory ran out.
 #[derive(Clone, Copy, Debug, PartialEq, Eq, Drop)]
 pub enum DirectoryFail {
-    /// The file is no directory.
+    /// The file is none.
     Refused(DirectoryRefusal),
     /// 90 `WantOfMemory`, and no other.
     Fault(Fault),

@@ -1,6 +1,7 @@
 -- Which replies leave the tables as they were.
 use Rattle.std.proofs.Common.{◌≡◌, ◌≢◌, ◌⊎◌, ⊎_elim, ℕ, true, List, [], ◌∷◌, map}
 use Rattle.std.proofs.Common.{Result, Ok, Err, refl, ap, ◌∙◌}
+use Rattle.std.specs.Prelude.{string_bytes}
 use Rattle.hq_values.specs.Refusals.{no_memory}
 use Rattle.hq_values.specs.declared.failure.Fault.{Fault}
 use Rattle.hq_values.specs.declared.failure.Refusal.{Refusal}
@@ -14,9 +15,15 @@ use Rattle.hq_rules.specs.declared.answer.Answer.{Answer}
 use Rattle.hq_rules.specs.declared.answer.Answer.TheVariants.{Refused}
 use Rattle.hq_rules.specs.declared.call.Call.{Call}
 use Rattle.hq_rules.proofs.Unchanged.{no_changes, reading_has_none}
-use Rattle.hq_requests.specs.Calls.{Asked, CallOf, CallOfAll, call_in}
-use Rattle.hq_requests.specs.Directories.{entry_of}
-use Rattle.hq_wire.specs.Exchanges.{IsWant}
+use Rattle.hq_import.specs.declared.keys.Right.TheVariants.{Reading}
+use Rattle.hq_requests.specs.Calls.{Asked, CallOf, CallOfAll, call_in, call_of}
+use Rattle.hq_requests.specs.Directories.{Held, entry_of, held_on}
+use Rattle.hq_requests.specs.Named.{key_shown}
+use Rattle.hq_requests.specs.Routes.{last_segment}
+use Rattle.hq_requests.specs.declared.exchanges.Exchange.{Exchange}
+use Rattle.hq_requests.specs.declared.table.Role.TheVariants as role
+use Rattle.hq_requests.proofs.Reading.{reader_reads}
+use Rattle.hq_wire.specs.Exchanges.{IsWant, MayReply, ask_of}
 use Rattle.hq_wire.specs.Exchanges.{AllDone, CallsAll, IsStruck, MayReplyTo, of_part}
 use Rattle.hq_wire.specs.Replies.{Part, SeenReply, reply_of, status_of}
 use Rattle.hq_requests.specs.declared.directory.Directory.{Directory}
@@ -77,3 +84,16 @@ module _ (may : Fault → Type 0) (host : List ℕ) (d : Directory) (t t' : Tabl
   left_by_reading (CallOfAll whom call) r h reads = ⊎_elim
       (λ (did : CallsAll may host d t at whom call r t'). all_read call t r.parts reads did.done)
       (λ (struck : IsWant may r × (t' ≡ t)). struck.1) h
+
+-- what is asked by a key that may only read
+pub left_by_reader : (may : Fault → Type 0) (host : List ℕ) (d : Directory) (t t' : Tables)
+    (x : Exchange) (held : Held) (r : SeenReply) →
+    held_on d role.Customer (key_shown x) (last_segment (string_bytes x.path)) ≡ Ok held →
+    held.right ≡ Reading → MayReply may host d t (ask_of d x) r t' → t' ≡ t
+left_by_reader may host d t t' x held r holds reader replied =
+    by (call_of d x) refl replied where
+      by : (called : Result Asked Refusal) → call_of d x ≡ called →
+          MayReplyTo may host d t x.at called r t' → t' ≡ t
+      by (Err refusal) is h = h.1
+      by (Ok asked) is h = left_by_reading may host d t t' x.at asked r h
+          (reader_reads d x held asked holds reader is)

@@ -14,4 +14,4 @@ pub use histories::{
     what_is_told_stays,
 };
 pub use imports::imports_are_kept;
-pub use runs::{nobody_else_matters, one_reading, tables_stay};
+pub use runs::{a_reading_key_changes_nothing, nobody_else_matters, one_reading, tables_stay};

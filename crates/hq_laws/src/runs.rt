@@ -1,12 +1,18 @@
-//! Laws over whole runs in one session: nobody else matters, which replies change nothing, and one
-//! reading of each.
+//! Laws over whole runs in one session: nobody else matters, which replies and which keys change
+//! nothing, and one reading of each reply.
 
-ghost use Rattle.std.specs.Prelude.{◌≡◌, ◌≢◌, ℕ, true, List, Ok};
+ghost use Rattle.std.specs.Prelude.{◌≡◌, ◌≢◌, ℕ, true, List, Ok, string_bytes};
 ghost use Rattle.hq_tables.specs.Tables.{Tables, own};
 ghost use Rattle.hq_rules.specs.Desks.{or_memory};
 ghost use Rattle.hq_rules.specs.Unchanged.{only_reads};
+ghost use Rattle.hq_import.specs.declared.keys.Right.TheVariants.{Reading};
 ghost use Rattle.hq_requests.specs.Calls.{Asked, call_in};
-ghost use Rattle.hq_wire.specs.Exchanges.{Ask, MayReply};
+ghost use Rattle.hq_requests.specs.Directories.{Held, held_on};
+ghost use Rattle.hq_requests.specs.Named.{key_shown};
+ghost use Rattle.hq_requests.specs.Routes.{last_segment};
+ghost use Rattle.hq_requests.specs.declared.exchanges.Exchange.{Exchange};
+ghost use Rattle.hq_requests.specs.declared.table.Role.TheVariants.{Customer};
+ghost use Rattle.hq_wire.specs.Exchanges.{Ask, MayReply, ask_of};
 ghost use Rattle.hq_wire.specs.Replies.{SeenReply};
 ghost use Rattle.hq_wire.specs.Runs.{AllReplied, share, heard};
 ghost use Rattle.hq_requests.specs.declared.directory.Directory.{Directory};
@@ -50,4 +56,14 @@ pub fn tables_stay<D: Acts, M: Memory>()
     ensures reads { (host : List ℕ) (d : Directory) (a : Ask) (r : SeenReply) (t t' : Tables)
         (asked : Asked) → MayReply (or_memory M.refused D.sight.store).may_answer host d t a r t'
         → a.called ≡ Ok asked → only_reads (call_in asked) ≡ true → t' ≡ t }
+{}
+
+/// A key that may only read changes nothing: whatever is replied to an exchange that shows one, the
+/// tables of all customers stay as they were.
+pub fn a_reading_key_changes_nothing<D: Acts, M: Memory>()
+    ensures { (host : List ℕ) (d : Directory) (x : Exchange) (held : Held) (r : SeenReply)
+        (t t' : Tables) → held_on d Customer (key_shown x) (last_segment (string_bytes x.path))
+        ≡ Ok held → held.right ≡ Reading
+        → MayReply (or_memory M.refused D.sight.store).may_answer host d t (ask_of d x) r t'
+        → t' ≡ t }
 {}

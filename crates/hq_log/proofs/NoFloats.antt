@@ -2,7 +2,8 @@
 use Rattle.std.proofs.Common.{◌≡◌, ℕ, List, Option, Some, None, false, refl}
 use Rattle.serde_json.specs.Written.{has_float}
 use Rattle.hq_requests.specs.Bodies.{error_told}
-use Rattle.hq_log.specs.Lines.{LogEntry, log_members, number_or_null, text_or_null, shown_or_null}
+use Rattle.hq_log.specs.Lines.{LogEntry, customer_in, log_members, number_or_null, text_or_null}
+use Rattle.hq_log.specs.Lines.{shown_or_null}
 
 number_no_float : (n : Option ℕ) → has_float (number_or_null n) ≡ false
 number_no_float None = refl
@@ -18,6 +19,6 @@ shown_no_float (Some t) = refl
 
 pub members_have_no_float : (e : LogEntry) → has_float (log_members e) ≡ false
 unfolding log_members
-members_have_no_float e = rw (number_no_float e.at) (rw (text_no_float e.customer)
+members_have_no_float e = rw (number_no_float e.at) (rw (text_no_float (customer_in e.whose))
     (rw (number_no_float (error_told e.status e.body)) (rw (shown_no_float e.method)
     (rw (number_no_float e.milliseconds) (rw (shown_no_float e.path) refl)))))

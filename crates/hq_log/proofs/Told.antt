@@ -2,7 +2,7 @@
 use Rattle.std.proofs.Common.{◌≡◌, ◌∙◌, ℕ, List, Option}
 use Rattle.std.specs.Prelude.{option_map, string_bytes}
 use Rattle.hq_requests.specs.Bodies.{body_bytes}
-use Rattle.hq_requests.specs.Named.{customer_asked, customer_told}
+use Rattle.hq_requests.specs.Named.{whose_asked, whose_told}
 use Rattle.hq_requests.specs.declared.directory.Directory.{Directory}
 use Rattle.hq_requests.specs.declared.exchanges.Exchange.{Exchange}
 use Rattle.hq_requests.specs.declared.reply.Reply.{Reply}
@@ -15,7 +15,7 @@ abbrev pub asked_entry : Directory → Option ℕ → Option Exchange → (statu
     Option ℕ → LogEntry
 asked_entry d at asked status body milliseconds = record {
   at = at;
-  customer = customer_asked d asked;
+  whose = whose_asked d asked;
   method = option_map (λ (x : Exchange). string_bytes x.method) asked;
   path = option_map (λ (x : Exchange). string_bytes x.path) asked;
   status = status;
@@ -26,14 +26,14 @@ asked_entry d at asked status body milliseconds = record {
 pub told_as : (d : Directory) (told : Answered) (at : Option ℕ) (asked : Option Exchange)
     (reply : Reply) (status : ℕ) (body : List ℕ) (milliseconds : Option ℕ) → told.at ≡ at →
     option_map (λ x. x.now) told.asked ≡ asked → told.reply.now ≡ reply →
-    customer_told reply ≡ customer_asked d asked → reply.status ≡ status →
+    whose_told reply ≡ whose_asked d asked → reply.status ≡ status →
     body_bytes reply.body ≡ body →
     answered_entry told milliseconds ≡ asked_entry d at asked status body milliseconds
-told_as d told at asked reply status body milliseconds at_is asked_is reply_is customer same_status
+told_as d told at asked reply status body milliseconds at_is asked_is reply_is whose same_status
     same_body =
     (λ i. exchange_entry (at_is i) (asked_is i) (reply_is i) milliseconds) ∙ (λ i. record {
       at = at;
-      customer = customer i;
+      whose = whose i;
       method = option_map (λ (x : Exchange). string_bytes x.method) asked;
       path = option_map (λ (x : Exchange). string_bytes x.path) asked;
       status = same_status i;

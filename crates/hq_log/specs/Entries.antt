@@ -3,7 +3,7 @@ use Rattle.std.specs.Prelude.{ℕ, Bool, true, List, Option, Some, None, option_
 use Rattle.std.specs.Io.KnownBytes.{Appends}
 use Rattle.hq_requests.specs.declared.exchanges.Exchange.{Exchange}
 use Rattle.hq_requests.specs.Bodies.{body_bytes}
-use Rattle.hq_requests.specs.Named.{customer_told}
+use Rattle.hq_requests.specs.Named.{whose_told}
 use Rattle.hq_requests.specs.declared.reply.Reply.{Reply}
 use Rattle.hq_log.specs.Lines.{LogEntry, log_line_behind}
 use Rattle.hq_log.specs.declared.keeping.Answered.{Answered}
@@ -12,7 +12,7 @@ use Rattle.hq_log.specs.declared.keeping.Answered.{Answered}
 abbrev pub exchange_entry : Option ℕ → Option Exchange → Reply → Option ℕ → LogEntry
 exchange_entry at asked reply milliseconds = record {
   at = at;
-  customer = customer_told reply;
+  whose = whose_told reply;
   method = option_map (λ (x : Exchange). string_bytes x.method) asked;
   path = option_map (λ (x : Exchange). string_bytes x.path) asked;
   status = reply.status;

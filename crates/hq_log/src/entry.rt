@@ -4,7 +4,7 @@ ghost use Rattle.std.specs.Prelude.{◌≡◌, ◌&&◌, IfOk, option_map};
 ghost use Rattle.serde_json.specs.View.{view};
 ghost use Rattle.serde_json.specs.Written.{compact_text};
 ghost use Rattle.hq_requests.specs.Bodies.{body_bytes, error_told};
-ghost use Rattle.hq_requests.specs.Named.{customer_told};
+ghost use Rattle.hq_requests.specs.Named.{whose_told};
 ghost use Rattle.hq_log.specs.Lines as lines;
 
 use hq_requests::Reply;
@@ -25,8 +25,8 @@ pub struct ExchangeEntry<'e> {
     /// The path, as it stands; `None` where it could not be read. A line has the first 256 bytes of
     /// it, and of the method, and says where that is not all.
     pub path: Option<&'e str>,
-    /// The reply. A line has its customer, its status, the number of its refusal or fault, and the
-    /// body of a sweep of all.
+    /// The reply. A line has its customer, the name of the key where it has one, its status, the
+    /// number of its refusal or fault, and the body of a sweep of all.
     pub reply: &'e Reply<'e>,
     /// How long the desk took; `None` where the clock did not tell.
     pub milliseconds: Option<u64>,
@@ -52,16 +52,16 @@ fn is_long(text: Option<&str>) -> bool
     }
 }
 
-/// Puts a member behind the others of an object's text; `start` is all of it before its value.
-fn add_last(object: &mut Vec<u8>, start: &str, value: &[u8]) -> Result<(), AllocError>
+/// Puts a member behind the others of an object's text: what stands before its value, the value,
+/// and what closes both.
+fn add_last(object: &mut Vec<u8>, start: &str, value: &[u8], close: &str) -> Result<(), AllocError>
     ensures { IfOk result (λ _. object.new.items
-        ≡ lines.with_last start.now value.now object.old.items) }
+        ≡ lines.with_last start.now value.now close.now object.old.items) }
 {
     object.pop();
     object.extend_from_slice(start.as_bytes())?;
     object.extend_from_slice(value)?;
-    object.push(b'}')?;
-    Ok(())
+    object.extend_from_slice(close.as_bytes())
 }
 
 /// A text, or null.
@@ -106,9 +106,19 @@ fn number_told(reply: &Reply<'_>) -> Option<u64>
 
 /// The name of the customer whose exchange a reply answers.
 fn customer_told<'e>(reply: &'e Reply<'_>) -> Option<&'e str>
-    ensures { option_map (λ c. c.now) result ≡ customer_told reply.now }
+    ensures { option_map (λ c. c.now) result ≡ lines.customer_in (whose_told reply.now) }
 {
-    match reply.customer {
+    match reply.caller {
+        None => None,
+        Some(caller) => Some(caller.entry.name.as_str()),
+    }
+}
+
+/// The name of the key that was shown, where the key has one.
+fn key_told<'e>(reply: &'e Reply<'_>) -> Option<&'e str>
+    ensures { option_map (λ k. k.now) result ≡ lines.key_name_in (whose_told reply.now) }
+{
+    match reply.caller?.key {
         None => None,
         Some(name) => Some(name.as_str()),
     }
@@ -160,11 +170,14 @@ impl ExchangeEntry<'_> {
         ensures { IfOk result (λ bytes. bytes.items ≡ lines.log_line (lines.entry_seen self.now)) }
     {
         let mut line = self.members_text(alloc)?;
+        if let Some(name) = key_told(self.reply) {
+            add_last(&mut line, ",\"key\":\"", name.as_bytes(), "\"}")?;
+        }
         if self.is_cut() {
-            add_last(&mut line, ",\"cut\":", b"true")?;
+            add_last(&mut line, ",\"cut\":", b"true", "}")?;
         }
         if self.is_sweep_of_all() {
-            add_last(&mut line, ",\"told\":", self.reply.body.as_bytes())?;
+            add_last(&mut line, ",\"told\":", self.reply.body.as_bytes(), "}")?;
         }
         line.push(b'\n')?;
         Ok(line)

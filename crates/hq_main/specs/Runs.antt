@@ -68,7 +68,7 @@ SetBatchEnds sight store untouched old new (Ok set) result =
 abbrev pub BatchEnds : {S : Type 0} → Sight S → BatchGiven → Type 0 → Streams → Streams →
     Result ⊤ Trouble → Type 0
 BatchEnds sight given untouched old new result =
-    (set : Result Settings Trouble) × SetsUp given.host given.relay_key set
+    (set : Result Settings Trouble) × SetsUp given.host given.relay_key given.keys set
     × SetBatchEnds sight given.store untouched old new set result
 
 -- one call, or a migration, and how it is printed; nothing is read

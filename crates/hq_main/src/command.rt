@@ -46,7 +46,7 @@ fn run_given<R: Read, W: Write>(
         (record { input = R.remaining input.old; output = W.contents output.old })
         (record { input = R.remaining input.new; output = W.contents output.new }) result }
 {
-    let settings = set_up(rt, batch.host, batch.relay_key, batch.directory)?;
+    let settings = set_up(rt, batch.host, batch.relay_key, batch.directory, batch.keys)?;
     let mut log = log_of(rt, batch.log);
     run_stored(rt, batch.store, settings, input, output, &mut log)
 }

@@ -10,6 +10,7 @@ use Rattle.std.proofs.lemmas.List.{get_or-take, length-take}
 use Rattle.std.proofs.lemmas.Map.Lookups.{exact_bytes}
 use Rattle.std.proofs.lemmas.Map.Views.{tells_apart}
 use Rattle.hq_kept.specs.declared.account.Customer.{Customer}
+use Rattle.hq_kept.specs.declared.account.Entry.{Entry}
 use Rattle.hq_tables.specs.Tables.{text_cmp}
 use Rattle.hq_owned.proofs.Parts.{tied_true, tied_false}
 use Rattle.hq_requests.specs.Customers.{has_name, names_apart, keys_apart, are_customers}
@@ -75,6 +76,12 @@ under_name p (y ∷ ys) c apart f =
 pub entry_found : (p : Customer → Bool) (cs : List Customer) (c : Customer) →
     are_customers cs ≡ true → find p cs ≡ Some c → entry_in cs c.entry.name ≡ c.entry
 entry_found p cs c h f = under_name p cs c (and_parts (names_apart cs) (keys_apart cs) h).0 f
+
+-- and so is one that was found to be the same
+pub entry_held : (p : Customer → Bool) (cs : List Customer) (c : Customer) (e : Entry) →
+    are_customers cs ≡ true → find p cs ≡ Some c → e ≡ c.entry → e ≡ entry_in cs e.name
+entry_held p cs c e h f is = subst (λ (x : Entry). x ≡ entry_in cs x.name) (sym is)
+    (sym (entry_found p cs c h f))
 
 -- a test that none passes, the one at a place does not pass
 none_at : (q : Customer → Bool) (cs : List Customer) (i : ℕ) (c : Customer) → list_any q cs ≡ false

@@ -3,3 +3,4 @@ pub mod Entered
 pub mod Segment
 pub mod Entries
 pub mod Whose
+pub mod Reading

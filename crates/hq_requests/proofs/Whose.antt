@@ -1,44 +1,36 @@
 -- A call of a customer is of whom its exchange is of; a call of all is of none.
 use Rattle.std.proofs.Common.{◌≡◌, ℕ, Bool, true, false, cond, List, Option, Some, None, Result, Ok}
-use Rattle.std.proofs.Common.{Err, refl, sym, ap, ◌∙◌, subst}
-use Rattle.std.specs.Prelude.{⊤, codes, bytes_eq, length, nat_le, string_bytes, option_map}
+use Rattle.std.proofs.Common.{Err, refl, sym, ap, ◌∙◌, inl, inr}
+use Rattle.std.specs.Prelude.{⊤, ◌⊎◌, codes, bytes_eq, string_bytes, IfOk}
 use Rattle.std.specs.List.{find}
 use Rattle.std.specs.Ordering.{eq_by_cmp}
-use Rattle.hq_values.specs.Limits.{most_bytes}
-use Rattle.hq_values.specs.Readers.{◌>>=◌, guard, or_refuse}
+use Rattle.hq_values.specs.Readers.{◌>>=◌, or_refuse}
+use Rattle.hq_values.specs.declared.failure.Fail.{Fail}
 use Rattle.hq_values.specs.declared.failure.Refusal.{Refusal}
-use Rattle.hq_values.specs.declared.failure.Refusal.TheVariants.{BodyTooLong, NoRoute, WrongMethod}
-use Rattle.hq_values.specs.declared.failure.Refusal.TheVariants.{WrongRole}
+use Rattle.hq_values.specs.declared.failure.Refusal.TheVariants.{NoRoute, WrongMethod, WrongRole}
 use Rattle.hq_kept.specs.declared.account.Customer.{Customer}
 use Rattle.hq_tables.specs.Tables.{text_cmp}
-use Rattle.hq_rules.specs.declared.call.Call.{Call}
-use Rattle.hq_requests.specs.Calls.{Asked, CallOf, CallOfAll, asked_as, asked_of, asked_of_each}
-use Rattle.hq_requests.specs.Calls.{call_from, call_of, whom_in}
-use Rattle.hq_requests.specs.Customers.{has_key, has_name}
-use Rattle.hq_requests.specs.Directories.{by_customer, by_relay, customer_of, not_relay}
-use Rattle.hq_requests.specs.Directories.{relay_alone}
-use Rattle.hq_requests.specs.Named.{customer_named, customer_of_exchange, first_ok, key_shown}
-use Rattle.hq_requests.specs.Named.{named_at, named_by_relay}
+use Rattle.hq_requests.specs.Callers.{IsHeldBy, IsOfAll}
+use Rattle.hq_requests.specs.Calls.{IsAskedBy}
+use Rattle.hq_requests.specs.Customers.{has_name}
+use Rattle.hq_requests.specs.Directories.{Held, by_customer, by_relay, held_on, held_with}
+use Rattle.hq_requests.specs.Directories.{not_relay, relay_alone, whose_seen}
+use Rattle.hq_requests.specs.Named.{first_ok, key_shown, named_at, named_by_relay, whose_at}
 use Rattle.hq_requests.specs.Routes.{last_segment, methods_at, role_of, route_of}
-use Rattle.hq_requests.specs.Spans.{Whom}
 use Rattle.hq_requests.specs.declared.directory.Directory.{Directory}
 use Rattle.hq_requests.specs.declared.exchanges.Exchange.{Exchange}
+use Rattle.hq_requests.specs.declared.request.Asking.{Asking}
+use Rattle.hq_requests.specs.declared.request.Asking.TheVariants as asking
 use Rattle.hq_requests.specs.declared.table.Methods.{Methods}
 use Rattle.hq_requests.specs.declared.table.Methods.TheVariants.{Get, Post, GetOrDelete}
 use Rattle.hq_requests.specs.declared.table.Role.{Role}
 use Rattle.hq_requests.specs.declared.table.Role.TheVariants as role
 use Rattle.hq_requests.specs.declared.table.Route.{Route}
 
-refused : {A X : Type 0} (e : Refusal) (x : A) → Err e ≡ Ok x → X
+pub refused : {A X : Type 0} (e : Refusal) (x : A) → Err e ≡ Ok x → X
 refused e x h = absurd (differ h) where
   differ : Err e ≡ Ok x → ⊥
   differ h = cc
-
--- what a reading behind another says of the first
-went_on : {A B : Type 0} (first : Result A Refusal) (then : A → Result B Refusal) (y : B) →
-    (first >>= then) ≡ Ok y → (x : A) × (first ≡ Ok x) × (then x ≡ Ok y)
-went_on (Ok x) then y h = (x, refl, h)
-went_on (Err e) then y h = refused e y h
 
 -- ---- the role of a path is that of its methods
 
@@ -67,129 +59,93 @@ role_kept (GetOrDelete role first second) method asked h =
 
 -- ---- the relay's key is no customer's
 
-found_by_customer : {X : Type 0} (found : Option Customer) (name : List ℕ) →
-    by_customer role.Relay found ≡ Ok name → X
-found_by_customer None name h = refused _ name h
-found_by_customer (Some c) name h = refused _ name h
+found_by_customer : {X : Type 0} (found : Option Held) (h : Held) →
+    by_customer role.Relay found ≡ Ok h → X
+found_by_customer None h e = refused _ h e
+found_by_customer (Some held) h e = refused _ h e
 
-by_relay_then : (is : Bool) (named : Option Customer) (own : Option Customer) (name : List ℕ) →
-    cond is (by_relay role.Relay named) (by_customer role.Relay own) ≡ Ok name →
+by_relay_then : (is : Bool) (named : Option Customer) (own : Option Held) (h : Held) →
+    cond is (by_relay role.Relay named) (by_customer role.Relay own) ≡ Ok h →
     cond is (by_relay role.Customer named) (by_customer role.Customer own) ≡ Err WrongRole
-by_relay_then true named own name h = refl
-by_relay_then false named own name h = found_by_customer own name h
+by_relay_then true named own h e = refl
+by_relay_then false named own h e = found_by_customer own h e
 
-not_its_own : (d : Directory) (key : Option (List ℕ)) (segment name : List ℕ) →
-    customer_of d role.Relay key segment ≡ Ok name →
-    customer_of d role.Customer key segment ≡ Err WrongRole
-not_its_own d None segment name h = refused _ name h
-not_its_own d (Some key) segment name h = by_relay_then (eq_by_cmp text_cmp key d.relay)
-    (find (has_name segment) d.customers) (find (has_key key) d.customers) name h
+pub not_its_own : (d : Directory) (key : Option (List ℕ)) (segment : List ℕ) (h : Held) →
+    held_on d role.Relay key segment ≡ Ok h → held_on d role.Customer key segment ≡ Err WrongRole
+not_its_own d None segment h e = refused _ h e
+not_its_own d (Some key) segment h e = by_relay_then (eq_by_cmp text_cmp key d.relay)
+    (find (has_name segment) d.customers) (held_with d key) h e
 
 abbrev alone : Result ⊤ Refusal
 alone = Ok tt
 
-found_alone : {X : Type 0} (found : Option Customer) → not_relay found ≡ alone → X
-found_alone None h = refused _ tt h
-found_alone (Some c) h = refused _ tt h
+found_alone : {X : Type 0} (found : Option Held) → not_relay found ≡ alone → X
+found_alone None e = refused _ tt e
+found_alone (Some held) e = refused _ tt e
 
-alone_then : (is : Bool) (named : Option Customer) (own : Option Customer) →
+alone_then : (is : Bool) (named : Option Customer) (own : Option Held) →
     cond is alone (not_relay own) ≡ alone →
     cond is (by_relay role.Customer named) (by_customer role.Customer own) ≡ Err WrongRole
-alone_then true named own h = refl
-alone_then false named own h = found_alone own h
+alone_then true named own e = refl
+alone_then false named own e = found_alone own e
 
-relays_own : (d : Directory) (key : Option (List ℕ)) (segment : List ℕ) →
-    relay_alone d key ≡ alone → customer_of d role.Customer key segment ≡ Err WrongRole
-relays_own d None segment h = refused _ tt h
-relays_own d (Some key) segment h = alone_then (eq_by_cmp text_cmp key d.relay)
-    (find (has_name segment) d.customers) (find (has_key key) d.customers) h
+pub relays_own : (d : Directory) (key : Option (List ℕ)) (segment : List ℕ) →
+    relay_alone d key ≡ alone → held_on d role.Customer key segment ≡ Err WrongRole
+relays_own d None segment e = refused _ tt e
+relays_own d (Some key) segment e = alone_then (eq_by_cmp text_cmp key d.relay)
+    (find (has_name segment) d.customers) (held_with d key) e
 
 -- ---- by the role of the route
 
-customer_in : List ℕ → Result Asked Refusal → List ℕ
-customer_in other (Ok (CallOf name call)) = name
-customer_in other _ = other
-
-module _ (d : Directory) (key : Option (List ℕ)) (path body : List ℕ) (methods : Methods)
-    (at : or_refuse NoRoute (methods_at path) ≡ Ok methods) (route : Route) where
+module _ (d : Directory) (key : Option (List ℕ)) (path method : List ℕ) (methods : Methods)
+    (at : or_refuse NoRoute (methods_at path) ≡ Ok methods) (r : Role) (route : Route)
+    (asked : or_refuse WrongMethod (route_of methods method) ≡ Ok (r, route)) where
   abbrev segment : List ℕ
   segment = last_segment path
 
-  named_as : (r : Role) → role_of methods ≡ r → named_at d key path ≡ named_by_relay d key path r
-  named_as r is = ap (λ found. found >>= (λ ms. named_by_relay d key path (role_of ms))) at
-      ∙ ap (named_by_relay d key path) is
+  named_as : named_at d key path ≡ named_by_relay d key path r
+  named_as = ap (λ found. found >>= (λ ms. named_by_relay d key path (role_of ms))) at
+      ∙ ap (named_by_relay d key path) (role_kept methods method (r, route) asked)
 
-  of_one : (r : Role) → role_of methods ≡ r → (name : List ℕ) (call : Call) →
-      asked_as d r route key segment body ≡ Ok (CallOf name call) →
-      customer_named d key path ≡ Some name
-  unfolding customer_in
-  of_one role.Customer is name call h =
-      let who = went_on (customer_of d role.Customer key segment) _ (CallOf name call) h in
-      let what = went_on (asked_of route segment body) _ (CallOf name call) who.2 in
-      ap (λ own. first_ok own (named_at d key path)) who.1
-      ∙ ap (λ r. Some (customer_in name r)) what.2
-  of_one role.Relay is name call h =
-      let who = went_on (customer_of d role.Relay key segment) _ (CallOf name call) h in
-      let what = went_on (asked_of route segment body) _ (CallOf name call) who.2 in
-      (λ i. first_ok (not_its_own d key segment who.0 who.1 i) ((named_as role.Relay is ∙ who.1) i))
-      ∙ ap (λ r. Some (customer_in name r)) what.2
-  of_one role.RelayForAll is name call h =
-      let relay = went_on (relay_alone d key) _ (CallOf name call) h in
-      let each = went_on (asked_of_each route) _ (CallOf name call) relay.2 in
-      let whom = went_on (whom_in d body) _ (CallOf name call) each.2 in
-      absurd (let e = whom.2 in cc)
+  -- a call of a customer, by its own key or by the relay's, is of whom the exchange is of
+  pub whose_customer : (h : Held) → r ≡ role.Customer → held_on d r key segment ≡ Ok h →
+      whose_at d key path ≡ Some h.whose
+  whose_customer h is e = ap (λ own. first_ok own (named_at d key path))
+      (ap (λ s. held_on d s key segment) (sym is) ∙ e)
 
-  of_none : (r : Role) → role_of methods ≡ r → (whom : Whom) (call : Call) →
-      asked_as d r route key segment body ≡ Ok (CallOfAll whom call) →
-      customer_named d key path ≡ None
-  of_none role.Customer is whom call h =
-      let who = went_on (customer_of d role.Customer key segment) _ (CallOfAll whom call) h in
-      let what = went_on (asked_of route segment body) _ (CallOfAll whom call) who.2 in
-      absurd (let e = what.2 in cc)
-  of_none role.Relay is whom call h =
-      let who = went_on (customer_of d role.Relay key segment) _ (CallOfAll whom call) h in
-      let what = went_on (asked_of route segment body) _ (CallOfAll whom call) who.2 in
-      absurd (let e = what.2 in cc)
-  of_none role.RelayForAll is whom call h =
-      let relay = went_on (relay_alone d key) _ (CallOfAll whom call) h in
-      λ i. first_ok (relays_own d key segment relay.1 i) (named_as role.RelayForAll is i)
+  pub whose_relay : (h : Held) → r ≡ role.Relay → held_on d r key segment ≡ Ok h →
+      whose_at d key path ≡ Some h.whose
+  whose_relay h is e =
+      let found : held_on d role.Relay key segment ≡ Ok h =
+      ap (λ s. held_on d s key segment) (sym is) ∙ e in
+      (λ i. first_ok (not_its_own d key segment h found i)
+      ((named_as ∙ ap (named_by_relay d key path) is ∙ found) i))
 
--- ---- of an exchange
+  -- a call of all is of none
+  pub whose_all : r ≡ role.RelayForAll → relay_alone d key ≡ Ok tt → whose_at d key path ≡ None
+  whose_all is e = λ i. first_ok (relays_own d key segment e i)
+      ((named_as ∙ ap (named_by_relay d key path) is) i)
 
--- what was found of an exchange that asks for something
-record Steps (d : Directory) (x : Exchange) (asked : Asked) : Type 0 where
-  pub methods : Methods
-  pub at : or_refuse NoRoute (methods_at (string_bytes x.path)) ≡ Ok methods
-  pub found : Role × Route
-  pub role_is : role_of methods ≡ found.0
-  pub asks : asked_as d found.0 found.1 (key_shown x) (last_segment (string_bytes x.path))
-      x.body.items ≡ Ok asked
+-- ---- of what is asked
 
-steps : (d : Directory) (x : Exchange) (asked : Asked) → call_of d x ≡ Ok asked → Steps d x asked
-unfolding call_from
-steps d x asked h =
-    let short = went_on (guard (nat_le (length x.body.items) most_bytes) BodyTooLong) _ asked h in
-    let at = went_on (or_refuse NoRoute (methods_at (string_bytes x.path))) _ asked short.2 in
-    let found = went_on (or_refuse WrongMethod (route_of at.0 (string_bytes x.method))) _ asked
-    at.2 in
-    record {
-      methods = at.0;
-      at = at.1;
-      found = found.0;
-      role_is = role_kept at.0 (string_bytes x.method) found.0 found.1;
-      asks = found.2;
-    }
+module _ (d : Directory) (x : Exchange) (method : List ℕ) (methods : Methods)
+    (at : or_refuse NoRoute (methods_at (string_bytes x.path)) ≡ Ok methods) (r : Role)
+    (route : Route) (asked : or_refuse WrongMethod (route_of methods method) ≡ Ok (r, route)) where
+  pub asked_by_one : (r ≡ role.Customer) ⊎ (r ≡ role.Relay) → (found : Result Asking Fail) →
+      IfOk found (IsHeldBy d r (key_shown x) (last_segment (string_bytes x.path))) →
+      IfOk found (IsAskedBy d x)
+  asked_by_one (inl is) (Ok (asking.CallOf caller call)) held =
+      whose_customer d (key_shown x) (string_bytes x.path) method methods at r route asked
+      (record { whose = whose_seen caller; right = held.0 }) is held.1
+  asked_by_one (inr is) (Ok (asking.CallOf caller call)) held =
+      whose_relay d (key_shown x) (string_bytes x.path) method methods at r route asked
+      (record { whose = whose_seen caller; right = held.0 }) is held.1
+  asked_by_one is (Ok (asking.CallOfAll span each)) held = absurd held
+  asked_by_one is (Err why) held = tt
 
-pub whose_call : (d : Directory) (x : Exchange) (name : List ℕ) (call : Call) →
-    call_of d x ≡ Ok (CallOf name call) → customer_of_exchange d x ≡ Some name
-whose_call d x name call h =
-    let s = steps d x (CallOf name call) h in
-    of_one d (key_shown x) (string_bytes x.path) x.body.items s.methods s.at s.found.1 s.found.0
-    s.role_is name call s.asks
-
-pub whose_all : (d : Directory) (x : Exchange) (whom : Whom) (call : Call) →
-    call_of d x ≡ Ok (CallOfAll whom call) → customer_of_exchange d x ≡ None
-whose_all d x whom call h =
-    let s = steps d x (CallOfAll whom call) h in
-    of_none d (key_shown x) (string_bytes x.path) x.body.items s.methods s.at s.found.1 s.found.0
-    s.role_is whom call s.asks
+  pub asked_of_many : r ≡ role.RelayForAll → (found : Result Asking Fail) →
+      IfOk found (IsOfAll d (key_shown x)) → IfOk found (IsAskedBy d x)
+  asked_of_many is (Ok (asking.CallOf caller call)) held = absurd held
+  asked_of_many is (Ok (asking.CallOfAll span each)) held =
+      whose_all d (key_shown x) (string_bytes x.path) method methods at r route asked is held
+  asked_of_many is (Err why) held = tt

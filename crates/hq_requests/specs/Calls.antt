@@ -8,6 +8,7 @@ use Rattle.hq_values.specs.Serials.{serial_in}
 use Rattle.hq_values.specs.declared.failure.Refusal.{Refusal}
 use Rattle.hq_values.specs.declared.failure.Refusal.TheVariants.{BodyTooLong, NoRoute, WrongMethod}
 use Rattle.hq_values.specs.declared.failure.Refusal.TheVariants.{BadField, NoCustomer}
+use Rattle.hq_values.specs.declared.failure.Refusal.TheVariants.{WrongRole}
 use Rattle.hq_rules.specs.Each.{each_call}
 use Rattle.hq_rules.specs.declared.call.Call.{Call}
 use Rattle.hq_rules.specs.declared.call.Call.TheVariants as call
@@ -23,7 +24,9 @@ use Rattle.hq_requests.specs.declared.table.Role.TheVariants as role
 use Rattle.hq_requests.specs.declared.table.Route.{Route}
 use Rattle.hq_requests.specs.declared.table.Route.TheVariants as route
 use Rattle.hq_requests.specs.Customers.{has_name}
-use Rattle.hq_requests.specs.Directories.{customer_of, entry_of, name_of, relay_alone}
+use Rattle.hq_requests.specs.Directories.{entry_of, held_on, name_of, relay_alone, whose_seen}
+use Rattle.hq_requests.specs.Rights.{allows}
+use Rattle.hq_requests.specs.Named.{whose_exchange}
 use Rattle.hq_requests.specs.Numbers.{notice_number}
 use Rattle.hq_requests.specs.Spans.{Whom, Everyone, From, whom_seen}
 use Rattle.hq_requests.specs.declared.directory.Directory.{Directory}
@@ -43,13 +46,18 @@ call_in (CallOfAll whom call) = call
 
 -- as the code has it
 abbrev pub asked_seen : Asking → Asked
-asked_seen (asking.CallOf entry call) = CallOf entry.now.name call
+asked_seen (asking.CallOf caller call) = CallOf caller.entry.now.name call
 asked_seen (asking.CallOfAll span each) = CallOfAll (whom_seen span) (each_call each)
 
 -- whose call it is, the directory knows
 abbrev pub IsKnown : Directory → Asking → Type 0
-IsKnown d (asking.CallOf entry call) = entry.now ≡ entry_of d entry.now.name
+IsKnown d (asking.CallOf caller call) = caller.entry.now ≡ entry_of d caller.entry.now.name
 IsKnown d (asking.CallOfAll span each) = ⊤
+
+-- a call of a customer is of whom the exchange is of, and that of all is of none
+abbrev pub IsAskedBy : Directory → Exchange → Asking → Type 0
+IsAskedBy d x (asking.CallOf caller call) = whose_exchange d x ≡ Some (whose_seen caller)
+IsAskedBy d x (asking.CallOfAll span each) = whose_exchange d x ≡ None
 
 -- the serial of the message whose queue ID is the parameter
 abbrev pub serial_of : List ℕ → Result ℕ Refusal
@@ -154,13 +162,14 @@ asked_of route.HistoryByBody segment body = do
   before ← read_history_before body
   Ok (call.History before)
 
--- the call of one customer: the key and whom it serves, the parameter, the body
+-- the call of one customer: the key and whom it serves, its right, the parameter, the body
 abbrev pub asked_of_one : Directory → Role → Route → Option (List ℕ) → (segment body : List ℕ) →
     Result Asked Refusal
 asked_of_one d role route key segment body = do
-  name ← customer_of d role key segment
+  held ← held_on d role key segment
+  right ← guard (allows held.right route) WrongRole
   call ← asked_of route segment body
-  Ok (CallOf name call)
+  Ok (CallOf held.whose.customer call)
 
 -- what a route for all asks of each customer: only these three are such routes
 abbrev pub asked_of_each : Route → Result Call Refusal

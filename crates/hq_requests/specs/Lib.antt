@@ -1,8 +1,10 @@
 pub mod Adding
 pub mod Routes
 pub mod Bodies
+pub mod Callers
 pub mod Calls
 pub mod Customers
+pub mod Rights
 pub mod Directories
 pub mod Named
 pub mod Numbers

@@ -27,6 +27,32 @@ role_of (Get role route) = role
 role_of (Post role route) = role
 role_of (GetOrDelete role first second) = role
 
+-- what these ask for changes nothing that is kept, and all else may change something
+abbrev pub changes : Route → Bool
+changes Messages = false
+changes MessagesAfter = false
+changes MessagesByBody = false
+changes Show = false
+changes ShowByBody = false
+changes Find = false
+changes Lines = false
+changes LinesAfter = false
+changes Check = false
+changes Notices = false
+changes NoticesAfter = false
+changes NoticesByBody = false
+changes Notice = false
+changes NoticeByBody = false
+changes History = false
+changes HistoryBefore = false
+changes HistoryByBody = false
+changes FindHistory = false
+changes Usage = false
+changes Limits = false
+changes Report = false
+changes Due = false
+changes _ = true
+
 -- what stands for a parameter at the end of a pattern: it is no byte
 abbrev pub parameter : ℕ
 parameter = 256

@@ -6,6 +6,7 @@
 
 mod directory;
 mod exchanges;
+mod keys;
 mod named;
 mod number;
 mod reply;
@@ -14,9 +15,11 @@ mod routes;
 mod spans;
 mod table;
 
-pub use directory::{Directory, are_customers};
+pub use directory::Directory;
 pub use exchanges::Exchange;
-pub use named::customer_named;
+pub use hq_import::are_customers;
+pub use keys::{Caller, Holder};
+pub use named::caller_named;
 pub use reply::{Body, Reply};
 pub use request::{Asking, call_of};
 pub use routes::{RouteMemory, Routes, last_segment};

@@ -3,7 +3,7 @@
 ghost use Rattle.std.specs.Prelude.{◌≡◌};
 ghost use Rattle.hq_requests.specs.Bodies.{body_bytes, error_told, number_shown};
 
-use hq_values::Name;
+use crate::Caller;
 
 /// The bytes of a reply.
 #[derive(Drop)]
@@ -34,7 +34,7 @@ pub struct Reply<'d> {
     /// The number of the refusal or the fault that the body tells; 0 for an answer.
     pub number: u16,
     /// The customer whose key was shown, or whom the relay named; `None` for another.
-    pub customer: Option<&'d Name>,
+    pub caller: Option<Caller<'d>>,
     /// JSON on one line.
     pub body: Body,
     ghost numbered: { number_shown number ≡ error_told status (body_bytes body) },

@@ -6,18 +6,19 @@ ghost use Rattle.hq_values.specs.declared.failure.Refusal.TheVariants.{BadField}
 ghost use Rattle.hq_rules.specs.Each.{each_call};
 ghost use Rattle.hq_requests.specs.Routes.{last_segment};
 ghost use Rattle.hq_requests.specs.Spans.{whom_seen};
+ghost use Rattle.hq_requests.specs.Callers.{IsHeldBy, IsOfAll};
 ghost use Rattle.hq_requests.specs.Calls as calls;
 
 use crate::directory::Directory;
 use crate::exchanges::Exchange;
+use crate::keys::allows;
 use crate::number::notice_number;
-use crate::{Role, Route, Span, last_segment};
+use crate::{Caller, Role, Route, Span, last_segment};
 use hq_bodies::{
     JsonMemory, read_check, read_find, read_from, read_history_before, read_import, read_line,
     read_message_after, read_message_id, read_notice_after, read_notice_number, read_pattern,
     read_report, read_search, read_submission,
 };
-use hq_kept::Entry;
 use hq_rules::{Call, EachCall};
 use hq_values::{Fail, Refusal, Serial};
 
@@ -28,7 +29,7 @@ const BODY_BYTES: usize = 262_144;
 #[derive(Drop)]
 pub enum Asking<'d> {
     /// A call of a customer.
-    CallOf(&'d Entry, Call),
+    CallOf(Caller<'d>, Call),
     /// The same call of these customers.
     CallOfAll(Span<'d>, EachCall),
 }
@@ -122,7 +123,8 @@ pub(crate) fn key_of(exchange: &Exchange) -> Option<&str>
 }
 
 /// The call of one customer that is asked for: refused as 2 `NoKey`, 3 `WrongRole`, 13
-/// `NoCustomer`, and then as the parameter and the body are.
+/// `NoCustomer`, then as 3 where the key has no right to the route, and then as the parameter and
+/// the body are.
 fn asked_of_one<'d, M: JsonMemory>(
     memory: M,
     directory: &'d Directory,
@@ -134,11 +136,17 @@ fn asked_of_one<'d, M: JsonMemory>(
         (calls.asked_of_one directory.now role route (option_map string_bytes exchange.now.key)
         (last_segment (string_bytes exchange.now.path)) exchange.now.body.items) }
     ensures known { IfOk result (calls.IsKnown directory.now) }
+    ensures caller { IfOk result (IsHeldBy directory.now role
+        (option_map string_bytes exchange.now.key)
+        (last_segment (string_bytes exchange.now.path))) }
 {
     let segment = last_segment(exchange.path.as_str());
-    let entry = directory.customer(role, key_of(exchange), segment)?;
+    let holder = directory.holder(role, key_of(exchange), segment)?;
+    if !allows(holder.right, route) {
+        return Err(Fail::Refused(Refusal::WrongRole));
+    }
     let call = asked_of(memory, route, segment, exchange.body.as_slice())?;
-    Ok(Asking::CallOf(entry, call))
+    Ok(Asking::CallOf(holder.caller, call))
 }
 
 /// What a route asks of every customer: else 4 `NoRoute`.
@@ -184,6 +192,8 @@ fn asked_of_all<'d, M: JsonMemory>(
         (calls.asked_of_all directory.now route (option_map string_bytes exchange.now.key)
         exchange.now.body.items) }
     ensures known { IfOk result (calls.IsKnown directory.now) }
+    ensures caller { IfOk result (IsOfAll directory.now
+        (option_map string_bytes exchange.now.key)) }
 {
     directory.relay_alone(key_of(exchange))?;
     let each = asked_of_each(route)?;
@@ -192,8 +202,11 @@ fn asked_of_all<'d, M: JsonMemory>(
 }
 
 /// What an exchange asks, or the first refusal in the order: 6 `BodyTooLong`, 4 `NoRoute`, 5
-/// `WrongMethod`, 2 `NoKey`, 3 `WrongRole`, and for one customer 13 `NoCustomer`, then those of the
-/// parameter and the body; for all of them those of the body, of which 13 is the last.
+/// `WrongMethod`, 2 `NoKey`, 3 `WrongRole`, and for one customer 13 `NoCustomer`, 3 where the key
+/// may only read and the route changes something, then those of the parameter and the body; for all
+/// of them those of the body, of which 13 is the last.
+///
+/// The caller of a call of one customer is whom the exchange is of.
 #[tactic(auto, unfolding(crate::specs::Calls::call_from))]
 pub fn call_of<'d, M: JsonMemory>(
     memory: M,
@@ -203,6 +216,7 @@ pub fn call_of<'d, M: JsonMemory>(
     ensures call { ReadsIn M.refused (seen_by calls.asked_seen result)
         (calls.call_of directory.now exchange.now) }
     ensures known { IfOk result (calls.IsKnown directory.now) }
+    ensures caller { IfOk result (calls.IsAskedBy directory.now exchange.now) }
 {
     if exchange.body.len() > BODY_BYTES {
         return Err(Fail::Refused(Refusal::BodyTooLong));

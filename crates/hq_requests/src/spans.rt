@@ -3,7 +3,8 @@
 ghost use Rattle.std.specs.Prelude.{◌≡◌, take, drop};
 ghost use Rattle.hq_requests.specs.Spans as spans;
 
-use crate::directory::{Directory, has_name};
+use crate::directory::Directory;
+use hq_import::has_name;
 use hq_kept::Customer;
 use hq_values::Name;
 

@@ -2,7 +2,7 @@
 //! for. It has the same rows as the table of the definitions.
 
 ghost use Rattle.std.specs.Prelude.{◌≡◌};
-ghost use Rattle.hq_requests.specs.Routes.{role_of, route_of};
+ghost use Rattle.hq_requests.specs.Routes.{changes, role_of, route_of};
 
 use Methods::{Get, GetOrDelete, Post};
 use Role::{Customer, Relay, RelayForAll};
@@ -143,6 +143,39 @@ pub enum Route {
     NoticeByBody,
     /// The ends of the history before the number of the body, or the newest.
     HistoryByBody,
+}
+
+impl Route {
+    /// Whether what it asks for may change what is kept.
+    pub fn changes(self) -> bool
+        ensures { result ≡ changes self }
+    {
+        !matches!(
+            self,
+            Messages
+                | MessagesAfter
+                | MessagesByBody
+                | Show
+                | ShowByBody
+                | Find
+                | Lines
+                | LinesAfter
+                | Check
+                | Notices
+                | NoticesAfter
+                | NoticesByBody
+                | Notice
+                | NoticeByBody
+                | History
+                | HistoryBefore
+                | HistoryByBody
+                | FindHistory
+                | Usage
+                | Limits
+                | Report
+                | Due
+        )
+    }
 }
 
 /// Every path of the desk, as the router spells it, with its methods.

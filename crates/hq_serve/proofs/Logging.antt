@@ -6,7 +6,7 @@ use Rattle.hq_log.specs.Entries.{IsTold}
 use Rattle.hq_log.specs.Lines.{LogEntry, log_line_behind}
 use Rattle.hq_log.specs.declared.keeping.Answered.{Answered}
 use Rattle.hq_log.proofs.Told.{asked_entry, told_as}
-use Rattle.hq_requests.specs.Named.{customer_asked, customer_named, customer_told}
+use Rattle.hq_requests.specs.Named.{whose_asked, whose_at, whose_told}
 use Rattle.hq_requests.specs.declared.directory.Directory.{Directory}
 use Rattle.hq_requests.specs.declared.exchanges.Exchange.{Exchange}
 use Rattle.hq_rules.specs.Desks.{DeskSight}
@@ -23,7 +23,7 @@ module _ (d : Directory) (at : ℕ) (r : SeenReply) (milliseconds : Option ℕ) 
       ≡ connection_entry d at asked r milliseconds
   entry_is (request q) (Some x) is = λ i. record {
     at = Some at;
-    customer = customer_named d (is.3 i) (is.2 i);
+    whose = whose_at d (is.3 i) (is.2 i);
     method = Some (is.1 i);
     path = Some (is.2 i);
     status = r.status;
@@ -47,7 +47,7 @@ module _ {D : Type 0} (sight : DeskSight D) (d : Directory) (at : ℕ) (a b : Op
       (r : Option SeenReply)
       (begun_lost : Bool) (begun : Option (List ℕ)) → AreSent (Some replied.reply) r →
       AnsweredAs sight d at a b old asked r new → HoldsRequest at asked replied.asked →
-      customer_told replied.reply ≡ customer_asked d replied.asked → IsToLog told at replied →
+      whose_told replied.reply ≡ whose_asked d replied.asked → IsToLog told at replied →
       begun_lost ≡ lost → begun ≡ log_old → IsTold told begun_lost begun log_new →
       IsLoggedAs replied
   logged_as asked replied told None begun_lost begun sent answered holds whose is lost_too same

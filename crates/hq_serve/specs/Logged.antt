@@ -8,7 +8,7 @@ use Rattle.hq_http.specs.Requests.{Wanted, request}
 use Rattle.hq_lines.specs.Lines.{Streams}
 use Rattle.hq_lines.specs.Written.{AppendsPart}
 use Rattle.hq_log.specs.Lines.{LogEntry, log_line_behind}
-use Rattle.hq_requests.specs.Named.{customer_named}
+use Rattle.hq_requests.specs.Named.{whose_at}
 use Rattle.hq_requests.specs.declared.directory.Directory.{Directory}
 use Rattle.hq_serve.specs.Connections.{AnsweredAs, response_of}
 use Rattle.hq_rules.specs.Desks.{DeskSight}
@@ -19,7 +19,7 @@ use Rattle.hq_wire.specs.Replies.{SeenReply}
 abbrev pub connection_entry : Directory → ℕ → Wanted → SeenReply → Option ℕ → LogEntry
 connection_entry d at (request q) r milliseconds = record {
   at = Some at;
-  customer = customer_named d q.key q.path;
+  whose = whose_at d q.key q.path;
   method = Some q.method;
   path = Some q.path;
   status = r.status;
@@ -28,7 +28,7 @@ connection_entry d at (request q) r milliseconds = record {
 }
 connection_entry d at _ r milliseconds = record {
   at = Some at;
-  customer = None;
+  whose = None;
   method = None;
   path = None;
   status = r.status;

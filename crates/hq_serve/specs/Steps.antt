@@ -6,7 +6,7 @@ use Rattle.hq_http.specs.Requests.{Wanted, request}
 use Rattle.hq_log.specs.declared.keeping.Answered.{Answered as ToLog}
 use Rattle.hq_rules.specs.Desks.{DeskSight}
 use Rattle.hq_wire.specs.Replies.{IsSent, SeenReply}
-use Rattle.hq_requests.specs.Named.{customer_asked, customer_told}
+use Rattle.hq_requests.specs.Named.{whose_asked, whose_told}
 use Rattle.hq_requests.specs.declared.exchanges.Exchange.{Exchange}
 use Rattle.hq_requests.specs.declared.directory.Directory.{Directory}
 use Rattle.hq_requests.specs.declared.reply.Reply.{Reply}
@@ -37,10 +37,10 @@ abbrev pub HoldsAsked : ℕ → Wanted → Option RequestReplied → Type 0
 HoldsAsked at asked None = ⊤
 HoldsAsked at asked (Some replied) = HoldsRequest at asked replied.asked
 
--- a reply that is there is of the customer of its exchange
-abbrev pub IsOfCustomer : Directory → Option RequestReplied → Type 0
-IsOfCustomer d None = ⊤
-IsOfCustomer d (Some replied) = customer_told replied.reply ≡ customer_asked d replied.asked
+-- a reply that is there is of whom its exchange is of
+abbrev pub IsOfCaller : Directory → Option RequestReplied → Type 0
+IsOfCaller d None = ⊤
+IsOfCaller d (Some replied) = whose_told replied.reply ≡ whose_asked d replied.asked
 
 -- what was read is answered, as it is sent, and its exchange is at hand
 pub record Sends {D : Type 0} (sight : DeskSight D) (d : Directory) (at : ℕ)
@@ -51,7 +51,7 @@ pub record Sends {D : Type 0} (sight : DeskSight D) (d : Directory) (at : ℕ)
   pub sent : AreSent (option_map (λ r. r.reply) replied) reply
   pub answered : AnsweredAs sight d at read_old read_new old asked reply new
   pub holds : HoldsAsked at asked replied
-  pub customer : IsOfCustomer d replied
+  pub whose : IsOfCaller d replied
 
 abbrev pub IsToLog : ToLog → ℕ → RequestReplied → Type 0
 IsToLog told at replied = (told.at ≡ Some at) × (option_map (λ x. x.now) told.asked ≡ replied.asked)

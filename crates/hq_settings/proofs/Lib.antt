@@ -1,3 +1,4 @@
 pub mod Failing
 pub mod Keys
 pub mod Customers
+pub mod Named

@@ -41,4 +41,4 @@ birch = record {
 }
 
 abbrev pub settings : Set
-settings = record { relay = relay; customers = acme ∷ birch ∷ [] }
+settings = record { relay = relay; customers = acme ∷ birch ∷ []; keys = [] }

@@ -1,5 +1,5 @@
 -- What the types of this crate hold, as the definitions have it.
-use Rattle.hq_requests.specs.Directories.{relay_of, customers_of}
+use Rattle.hq_requests.specs.Directories.{relay_of, customers_of, named_keys}
 use Rattle.hq_settings.specs.Settings.{Named, Set}
 use Rattle.hq_settings.specs.declared.relay.Relay.{Relay}
 use Rattle.hq_settings.specs.declared.settings.Settings.{Settings}
@@ -11,4 +11,5 @@ abbrev pub settings_seen : Settings → Set
 settings_seen settings = record {
   relay = record { host = settings.host; key = relay_of settings.directory };
   customers = customers_of settings.directory;
+  keys = named_keys settings.directory;
 }

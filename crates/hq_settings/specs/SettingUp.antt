@@ -1,14 +1,14 @@
 -- The settings that words name, each check before those behind it.
-use Rattle.std.specs.Prelude.{ℕ, List, if◌then◌else◌, Result}
+use Rattle.std.specs.Prelude.{ℕ, List, if◌then◌else◌, Option, Result}
 use Rattle.std.specs.Io.BufRead.{ends_with_byte, strip_last}
 use Rattle.hq_values.specs.Readers.{seen_by}
 use Rattle.hq_values.specs.Words.{host_in}
 use Rattle.hq_settings.specs.Seen.{settings_seen}
-use Rattle.hq_settings.specs.Settings.{Named, relay_in, settings_of}
+use Rattle.hq_settings.specs.Settings.{Named, relay_in, settings_with}
 use Rattle.hq_settings.specs.declared.settings.Settings.{Settings}
 use Rattle.hq_words.specs.Given.{KeyGiven, AsText, InFile}
 use Rattle.hq_settings.specs.declared.trouble.Trouble.{Trouble}
-use Rattle.hq_settings.specs.Steps.{Then, IsFile, IsRead}
+use Rattle.hq_settings.specs.Steps.{Then, HasCustomers, HasKeys, IsFile, IsRead}
 
 -- the key on the one line of a file: what stands before the LF (10) at its end, or before the CR
 -- (13) and the LF there
@@ -22,7 +22,9 @@ NamesRelay host (AsText key) = IsRead (relay_in host key)
 NamesRelay host (InFile path) = Then (IsRead (host_in host)) (λ name.
     Then IsFile (λ file. IsRead (relay_in name (key_line file))))
 
--- the relay with the customers of some file, which is read where the relay is good
-abbrev pub SetsUp : List ℕ → KeyGiven → Result Settings Trouble → Type 0
-SetsUp host key result = Then (NamesRelay host key) (λ relay. Then IsFile (λ file.
-    IsRead (settings_of relay file))) (seen_by settings_seen result)
+-- the relay, with the customers of some file, which is read where the relay is good, and with the
+-- keys that are beside them, whose file is read where the customers are good
+abbrev pub SetsUp : List ℕ → KeyGiven → Option (List ℕ) → Result Settings Trouble → Type 0
+SetsUp host key keys result = Then (NamesRelay host key) (λ relay.
+    Then HasCustomers (λ customers. Then (HasKeys customers keys) (λ named.
+    IsRead (settings_with relay customers named)))) (seen_by settings_seen result)

@@ -1,13 +1,16 @@
 -- Steps, each of which may end all in trouble, and the first of them: files that words name.
-use Rattle.std.specs.Prelude.{ℕ, ◌≡◌, ⊤, List, Result, Ok, Err}
+use Rattle.std.specs.Prelude.{ℕ, ◌≡◌, ⊤, List, [], Option, Some, None, Result, Ok, Err}
 use Rattle.hq_values.specs.Readers.{Reads}
 use Rattle.hq_values.specs.Refusals.{no_memory}
 use Rattle.hq_values.specs.declared.failure.Fail.TheVariants.{Fault as AsFault}
 use Rattle.hq_values.specs.declared.failure.Refusal.{Refusal}
 use Rattle.hq_import.specs.Directories.{customers_in}
+use Rattle.hq_import.specs.Keys.{keys_in}
+use Rattle.hq_import.specs.declared.keys.NamedKey.{NamedKey}
+use Rattle.hq_import.specs.declared.refused.DirectoryRefusal.{DirectoryRefusal}
 use Rattle.hq_kept.specs.declared.account.Customer.{Customer}
 use Rattle.hq_settings.specs.declared.trouble.Trouble.{Trouble}
-use Rattle.hq_settings.specs.declared.trouble.Trouble.TheVariants.{File, Desk}
+use Rattle.hq_settings.specs.declared.trouble.Trouble.TheVariants.{File, Desk, Keys}
 
 -- what comes after a step: the next one with its value, or its trouble
 abbrev pub Goes : {A B : Type 0} → (A → Result B Trouble → Type 0) → Result A Trouble →
@@ -40,3 +43,17 @@ IsFile (Err trouble) = IsUnread trouble
 -- the customers of some file
 abbrev pub HasCustomers : Result (List Customer) Trouble → Type 0
 HasCustomers = Then IsFile (λ file. IsRead (customers_in file))
+
+-- what is read of a file of keys, its refusal, or want of memory
+abbrev pub AreKeysRead : {A : Type 0} → Result A DirectoryRefusal → Result A Trouble → Type 0
+AreKeysRead reading (Ok keys) = reading ≡ Ok keys
+AreKeysRead reading (Err (Keys refusal)) = reading ≡ Err refusal
+AreKeysRead reading (Err (Desk (AsFault fault))) = fault ≡ no_memory
+AreKeysRead reading (Err _) = ⊥
+
+-- the keys that these customers have beside their own: those of some file where one is named, and
+-- else none
+abbrev pub HasKeys : List Customer → Option (List ℕ) → Result (List NamedKey) Trouble → Type 0
+HasKeys customers None found = found ≡ Ok []
+HasKeys customers (Some path) found =
+    Then IsFile (λ file. AreKeysRead (keys_in customers file)) found

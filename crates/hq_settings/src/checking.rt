@@ -3,14 +3,16 @@
 ghost use Rattle.std.specs.Prelude.{ℕ, ⊤, List, None, IfOk, IsTrue, option_map};
 ghost use Rattle.hq_values.specs.Readers.{Reads, seen_by};
 ghost use Rattle.hq_kept.specs.Customers.{are_customers};
-ghost use Rattle.hq_import.specs.Directories.{directory_in};
+ghost use Rattle.hq_import.specs.Directories.{customers_in, directory_in};
+ghost use Rattle.hq_import.specs.Keys.{are_keys};
 ghost use Rattle.hq_import.specs.Refused.{ReadsDirectory};
 ghost use Rattle.hq_words.specs.Asked.{check_of};
 ghost use Rattle.hq_settings.specs.Seen.{relay_seen};
-ghost use Rattle.hq_settings.specs.Checked.{HasRelay, count_of, count_customers};
+ghost use Rattle.hq_settings.specs.Checked.{HasRelay, CountsCustomers, count_of};
 
+use crate::files::keys_of;
 use crate::{Relay, Settings, Trouble, relay_of};
-use hq_import::DirectoryFail;
+use hq_import::{DirectoryFail, NamedKey};
 use hq_kept::Customer;
 use hq_values::{Fail, Host};
 use hq_words::Check;
@@ -36,32 +38,52 @@ pub fn relay_given(rt: &HostRuntime, given: &Check) -> Result<Option<Relay>, Tro
     }
 }
 
+/// The customers of a directory that was read, or its refusal as the desk tells it.
+fn directory_read(read: Result<Vec<Customer>, DirectoryFail>) -> Result<Vec<Customer>, Fail>
+    requires { IfOk read (λ customers. IsTrue (are_customers customers.items)) }
+    ensures customers { (file : List ℕ)
+        → ReadsDirectory ⊤ (seen_by (λ v. v.items) read) (directory_in file)
+        → Reads (seen_by (λ v. v.items) result) (customers_in file) }
+    ensures apart { IfOk result (λ v. IsTrue (are_customers v.items)) }
+{
+    Ok(read?)
+}
+
 /// How many of these customers a start would serve.
-fn count_of(alloc: Global, relay: Option<Relay>, customers: Vec<Customer>) -> Result<usize, Fail>
-    requires { IsTrue (are_customers customers.items) }
-    ensures { Reads result (count_of (option_map relay_seen relay) customers.items) }
+fn count_of(
+    alloc: Global,
+    relay: Option<Relay>,
+    customers: Vec<Customer>,
+    keys: Vec<NamedKey>,
+) -> Result<usize, Fail>
+    requires apart { IsTrue (are_customers customers.items) }
+    requires joined { IsTrue (are_keys customers.items keys.items) }
+    ensures { Reads result (count_of (option_map relay_seen relay) customers.items keys.items) }
 {
     match relay {
         Some(relay) => {
-            let settings = Settings::with_customers(alloc, relay, customers)?;
+            let settings = Settings::with_keys(alloc, relay, customers, keys)?;
             Ok(settings.directory.customers().len())
         }
         None => Ok(customers.len()),
     }
 }
 
-/// How many customers a start would serve, by the directory that was read and the relay, where one
-/// is known: else the directory's own refusal, 57 `BadRelayKey` where the relay's key is a
-/// customer's, or want of memory.
+/// How many customers a start would serve, by the directory that was read, the path of the keys
+/// beside it, and the relay, where one is known: else the directory's own refusal, that of the file
+/// of keys, 57 `BadRelayKey` where the relay's key is a customer's, or want of memory.
 pub fn count_customers(
-    alloc: Global,
+    rt: &HostRuntime,
     relay: Option<Relay>,
+    keys: Option<&str>,
     read: Result<Vec<Customer>, DirectoryFail>,
-) -> Result<usize, Fail>
+) -> Result<usize, Trouble>
     requires { IfOk read (λ customers. IsTrue (are_customers customers.items)) }
     ensures { (file : List ℕ) → ReadsDirectory ⊤ (seen_by (λ v. v.items) read) (directory_in file)
-        → Reads result (count_customers (option_map relay_seen relay) file) }
+        → CountsCustomers (option_map relay_seen relay) (option_map (λ k. k.now) keys.entry) file
+        result }
 {
-    let customers = read?;
-    count_of(alloc, relay, customers)
+    let customers = directory_read(read)?;
+    let named = keys_of(rt, customers.as_slice(), keys)?;
+    Ok(count_of(rt.alloc(), relay, customers, named)?)
 }

@@ -1,26 +1,30 @@
 //! The settings that words name.
 
+ghost use Rattle.std.specs.Prelude.{option_map};
 ghost use Rattle.hq_values.specs.Readers.{seen_by};
 ghost use Rattle.hq_settings.specs.Seen.{settings_seen};
 ghost use Rattle.hq_words.specs.Asked.{key_given};
 ghost use Rattle.hq_settings.specs.SettingUp.{SetsUp};
 
-use crate::files::file_of;
+use crate::files::{customers_of, keys_of};
 use crate::relay_words::relay_of;
 use crate::{Settings, Trouble};
 use hq_words::RelayKey;
 
-/// The settings of a relay's name, its key, and the path of its directory, checked in this order;
-/// each file is read where those before are good.
+/// The settings of a relay's name, its key, the path of its directory, and that of the keys beside
+/// it, checked in this order; each file is read where those before are good.
 pub fn set_up(
     rt: &HostRuntime,
     host: &str,
     relay_key: RelayKey,
     directory: &str,
+    keys: Option<&str>,
 ) -> Result<Settings, Trouble>
-    ensures { SetsUp host.now (key_given relay_key.entry) result }
+    ensures { SetsUp host.now (key_given relay_key.entry) (option_map (λ k. k.now) keys.entry)
+        result }
 {
     let relay = relay_of(rt, host, relay_key)?;
-    let file = file_of(rt, directory)?;
-    Ok(Settings::new(rt.alloc(), relay, file.as_slice())?)
+    let customers = customers_of(rt, directory)?;
+    let named = keys_of(rt, customers.as_slice(), keys)?;
+    Ok(Settings::with_keys(rt.alloc(), relay, customers, named)?)
 }

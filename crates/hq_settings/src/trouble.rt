@@ -5,6 +5,7 @@ ghost use Rattle.hq_values.specs.declared.failure.Fail.TheVariants.{Fault as AsF
 ghost use Rattle.hq_settings.specs.Troubles.{trouble_of, trouble_shown};
 ghost use Rattle.hq_settings.specs.declared.trouble.Trouble.TheVariants.{Desk};
 
+use hq_import::DirectoryRefusal;
 use hq_values::{EngineFault, Fail, Fault};
 use std::fmt;
 
@@ -21,6 +22,8 @@ pub enum Trouble {
     Network,
     /// The clock tells no moment of the desk.
     Clock,
+    /// The file of the keys that customers have beside their own is wrong.
+    Keys(DirectoryRefusal),
     /// The desk refused it, or could not do it.
     Desk(Fail),
 }
@@ -35,6 +38,7 @@ impl fmt::Display for Trouble {
             Trouble::Output => f.write_str("output"),
             Trouble::Network => f.write_str("network"),
             Trouble::Clock => f.write_str("clock"),
+            Trouble::Keys(refusal) => write!(f, "keys row {}{}", refusal.row, refusal.wrong),
             Trouble::Desk(fail) => write!(f, "{fail}"),
         }
     }

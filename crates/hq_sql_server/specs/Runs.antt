@@ -92,5 +92,6 @@ SetServerEnds sight given unwritten old new (Ok set) result =
 abbrev pub ServeEnds : {S : Type 0} → Sight S → Serve → Type 0 → Option (List ℕ) → Option (List ℕ) →
     Result ⊤ Trouble → Type 0
 ServeEnds sight given unwritten old new result =
-    (set : Result Settings Trouble) × SetsUp given.host.now (key_given given.relay_key) set
+    (set : Result Settings Trouble) × SetsUp given.host.now (key_given given.relay_key)
+    (option_map (λ k. k.now) given.keys) set
     × SetServerEnds sight given unwritten old new set result

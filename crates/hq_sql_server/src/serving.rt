@@ -139,6 +139,6 @@ pub fn serve_http<W: Write, E: Write>(
     ensures { ServeEnds ⟦<FileShelf as Shelf>⟧.sight given.now
         (output.new ≡ output.old) (W.contents output.old) (W.contents output.new) result }
 {
-    let settings = set_up(rt, given.host, given.relay_key, given.directory)?;
+    let settings = set_up(rt, given.host, given.relay_key, given.directory, given.keys)?;
     serve_stored(rt, settings, given, output, errors)
 }

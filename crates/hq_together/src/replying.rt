@@ -2,7 +2,7 @@
 
 ghost use Rattle.std.specs.Prelude.{◌≡◌, IfOk, IfSome, IfNone, OnErr, map};
 ghost use Rattle.hq_desk.specs.Desks.{on};
-ghost use Rattle.hq_requests.specs.Named.{customer_of_exchange, customer_told};
+ghost use Rattle.hq_requests.specs.Named.{whose_exchange, whose_told};
 ghost use Rattle.hq_wire.specs.Exchanges.{ask_of, with_refusals};
 ghost use Rattle.hq_wire.specs.Runs.{RunsSo};
 ghost use Rattle.hq_together.specs.Together.{GoesBack, RoundSo};
@@ -23,8 +23,8 @@ fn together<'d, S: Rounds, M: JsonMemory>(
 ) -> (Option<Vec<Reply<'d>>>, Desk<S>)
     ensures stands { IfSome result.0 (λ replies. RoundSo (with_refusals M.refused (on S.sight))
         directory.now desk (map (ask_of directory.now) exchanges.now) replies.items result.1) }
-    ensures customers { IfSome result.0 (λ replies. map customer_told replies.items
-        ≡ map (customer_of_exchange directory.now) exchanges.now) }
+    ensures whose { IfSome result.0 (λ replies. map whose_told replies.items
+        ≡ map (whose_exchange directory.now) exchanges.now) }
     ensures back { IfNone result.0 (GoesBack (with_refusals M.refused (on S.sight)) directory.now
         desk (map (ask_of directory.now) exchanges.now) result.1) }
 {
@@ -58,8 +58,8 @@ fn one_by_one<'d, S: Rounds, M: JsonMemory>(
 ) -> (Result<Vec<Reply<'d>>, AllocError>, Desk<S>)
     ensures served { IfOk result.0 (λ replies. RunsSo (with_refusals M.refused (on S.sight))
         directory.now desk (map (ask_of directory.now) exchanges.now) replies.items result.1) }
-    ensures customers { IfOk result.0 (λ replies. map customer_told replies.items
-        ≡ map (customer_of_exchange directory.now) exchanges.now) }
+    ensures whose { IfOk result.0 (λ replies. map whose_told replies.items
+        ≡ map (whose_exchange directory.now) exchanges.now) }
     ensures none { OnErr result.0 ((result.1 ≡ desk) × M.refused) }
 {
     let replies = run(memory, &mut desk, directory, exchanges);
@@ -79,8 +79,8 @@ pub fn round<'d, S: Rounds, M: JsonMemory>(
 ) -> (Result<Vec<Reply<'d>>, AllocError>, Desk<S>)
     ensures served { IfOk result.0 (λ replies. RoundSo (with_refusals M.refused (on S.sight))
         directory.now desk (map (ask_of directory.now) exchanges.now) replies.items result.1) }
-    ensures customers { IfOk result.0 (λ replies. map customer_told replies.items
-        ≡ map (customer_of_exchange directory.now) exchanges.now) }
+    ensures whose { IfOk result.0 (λ replies. map whose_told replies.items
+        ≡ map (whose_exchange directory.now) exchanges.now) }
     ensures none { OnErr result.0 (M.refused × GoesBack (with_refusals M.refused (on S.sight))
         directory.now desk (map (ask_of directory.now) exchanges.now) result.1) }
 {

@@ -2,11 +2,11 @@
 
 ghost use Rattle.std.specs.Prelude.{◌≡◌, Ok, Some, false, option_map};
 ghost use Rattle.hq_requests.specs.Calls.{CallOf};
-ghost use Rattle.hq_requests.specs.Directories.{entry_of};
+ghost use Rattle.hq_requests.specs.Directories.{entry_of, whose_seen};
 ghost use Rattle.hq_requests.specs.Bodies.{error_told, number_shown};
 ghost use Rattle.hq_values.specs.Refusals.{no_memory};
 ghost use Rattle.hq_wire.specs.Exchanges.{Exchanged, IsRefused, ask_of, with_refusals};
-ghost use Rattle.hq_requests.specs.Named.{customer_of_exchange, customer_told};
+ghost use Rattle.hq_requests.specs.Named.{whose_exchange, whose_told};
 ghost use Rattle.hq_wire.specs.Replies.{plain, seen, status_of, tells_store};
 ghost use Rattle.hq_wire.specs.Runs.{RepliesSo};
 ghost use Rattle.hq_requests.specs.declared.directory.Directory.{Directory};
@@ -15,11 +15,10 @@ use crate::calling::call_all;
 use crate::faults::fault_reply;
 use hq_bodies::JsonMemory;
 use hq_json::{Json, refusal_text};
-use hq_kept::Entry;
 use hq_memory::Memory;
-use hq_requests::{Asking, Body, Directory, Exchange, Reply, call_of, customer_named};
+use hq_requests::{Asking, Body, Caller, Directory, Exchange, Reply, call_of, caller_named};
 use hq_rules::{Acts, Call};
-use hq_values::{Fail, Fault, Moment, Name, Refusal};
+use hq_values::{Fail, Fault, Moment, Refusal};
 
 /// The HTTP status of an answer, by its number.
 #[tactic(auto, unfolding(crate::specs::Replies::status_of))]
@@ -38,36 +37,36 @@ fn status_of(number: u16) -> u16
     }
 }
 
-/// The reply of an answer with this number, which its bytes tell, to this customer.
-fn answer_reply<'d>(customer: Option<&'d Name>, number: u16, bytes: Vec<u8>) -> Reply<'d>
+/// The reply of an answer with this number, which its bytes tell, to this caller.
+fn answer_reply<'d>(caller: Option<Caller<'d>>, number: u16, bytes: Vec<u8>) -> Reply<'d>
     requires { number_shown number ≡ error_told (status_of number) bytes.items }
     ensures told { seen result ≡ plain (status_of number) bytes.items }
-    ensures customer { customer_told result ≡ option_map (λ c. c.now) customer.entry }
+    ensures whose { whose_told result ≡ option_map whose_seen caller.entry }
 {
     Reply {
         status: status_of(number),
         number,
-        customer,
+        caller,
         body: Body::Bytes(bytes),
     }
 }
 
-/// The reply to a refusal that no call was made for, of this customer; or to want of memory where
+/// The reply to a refusal that no call was made for, of this caller; or to want of memory where
 /// its text has no room.
 pub fn refusal_reply<'d, M: Memory>(
     memory: M,
-    customer: Option<&'d Name>,
+    caller: Option<Caller<'d>>,
     refusal: Refusal,
 ) -> Reply<'d>
     ensures told { IsRefused (λ fault. (fault ≡ no_memory) × M.refused) refusal (seen result) }
     ensures store { tells_store (seen result) ≡ false }
-    ensures customer { customer_told result
-        ≡ option_map (λ c. c.now) customer.entry }
+    ensures whose { whose_told result
+        ≡ option_map whose_seen caller.entry }
 {
     let number = refusal.number();
     match refusal_text(memory, refusal) {
-        Ok(bytes) => answer_reply(customer, number, bytes),
-        Err(_) => fault_reply(customer, Fault::WantOfMemory),
+        Ok(bytes) => answer_reply(caller, number, bytes),
+        Err(_) => fault_reply(caller, Fault::WantOfMemory),
     }
 }
 
@@ -76,18 +75,18 @@ fn call_reply<'d, D: Acts, M: JsonMemory>(
     memory: M,
     desk: &mut D,
     at: Moment,
-    entry: &'d Entry,
+    caller: Caller<'d>,
     call: Call,
 ) -> Reply<'d>
-    ensures done { (d : Directory) → entry.now ≡ entry_of d entry.now.name
+    ensures done { (d : Directory) → caller.entry.entry.now ≡ entry_of d caller.entry.entry.now.name
         → Exchanged (with_refusals M.refused D.sight) d desk.old
-        (record { at = at; called = Ok (CallOf entry.now.name call) }) (seen result) desk.new }
-    ensures customer { customer_told result ≡ Some entry.now.name }
+        (record { at = at; called = Ok (CallOf caller.entry.entry.now.name call) }) (seen result)
+        desk.new }
+    ensures whose { whose_told result ≡ Some (whose_seen caller.entry) }
 {
-    let customer = Some(&entry.name);
-    match desk.act(memory, at, entry, call, &Json) {
-        Ok(rendered) => answer_reply(customer, rendered.number, rendered.bytes),
-        Err(fault) => fault_reply(customer, fault),
+    match desk.act(memory, at, caller.entry, call, &Json) {
+        Ok(rendered) => answer_reply(Some(caller), rendered.number, rendered.bytes),
+        Err(fault) => fault_reply(Some(caller), fault),
     }
 }
 
@@ -105,7 +104,8 @@ fn call_reply<'d, D: Acts, M: JsonMemory>(
 /// as such. Where the store is closed after a call the reply is 93 `Closed`, or 90; 93 is told only
 /// then.
 ///
-/// The reply is of the customer whose key is shown, or whom the relay names, also where it refuses.
+/// The reply is of the customer whose key is shown, or whom the relay names, also where it refuses;
+/// and it has the name of the key that is shown, where the key has one.
 pub fn exchange<'d, D: Acts, M: JsonMemory>(
     memory: M,
     desk: &mut D,
@@ -114,17 +114,17 @@ pub fn exchange<'d, D: Acts, M: JsonMemory>(
 ) -> Reply<'d>
     ensures done { RepliesSo (with_refusals M.refused D.sight) directory.now desk.old
         (ask_of directory.now exchange.now) result desk.new }
-    ensures customer { customer_told result
-        ≡ customer_of_exchange directory.now exchange.now }
+    ensures whose { whose_told result
+        ≡ whose_exchange directory.now exchange.now }
 {
     match call_of(memory, directory, exchange) {
-        Ok(Asking::CallOf(entry, call)) => call_reply(memory, desk, exchange.at, entry, call),
+        Ok(Asking::CallOf(caller, call)) => call_reply(memory, desk, exchange.at, caller, call),
         Ok(Asking::CallOfAll(span, each)) => {
             call_all(memory, desk, directory, exchange.at, span, each)
         }
         Err(Fail::Refused(refusal)) => {
-            refusal_reply(memory, customer_named(directory, exchange), refusal)
+            refusal_reply(memory, caller_named(directory, exchange), refusal)
         }
-        Err(Fail::Fault(fault)) => fault_reply(customer_named(directory, exchange), fault),
+        Err(Fail::Fault(fault)) => fault_reply(caller_named(directory, exchange), fault),
     }
 }

@@ -4,7 +4,7 @@ ghost use Rattle.std.specs.Prelude.{◌≡◌, Ok, None, drop};
 ghost use Rattle.hq_memory.specs.Making.{MadeIn};
 ghost use Rattle.hq_rules.specs.Each.{each_call};
 ghost use Rattle.hq_requests.specs.Calls.{CallOfAll};
-ghost use Rattle.hq_requests.specs.Named.{customer_told};
+ghost use Rattle.hq_requests.specs.Named.{whose_told};
 ghost use Rattle.hq_requests.specs.Spans.{whom_seen};
 ghost use Rattle.hq_json.specs.PartRoom.{AreNumbers, TellsNumbers, is_for, part_room};
 ghost use Rattle.hq_json.specs.Parts.{part_text};
@@ -152,7 +152,7 @@ pub(crate) fn call_all<D: Acts, M: JsonMemory>(
         × Exchanged (with_refusals M.refused D.sight) directory.now desk.old
         (record { at = at; called = Ok (CallOfAll (whom_seen span.entry) (each_call each)) }) r
         desk.new }
-    ensures customer { customer_told result ≡ None }
+    ensures whose { whose_told result ≡ None }
 {
     let (customers, unasked) = asked_in(directory, span);
     let room = part_room(each);

@@ -1,7 +1,7 @@
 //! Many exchanges of many customers, and what each customer sees of them.
 
 ghost use Rattle.std.specs.Prelude.{◌≡◌, IfOk, OnErr, map};
-ghost use Rattle.hq_requests.specs.Named.{customer_of_exchange, customer_told};
+ghost use Rattle.hq_requests.specs.Named.{whose_exchange, whose_told};
 ghost use Rattle.hq_wire.specs.Exchanges.{ask_of, with_refusals};
 ghost use Rattle.hq_wire.specs.Runs.{RunsSo};
 
@@ -29,8 +29,8 @@ pub fn run<'d, D: Acts, M: JsonMemory>(
 ) -> Result<Vec<Reply<'d>>, AllocError>
     ensures served { IfOk result (λ replies. RunsSo (with_refusals M.refused D.sight)
         directory.now desk.old (map (ask_of directory.now) exchanges.now) replies.items desk.new) }
-    ensures customers { IfOk result (λ replies. map customer_told replies.items
-        ≡ map (customer_of_exchange directory.now) exchanges.now) }
+    ensures whose { IfOk result (λ replies. map whose_told replies.items
+        ≡ map (whose_exchange directory.now) exchanges.now) }
     ensures none { OnErr result ((desk.new ≡ desk.old) × M.refused) }
 {
     let mut replies = memory.room(exchanges.len())?;

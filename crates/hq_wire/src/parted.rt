@@ -4,7 +4,7 @@ ghost use Rattle.std.specs.Prelude.{◌≡◌, ◌+◌, ◌*◌, ◌≤◌, ◌<
 ghost use Rattle.std.specs.Prelude.{map, option_map, vec_len, vec_capacity, IfSome, OnOk, OnErr};
 ghost use Rattle.hq_requests.specs.Bodies.{body_bytes};
 ghost use Rattle.hq_requests.specs.Directories.{name_of};
-ghost use Rattle.hq_requests.specs.Named.{customer_told};
+ghost use Rattle.hq_requests.specs.Named.{whose_told};
 ghost use Rattle.hq_requests.specs.Spans.{whom_seen};
 ghost use Rattle.hq_wire.specs.Exchanges.{first_named, next_shown};
 ghost use Rattle.hq_wire.specs.Replies.{closing, fault_text, next_text, parts_opening, separated};
@@ -205,12 +205,12 @@ fn put_stop(body: &mut Vec<u8>, next: Option<Option<&Name>>, name: &Name, fault:
 fn parted(body: Vec<u8>) -> Reply<'static>
     ensures status { result.status ≡ 200 }
     ensures body { body_bytes result.body ≡ body.items }
-    ensures customer { customer_told result ≡ None }
+    ensures whose { whose_told result ≡ None }
 {
     Reply {
         status: 200,
         number: 0,
-        customer: None,
+        caller: None,
         body: Body::Bytes(body),
     }
 }
@@ -227,7 +227,7 @@ pub(crate) fn stopped(
     ensures body { body_bytes result.body ≡ body.items
         ++ closing (next_shown (whom_seen span.entry) (Some name.now))
         (Some (record { customer = name.now; fault = fault })) }
-    ensures customer { customer_told result ≡ None }
+    ensures whose { whose_told result ≡ None }
 {
     put_stop(&mut body, next_of(span, Some(name)), name, fault);
     parted(body)
@@ -241,7 +241,7 @@ pub(crate) fn all_done(mut body: Vec<u8>, span: Span<'_>, unasked: &[Customer]) 
     ensures body { body_bytes result.body ≡ body.items
         ++ closing (next_shown (whom_seen span.entry) (first_named (map name_of unasked.now)))
         None }
-    ensures customer { customer_told result ≡ None }
+    ensures whose { whose_told result ≡ None }
 {
     put_all_done(&mut body, next_of(span, first_named(unasked)));
     parted(body)

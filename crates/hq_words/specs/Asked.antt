@@ -70,6 +70,7 @@ key_given (key.InFile path) = InFile path.now
 abbrev pub given_of : Batch → BatchGiven
 given_of b = record {
   directory = b.directory.now;
+  keys = option_map (λ k. k.now) b.keys;
   host = b.host.now;
   relay_key = key_given b.relay_key;
   store = option_map (λ s. s.now) b.store;
@@ -79,6 +80,7 @@ given_of b = record {
 abbrev pub check_of : Check → CheckGiven
 check_of c = record {
   directory = c.directory.now;
+  keys = option_map (λ k. k.now) c.keys;
   host = c.host.now;
   relay_key = option_map key_given c.relay_key;
 }
@@ -153,6 +155,7 @@ SweepIs None None = ⊤
 abbrev pub serve_with : Text → Text → Text → Serve → ServeGiven
 serve_with count idle_timeout request_timeout s = record {
   directory = s.directory.now;
+  keys = option_map (λ k. k.now) s.keys;
   host = s.host.now;
   relay_key = key_given s.relay_key;
   store = option_map (λ s. s.now) s.store;

@@ -11,6 +11,7 @@ pub data KeyGiven : Type 0 where
 
 pub record ServeGiven : Type 0 where
   pub directory : Text
+  pub keys : Option Text
   pub host : Text
   pub relay_key : KeyGiven
   pub store : Option Text
@@ -22,6 +23,7 @@ pub record ServeGiven : Type 0 where
 
 pub record BatchGiven : Type 0 where
   pub directory : Text
+  pub keys : Option Text
   pub host : Text
   pub relay_key : KeyGiven
   pub store : Option Text
@@ -29,6 +31,7 @@ pub record BatchGiven : Type 0 where
 
 pub record CheckGiven : Type 0 where
   pub directory : Text
+  pub keys : Option Text
   pub host : Text
   pub relay_key : Option KeyGiven
 
@@ -129,6 +132,7 @@ serve_in rows = do
   request_timeout ← first_of (codes "request-timeout") rows
   Some (record {
     directory = directory;
+    keys = first_of (codes "keys") rows;
     host = host;
     relay_key = relay_key;
     store = first_of (codes "store") rows;
@@ -146,6 +150,7 @@ batch_in rows = do
   relay_key ← one_key_in rows
   Some (record {
     directory = directory;
+    keys = first_of (codes "keys") rows;
     host = host;
     relay_key = relay_key;
     store = first_of (codes "store") rows;
@@ -157,7 +162,12 @@ check_in rows = do
   directory ← first_of (codes "directory") rows
   host ← first_of (codes "host") rows
   relay_key ← any_key_in rows
-  Some (record { directory = directory; host = host; relay_key = relay_key })
+  Some (record {
+    directory = directory;
+    keys = first_of (codes "keys") rows;
+    host = host;
+    relay_key = relay_key;
+  })
 
 abbrev pub telling_in : List Row → Option TellingGiven
 telling_in rows = do

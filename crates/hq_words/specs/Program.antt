@@ -40,7 +40,8 @@ word_shape name rules = record (new_shape name) { rules = rules }
 
 abbrev pub serve_shape : Shape
 serve_shape = word_shape (codes "serve")
-    (needed (codes "directory") ∷ needed (codes "host") ∷ optional (codes "relay-key")
+    (needed (codes "directory") ∷ optional (codes "keys") ∷ needed (codes "host")
+    ∷ optional (codes "relay-key")
     ∷ optional (codes "relay-key-file")
     ∷ optional (codes "store")
     ∷ default_rule (codes "listen") (codes "127.0.0.1:8025")
@@ -51,13 +52,15 @@ serve_shape = word_shape (codes "serve")
 
 abbrev pub batch_shape : Shape
 batch_shape = word_shape (codes "batch")
-    (needed (codes "directory") ∷ needed (codes "host") ∷ optional (codes "relay-key")
+    (needed (codes "directory") ∷ optional (codes "keys") ∷ needed (codes "host")
+    ∷ optional (codes "relay-key")
     ∷ optional (codes "relay-key-file")
     ∷ optional (codes "store") ∷ optional (codes "log") ∷ [])
 
 abbrev pub check_shape : Shape
 check_shape = word_shape (codes "check")
-    (needed (codes "directory") ∷ needed (codes "host") ∷ optional (codes "relay-key")
+    (needed (codes "directory") ∷ optional (codes "keys") ∷ needed (codes "host")
+    ∷ optional (codes "relay-key")
     ∷ optional (codes "relay-key-file") ∷ [])
 
 -- a word that tells of what a customer has: of all of it, or of what a pattern is for

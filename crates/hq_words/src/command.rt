@@ -93,6 +93,7 @@ fn serve<'w>(alloc: Global) -> Result<Command<'w>, AllocError>
         .about(SERVE)
         .after_help(AFTER_SERVE)
         .arg(option(alloc, "directory", "FILE", DIRECTORY, true))?
+        .arg(option(alloc, "keys", "FILE", KEYS, false))?
         .arg(option(alloc, "host", "HOST", HOST, true))?
         .arg(option(alloc, "relay-key", "KEY", RELAY_KEY, false))?
         .arg(option(alloc, "relay-key-file", "FILE", RELAY_KEY_FILE, false))?
@@ -113,6 +114,7 @@ fn batch<'w>(alloc: Global) -> Result<Command<'w>, AllocError>
         .about(BATCH)
         .after_help(AFTER_BATCH)
         .arg(option(alloc, "directory", "FILE", DIRECTORY, true))?
+        .arg(option(alloc, "keys", "FILE", KEYS, false))?
         .arg(option(alloc, "host", "HOST", HOST, true))?
         .arg(option(alloc, "relay-key", "KEY", RELAY_KEY, false))?
         .arg(option(alloc, "relay-key-file", "FILE", RELAY_KEY_FILE, false))?
@@ -129,6 +131,7 @@ fn check<'w>(alloc: Global) -> Result<Command<'w>, AllocError>
         .about(CHECK)
         .after_help(AFTER_CHECK)
         .arg(option(alloc, "directory", "FILE", DIRECTORY, true))?
+        .arg(option(alloc, "keys", "FILE", KEYS, false))?
         .arg(option(alloc, "host", "HOST", HOST, true))?
         .arg(option(alloc, "relay-key", "KEY", KEY_OR_NONE, false))?
         .arg(option(alloc, "relay-key-file", "FILE", RELAY_KEY_FILE, false))

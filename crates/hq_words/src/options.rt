@@ -27,6 +27,8 @@ pub enum RelayKey<'w> {
 pub struct Serve<'w> {
     /// The path of the file of the customers.
     pub directory: &'w str,
+    /// The path of the file of the keys that customers have beside their own, where there is one.
+    pub keys: Option<&'w str>,
     /// The name of the relay.
     pub host: &'w str,
     /// The key of the relay's workers.
@@ -50,6 +52,8 @@ pub struct Serve<'w> {
 pub struct Batch<'w> {
     /// The path of the file of the customers.
     pub directory: &'w str,
+    /// The path of the file of the keys that customers have beside their own, where there is one.
+    pub keys: Option<&'w str>,
     /// The name of the relay.
     pub host: &'w str,
     /// The key of the relay's workers.
@@ -65,6 +69,8 @@ pub struct Batch<'w> {
 pub struct Check<'w> {
     /// The path of the file of the customers.
     pub directory: &'w str,
+    /// The path of the file of the keys that customers have beside their own, where there is one.
+    pub keys: Option<&'w str>,
     /// The name of the relay.
     pub host: &'w str,
     /// The key of the relay's workers, where one is given.
@@ -177,6 +183,7 @@ pub(crate) fn serve_in<'w>(given: &ArgMatches<'w>) -> Option<Serve<'w>>
     ensures { ServeIs (serve_in (rows_of (found_of given.now))) result }
 {
     let directory = value(given, "directory")?;
+    let keys = value(given, "keys");
     let host = value(given, "host")?;
     let relay_key = one_key_in(given)?;
     let store = value(given, "store");
@@ -187,6 +194,7 @@ pub(crate) fn serve_in<'w>(given: &ArgMatches<'w>) -> Option<Serve<'w>>
     let log = value(given, "log");
     Some(Serve {
         directory,
+        keys,
         host,
         relay_key,
         store,
@@ -203,12 +211,14 @@ pub(crate) fn batch_in<'w>(given: &ArgMatches<'w>) -> Option<Batch<'w>>
     ensures { option_map given_of result ≡ batch_in (rows_of (found_of given.now)) }
 {
     let directory = value(given, "directory")?;
+    let keys = value(given, "keys");
     let host = value(given, "host")?;
     let relay_key = one_key_in(given)?;
     let store = value(given, "store");
     let log = value(given, "log");
     Some(Batch {
         directory,
+        keys,
         host,
         relay_key,
         store,
@@ -221,10 +231,12 @@ pub(crate) fn check_in<'w>(given: &ArgMatches<'w>) -> Option<Check<'w>>
     ensures { option_map check_of result ≡ check_in (rows_of (found_of given.now)) }
 {
     let directory = value(given, "directory")?;
+    let keys = value(given, "keys");
     let host = value(given, "host")?;
     let relay_key = any_key_in(given)?;
     Some(Check {
         directory,
+        keys,
         host,
         relay_key,
     })

@@ -104,8 +104,9 @@ pub(crate) const AFTER_CHECK: &str = "\
 It reads what `serve` would read before it opens its store, and touches nothing else. Where all is
 good it prints how many customers there are: `3 customers`. Else it tells what a start would tell,
 as `hq: 53 BadDirectory row 3`, and, where a row of the directory is not good, the column and why:
-`hq: row 3, column bytes: no number from 1 to 2147483647000`. No key is printed. Without a key all
-but the key is checked.
+`hq: row 3, column bytes: no number from 1 to 2147483647000`. Of the file of `--keys` it tells
+`hq: keys row 2, column customer: not in the directory`. No key is printed. Without a key all but
+the key is checked.
 
 Examples:
   hq check --directory customers.csv --host relay.example
@@ -116,6 +117,12 @@ The customers: a CSV file of 1 to 1,000 rows under the header
 name,key,messages,bytes,lines,notices,delay; with ,history
 behind it where histories are kept. No default.
 Example: --directory customers.csv";
+
+pub(crate) const KEYS: &str = "\
+Keys that customers have beside their own: a CSV file of 1 to
+1,000 rows under the header customer,name,key,right. A right
+is all, or read: such a key changes nothing. By default there
+are none. Example: --keys keys.csv";
 
 pub(crate) const HOST: &str = "\
 The name of the relay, a domain. No default.

@@ -25,5 +25,5 @@ returns-in-None g c =
           c.refusal_reply.ensures.store;
       moment = refl;
       holds = inl refl;
-      customer = c.refusal_reply.ensures.customer;
+      whose = c.refusal_reply.ensures.whose;
     })

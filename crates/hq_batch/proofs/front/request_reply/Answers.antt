@@ -24,7 +24,7 @@ returns-in-Ok g c =
           (λ i. (is.0 i, call_from d (is.1 i) (is.2 i) (is.3 i) (is.4 i))) so.done;
       moment = refl;
       holds = (line_request c.args.line.now, refl, is);
-      customer = c.exchange-reply.ensures.customer;
+      whose = c.exchange-reply.ensures.whose;
     }
 
 pub returns-in-Err : goal.returns-in-Err
@@ -39,5 +39,5 @@ returns-in-Err g c =
           (wanted g.M.Memory.refused g.D.Acts.sight r c.in-Err.ensures c.fault_reply.ensures.told);
       moment = refl;
       holds = inr (c.fault_reply.ensures.told, refl);
-      customer = c.fault_reply.ensures.customer;
+      whose = c.fault_reply.ensures.whose;
     }

@@ -1,4 +1,4 @@
-use Rattle.std.proofs.Common.{arith, sym, subst, ◌∙◌}
+use Rattle.std.proofs.Common.{arith, ◌∙◌}
 use Rattle.hq_log.proofs.Shown.{shown_whole, shown_cut}
 use Rattle.hq_log.proofs.entry.shown.Goals as goal
 

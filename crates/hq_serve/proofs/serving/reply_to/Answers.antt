@@ -35,7 +35,7 @@ returns-in-Refused g c = λ a b h.
           (refused_so g.M.Memory.refused g.D.Acts.sight _ r c.refusal_reply.ensures.told)
           c.refusal_reply.ensures.store;
       holds = tt;
-      customer = c.refusal_reply.ensures.customer;
+      whose = c.refusal_reply.ensures.whose;
     }
 
 pub returns-in-NoRoom : goal.returns-in-NoRoom
@@ -51,7 +51,7 @@ returns-in-NoRoom g c = λ a b h. record {
     refl,
   );
   holds = tt;
-  customer = c.fault_reply.ensures.customer;
+  whose = c.fault_reply.ensures.whose;
 }
 
 pub returns-in-Request : goal.returns-in-Request
@@ -70,5 +70,5 @@ returns-in-Request g c = λ a b h.
           c.exchange_of-asked.ensures
           so.done;
       holds = c.exchange_of-asked.ensures;
-      customer = c.exchange-reply.ensures.customer;
+      whose = c.exchange-reply.ensures.whose;
     }

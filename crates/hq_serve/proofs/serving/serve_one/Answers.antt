@@ -34,7 +34,7 @@ returns-in-Ok-write_reply-clause-logged g c = λ keeps.
     let line = logged_as sight c.args.directory.now
     c.args.at _ _ c.args.desk.now
     c.reply_to.new.desk _ _ _ so.asked c.in-Some.replied c.answered.result so.reply _ _ so.sent
-    so.answered so.holds so.customer c.answered.ensures c.begin.ensures.losing
+    so.answered so.holds so.whose c.answered.ensures c.begin.ensures.losing
     c.begin.ensures.contents (c.replied.ensures keeps) in
     inr (
       line.0,
@@ -49,7 +49,7 @@ returns-clause-logged g c = λ keeps.
     let line = logged_as sight c.args.directory.now
     c.args.at _ _ c.args.desk.now
     c.reply_to.new.desk _ _ _ so.asked c.in-Some.replied c.answered.result so.reply _ _ so.sent
-    so.answered so.holds so.customer c.answered.ensures c.begin.ensures.losing
+    so.answered so.holds so.whose c.answered.ensures c.begin.ensures.losing
     c.begin.ensures.contents (c.replied.ensures keeps) in (
       line.0,
       part_as _ _ c.in-Some.replied.reply line.0 line.1 c.in-Err-write_reply.ensures,

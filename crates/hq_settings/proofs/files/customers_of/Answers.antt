@@ -5,11 +5,15 @@ use Rattle.hq_settings.specs.declared.trouble.Trouble.TheVariants.{Desk}
 use Rattle.hq_settings.proofs.Failing.{failed}
 use Rattle.hq_settings.proofs.files.customers_of.Goals as goal
 
-pub returns-in_err-file : goal.returns-in_err-file
-returns-in_err-file c = (Err c.in_err-file.field-0.0, c.in_err-file.ensures, search rules)
+pub returns-in_err-file-clause-customers : goal.returns-in_err-file-clause-customers
+returns-in_err-file-clause-customers c = (
+  Err c.in_err-file.field-0.0,
+  c.in_err-file.ensures,
+  search rules,
+)
 
-pub returns-in_err-directory_of : goal.returns-in_err-directory_of
-returns-in_err-directory_of c =
+pub returns-in_err-directory_of-clause-customers : goal.returns-in_err-directory_of-clause-customers
+returns-in_err-directory_of-clause-customers c =
     let told : c.from_residual-in_err-directory_of.result ≡ Err
     (Desk c.in_err-directory_of.field-0.0) = search rules in
     let fails : Fails c.in_err-directory_of.field-0.0 (customers_in c.in_ok-file.file.items) =
@@ -17,5 +21,5 @@ returns-in_err-directory_of c =
     c.as_slice.ensures.value (failed _ _ _ c.in_err-directory_of.ensures.customers) in
     (Ok c.in_ok-file.file.items, tt, rw told fails)
 
-pub returns : goal.returns
-returns c = (Ok c.in_ok-file.file.items, tt, search rules)
+pub returns-clause-customers : goal.returns-clause-customers
+returns-clause-customers c = (Ok c.in_ok-file.file.items, tt, search rules)

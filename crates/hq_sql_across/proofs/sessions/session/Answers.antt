@@ -9,7 +9,7 @@ use Rattle.hq_desk.specs.Desks.{host_of, on, shelf_of}
 use Rattle.hq_wire.specs.Exchanges.{ask_of}
 use Rattle.hq_wire.specs.Exchanges.{with_refusals}
 use Rattle.hq_wire.specs.Runs.{RunsSo}
-use Rattle.hq_requests.specs.Named.{customer_told}
+use Rattle.hq_requests.specs.Named.{whose_told}
 use Rattle.hq_requests.specs.declared.reply.Reply.{Reply}
 use Rattle.hq_across.specs.Histories.{Passed, Session}
 use Rattle.hq_sql_shelf.specs.declared.shelf.SqlShelf.{SqlShelf}
@@ -45,8 +45,8 @@ returns-in-Err-clause-customers g c = inl c.new.ensures.items
 
 pub returns-clause-customers : goal.returns-clause-customers
 returns-clause-customers g c = elim c.match-run.branch [
-  | in-Ok-run w ↦ inr (ap (λ v. map customer_told v.items) w.replies-is
-      ∙ w.in-Ok-run.ensures.customers)
+  | in-Ok-run w ↦ inr (ap (λ v. map whose_told v.items) w.replies-is
+      ∙ w.in-Ok-run.ensures.whose)
   | in-Err-run w ↦ inl (ap (λ v. v.items) w.replies-is ∙ w.new-replies.ensures.items)
 ]
 

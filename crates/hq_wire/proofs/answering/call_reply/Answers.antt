@@ -29,7 +29,7 @@ returns-in-Ok-clause-done g c = λ d entry.
     let old = g.D.Acts.sight.store.fault_count c.args.desk.now in
     let new = g.D.Acts.sight.store.fault_count c.act.new.self in
     let sight = with_refusals g.M.Memory.refused g.D.Acts.sight in
-    let called : Result Asked Refusal = Ok (CallOf c.args.entry.now.name c.args.call) in
+    let called : Result Asked Refusal = Ok (CallOf c.args.caller.entry.now.name c.args.call) in
     let told = plain (status_of number) c.in-Ok.rendered.bytes.items in
     let host = sight.host c.args.desk.now in
     let replied : OnOpenSound sight.store c.args.desk.now c.act.new.self
@@ -67,7 +67,7 @@ returns-in-Err-clause-done g c = λ d entry.
     let sight = with_refusals g.M.Memory.refused g.D.Acts.sight in
     let fault = c.in-Err.fault in
     let r = seen c.fault_reply.result in
-    let none = no_deeds fault c.args.at (Ok (CallOf c.args.entry.now.name c.args.call)) r
+    let none = no_deeds fault c.args.at (Ok (CallOf c.args.caller.entry.now.name c.args.call)) r
     c.fault_reply.ensures.told in
     let kept = rendered_all g.M.Memory.refused g.D.Acts.sight _ _ _ _ (λ answer told. tt)
     c.in-Err.ensures.kept in
@@ -86,7 +86,7 @@ returns-in-Err-clause-done g c = λ d entry.
       sound = search rules;
       stays = search rules;
       stops = λ clean ours fit rests. leaves_one sight.store (sight.host c.args.desk.now) d
-          c.args.desk.now c.act.new.self c.args.entry.now c.args.at c.args.call r none entry
+          c.args.desk.now c.act.new.self c.args.caller.entry.now c.args.at c.args.call r none entry
           (c.in-Err.ensures.stops clean ours fit rests);
       shut = λ closed. none;
       counted = counts_told fault _ _ _ _ r c.in-Err.ensures.kept.tally

@@ -2,9 +2,9 @@ use Rattle.std.proofs.Common.{◌≡◌, Result, Ok, Err, refl, sym, ap, ◌∙�
 use Rattle.hq_values.specs.Readers.{ReadsIn}
 use Rattle.hq_values.specs.declared.failure.Refusal.{Refusal}
 use Rattle.hq_requests.specs.Spans.{whom_seen}
-use Rattle.hq_requests.specs.Calls.{Asked, CallOf, CallOfAll, IsKnown, asked_seen, call_of}
+use Rattle.hq_requests.specs.Calls.{Asked, CallOf, CallOfAll, IsAskedBy, IsKnown, asked_seen}
+use Rattle.hq_requests.specs.Calls.{call_of}
 use Rattle.hq_rules.specs.Each.{each_call}
-use Rattle.hq_requests.proofs.Whose.{whose_all, whose_call}
 use Rattle.hq_wire.specs.Exchanges.{Exchanged, ask_of, with_refusals}
 use Rattle.hq_wire.specs.Replies.{seen, reply_of_fault}
 use Rattle.hq_wire.proofs.Exchanging.{no_room, refused, refused_so, wanted}
@@ -19,7 +19,8 @@ returns-in-Ok-CallOf-clause-done g c =
     let old = c.args.desk.now in
     let new = c.call_reply.new.desk in
     let r = seen c.call_reply.result in
-    let called : call_of d x ≡ Ok (CallOf c.in-Ok-CallOf.entry.now.name c.in-Ok-CallOf.call) =
+    let called : call_of d x
+    ≡ Ok (CallOf c.in-Ok-CallOf.caller.entry.now.name c.in-Ok-CallOf.call) =
     c.in-Ok-CallOf.ensures.call ∙ (λ i. Ok (asked_seen (c.in-Ok-CallOf.field-0-is i))) in
     let done = c.call_reply.ensures.done d
     (subst (IsKnown d) c.in-Ok-CallOf.field-0-is c.in-Ok-CallOf.ensures.known) in
@@ -73,15 +74,12 @@ returns-in-Err-Fault-clause-done g c =
     (no_room sight d desk (ask_of d x) r (wanted g.M.Memory.refused g.D.Acts.sight r want.1
     (c.fault_reply.ensures.told ∙ ap reply_of_fault want.0)))
 
-pub returns-in-Ok-CallOf-clause-customer : goal.returns-in-Ok-CallOf-clause-customer
-returns-in-Ok-CallOf-clause-customer g c = c.call_reply.ensures.customer
-    ∙ sym (whose_call c.args.directory.now c.args.exchange.now c.in-Ok-CallOf.entry.now.name
-    c.in-Ok-CallOf.call (c.in-Ok-CallOf.ensures.call
-    ∙ (λ i. Ok (asked_seen (c.in-Ok-CallOf.field-0-is i)))))
+pub returns-in-Ok-CallOf-clause-whose : goal.returns-in-Ok-CallOf-clause-whose
+returns-in-Ok-CallOf-clause-whose g c = c.call_reply.ensures.whose
+    ∙ sym (subst (IsAskedBy c.args.directory.now c.args.exchange.now) c.in-Ok-CallOf.field-0-is
+    c.in-Ok-CallOf.ensures.caller)
 
-pub returns-in-Ok-CallOfAll-clause-customer : goal.returns-in-Ok-CallOfAll-clause-customer
-returns-in-Ok-CallOfAll-clause-customer g c =
-    c.call_all.ensures.customer
-    ∙ sym (whose_all c.args.directory.now c.args.exchange.now
-    (whom_seen c.in-Ok-CallOfAll.span) (each_call c.in-Ok-CallOfAll.each)
-    (c.in-Ok-CallOfAll.ensures.call ∙ (λ i. Ok (asked_seen (c.in-Ok-CallOfAll.field-0-is i)))))
+pub returns-in-Ok-CallOfAll-clause-whose : goal.returns-in-Ok-CallOfAll-clause-whose
+returns-in-Ok-CallOfAll-clause-whose g c = c.call_all.ensures.whose
+    ∙ sym (subst (IsAskedBy c.args.directory.now c.args.exchange.now) c.in-Ok-CallOfAll.field-0-is
+    c.in-Ok-CallOfAll.ensures.caller)

@@ -4,7 +4,7 @@ use Rattle.std.proofs.lemmas.List.{take_all, take_more, map-append}
 use Rattle.std.proofs.lemmas.Slice.Zip.{all_zipped_more}
 use Rattle.hq_values.specs.Turns.{InTurn}
 use Rattle.hq_values.proofs.Turns.{turns_on, one_turn}
-use Rattle.hq_requests.specs.Named.{customer_of_exchange, customer_told}
+use Rattle.hq_requests.specs.Named.{whose_exchange, whose_told}
 use Rattle.hq_wire.specs.Exchanges.{Exchanged, ask_of, with_refusals}
 use Rattle.hq_wire.specs.Replies.{IsSent}
 use Rattle.hq_wire.proofs.Serving.{served}
@@ -13,7 +13,7 @@ use Rattle.hq_wire.proofs.headline.run.Goals as goal
 pub loop-item-init : goal.loop-item-init
 loop-item-init g c = record {
   each = ([], subst (λ rs. AllZip IsSent rs []) (sym c.in_ok-replies.ensures.items) tt, refl);
-  customers = ap (map customer_told) c.in_ok-replies.ensures.items;
+  whose = ap (map whose_told) c.in_ok-replies.ensures.items;
   count = c.in_ok-replies.ensures.room.0;
   room = c.in_ok-replies.ensures.room.1;
 }
@@ -28,7 +28,7 @@ loop-item-preserved g c =
     let reply = c.exchange-reply.result in
     let so = c.exchange-reply.ensures.done in
     let pushed = c.push_reserved.ensures in
-    let whose = customer_of_exchange d in
+    let whose = whose_exchange d in
     let was = c.loop-item.invariant.each in
     let told = was.0 ++ so.told ∷ [] in
     let whole : take (i + 1) xs ≡ take i xs ++ item ∷ [] =
@@ -49,22 +49,22 @@ loop-item-preserved g c =
         subst (λ asks. InTurn step c.args.desk.now asks told c.exchange-reply.new.desk) (sym asked)
             more,
       );
-      customers = ap (map customer_told) pushed.items
-          ∙ map-append customer_told c.loop-item.replies.items (reply ∷ [])
-          ∙ ap (λ ys. ys ++ customer_told reply ∷ [])
-          c.loop-item.invariant.customers
+      whose = ap (map whose_told) pushed.items
+          ∙ map-append whose_told c.loop-item.replies.items (reply ∷ [])
+          ∙ ap (λ ys. ys ++ whose_told reply ∷ [])
+          c.loop-item.invariant.whose
           ∙ ap (λ y. map whose (take i xs) ++ y ∷ [])
-          c.exchange-reply.ensures.customer
+          c.exchange-reply.ensures.whose
           ∙ sym (ap (map whose) whole
           ∙ map-append whose (take i xs) (item ∷ []));
       count = omega (arith, pushed.len);
       room = omega (arith, pushed.capacity);
     }
 
-pub returns-clause-customers : goal.returns-clause-customers
-returns-clause-customers g c =
-    c.loop-item.invariant.customers
-    ∙ ap (map (customer_of_exchange c.args.directory.now))
+pub returns-clause-whose : goal.returns-clause-whose
+returns-clause-whose g c =
+    c.loop-item.invariant.whose
+    ∙ ap (map (whose_exchange c.args.directory.now))
     (take_all c.loop-item.item-index c.args.exchanges.now (omega arith))
 
 pub returns-clause-served : goal.returns-clause-served

@@ -1,4 +1,4 @@
-use Rattle.std.proofs.Common.{◌≡◌, ◌++◌, ◌∷◌, [], codes, append_assoc, sym, ap, ◌∙◌}
+use Rattle.std.proofs.Common.{◌++◌, codes, append_assoc, sym, ap, ◌∙◌}
 use Rattle.hq_wire.proofs.Written.{three}
 use Rattle.hq_wire.proofs.parted.put_next_name.Goals as goal
 

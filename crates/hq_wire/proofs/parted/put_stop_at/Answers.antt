@@ -1,4 +1,4 @@
-use Rattle.std.proofs.Common.{◌≡◌, ◌++◌, codes, drop, ap, ◌∙◌}
+use Rattle.std.proofs.Common.{◌++◌, codes, drop, ap, ◌∙◌}
 use Rattle.hq_wire.specs.Replies.{fault_text}
 use Rattle.hq_wire.proofs.Written.{five}
 use Rattle.hq_wire.proofs.parted.put_stop_at.Goals as goal

@@ -11,25 +11,34 @@ returns-clause-shape c =
     let bare : app_of c.after_help.result ≡ new_app (codes "batch") =
     ap app_of_fields c.after_help.ensures ∙ ap app_of_fields c.about.ensures
     ∙ c.new.ensures.app in
-    let directory : rule_of c.option.result ≡ needed (codes "directory") = search rules in
-    let host : rule_of c.option-2.result ≡ needed (codes "host") = search rules in
-    let relay_key : rule_of c.option-3.result ≡ optional (codes "relay-key") = search rules in
-    let relay_key_file : rule_of c.option-4.result ≡ optional (codes "relay-key-file") =
+    let directory : rule_of c.option.result ≡ needed (codes "directory") =
     search rules in
-    let store : rule_of c.option-5.result ≡ optional (codes "store") = search rules in
-    let log : rule_of c.option-6.result ≡ optional (codes "log") = search rules in
+    let keys : rule_of c.option-2.result ≡ optional (codes "keys") =
+    search rules in
+    let host : rule_of c.option-3.result ≡ needed (codes "host") =
+    search rules in
+    let relay_key : rule_of c.option-4.result ≡ optional (codes "relay-key") =
+    search rules in
+    let relay_key_file : rule_of c.option-5.result ≡ optional (codes "relay-key-file") =
+    search rules in
+    let store : rule_of c.option-6.result ≡ optional (codes "store") =
+    search rules in
+    let log : rule_of c.option-7.result ≡ optional (codes "log") =
+    search rules in
     let one = c.in_ok-arg.ensures.shape c.option.ensures.local
     ∙ ap₂ with_rule bare directory in
     let two = c.in_ok-arg-2.ensures.shape c.option-2.ensures.local
-    ∙ ap₂ with_rule one host in
+    ∙ ap₂ with_rule one keys in
     let three = c.in_ok-arg-3.ensures.shape c.option-3.ensures.local
-    ∙ ap₂ with_rule two relay_key in
+    ∙ ap₂ with_rule two host in
     let four = c.in_ok-arg-4.ensures.shape c.option-4.ensures.local
-    ∙ ap₂ with_rule three relay_key_file in
+    ∙ ap₂ with_rule three relay_key in
     let five = c.in_ok-arg-5.ensures.shape c.option-5.ensures.local
-    ∙ ap₂ with_rule four store in
-    IfOk-weaker c.arg-6.result _ _ (λ made added. ap (λ (a : App). a.top)
-    (added.shape c.option-6.ensures.local ∙ ap₂ with_rule five log)) c.arg-6.ensures
+    ∙ ap₂ with_rule four relay_key_file in
+    let six = c.in_ok-arg-6.ensures.shape c.option-6.ensures.local
+    ∙ ap₂ with_rule five store in
+    IfOk-weaker c.arg-7.result _ _ (λ made added. ap (λ (a : App). a.top)
+    (added.shape c.option-7.ensures.local ∙ ap₂ with_rule six log)) c.arg-7.ensures
 
 pub returns-clause-local : goal.returns-clause-local
 returns-clause-local c =
@@ -46,5 +55,7 @@ returns-clause-local c =
     ∙ ap₂ (λ (x y : Bool). x || y) three c.option-4.ensures.local in
     let five = c.in_ok-arg-5.ensures.globals
     ∙ ap₂ (λ (x y : Bool). x || y) four c.option-5.ensures.local in
-    IfOk-weaker c.arg-6.result _ _ (λ made added. added.globals
-    ∙ ap₂ (λ (x y : Bool). x || y) five c.option-6.ensures.local) c.arg-6.ensures
+    let six = c.in_ok-arg-6.ensures.globals
+    ∙ ap₂ (λ (x y : Bool). x || y) five c.option-6.ensures.local in
+    IfOk-weaker c.arg-7.result _ _ (λ made added. added.globals
+    ∙ ap₂ (λ (x y : Bool). x || y) six c.option-7.ensures.local) c.arg-7.ensures

@@ -11,19 +11,26 @@ returns-clause-shape c =
     let bare : app_of c.after_help.result ≡ new_app (codes "check") =
     ap app_of_fields c.after_help.ensures ∙ ap app_of_fields c.about.ensures
     ∙ c.new.ensures.app in
-    let directory : rule_of c.option.result ≡ needed (codes "directory") = search rules in
-    let host : rule_of c.option-2.result ≡ needed (codes "host") = search rules in
-    let relay_key : rule_of c.option-3.result ≡ optional (codes "relay-key") = search rules in
-    let relay_key_file : rule_of c.option-4.result ≡ optional (codes "relay-key-file") =
+    let directory : rule_of c.option.result ≡ needed (codes "directory") =
+    search rules in
+    let keys : rule_of c.option-2.result ≡ optional (codes "keys") =
+    search rules in
+    let host : rule_of c.option-3.result ≡ needed (codes "host") =
+    search rules in
+    let relay_key : rule_of c.option-4.result ≡ optional (codes "relay-key") =
+    search rules in
+    let relay_key_file : rule_of c.option-5.result ≡ optional (codes "relay-key-file") =
     search rules in
     let one = c.in_ok-arg.ensures.shape c.option.ensures.local
     ∙ ap₂ with_rule bare directory in
     let two = c.in_ok-arg-2.ensures.shape c.option-2.ensures.local
-    ∙ ap₂ with_rule one host in
+    ∙ ap₂ with_rule one keys in
     let three = c.in_ok-arg-3.ensures.shape c.option-3.ensures.local
-    ∙ ap₂ with_rule two relay_key in
-    IfOk-weaker c.arg-4.result _ _ (λ made added. ap (λ (a : App). a.top)
-    (added.shape c.option-4.ensures.local ∙ ap₂ with_rule three relay_key_file)) c.arg-4.ensures
+    ∙ ap₂ with_rule two host in
+    let four = c.in_ok-arg-4.ensures.shape c.option-4.ensures.local
+    ∙ ap₂ with_rule three relay_key in
+    IfOk-weaker c.arg-5.result _ _ (λ made added. ap (λ (a : App). a.top)
+    (added.shape c.option-5.ensures.local ∙ ap₂ with_rule four relay_key_file)) c.arg-5.ensures
 
 pub returns-clause-local : goal.returns-clause-local
 returns-clause-local c =
@@ -36,5 +43,7 @@ returns-clause-local c =
     ∙ ap₂ (λ (x y : Bool). x || y) one c.option-2.ensures.local in
     let three = c.in_ok-arg-3.ensures.globals
     ∙ ap₂ (λ (x y : Bool). x || y) two c.option-3.ensures.local in
-    IfOk-weaker c.arg-4.result _ _ (λ made added. added.globals
-    ∙ ap₂ (λ (x y : Bool). x || y) three c.option-4.ensures.local) c.arg-4.ensures
+    let four = c.in_ok-arg-4.ensures.globals
+    ∙ ap₂ (λ (x y : Bool). x || y) three c.option-4.ensures.local in
+    IfOk-weaker c.arg-5.result _ _ (λ made added. added.globals
+    ∙ ap₂ (λ (x y : Bool). x || y) four c.option-5.ensures.local) c.arg-5.ensures

@@ -11,33 +11,42 @@ returns-clause-shape c =
     let bare : app_of c.after_help.result ≡ new_app (codes "serve") =
     ap app_of_fields c.after_help.ensures ∙ ap app_of_fields c.about.ensures
     ∙ c.new.ensures.app in
-    let directory : rule_of c.option.result ≡ needed (codes "directory") = search rules in
-    let host : rule_of c.option-2.result ≡ needed (codes "host") = search rules in
-    let relay_key : rule_of c.option-3.result ≡ optional (codes "relay-key") = search rules in
-    let relay_key_file : rule_of c.option-4.result ≡ optional (codes "relay-key-file") =
+    let directory : rule_of c.option.result ≡ needed (codes "directory") =
     search rules in
-    let store : rule_of c.option-5.result ≡ optional (codes "store") = search rules in
-    let log : rule_of c.option-6.result ≡ optional (codes "log") = search rules in
+    let keys : rule_of c.option-2.result ≡ optional (codes "keys") =
+    search rules in
+    let host : rule_of c.option-3.result ≡ needed (codes "host") =
+    search rules in
+    let relay_key : rule_of c.option-4.result ≡ optional (codes "relay-key") =
+    search rules in
+    let relay_key_file : rule_of c.option-5.result ≡ optional (codes "relay-key-file") =
+    search rules in
+    let store : rule_of c.option-6.result ≡ optional (codes "store") =
+    search rules in
+    let log : rule_of c.option-7.result ≡ optional (codes "log") =
+    search rules in
     let one = c.in_ok-arg.ensures.shape c.option.ensures.local
     ∙ ap₂ with_rule bare directory in
     let two = c.in_ok-arg-2.ensures.shape c.option-2.ensures.local
-    ∙ ap₂ with_rule one host in
+    ∙ ap₂ with_rule one keys in
     let three = c.in_ok-arg-3.ensures.shape c.option-3.ensures.local
-    ∙ ap₂ with_rule two relay_key in
+    ∙ ap₂ with_rule two host in
     let four = c.in_ok-arg-4.ensures.shape c.option-4.ensures.local
-    ∙ ap₂ with_rule three relay_key_file in
+    ∙ ap₂ with_rule three relay_key in
     let five = c.in_ok-arg-5.ensures.shape c.option-5.ensures.local
-    ∙ ap₂ with_rule four store in
-    let six = c.in_ok-arg-6.ensures.shape c.defaulted.ensures.local
-    ∙ ap₂ with_rule five c.defaulted.ensures.rule in
-    let seven = c.in_ok-arg-7.ensures.shape c.count.ensures.local
-    ∙ ap₂ with_rule six c.count.ensures.rule in
-    let eight = c.in_ok-arg-8.ensures.shape c.seconds.ensures.local
-    ∙ ap₂ with_rule seven c.seconds.ensures.rule in
-    let nine = c.in_ok-arg-9.ensures.shape c.seconds-2.ensures.local
-    ∙ ap₂ with_rule eight c.seconds-2.ensures.rule in
-    IfOk-weaker c.arg-10.result _ _ (λ made added. ap (λ (a : App). a.top)
-    (added.shape c.option-6.ensures.local ∙ ap₂ with_rule nine log)) c.arg-10.ensures
+    ∙ ap₂ with_rule four relay_key_file in
+    let six = c.in_ok-arg-6.ensures.shape c.option-6.ensures.local
+    ∙ ap₂ with_rule five store in
+    let seven = c.in_ok-arg-7.ensures.shape c.defaulted.ensures.local
+    ∙ ap₂ with_rule six c.defaulted.ensures.rule in
+    let eight = c.in_ok-arg-8.ensures.shape c.count.ensures.local
+    ∙ ap₂ with_rule seven c.count.ensures.rule in
+    let nine = c.in_ok-arg-9.ensures.shape c.seconds.ensures.local
+    ∙ ap₂ with_rule eight c.seconds.ensures.rule in
+    let ten = c.in_ok-arg-10.ensures.shape c.seconds-2.ensures.local
+    ∙ ap₂ with_rule nine c.seconds-2.ensures.rule in
+    IfOk-weaker c.arg-11.result _ _ (λ made added. ap (λ (a : App). a.top)
+    (added.shape c.option-7.ensures.local ∙ ap₂ with_rule ten log)) c.arg-11.ensures
 
 pub returns-clause-local : goal.returns-clause-local
 returns-clause-local c =
@@ -55,12 +64,14 @@ returns-clause-local c =
     let five = c.in_ok-arg-5.ensures.globals
     ∙ ap₂ (λ (x y : Bool). x || y) four c.option-5.ensures.local in
     let six = c.in_ok-arg-6.ensures.globals
-    ∙ ap₂ (λ (x y : Bool). x || y) five c.defaulted.ensures.local in
+    ∙ ap₂ (λ (x y : Bool). x || y) five c.option-6.ensures.local in
     let seven = c.in_ok-arg-7.ensures.globals
-    ∙ ap₂ (λ (x y : Bool). x || y) six c.count.ensures.local in
+    ∙ ap₂ (λ (x y : Bool). x || y) six c.defaulted.ensures.local in
     let eight = c.in_ok-arg-8.ensures.globals
-    ∙ ap₂ (λ (x y : Bool). x || y) seven c.seconds.ensures.local in
+    ∙ ap₂ (λ (x y : Bool). x || y) seven c.count.ensures.local in
     let nine = c.in_ok-arg-9.ensures.globals
-    ∙ ap₂ (λ (x y : Bool). x || y) eight c.seconds-2.ensures.local in
-    IfOk-weaker c.arg-10.result _ _ (λ made added. added.globals
-    ∙ ap₂ (λ (x y : Bool). x || y) nine c.option-6.ensures.local) c.arg-10.ensures
+    ∙ ap₂ (λ (x y : Bool). x || y) eight c.seconds.ensures.local in
+    let ten = c.in_ok-arg-10.ensures.globals
+    ∙ ap₂ (λ (x y : Bool). x || y) nine c.seconds-2.ensures.local in
+    IfOk-weaker c.arg-11.result _ _ (λ made added. added.globals
+    ∙ ap₂ (λ (x y : Bool). x || y) ten c.option-7.ensures.local) c.arg-11.ensures

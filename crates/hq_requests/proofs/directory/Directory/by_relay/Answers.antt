@@ -1,7 +1,7 @@
 use Rattle.std.proofs.Common.{◌≡◌, Some, sym, ap, ◌∙◌}
 use Rattle.std.specs.List.{find}
 use Rattle.hq_requests.specs.Customers.{has_name}
-use Rattle.hq_requests.proofs.Entries.{entry_found}
+use Rattle.hq_requests.proofs.Entries.{entry_held}
 use Rattle.hq_requests.proofs.directory.Directory.by_relay.Goals as goal
 
 pub returns-in-Some-clause-entry : goal.returns-in-Some-clause-entry
@@ -9,5 +9,5 @@ returns-in-Some-clause-entry c =
     let customer = c.in-Some.customer.now in
     let found : find (has_name c.args.segment.now) c.args.self.now.customers ≡ Some customer =
     sym (c.in-Some.ensures ∙ ap (find (has_name c.args.segment.now)) c.as_slice.ensures) in
-    sym (entry_found (has_name c.args.segment.now) c.args.self.now.customers customer
-    c.args.self.now.apart found)
+    entry_held (has_name c.args.segment.now) c.args.self.now.customers customer
+    c.in_full.result.caller.entry.now c.args.self.now.apart found c.in_full.ensures.entry
