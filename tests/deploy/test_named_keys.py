@@ -38,8 +38,8 @@ def settings_of(place, name="north"):
 
 def starts(place, name="north"):
     """A desk starts by its files as they stand, with the words that its settings have for named keys."""
-    words = [place.bin / "hq", "check", "--directory", place.folder / f"{name}.csv", "--host", "relay.example", "--relay-key-file",
-             place.folder / f"{name}.key"]
+    words = [place.bin / "hq", "check", "--directory", place.folder / f"{name}.csv", "--host", "relay.example",
+             "--relay-key-file", place.folder / f"{name}.key"]
     words += [it[len("KEYS="):] for it in settings_of(place, name).splitlines() if it.startswith("KEYS=")]
     ended = subprocess.run(words, capture_output=True, text=True, timeout=LONGEST, stdin=subprocess.DEVNULL)
     expect((ended.returncode, ended.stderr) == (0, ""), "a start says", ended)
@@ -51,11 +51,12 @@ def test_added(place):
     panel = place.done("add-key", "acme", "panel").strip()
     report = place.done("add-key", "acme", "report-1", "--read").strip()
     birch = place.done("add-key", "birch", "panel").strip()
-    expect(len({panel, report, birch}) == 3 and all(len(it) == 40 and it.isalnum() for it in (panel, report, birch)), "keys are",
-           panel, report, birch)
-    expect(keys_of(place) == [["acme", "panel", panel, "all"], ["acme", "report-1", report, "read"], ["birch", "panel", birch, "all"]],
-           "the rows are", keys_of(place))
-    expect(settings_of(place) == f"# ours\n{SETTINGS}\nKEYS=--keys={place.folder}/north.keys.csv\n", "settings are", settings_of(place))
+    expect(len({panel, report, birch}) == 3 and all(len(it) == 40 and it.isalnum() for it in (panel, report, birch)),
+           "keys are", panel, report, birch)
+    wanted = [["acme", "panel", panel, "all"], ["acme", "report-1", report, "read"], ["birch", "panel", birch, "all"]]
+    expect(keys_of(place) == wanted, "the rows are", keys_of(place))
+    expect(settings_of(place) == f"# ours\n{SETTINGS}\nKEYS=--keys={place.folder}/north.keys.csv\n", "settings are",
+           settings_of(place))
     texts = {name: text.decode() for name, text in place.files().items()}
     for key, name in ((panel, "acme"), (report, "acme"), (birch, "birch"), ("acmekey000000001", "acme")):
         expect(f"{key} {name};\n" in texts["keys.map"], "the map lacks a key of", name)
@@ -71,7 +72,8 @@ def test_listed(place):
     expect("key" not in place.done("list"), "there is a key")
     keys = [place.done("add-key", "acme", it, *more).strip() for it, more in (("panel", []), ("report", ["--read"]))]
     acme, birch = place.done("list").splitlines()
-    expect(acme.endswith(", delay 14400, key panel all, key report read") and birch.endswith(", delay 0"), "listed is", acme, birch)
+    expect(acme.endswith(", delay 14400, key panel all, key report read") and birch.endswith(", delay 0"), "listed is",
+           acme, birch)
     expect(not any(it in acme for it in (*keys, "acmekey000000001")), "a key is listed:", acme)
 
 
@@ -106,7 +108,8 @@ def test_with_its_customer(place):
 
 
 BAD = [
-    (["add-key", "nobody", "panel"], "there is no customer nobody"), (["add-key", "acme", "panel"], "acme has a key panel already"),
+    (["add-key", "nobody", "panel"], "there is no customer nobody"),
+    (["add-key", "acme", "panel"], "acme has a key panel already"),
     (["add-key", "acme", "Panel"], "'Panel' is no name of a key"), (["add-key", "acme", "p" * 33], "is no name of a key"),
     (["add-key", "acme", ""], "is no name of a key"), (["add-key", "acme", "a,b"], "is no name of a key"),
     (["drop-key", "nobody", "panel"], "there is no customer nobody"), (["drop-key", "acme", "none"], "acme has no key none"),
@@ -135,7 +138,8 @@ def test_refused_files(place):
     for text, told in (("customer,key\n", "is no file of named keys"), (f"{NAMED}acme,panel\n", "is no file of named keys"),
                        (f"{NAMED}cedar,panel,namedkey00000001,all\n", "keys row 1, column customer: not in the directory"),
                        (f"{NAMED}acme,a,namedkey00000001,all\nacme,b,birchkey00000001,all\n", "keys row 2, column key: "),
-                       (f"{NAMED}acme,a,{RELAY},all\n", "57 BadRelayKey"), (f"{NAMED}acme,a,namedkey00000001,write\n", "column right")):
+                       (f"{NAMED}acme,a,{RELAY},all\n", "57 BadRelayKey"),
+                       (f"{NAMED}acme,a,namedkey00000001,write\n", "column right")):
         path.write_text(text)
         refused(place, ["add-key", "birch", "panel"], told)
         refused(place, ["set", "birch", "--lines", "7"], told)
@@ -157,7 +161,8 @@ def test_maps_by_hand(place):
     wanted = "acmekey000000001 acme;\nbirchkey00000001 birch;\nnamedkey00000001 birch;\n"
     expect((place.folder / "keys.map").read_text() == wanted, "the map is", (place.folder / "keys.map").read_text())
     for row, told in (("cedar,panel,namedkey00000001,all", "'cedar' is not in the directory"),
-                      ("acme,panel,short,all", "a row of 'acme' has no key"), ("acme,panel,BIRCHKEY00000001,all", "has a key of an earlier one")):
+                      ("acme,panel,short,all", "a row of 'acme' has no key"),
+                      ("acme,panel,BIRCHKEY00000001,all", "has a key of an earlier one")):
         (place.folder / "north.keys.csv").write_text(f"{NAMED}{row}\n")
         expect(mapped().returncode == 1 and told in mapped().stderr, row, "is told as", mapped())
     expect((place.folder / "keys.map").read_text() == wanted, "what is refused is in the map")
@@ -173,7 +178,8 @@ def stopped_at_each_step(place, words, back):
         starts(place)
         place.done("list")
         starts(place)
-        has = [bool(keys_of(place)), "\nKEYS=" in settings_of(place), len((place.folder / "keys.map").read_text().splitlines()) == 3]
+        mapped = (place.folder / "keys.map").read_text().splitlines()
+        has = [bool(keys_of(place)), "\nKEYS=" in settings_of(place), len(mapped) == 3]
         expect(len(set(has)) == 1, words, "step", number, "left half of it:", has)
         expect(not [it for it in place.files() if ".customers" in it], "step", number, "left", place.files().keys())
         left.add(has[0])
