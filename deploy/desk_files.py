@@ -1,9 +1,10 @@
 """The files of /etc/hq that say who is a customer, for the scripts beside it: read, tried, and written all or none.
 
-`NAME.csv` of each desk is the directory that it serves, and `senders.csv` has the logins and domains of the
-worker. Made of these are the worker's copy of the directories, which has no key (`relay.csv`), and the maps
-of nginx. What is to be written stands beside each file first, synced; a file `.customers.whole` then says
-that all of it is there, and each takes its place. Whoever comes next ends what was stopped between.
+`NAME.csv` of each desk is the directory that it serves, `NAME.keys.csv` its named keys, where it has any, and
+`senders.csv` has the logins and domains of the worker. Made of these are the worker's copy of the directories,
+which has no key (`relay.csv`), the maps of nginx, and the line of `NAME.env` by which a desk gets its named keys.
+What is to be written stands beside each file first, synced; a file `.customers.whole` then says that all of it
+is there, and each takes its place. Whoever comes next ends what was stopped between.
 """
 import contextlib
 import csv
@@ -23,8 +24,11 @@ from typing import Dict, Iterator, List, Optional, Tuple
 
 COLUMNS = ["name", "key", "messages", "bytes", "lines", "notices", "delay"]
 FURTHER = "history"
+# The end of the name of a file of named keys, and the name of the setting that has a desk read it.
+KEYS, SETTING = ".keys.csv", "KEYS"
+NAMED = ["customer", "name", "key", "right"]
 SENDERS = ["kind", "name", "customer"]
-LOCK, WHOLE, BESIDE, TRIAL = ".customers.lock", ".customers.whole", ".customers-new", ".customers-trial-"
+LOCK, WHOLE, BESIDE, GONE, TRIAL = ".customers.lock", ".customers.whole", ".customers-new", ".customers-gone", ".customers-trial-"
 # In seconds: how long another one may have the lock, and what a command may take.
 PATIENCE, LONGEST = 60, 120
 # So many seconds a `deliver` that has little under way takes to go by other tables.
@@ -53,13 +57,18 @@ def locked(folder: Path) -> Iterator[None]:
 
 
 def finish(folder: Path) -> None:
-    """Puts what was written whole in its place, and removes what was not."""
+    """Puts what was written whole in its place, and removes what was not. A desk that starts meanwhile takes its files: no key
+    stands there without its customer, and no settings name a file that is not there."""
     is_whole = (folder / WHOLE).exists()
-    for it in sorted(folder.glob(f"*{BESIDE}")):
+    for it in sorted(folder.glob(f"*{BESIDE}"), key=lambda it: (not it.name.endswith(f"{KEYS}{BESIDE}"), it.name)):
         if is_whole:
             it.rename(it.with_name(it.name[:-len(BESIDE)]))
         else:
             it.unlink()
+    for it in folder.glob(f"*{GONE}"):
+        if is_whole:
+            it.with_name(it.name[:-len(GONE)]).unlink(missing_ok=True)
+        it.unlink()
     for it in folder.glob(f"{TRIAL}*/"):
         shutil.rmtree(it)
     sync(folder)
@@ -84,6 +93,12 @@ def put_beside(path: Path, text: str, mode: int, group: int) -> None:
         os.fchmod(file.fileno(), before.st_mode & 0o777 if before else mode)
         file.flush()
         os.fsync(file.fileno())
+
+
+def keys_beside(directory: Path) -> Path:
+    """The file of the named keys of a directory: `north.keys.csv` beside `north.csv`, also where both are to be written."""
+    name, _, rest = directory.name.partition(".csv")
+    return directory.with_name(f"{name}{KEYS}{rest}")
 
 
 def rows_of(path: Path) -> List[List[str]]:
@@ -123,9 +138,9 @@ class Desk:
     """A desk of this machine: its settings, and its customers."""
 
     def __init__(self, settings: Path):
-        self.name, self.folder = settings.stem, settings.parent
-        lines = [it.split("=", 1) for it in settings.read_text().splitlines() if "=" in it and not it.startswith("#")]
-        self.settings = dict(lines)
+        self.name, self.folder, self.place = settings.stem, settings.parent, settings
+        self.written = settings.read_bytes().decode()
+        self.settings = dict(it.split("=", 1) for it in self.written.splitlines() if "=" in it and not it.startswith("#"))
         if not {"HOST", "LISTEN"} <= self.settings.keys():
             raise Refused(f"{settings} has no line for HOST or LISTEN")
         self.path = self.folder / f"{self.name}.csv"
@@ -136,9 +151,33 @@ class Desk:
             raise Refused(f"{self.path} is no directory of customers: see `hq check`")
         self.columns = header
         self.rows = [dict(zip(header, it)) for it in rows]
+        self.keys_path, self.keys = keys_beside(self.path), []
+
+    def read_keys(self) -> None:
+        """Its named keys, for who writes them. (Who asks a desk has other keys, so that a fault of this file is none to it.)"""
+        header, *rows = (rows_of(self.keys_path) or [[]]) if self.keys_path.exists() else [NAMED]
+        if header != NAMED or any(len(it) != len(NAMED) for it in rows):
+            raise Refused(f"{self.keys_path} is no file of named keys: see `hq check`")
+        self.keys = [dict(zip(NAMED, it)) for it in rows]
 
     def text(self) -> str:
         return text_of([self.columns, *([row[it] for it in self.columns] for row in self.rows)])
+
+    def keys_text(self) -> str:
+        return text_of([NAMED, *([row[it] for it in NAMED] for row in self.keys)])
+
+    def settings_text(self) -> str:
+        """Its settings as they stand, with the line by which its unit has named keys read, where there are any, or without it."""
+        line = f"{SETTING}=--keys={self.keys_path.absolute()}"
+        lines = self.written.splitlines(keepends=True)
+        given = [it for it in lines if it.startswith(f"{SETTING}=")]
+        if any(it.strip() != line for it in given):
+            raise Refused(f"{self.place} has another line for {SETTING} than {line}")
+        if bool(given) == bool(self.keys):
+            return self.written
+        kept = "".join(it for it in lines if it not in given)
+        end = "" if kept.endswith("\n") else "\n"
+        return f"{kept}{end}{line}\n" if self.keys else kept
 
     def queued(self, key: str) -> int:
         """How many messages of a customer are queued there."""
@@ -162,6 +201,8 @@ class Folder:
     def __init__(self, path: Path):
         self.path = path
         self.desks = [Desk(it) for it in sorted(path.glob("*.env"))]
+        for it in self.desks:
+            it.read_keys()
         self.senders: Dict[Tuple[str, str], str] = {}
         # what is printed once all is written: a key, and why something is left to do; and whether it is tried again
         self.told: Optional[str] = None
@@ -183,6 +224,7 @@ class Folder:
         finish(self.path)
         try:
             self.put_all(scripts)
+            sync(self.path)
             (self.path / WHOLE).touch(0o600)
             sync(self.path)
         except BaseException:
@@ -195,6 +237,7 @@ class Folder:
         desks, workers = group_of("hqdesk"), group_of("hqrelay")
         for it in self.desks:
             put_beside(it.path, it.text(), 0o640, desks)
+            self.put_keys(it, desks)
             self.check(it)
         senders = [SENDERS, *([*it, name] for it, name in sorted(self.senders.items()))]
         put_beside(self.path / "senders.csv", text_of(senders), 0o640, workers)
@@ -206,11 +249,20 @@ class Folder:
                 put_beside(self.path / name, Path(made, name).read_text(), mode, desks)
             self.check_worker(Path(made))
 
-    def check(self, desk: Desk) -> None:
-        """What a start of the desk would say of its new directory."""
-        tried(["hq", "check", "--directory", f"{desk.path}{BESIDE}", "--host", desk.settings["HOST"], "--relay-key-file",
-               self.path / f"{desk.name}.key"])
+    def put_keys(self, desk: Desk, group: int) -> None:
+        """Its named keys, and the setting that has it read them. Without any there is no file, and settings stay as they are."""
+        if desk.keys:
+            put_beside(desk.keys_path, desk.keys_text(), 0o640, group)
+        elif desk.keys_path.exists():
+            desk.keys_path.with_name(desk.keys_path.name + GONE).touch(0o600)
+        if desk.settings_text() != desk.written:
+            put_beside(desk.place, desk.settings_text(), 0o640, group)
 
+    def check(self, desk: Desk) -> None:
+        """What a start of the desk would say of its new directory, and of its named keys."""
+        keys = ["--keys", f"{desk.keys_path}{BESIDE}"] if desk.keys else []
+        tried(["hq", "check", "--directory", f"{desk.path}{BESIDE}", "--host", desk.settings["HOST"], "--relay-key-file",
+               self.path / f"{desk.name}.key", *keys])
 
     def check_worker(self, made: Path) -> None:
         """What the worker would say of its settings, with the new tables beside them."""

@@ -72,7 +72,8 @@ async function one(id, name, sum) {
       drop([id]);
     } else {
       sum.faults.set(told(fault), (sum.faults.get(told(fault)) ?? 0) + 1);
-      if (fault.isAway || fault.number === 2) sum.stopped = true;
+      // (behind these no other would be done: nobody has this key, or it may only read)
+      if (fault.isAway || [2, 3].includes(fault.number)) sum.stopped = true;
     }
   }
 }

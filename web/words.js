@@ -9,8 +9,7 @@ export function told(fault) {
   const { status, number, named, reads } = fault;
   const again = text(reads ? "tryAgain" : "nobodyKnows");
   if (number) {
-    const session = number === 2 && !key.get() ? "Session" : "";
-    const words = `fault${number}${session}`;
+    const words = `fault${number}${kindOf(fault)}`;
     const later = text(status === 503 ? "notDone" : "refused");
     return `${has(words) ? text(words) : later} (${number} ${named})`;
   }
@@ -19,6 +18,12 @@ export function told(fault) {
   if (!status) return `${text("noReply")} ${again}`;
   const words = has(`proxy${status}`) ? text(`proxy${status}`) : text("noDesk", { status });
   return `${words} ${again}`;
+}
+
+// Two numbers mean one thing or another: nobody is logged in any more, and a key may only read.
+function kindOf({ number, reads }) {
+  if (number === 2 && !key.get()) return "Session";
+  return number === 3 && !reads ? "Act" : "";
 }
 
 // The actions of rules; texts has what each does.

@@ -49,7 +49,7 @@ def seconds(text):
 class Desk:
     """A desk by its unit, as systemd runs it: whenever it ends it is started again."""
 
-    def __init__(self, folder, program, name, rows, address=None):
+    def __init__(self, folder, program, name, rows, address=None, keys=()):
         self.folder, self.program, self.name, self.more = Path(folder), program, name, {}
         # (so that it is not started again while it is stopped)
         self.turn = threading.Lock()
@@ -58,21 +58,30 @@ class Desk:
         self.directory, self.store = self.folder / f"{name}.csv", self.folder / f"{name}.db"
         self.has(rows)
         (self.folder / f"{name}.key").write_text(f"{RELAY}\n")
-        settings = {"HOST": "relay.example", "LISTEN": self.address}
+        settings = {"HOST": "relay.example", "LISTEN": self.address, **self.has_keys(keys)}
         lines = "".join(f"{it}={value}\n" for it, value in settings.items())
         (self.folder / f"{name}.env").write_text(lines)
         self.unit = settings_of(DEPLOY / "hq-desk@.service")
-        self.words = self.of_the_place(self.unit["ExecStart"], settings)
+        before = dict([self.unit["Environment"].split("=", 1)])
+        self.words = self.of_the_place(self.unit["ExecStart"], {**before, **settings})
 
     def has(self, rows):
         """The rows of its directory, of the next start on."""
         self.directory.write_text(HEADER + "".join(f"{it}\n" for it in rows))
 
+    def has_keys(self, rows):
+        """Its named keys, and what its settings have of them."""
+        if not rows:
+            return {}
+        path = self.folder / f"{self.name}.keys.csv"
+        path.write_text("customer,name,key,right\n" + "".join(f"{it}\n" for it in rows))
+        return {"KEYS": f"--keys={path}"}
+
     def of_the_place(self, words, settings):
-        """The words of a unit, with this place and these settings."""
+        """The words of a unit, with this place and these settings: `${NAME}` is a part of a word, `$NAME` any number of words."""
         places = {"/usr/bin/hq": self.program, "/usr/libexec/hq-desk": DEPLOY, "/etc/hq": self.folder,
                   "/var/lib/hqdesk": self.folder, "/var/log/hqdesk": self.folder, "%i": self.name,
-                  **{f"${{{it}}}": value for it, value in settings.items()}}
+                  **{form: value for it, value in settings.items() for form in (f"${{{it}}}", f"${it}")}}
         for it, value in places.items():
             words = words.replace(it, str(value))
         return shlex.split(words)

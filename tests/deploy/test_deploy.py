@@ -1,6 +1,7 @@
 """The files of deploy/ with the compiled program, each as it stands, but for addresses and the folders of a machine.
 
 Every wait has a limit."""
+import json
 import os
 import re
 import signal
@@ -55,6 +56,9 @@ def test_units(folder, program):
         unit = all_settings_of(DEPLOY / name)
         wanted = [] if "check" in name else [LOW_PORT]
         expect(unit.get("AmbientCapabilities", []) == wanted, name, "has other capabilities")
+    # (a variable that is a word of its own is none where it is empty; one that is not set at all is a warning at each start)
+    unit = all_settings_of(DEPLOY / SERVICES[0])
+    expect(unit["Environment"] == ["KEYS="] and unit["ExecStart"][0].endswith(" $KEYS"), "named keys are asked for without any")
     for name in (*SERVICES, *OTHERS_OF_US):
         expect(all_settings_of(DEPLOY / name)["LimitCORE"] == ["0"], name, "may leave a core, in which keys stand")
 
@@ -273,6 +277,29 @@ def test_named_as_words(folder, program):
             done(proxy.relay(f"/relay/submit/{it}", submission("s1")), it)
             found = done(proxy.ask(*USAGE, f"{it}key000000000"), it)
             expect(found["messages"] == 1, it, "has", found)
+
+
+def test_named_keys(folder, program):
+    """A named key reaches the desk of its customer through nginx, does what its right is, and is named in the desk's log."""
+    needs.command("nginx", "openssl")
+    named_keys = ["birch,panel,Birchpanel000001,all", "birch,report,birchreport00001,read"]
+    with Desk(folder, program, "named", ROWS) as north, Desk(folder, program, "keys", OTHERS, keys=named_keys) as south, \
+            Proxy(folder / "keyed", [north, south]) as proxy:
+        done(proxy.relay("/relay/submit/birch", submission("s1")), "a submission")
+        for key in ("Birchpanel000001", "birchreport00001", BIRCH):
+            _, response = answered(proxy.public, *USAGE, key, context=proxy.context)
+            expect((response.status, response.getheader("X-Desk-Customer")) == (200, "birch"), key, "got", response.status)
+        hold = "POST", "/v1/hold/0000000001"
+        expect(proxy.ask(*hold, "birchreport00001") == (403, {"error": 3, "name": "WrongRole"}), "a key that may only read")
+        done(proxy.ask(*hold, "Birchpanel000001"), "a key that may do all")
+        done(proxy.ask("POST", "/v1/find", "birchreport00001", {"class": "sender", "pattern": "a.example", "after": None}), "a find")
+        found = run(*south.check("false"))
+        expect((found.returncode, found.stderr) == (0, ""), "a check of a desk with named keys:", found)
+    lines = [json.loads(it) for it in (folder / "keys.log").read_text().splitlines()]
+    told = [(it["customer"], it["method"], it["status"], it.get("key")) for it in lines if it["path"].startswith("/v1/")]
+    expect(told == [("birch", "GET", 200, "panel"), ("birch", "GET", 200, "report"), ("birch", "GET", 200, None),
+                    ("birch", "POST", 403, "report"), ("birch", "POST", 200, "panel"), ("birch", "POST", 200, "report"),
+                    ("birch", "GET", 200, None)], "the log tells", told)
 
 
 def test_late(folder):

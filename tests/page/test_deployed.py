@@ -5,6 +5,7 @@ from deploying import OTHERS, ROWS, SESSIONS, Desk, Proxy
 from serving import ACME, BIRCH, expect
 
 MANY = 30
+READER = "acmereader000001"
 
 
 @pytest.fixture(scope="module")
@@ -15,7 +16,8 @@ def proxy(program, tmp_path_factory):
         # (nginx reads the page as nobody)
         if it.stat().st_mode & 0o777 == 0o700:
             it.chmod(0o755)
-    with Desk(folder, program, "north", ROWS) as north, Desk(folder, program, "south", OTHERS) as south, \
+    with Desk(folder, program, "north", ROWS, keys=[f"acme,reader,{READER},read"]) as north, \
+            Desk(folder, program, "south", OTHERS) as south, \
             Proxy(folder / "proxy", [north, south], sessions=SESSIONS) as made:
         yield made
 
@@ -57,6 +59,19 @@ def test_its_limits_and_names(visit, proxy):
         visit.settled()
         expect({*states(proxy, ACME).values()} == {wanted}, "the desk has", {*states(proxy, ACME).values()})
     expect(browser.run("document.querySelector('#away').hidden"), "the head says", browser.text("#away"))
+
+
+def test_a_key_that_may_only_read(visit, proxy):
+    """It sees the queue of its customer, and what it wants to change is refused in plain words."""
+    browser = visit.browser
+    one = submit(proxy, "acme", 2000)
+    visit.use(READER, f"https://{proxy.public}/")
+    expect(browser.text("#who") == "acme", "whose desk it is is told as", browser.text("#who"))
+    visit.turn_to("queue")
+    visit.do("hold", one)
+    browser.tells("This key may only read: nothing was changed. (3 WrongRole)")
+    visit.settled()
+    expect(states(proxy, ACME)[one] == "incoming", "it was held")
 
 
 def test_a_reload_of_the_proxy(visit, proxy):

@@ -1,6 +1,7 @@
 """Of tests/page: each refusal and fault in its words, and hostile texts."""
 import re
 
+from browser import ENTER
 from page_desk import ROOT
 from paper import lines_of, message
 from serving import expect
@@ -9,6 +10,7 @@ from visit import TOO_LONG, TOO_WIDE
 ONE = "0000000001"
 HOLD = f"/v1/hold/{ONE}"
 UNKNOWN = "Nobody knows whether it was done: refresh and look."
+READS = "This key may only read: nothing was changed. (3 WrongRole)"
 DISK = "The desk could not use its store. Not done, try again. (91 Disk)"
 ROW = re.compile(r"^\| (\d+) \| (\w+) \| (\d+) \|", re.M)
 HOSTILE = {
@@ -89,6 +91,31 @@ def test_a_fault_amid_marked_ones(visit, paper):
     faults = int(told[1].split()[0])
     expect(told == [f"{held} held.", f"{faults} not done: {DISK}", f"{40 - held - faults} were not asked for."] and held == 7
            and 1 <= faults <= 4, "told is", told, "and held are", held)
+
+
+def test_a_key_that_may_only_read(visit, paper):
+    """Each act tells so in plain words, and of many marked ones no more are asked for behind the first refusals."""
+    browser = visit.browser
+    paper.queue([message(it) for it in range(1, 41)])
+    acts = [f"/v1/hold/{it}" for it in paper.messages] + ["/v1/hold-all", "/v1/line-put"]
+    paper.told.update((it, (403, {"error": 3, "name": "WrongRole"})) for it in acts)
+    visit.on_paper("queue")
+    browser.click("#mark-all")
+    browser.click("[data-marked=hold]")
+    browser.until(lambda: any("were not asked for" in it for it in visit.told()), "told is", visit.told())
+    visit.settled()
+    held = [it for it in paper.asked if it[1].startswith("/v1/hold/")]
+    expect(1 <= len(held) <= 4, "asked was", len(held), "times")
+    expect(visit.told() == [f"{len(held)} not done: {READS}", f"{40 - len(held)} were not asked for."], "told is", visit.told())
+    browser.click("#all-menu summary")
+    browser.click("[data-all=hold]")
+    visit.answer(True)
+    browser.until(lambda: visit.told() == [READS], "told is", visit.told())
+    visit.turn_to("rules")
+    browser.click("#rules-new")
+    browser.write("#put-pattern", "far.example")
+    browser.keys(ENTER)
+    visit.says("#put-fault", READS)
 
 
 def test_faults_of_each_view(visit, paper):

@@ -232,8 +232,9 @@ def test_customers_of_the_page(root):
     for it in blocks(PRODUCTION, "Customers"):
         told = root.run(it)
     keys = re.findall(r"(?m)^[0-9a-f]{40}$", told)
-    expect(len(set(keys)) == 2 and "birch north: messages 200," in told and "login birch@b.example" in told, "they tell", told)
-    expect("birch" not in root.run("cat /etc/hq/*.csv /etc/hq/*.map"), "birch is left")
+    expect(len(set(keys)) == 4 and "birch north: messages 200," in told and "login birch@b.example" in told, "they tell", told)
+    expect("key panel all, key auditor read\n" in told, "of keys they tell", told)
+    expect("birch" not in root.run("cat /etc/hq/*.csv /etc/hq/*.map /etc/hq/*.env"), "birch is left")
 
 
 def test_alerts_of_the_page(root):

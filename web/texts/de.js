@@ -17,6 +17,7 @@ const faults = {
   fault2: "Diesen Schlüssel hat niemand. Sehen Sie ihn noch einmal an, oder fragen Sie nach.",
   fault2Session: "Sie sind nicht mehr angemeldet. Melden Sie sich wieder an.",
   fault3: "Das ist nicht der Schlüssel eines Kunden.",
+  fault3Act: "Dieser Schlüssel darf nur lesen: nichts wurde geändert.",
   fault4: call,
   fault5: call,
   fault6: long,

@@ -18,6 +18,7 @@ const faults = {
   fault2: "Nobody has this key. Look at it once more, or ask your provider.",
   fault2Session: "You are not logged in any more. Log in again.",
   fault3: "This is not the key of a customer.",
+  fault3Act: "This key may only read: nothing was changed.",
   fault4: call,
   fault5: call,
   fault6: long,
