@@ -1,8 +1,7 @@
 -- Which replies leave the tables as they were.
-use Rattle.std.proofs.Common.{◌≡◌, ◌≢◌, ◌⊎◌, ⊎_elim, ℕ, true, List, [], ◌∷◌, map}
+use Rattle.std.proofs.Common.{◌≡◌, ◌≢◌, ⊎_elim, ℕ, true, List, [], ◌∷◌, map}
 use Rattle.std.proofs.Common.{Result, Ok, Err, refl, ap, ◌∙◌}
 use Rattle.std.specs.Prelude.{string_bytes}
-use Rattle.hq_values.specs.Refusals.{no_memory}
 use Rattle.hq_values.specs.declared.failure.Fault.{Fault}
 use Rattle.hq_values.specs.declared.failure.Refusal.{Refusal}
 use Rattle.hq_tables.specs.Readings.{read_tables}
@@ -22,7 +21,7 @@ use Rattle.hq_requests.specs.Named.{key_shown}
 use Rattle.hq_requests.specs.Routes.{last_segment}
 use Rattle.hq_requests.specs.declared.exchanges.Exchange.{Exchange}
 use Rattle.hq_requests.specs.declared.table.Role.TheVariants as role
-use Rattle.hq_requests.proofs.Reading.{reader_reads}
+use Rattle.hq_laws.proofs.Reader.{reader_reads}
 use Rattle.hq_wire.specs.Exchanges.{IsWant, MayReply, ask_of}
 use Rattle.hq_wire.specs.Exchanges.{AllDone, CallsAll, IsStruck, MayReplyTo, of_part}
 use Rattle.hq_wire.specs.Replies.{Part, SeenReply, reply_of, status_of}

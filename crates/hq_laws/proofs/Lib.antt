@@ -6,5 +6,6 @@ pub mod Leaving
 pub mod Past
 pub mod Queued
 pub mod Steps
+pub mod Reader
 pub mod Left
 pub mod Readings

@@ -1,10 +1,9 @@
 use Rattle.std.proofs.Common.{rules, Ok, Err}
-use Rattle.hq_settings.specs.declared.trouble.Trouble.TheVariants.{Desk}
 use Rattle.hq_batch.proofs.checking.told_of.Goals as goal
 
 pub returns-in_err-count : goal.returns-in_err-count
 returns-in_err-count c file read = (
-  Err (Desk c.in_err-count.field-0.0),
+  Err c.in_err-count.field-0.0,
   c.in_err-count.ensures file read,
   search rules,
 )
