@@ -23,8 +23,10 @@ def directory_of(place):
 
 
 def is_fit(place):
-    """Whether the example is short, each of its lines has a reply, and none asks for all customers."""
+    """Whether the example is short, each of its lines has a reply, none asks for all customers, and no key has a name."""
     lines = lines_of(place)
+    if (place / "keys").exists():
+        return False
     is_short = len(lines) <= MOST_LINES and sum(map(len, lines)) <= MOST_BYTES
     is_replied_to = lines and lines[-1].endswith(b"\n") and len(lines) == len(replies_of(place))
     return is_short and is_replied_to and not any(it in line for it in PARTED for line in lines)

@@ -18,7 +18,7 @@ returns-in-Nothing g c = λ a b h.
           c.args.desk.now
           (subst (InputIs g.M.Memory.refused a b) c.in-Nothing.is h);
       holds = tt;
-      customer = tt;
+      whose = tt;
     }
 
 pub returns-in-Refused : goal.returns-in-Refused

@@ -14,12 +14,12 @@ pub returns-in_err-customers : goal.returns-in_err-customers
 returns-in_err-customers c = (
   Ok c.in_ok-host.host,
   c.in_ok-host.ensures,
-  (Err c.in_err-customers.field-0.0, c.in_err-customers.ensures, search rules),
+  (Err c.in_err-customers.field-0.0, c.in_err-customers.ensures.customers, search rules),
 )
 
 pub returns : goal.returns
 returns c = (
   Ok c.in_ok-host.host,
   c.in_ok-host.ensures,
-  (Ok c.in_ok-customers.customers.items, c.in_ok-customers.ensures, search rules),
+  (Ok c.in_ok-customers.customers.items, c.in_ok-customers.ensures.customers, search rules),
 )
