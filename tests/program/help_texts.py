@@ -12,7 +12,7 @@ Usage: hq [COMMAND]
 Commands:
   serve    Serve the customers of a directory over HTTP/1.1
   batch    Reply to the lines of standard input, for the customers of a directory
-  check    Check a relay's name, its key and its directory, as a start would
+  check    Check a relay's name, its key, its directory and named keys, as a start would
   queue    Print the queue report of a customer
   history  Print what became of a customer's recipients
   hold     Put the messages of a customer on hold that a pattern is for
@@ -49,10 +49,10 @@ Options:
                                    name,key,messages,bytes,lines,notices,delay; with ,history
                                    behind it where histories are kept. No default.
                                    Example: --directory customers.csv
-      --keys <FILE>                Keys that customers have beside their own: a CSV file of 1 to
-                                   1,000 rows under the header customer,name,key,right. A right
-                                   is all, or read: such a key changes nothing. By default there
-                                   are none. Example: --keys keys.csv
+      --keys <FILE>                Named keys, which customers have beside their own: a CSV file
+                                   of 1 to 1,000 rows under the header customer,name,key,right.
+                                   A right is all, or read: such a key changes nothing. By
+                                   default there are none. Example: --keys keys.csv
       --host <HOST>                The name of the relay, a domain. No default.
                                    Example: --host relay.example
       --relay-key <KEY>            The key of the relay's workers: 16 to 64 letters and digits,
@@ -105,10 +105,10 @@ Options:
                                name,key,messages,bytes,lines,notices,delay; with ,history
                                behind it where histories are kept. No default.
                                Example: --directory customers.csv
-      --keys <FILE>            Keys that customers have beside their own: a CSV file of 1 to
-                               1,000 rows under the header customer,name,key,right. A right
-                               is all, or read: such a key changes nothing. By default there
-                               are none. Example: --keys keys.csv
+      --keys <FILE>            Named keys, which customers have beside their own: a CSV file
+                               of 1 to 1,000 rows under the header customer,name,key,right.
+                               A right is all, or read: such a key changes nothing. By
+                               default there are none. Example: --keys keys.csv
       --host <HOST>            The name of the relay, a domain. No default.
                                Example: --host relay.example
       --relay-key <KEY>        The key of the relay's workers: 16 to 64 letters and digits,
@@ -141,7 +141,7 @@ Examples:
     --store desk.db < lines
 """
 CHECK_HELP = b"""\
-Check a relay's name, its key and its directory, as a start would
+Check a relay's name, its key, its directory and named keys, as a start would
 
 Usage: hq check [OPTIONS] --directory <FILE> --host <HOST>
 
@@ -150,10 +150,10 @@ Options:
                                name,key,messages,bytes,lines,notices,delay; with ,history
                                behind it where histories are kept. No default.
                                Example: --directory customers.csv
-      --keys <FILE>            Keys that customers have beside their own: a CSV file of 1 to
-                               1,000 rows under the header customer,name,key,right. A right
-                               is all, or read: such a key changes nothing. By default there
-                               are none. Example: --keys keys.csv
+      --keys <FILE>            Named keys, which customers have beside their own: a CSV file
+                               of 1 to 1,000 rows under the header customer,name,key,right.
+                               A right is all, or read: such a key changes nothing. By
+                               default there are none. Example: --keys keys.csv
       --host <HOST>            The name of the relay, a domain. No default.
                                Example: --host relay.example
       --relay-key <KEY>        The key of the relay's workers: 16 to 64 letters and digits,
@@ -168,8 +168,8 @@ It reads what `serve` would read before it opens its store, and touches nothing 
 good it prints how many customers there are: `3 customers`. Else it tells what a start would tell,
 as `hq: 53 BadDirectory row 3`, and, where a row of the directory is not good, the column and why:
 `hq: row 3, column bytes: no number from 1 to 2147483647000`. Of the file of `--keys` it tells
-`hq: keys row 2, column customer: not in the directory`. No key is printed. Without a key all but
-the key is checked.
+`hq: keys row 2, column customer: not in the directory`. No key is printed. Without a relay's key
+all else is checked.
 
 Examples:
   hq check --directory customers.csv --host relay.example

@@ -6,17 +6,10 @@ ghost use Rattle.hq_values.specs.Readers.{Reads};
 ghost use Rattle.hq_kept.specs.Customers.{has_name};
 ghost use Rattle.hq_admin.specs.Customers.{entry_named};
 
-use hq_import::directory_of;
+use hq_import::{directory_of, has_name};
 use hq_kept::{Customer, Entry};
 use hq_values::{Fail, Refusal};
 use std::alloc::Global;
-
-/// Whether a customer has this name.
-fn has_name(customer: &Customer, name: &str) -> bool
-    ensures { result ≡ has_name name.now customer.now }
-{
-    name.cmp(customer.entry.name.as_str()).is_eq()
-}
 
 /// The first of these with this name.
 fn with_name(customers: Vec<Customer>, name: &str) -> Option<Customer>

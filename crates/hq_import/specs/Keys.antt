@@ -1,15 +1,15 @@
--- Keys that customers have beside their own, as CSV: rows under the header
+-- Named keys, which customers have beside their own, as CSV: rows under the header
 -- `customer,name,key,right`. It is this product's own.
 use Rattle.std.specs.Prelude.{ℕ, ◌+◌, Bool, true, not, ◌==◌, ◌&&◌, ◌||◌, nat_lt, nat_le, List, []}
 use Rattle.std.specs.Prelude.{◌∷◌, ◌++◌, length, codes, bytes_eq, if◌then◌else◌, Option, Some, None}
 use Rattle.std.specs.Prelude.{option_and_then, Result, Ok, Err}
 use Rattle.std.specs.List.{list_any}
 use Rattle.hq_values.specs.Readers.{◌>>=◌, guard, or_refuse}
-use Rattle.hq_kept.specs.Customers.{is_same_text, has_key, has_name}
+use Rattle.hq_kept.specs.Customers.{is_same_text}
 use Rattle.hq_kept.specs.declared.account.Customer.{Customer}
 use Rattle.hq_rules.specs.Fields.{text_field}
 use Rattle.hq_rules.specs.Records.{Record, most_rows, file_records, is_header}
-use Rattle.hq_import.specs.Directories.{wrong_at, name_at, key_at}
+use Rattle.hq_import.specs.Directories.{wrong_at, name_at, key_at, is_name_taken, is_taken}
 use Rattle.hq_import.specs.declared.columns.Column.TheVariants as column
 use Rattle.hq_import.specs.declared.keys.NamedKey.{NamedKey}
 use Rattle.hq_import.specs.declared.keys.Right.{Right}
@@ -31,12 +31,12 @@ is_namesake k other = is_same_text k.customer other.customer && is_same_text k.n
 
 -- the text is the key of a customer, or one of these
 abbrev pub is_key_taken : List Customer → List NamedKey → List ℕ → Bool
-is_key_taken customers keys text = list_any (has_key text) customers || list_any (opens text) keys
+is_key_taken customers keys text = is_taken customers text || list_any (opens text) keys
 
 -- A key may stand behind these: its customer is there and has no key of its name, and nobody has
 -- the same key.
 abbrev pub joins : List Customer → List NamedKey → NamedKey → Bool
-joins customers earlier k = list_any (has_name k.customer) customers
+joins customers earlier k = is_name_taken customers k.customer
     && not (list_any (is_namesake k) earlier) && not (is_key_taken customers earlier k.key)
 
 -- each of these may stand behind those and the ones before it
@@ -45,7 +45,8 @@ all_join customers earlier [] = true
 all_join customers earlier (k ∷ ks) = joins customers earlier k
     && all_join customers (earlier ++ k ∷ []) ks
 
--- keys of these customers: no two are the same, and no two of a customer have the same name
+-- named keys of these customers: each is of one of them, none is a customer's own, no two are the
+-- same, and no two of a customer have the same name
 abbrev pub are_keys : List Customer → List NamedKey → Bool
 are_keys customers keys = all_join customers [] keys
 
@@ -77,7 +78,7 @@ next_key customers earlier fields =
     let row = length earlier + 1 in do
       few ← guard (nat_le row most_rows) (wrong_at row TooMany)
       k ← named_key_read row fields
-      known ← guard (list_any (has_name k.customer) customers) (wrong_at row NoCustomer)
+      known ← guard (is_name_taken customers k.customer) (wrong_at row NoCustomer)
       new_name ← guard (not (list_any (is_namesake k) earlier)) (wrong_at row DoubledName)
       new_key ← guard (not (is_key_taken customers earlier k.key)) (wrong_at row TakenKey)
       Ok k

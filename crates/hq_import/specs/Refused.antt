@@ -1,5 +1,5 @@
--- Why a directory, or a file of keys, is refused: in which row and column, how that is told, and
--- which refusal of the desk it is.
+-- Why a directory, or a file of named keys, is refused: in which row and column, and how that is
+-- told; and of a directory, which refusal of the desk it is.
 use Rattle.std.specs.Prelude.{ℕ, ◌≡◌, List, codes, Result, Ok, Err}
 use Rattle.hq_values.specs.Refusals.{no_memory}
 use Rattle.hq_values.specs.declared.failure.Fail.{Fail}

@@ -1,4 +1,4 @@
-//! Keys that customers have beside their own, and their file as CSV.
+//! Named keys, which customers have beside their own, and their file as CSV.
 
 ghost use Rattle.std.specs.Prelude.{◌≡◌, ◌<◌, ◌≤◌, [], ◌∷◌, ◌++◌, length, IfOk, IsTrue, OnOk};
 ghost use Rattle.std.specs.Prelude.{map as map_list, option_map};
@@ -46,7 +46,7 @@ impl Right {
     }
 }
 
-/// A key of a customer beside its own.
+/// A named key: one of a customer beside its own.
 #[derive(Debug, Drop)]
 pub struct NamedKey {
     /// The name of the customer.
@@ -224,15 +224,22 @@ fn first_keys<M: CsvMemory>(
     keys_of(memory, customers, records.as_slice())
 }
 
-/// The keys that these customers have beside their own, in the order of the rows of a file under
-/// the header `customer,name,key,right`. A right is `all` or `read`. Each key is of a customer, no
-/// two are the same, none is a customer's own, and no two of a customer have the same name.
+/// The named keys of these customers, in the order of the rows of a file under the header
+/// `customer,name,key,right`. A right is `all` or `read`. Each key is of a customer, no two are the
+/// same, none is a customer's own, and no two of a customer have the same name.
 ///
-/// The first row that is not good refuses the file, and says what is wrong there. In this order: it
-/// stands behind 1,000 rows; it has not four fields; a field is not as its column has it, and the
-/// first such column is told; its customer is not in the directory; the customer has a key of this
-/// name; its key is a customer's, or stands in an earlier row. Row 0 is the header, the whole file,
-/// or a file without rows. The only other error is want of memory.
+/// The first row that is not good refuses the file, and says what is wrong there, the first of
+/// these:
+///
+/// - it stands behind 1,000 rows;
+/// - it has not four fields;
+/// - a field is not as its column has it, and the first such column is told;
+/// - its customer is not in the directory;
+/// - the customer has a key of this name;
+/// - its key is a customer's own, or stands in an earlier row.
+///
+/// Row 0 is the header, the whole file, or a file without rows. The only other error is want of
+/// memory.
 pub fn read_keys<M: CsvMemory>(
     memory: M,
     customers: &[Customer],

@@ -1,6 +1,6 @@
-//! Files of an administrator, as CSV: access tables, the directory of customers, and the keys that
-//! they have beside their own. A file is read whole or refused at its first bad row. What is done
-//! with its rows is for the crates above.
+//! Files of an administrator, as CSV: access tables, the directory of customers, and their named
+//! keys. A file is read whole or refused at its first bad row. Beside that: whose a name or a key
+//! is. What is done with rows is for the crates above.
 #![tactic(auto)]
 
 mod columns;

@@ -1,6 +1,6 @@
 //! Laws over the definitions of the calls and of runs, with no program in them: counts of an import
 //! are kept for good; a history keeps each end until newer ones take its place; in a run nobody
-//! else matters, and a reply is read in one way.
+//! else matters, a reply is read in one way, and a key that may only read changes nothing.
 //!
 //! Each law is the contract of an empty function.
 #![tactic(auto)]
@@ -14,4 +14,7 @@ pub use histories::{
     what_is_told_stays,
 };
 pub use imports::imports_are_kept;
-pub use runs::{a_reading_key_changes_nothing, nobody_else_matters, one_reading, tables_stay};
+pub use runs::{
+    a_reading_key_changes_nothing, a_route_reads_as_told, nobody_else_matters, one_reading,
+    tables_stay,
+};

@@ -1,17 +1,19 @@
 //! Laws over whole runs in one session: nobody else matters, which replies and which keys change
 //! nothing, and one reading of each reply.
 
-ghost use Rattle.std.specs.Prelude.{◌≡◌, ◌≢◌, ℕ, true, List, Ok, string_bytes};
+ghost use Rattle.std.specs.Prelude.{◌≡◌, ◌≢◌, ℕ, not, true, List, Ok, string_bytes};
 ghost use Rattle.hq_tables.specs.Tables.{Tables, own};
 ghost use Rattle.hq_rules.specs.Desks.{or_memory};
 ghost use Rattle.hq_rules.specs.Unchanged.{only_reads};
 ghost use Rattle.hq_import.specs.declared.keys.Right.TheVariants.{Reading};
-ghost use Rattle.hq_requests.specs.Calls.{Asked, call_in};
+ghost use Rattle.hq_rules.specs.declared.call.Call.{Call};
+ghost use Rattle.hq_requests.specs.Calls.{Asked, asked_of, call_in};
 ghost use Rattle.hq_requests.specs.Directories.{Held, held_on};
 ghost use Rattle.hq_requests.specs.Named.{key_shown};
-ghost use Rattle.hq_requests.specs.Routes.{last_segment};
+ghost use Rattle.hq_requests.specs.Routes.{changes, last_segment};
 ghost use Rattle.hq_requests.specs.declared.exchanges.Exchange.{Exchange};
 ghost use Rattle.hq_requests.specs.declared.table.Role.TheVariants.{Customer};
+ghost use Rattle.hq_requests.specs.declared.table.Route.{Route};
 ghost use Rattle.hq_wire.specs.Exchanges.{Ask, MayReply, ask_of};
 ghost use Rattle.hq_wire.specs.Replies.{SeenReply};
 ghost use Rattle.hq_wire.specs.Runs.{AllReplied, share, heard};
@@ -66,4 +68,11 @@ pub fn a_reading_key_changes_nothing<D: Acts, M: Memory>()
         ≡ Ok held → held.right ≡ Reading
         → MayReply (or_memory M.refused D.sight.store).may_answer host d t (ask_of d x) r t'
         → t' ≡ t }
+{}
+
+/// What a route asks for only reads exactly where the route changes nothing: so a key that may only
+/// read is refused no more than that.
+pub fn a_route_reads_as_told()
+    ensures { (route : Route) (segment body : List ℕ) (call : Call)
+        → asked_of route segment body ≡ Ok call → only_reads call ≡ not (changes route) }
 {}

@@ -1,4 +1,5 @@
--- A line of a log: an object of JSON, its members in the order of their names, and LF (10).
+-- A line of a log: an object of JSON and LF (10). Its first members stand in the order of their
+-- names; behind them may stand `key`, `cut` and `told`.
 use Rattle.std.specs.Prelude.{ℕ, ◌==◌, ◌&&◌, ◌||◌, ◌-◌, Bool, true, false, List, [], ◌∷◌, ◌++◌}
 use Rattle.std.specs.Prelude.{take, length, codes, nat_le, nat_lt, Option, Some, None, option_map}
 use Rattle.std.specs.Prelude.{option_and_then}

@@ -18,8 +18,8 @@ use hq_values::{Fail, Fault, Items, Key, Name, Refusal};
 /// number that memory can be asked for.
 const MOST_CUSTOMERS: usize = 1 << 54;
 
-/// The relay's key, the customers, the keys that they have beside their own, and the routes of the
-/// desk. It does not change while a desk is open.
+/// The relay's key, the customers, their named keys, and the routes of the desk. It does not change
+/// while a desk is open.
 #[derive(Drop)]
 pub struct Directory {
     relay: Key,
@@ -41,8 +41,8 @@ impl Directory {
     ghost use Rattle.hq_values.specs.Readers.{or_refuse, seen_by};
     ghost use Rattle.hq_values.specs.declared.failure.Refusal.TheVariants.{NoCustomer};
 
-    /// A directory of customers whose names and keys are pairwise different, and of keys that they
-    /// have beside their own. Refused as 57 `BadRelayKey` exactly where the relay's key is a
+    /// A directory of customers whose names and keys are pairwise different, and of their named
+    /// keys. Refused as 57 `BadRelayKey` exactly where the relay's key is a
     /// customer's, or one of these. Else it may end in 90 `WantOfMemory`: only where the memory
     /// refused a request, or where there are more than 2^54 customers, which no memory holds.
     pub fn with_keys<M: RouteMemory>(
@@ -78,7 +78,7 @@ impl Directory {
         })
     }
 
-    /// A directory of customers, as `with_keys` has it, none of whom has a key beside its own.
+    /// A directory of customers, as `with_keys` has it, none of whom has a named key.
     pub fn new<M: RouteMemory>(
         memory: M,
         relay: Key,
@@ -227,12 +227,5 @@ impl Directory {
         ensures { result.now ≡ customers_of self.now }
     {
         self.customers.as_slice()
-    }
-
-    /// The keys that customers have beside their own, in the order in which they were given.
-    pub fn keys(&self) -> &[NamedKey]
-        ensures { result.now ≡ named_keys self.now }
-    {
-        self.keys.as_slice()
     }
 }

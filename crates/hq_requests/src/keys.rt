@@ -19,7 +19,7 @@ pub(crate) fn allows(right: Right, route: Route) -> bool
     }
 }
 
-/// Whom an exchange is of.
+/// Whose an exchange is.
 #[derive(Clone, Copy, Debug, Drop)]
 pub struct Caller<'d> {
     /// The customer.

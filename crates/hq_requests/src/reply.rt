@@ -33,7 +33,8 @@ pub struct Reply<'d> {
     pub status: u16,
     /// The number of the refusal or the fault that the body tells; 0 for an answer.
     pub number: u16,
-    /// The customer whose key was shown, or whom the relay named; `None` for another.
+    /// Whose the exchange is: the customer whose key was shown, or whom the relay named, and the
+    /// name of that key, where it has one. `None` where it is nobody's.
     pub caller: Option<Caller<'d>>,
     /// JSON on one line.
     pub body: Body,

@@ -201,10 +201,13 @@ fn asked_of_all<'d, M: JsonMemory>(
     Ok(Asking::CallOfAll(span, each))
 }
 
-/// What an exchange asks, or the first refusal in the order: 6 `BodyTooLong`, 4 `NoRoute`, 5
-/// `WrongMethod`, 2 `NoKey`, 3 `WrongRole`, and for one customer 13 `NoCustomer`, 3 where the key
-/// may only read and the route changes something, then those of the parameter and the body; for all
-/// of them those of the body, of which 13 is the last.
+/// What an exchange asks, or the first refusal in this order:
+///
+/// - 6 `BodyTooLong`, 4 `NoRoute`, 5 `WrongMethod`;
+/// - 2 `NoKey`, and 3 `WrongRole` where the route takes the key of another;
+/// - for one customer 13 `NoCustomer`; 3 where the key may only read and the route changes
+///   something; then those of the parameter and the body;
+/// - for all of them those of the body, of which 13 is the last.
 ///
 /// The caller of a call of one customer is whom the exchange is of.
 #[tactic(auto, unfolding(crate::specs::Calls::call_from))]

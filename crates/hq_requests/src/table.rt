@@ -55,7 +55,7 @@ impl Methods {
 /// Whose key a route takes, and whom it serves.
 #[derive(Clone, Copy, Debug, PartialEq, Eq)]
 pub enum Role {
-    /// A customer's own, for that customer.
+    /// A key of a customer, for that customer.
     Customer,
     /// The relay's, for the customer that the path names.
     Relay,

@@ -17,7 +17,7 @@ abbrev pub HasRelay : List ℕ → Option KeyGiven → Result (Option Named) Tro
 HasRelay host (Some key) = Then (NamesRelay host key) (λ relay found. found ≡ Ok (Some relay))
 HasRelay host None = Then (IsRead (host_in host)) (λ name found. found ≡ Ok None)
 
--- how many of these customers a start would serve: 57 where the relay's key is a customer's
+-- how many of these customers a start would serve: 57 where the relay's key is one of theirs
 abbrev pub count_of : Option Named → List Customer → List NamedKey → Result ℕ Refusal
 count_of (Some relay) customers keys = do
   set ← settings_with relay customers keys

@@ -1,6 +1,6 @@
 -- What a desk is set up with, and what is refused of it. The order of the refusals is this
 -- product's own: the relay's name, the form of its key, the directory, the keys beside it, and then
--- whether the relay's key is a customer's.
+-- whether the relay's key is one of a customer.
 use Rattle.std.specs.Prelude.{ℕ, not, List, [], Result, Ok}
 use Rattle.hq_values.specs.Readers.{◌>>=◌, checked, guard}
 use Rattle.hq_values.specs.declared.failure.Refusal.{Refusal}
@@ -33,7 +33,7 @@ relay_in host_text key_text = do
   key ← relay_key_in key_text
   Ok (record { host = host; key = key })
 
--- a relay with these customers and keys: 57 where the relay's key is a customer's
+-- a relay with these customers and keys: 57 where the relay's key is one of them
 abbrev pub settings_with : Named → List Customer → List NamedKey → Result Set Refusal
 settings_with relay customers keys = do
   own ← guard (not (is_key_taken customers keys relay.key)) BadRelayKey

@@ -49,7 +49,7 @@ fn directory_read(read: Result<Vec<Customer>, DirectoryFail>) -> Result<Vec<Cust
     Ok(read?)
 }
 
-/// How many of these customers a start would serve.
+/// How many of these customers a start would serve: 57 where the relay's key is one of theirs.
 fn count_of(
     alloc: Global,
     relay: Option<Relay>,
@@ -70,8 +70,9 @@ fn count_of(
 }
 
 /// How many customers a start would serve, by the directory that was read, the path of the keys
-/// beside it, and the relay, where one is known: else the directory's own refusal, that of the file
-/// of keys, 57 `BadRelayKey` where the relay's key is a customer's, or want of memory.
+/// beside it, and the relay, where one is known. Else the first of these: the directory's own
+/// refusal; that the file of keys cannot be read, or where it is wrong; 57 `BadRelayKey` where the
+/// relay's key is one of a customer. It may be want of memory at any of them.
 pub fn count_customers(
     rt: &HostRuntime,
     relay: Option<Relay>,

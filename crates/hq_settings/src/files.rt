@@ -14,8 +14,8 @@ use std::alloc::Global;
 use std::fs::File;
 use std::io::{self, ErrorKind, Read};
 
-/// The most bytes that are read of a file: one more than a directory may have, so that a longer
-/// one is refused as such.
+/// The most bytes that are read of a file: one more than a directory or a file of keys may have, so
+/// that a longer one is refused as such.
 const FILE_BYTES: u64 = 262_145;
 
 /// The first bytes of a file.

@@ -12,7 +12,8 @@ use crate::{Settings, Trouble};
 use hq_words::RelayKey;
 
 /// The settings of a relay's name, its key, the path of its directory, and that of the keys beside
-/// it, checked in this order; each file is read where those before are good.
+/// it, checked in this order, and then the relay's key against all keys of customers. Each file is
+/// read where those before are good.
 pub fn set_up(
     rt: &HostRuntime,
     host: &str,

@@ -12,7 +12,7 @@ use std::alloc::Global;
 pub struct Settings {
     /// The relay's name.
     pub host: Host,
-    /// The relay's key, and the customers.
+    /// The relay's key, and the customers with all their keys.
     pub directory: Directory,
 }
 

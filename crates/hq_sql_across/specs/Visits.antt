@@ -13,7 +13,7 @@ replies_in v = v.items
 abbrev pub visit_of : Given → Visit
 visit_of v = record { directory = v.directory; exchanges = v.exchanges.items }
 
--- each reply carries the customer of its exchange; or there is none
+-- each reply carries the customer of its exchange and the name of the key; or there is none
 abbrev pub CarryCustomers : Visit → List Reply → Type 0
 CarryCustomers visit replies = (replies ≡ [])
     ⊎ (map whose_told replies ≡ map (whose_exchange visit.directory) visit.exchanges)

@@ -97,7 +97,8 @@ Examples:
     --store desk.db < lines";
 
 /// What `check` does.
-pub(crate) const CHECK: &str = "Check a relay's name, its key and its directory, as a start would";
+pub(crate) const CHECK: &str =
+    "Check a relay's name, its key, its directory and named keys, as a start would";
 
 /// What it prints, and examples of its calls.
 pub(crate) const AFTER_CHECK: &str = "\
@@ -105,8 +106,8 @@ It reads what `serve` would read before it opens its store, and touches nothing 
 good it prints how many customers there are: `3 customers`. Else it tells what a start would tell,
 as `hq: 53 BadDirectory row 3`, and, where a row of the directory is not good, the column and why:
 `hq: row 3, column bytes: no number from 1 to 2147483647000`. Of the file of `--keys` it tells
-`hq: keys row 2, column customer: not in the directory`. No key is printed. Without a key all but
-the key is checked.
+`hq: keys row 2, column customer: not in the directory`. No key is printed. Without a relay's key
+all else is checked.
 
 Examples:
   hq check --directory customers.csv --host relay.example
@@ -119,10 +120,10 @@ behind it where histories are kept. No default.
 Example: --directory customers.csv";
 
 pub(crate) const KEYS: &str = "\
-Keys that customers have beside their own: a CSV file of 1 to
-1,000 rows under the header customer,name,key,right. A right
-is all, or read: such a key changes nothing. By default there
-are none. Example: --keys keys.csv";
+Named keys, which customers have beside their own: a CSV file
+of 1 to 1,000 rows under the header customer,name,key,right.
+A right is all, or read: such a key changes nothing. By
+default there are none. Example: --keys keys.csv";
 
 pub(crate) const HOST: &str = "\
 The name of the relay, a domain. No default.
