@@ -4,3 +4,4 @@ pub mod Inside
 pub mod OnDesks
 pub mod Served
 pub mod Wanted
+pub mod Closing

@@ -3,6 +3,7 @@ use Rattle.std.proofs.Common.{◌≡◌, ◌⊎◌, inl, inr, ⊎_elim, ◌+◌,
 use Rattle.std.proofs.Common.{cond, List, [], ◌∷◌, sym, refl, ap, ◌∙◌, subst}
 use Rattle.std.proofs.Common.{Result, Ok, Err, arith}
 use Rattle.std.specs.Prelude.{IfOk, OnErr}
+use Rattle.std.specs.List.{AllZip}
 use Rattle.hq_values.specs.Refusals.{no_memory}
 use Rattle.hq_values.specs.Turns.{InTurn}
 use Rattle.hq_values.specs.declared.failure.Fault.{Fault}
@@ -20,7 +21,9 @@ use Rattle.hq_wire.proofs.Alone.{alone}
 use Rattle.hq_wire.proofs.Serving.{all_replied, served, tells_each}
 use Rattle.hq_across.specs.Sessions.{StoppedAt}
 use Rattle.hq_across.proofs.Running.{Ran as UpToStop, ran, rested}
-use Rattle.hq_together.specs.Together.{GoesBack, IsRoundSession, ServedInRound}
+use Rattle.hq_together.specs.Together.{GoesBack, IsRoundSession, MakesNoCall, ServedInRound}
+use Rattle.hq_together.specs.Together.{SomeTellsClosed}
+use Rattle.hq_together.proofs.Closing.{closing, none_called, none_told, told_closed, was_closed}
 use Rattle.hq_together.proofs.Inside.{Ran, differ, all_done, replied, can_go_back}
 use Rattle.hq_together.proofs.Inside.{tells_more, first_clean, first_ours, first_tables, last_ours}
 use Rattle.hq_together.proofs.Wanted.{all_of_it, all_wanted, as_before, no_deeds_wanted}
@@ -94,6 +97,9 @@ module _ {D I : Type 0} (sight : DeskSight D) (inside : DeskSight I) (d : Direct
         replied = λ clean ours open_ sound. all clean ours sound;
         tells = tells_more inside sight.store.may_answer same_faults d it.first it.last asks rs
             it.each.each both.0;
+        closed = λ told. differ (sym (told_closed inside d it.first it.last asks rs it.each.each
+            told) ∙ both.0);
+        anyway = λ closed. differ (sym closed ∙ both.1);
         alone = λ clean ours open_ sound. alone sight.store.may_answer (sight.host old) d
             (tables old) (tables new) asks rs (all clean ours sound);
         sound = λ clean ours open_ sound. sounds clean ours sound;
@@ -205,6 +211,8 @@ module _ {D : Type 0} (sight : DeskSight D) (d : Directory) (old : D) where
       record {
         replied = all;
         tells = want_tells sight.store.may_answer d may asks;
+        closed = λ told. absurd (none_told asks told);
+        anyway = λ closed. inr (none_called sight.store.may_answer d may asks);
         alone = λ clean ours open_ sound. alone sight.store.may_answer (sight.host old) d
             (rows old) (rows new) asks (wants asks) (all clean ours open_ sound);
         sound = λ clean ours open_ sound. subst Sound (sym (back.same clean ours open_ sound))
@@ -261,6 +269,13 @@ module _ {D : Type 0} (sight : DeskSight D) (d : Directory) (old : D) where
         record {
           replied = all;
           tells = tells_each sight d mid asks rs new each.each;
+          closed = told_closed sight d mid new asks rs each.each;
+          anyway = λ closed. elim (sight.store.is_closed mid) as (λ b.
+              sight.store.is_closed mid ≡ b → SomeTellsClosed rs
+              ⊎ AllZip (MakesNoCall sight.store.may_answer d) asks rs) [
+                | true ↦ λ is. was_closed sight d mid new asks rs each.each is
+                | false ↦ λ is. inl (closing sight d mid new asks rs each.each is closed)
+              ] refl;
           alone = λ clean ours open_ sound. alone sight.store.may_answer (sight.host old) d
               (rows old) (rows new) asks rs (all clean ours open_ sound);
           sound = λ clean ours open_ sound.

@@ -1,5 +1,6 @@
 -- What exchanges do to a desk that are done in a round, and what a stop leaves of it.
-use Rattle.std.specs.Prelude.{◌≡◌, ◌⊎◌, ℕ, ◌+◌, ◌-◌, ◌^◌, ◌<◌, true, false, List, [], map}
+use Rattle.std.specs.Prelude.{◌≡◌, ◌⊎◌, ⊤, ℕ, ◌+◌, ◌-◌, ◌^◌, ◌<◌, true, false, List, [], ◌∷◌}
+use Rattle.std.specs.Prelude.{map, Result, Ok, Err}
 use Rattle.std.specs.List.{AllZip}
 use Rattle.hq_values.specs.declared.failure.Fault.{Fault}
 use Rattle.hq_tables.specs.Shelves.{OnSound, OnOpenSound, StopLeaves, StopLeavesTables}
@@ -7,9 +8,12 @@ use Rattle.hq_tables.specs.Shelves.{StopLeavesNoMore}
 use Rattle.hq_tables.specs.Sound.{Sound}
 use Rattle.hq_tables.specs.Tables.{Tables}
 use Rattle.hq_rules.specs.Desks.{DeskSight}
+use Rattle.hq_values.specs.declared.failure.Refusal.{Refusal}
+use Rattle.hq_requests.specs.Calls.{Asked, CallOf, CallOfAll}
+use Rattle.hq_requests.specs.Spans.{names_in}
 use Rattle.hq_requests.specs.declared.directory.Directory.{Directory}
 use Rattle.hq_requests.specs.declared.reply.Reply.{Reply}
-use Rattle.hq_wire.specs.Exchanges.{AllDone, Ask, Tells, Unheard}
+use Rattle.hq_wire.specs.Exchanges.{AllDone, Ask, IsWant, Tells, TellsClosed, Unheard}
 use Rattle.hq_wire.specs.Replies.{SeenReply, IsSent, store_faults}
 use Rattle.hq_wire.specs.Runs.{AllReplied, Alone, deeds}
 use Rattle.hq_across.specs.Answered.{as_asked}
@@ -42,6 +46,22 @@ pub record IsRoundSession (may : Fault → Type 0) (host : List ℕ) (d : Direct
       ⊎ ClosedInRound may host d asks rs last t' under_way
   pub found : MayFind host d last under_way t'
 
+-- ---- what is told of a closed store
+
+-- some reply tells 93
+abbrev pub SomeTellsClosed : List SeenReply → Type 0
+SomeTellsClosed [] = ⊥
+SomeTellsClosed (r ∷ rs) = TellsClosed r ⊎ SomeTellsClosed rs
+
+-- what was asked made no call: it was refused before, or asked no customer, or memory was wanted
+abbrev pub MakesNoCall : (Fault → Type 0) → Directory → Ask → SeenReply → Type 0
+MakesNoCall may d a r = IsWant may r ⊎ MakesNone a.called
+  where
+    MakesNone : Result Asked Refusal → Type 0
+    MakesNone (Err refusal) = ⊤
+    MakesNone (Ok (CallOf name call)) = ⊥
+    MakesNone (Ok (CallOfAll whom call)) = names_in d whom ≡ []
+
 -- ---- what a round does
 
 -- What many exchanges do to a desk, whether they were done together or each by itself.
@@ -55,6 +75,11 @@ pub record ServedInRound {D : Type 0} (sight : DeskSight D) (d : Directory) (old
   -- the headline
   pub alone : OnOpenSound sight.store old new
       (Alone (sight.host old) d asks rs (sight.store.tables old) (sight.store.tables new))
+  -- 93 is told only where the store is closed then
+  pub closed : SomeTellsClosed rs → sight.store.is_closed new ≡ true
+  -- and where it is closed, some reply tells this, or nothing that was asked made a call
+  pub anyway : sight.store.is_closed new ≡ true → SomeTellsClosed rs
+      ⊎ AllZip (MakesNoCall sight.store.may_answer d) asks rs
   pub sound : OnOpenSound sight.store old new (Sound (sight.store.tables new))
   pub ours : OnOpenSound sight.store old new (sight.store.is_ours new)
   pub quiet : sight.store.is_clean new → sight.store.is_clean old
