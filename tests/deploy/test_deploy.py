@@ -137,7 +137,7 @@ def test_rotated(folder, program):
     rules, state = folder / "hq-desk.logrotate", folder / "logrotate.state"
     text = (DEPLOY / rules.name).read_text().replace("/var/log/hqdesk", str(folder))
     expect("  su hqdesk hqdesk\n" in text, "the logs are moved by another user")
-    rules.write_text(text.replace("  su hqdesk hqdesk\n", ""))
+    rules.write_text(text.replace("  su hqdesk hqdesk\n", "").replace("/var/log/hq-nginx", str(folder / "nginx")))
     rules.chmod(0o644)
     with Desk(folder, program, "rotated", ROWS) as desk:
         used(desk)

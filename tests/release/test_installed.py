@@ -16,7 +16,7 @@ from releasing import ROOT, package_in
 from rooted import Root, fetched, place
 from serving import expect, until
 
-PRODUCTION, RELAY, README = "docs/PRODUCTION.md", "docs/RELAY.md", "README.md"
+PRODUCTION, PROCEDURES, RELAY, README = "docs/PRODUCTION.md", "docs/PROCEDURES.md", "docs/RELAY.md", "README.md"
 NAMES = {"TLS": "/root/tls"}
 OURS = ("/etc/hq", "/var/lib/hqdesk", "/var/lib/hqrelay", "/var/log/hqdesk", "/usr/share/hq-desk", "/usr/libexec/hq-desk")
 HERE = Path(__file__).resolve().parent
@@ -115,15 +115,15 @@ def test_first_session(root):
     shown = next(it for it in re.findall(r"(?ms)^```\n(.*?)^```$", (ROOT / README).read_text()) if "hq serve" in it)
     asked = [it for it in re.findall(r"(?ms)^```\n(.*?)^```$", (ROOT / README).read_text()) if it.startswith("$ curl")]
     begin = re.search(r"(?s)cat > customers.csv.*?\nEND\n", shown)[0]
-    serve = re.search(r"(?m)^\$ (hq serve .*) &$", shown)[1]
+    serve = re.search(r"(?ms)^\$ (hq serve .*?) &$", shown)[1]
     with root.begin(f"mkdir -p first; cd first; {begin} exec {serve}", "/tmp/first.log"):
         try:
-            until(lambda: "listening on 127.0.0.1:8025\n" in root.path("/tmp/first.log").read_text(), "hq does not listen")
+            until(lambda: "listening on unix:desk.sock\n" in root.path("/tmp/first.log").read_text(), "hq does not listen")
             count = 0
             for part in re.split(r"(?m)^\$ ", asked[0])[1:]:
                 lines = part.replace("\\\n", " ").rstrip("\n").split("\n")
                 if lines[0].startswith("curl"):
-                    told = root.run(lines[0].replace("curl ", "curl -sS ", 1))
+                    told = root.run(f"cd first; {lines[0].replace('curl ', 'curl -sS ', 1)}")
                     expect(told == lines[1], lines[0], "is told", told, "and shown with", lines[1])
                     count += 1
             expect(count == 3, "README shows", count, "calls")
@@ -228,8 +228,8 @@ def test_mail_under_way(root):
 
 
 def test_customers_of_the_page(root):
-    """The lines of PRODUCTION's "Customers", one after another."""
-    for it in blocks(PRODUCTION, "Customers"):
+    """The lines of PROCEDURES's "Customers", one after another."""
+    for it in blocks(PROCEDURES, "Customers"):
         told = root.run(it)
     keys = re.findall(r"(?m)^[0-9a-f]{40}$", told)
     expect(len(set(keys)) == 4 and "birch north: messages 200," in told and "login birch@b.example" in told, "they tell", told)
