@@ -2,6 +2,7 @@
 import hashlib
 import os
 import re
+import stat
 import subprocess
 import tarfile
 from pathlib import Path
@@ -13,6 +14,8 @@ from serving import expect
 
 # It prints what the program prints for --version, and is small, where only what stands around the program is tried.
 STAND_IN = "#!/bin/sh\necho 'hq {} (calls 1)'\n"
+# The folders that are the package's own.
+OWN = ("./etc/hq/", "./usr/libexec/hq-desk/", "./usr/share/doc/hq-desk/", "./usr/share/hq-desk/")
 
 
 def run(*words, **more):
@@ -46,13 +49,56 @@ def test_evidence(releases, program):
     commit = run("git", "rev-parse", "HEAD", cwd=ROOT).stdout.strip()
     for it in (f"hq-desk {releases.version}\n", f"sha256    {its_sum}\n", f"commit    {commit}", "\nkit       "):
         expect(it in told, "PROVED lacks", it, "and has", told)
-    with tarfile.open(next(now.glob("*.tar.gz"))) as tar:
+    with tarfile.open(tarball_in(now)) as tar:
         inside = {it.name: it for it in tar}
         for name, wanted in (("./usr/bin/hq", Path(program).read_bytes()), ("./usr/share/doc/hq-desk/PROVED", told.encode())):
             expect(tar.extractfile(name).read() == wanted, "the tarball has another", name)
     listed = {line.split(None, 5)[5].split(" -> ")[0] for line in run("dpkg-deb", "-c", package_in(now)).stdout.splitlines()}
-    expect({it.rstrip("/") for it in inside} == {it.rstrip("/") for it in listed}, "the tarball has other files")
+    wanted = {it.rstrip("/") for it in listed if not it.endswith("/") or it.startswith(OWN)}
+    expect(set(inside) == wanted, "the tarball and the package differ in", set(inside) ^ wanted)
     expect(all(it.uname == it.gname == "root" for it in inside.values()), "the tarball has files of others")
+
+
+def tarball_in(folder):
+    found, = folder.glob("*.tar.gz")
+    return found
+
+
+def test_tarball(releases):
+    """It has nothing below /lib, a link of a merged /usr, and no entry of a folder that is the machine's."""
+    with tarfile.open(tarball_in(releases.now)) as tar:
+        inside = [it.name + "/" * it.isdir() for it in tar]
+    expect("./usr/lib/systemd/system/hq-desk@.service" in inside, "it has no units")
+    wrong = [it for it in inside if not re.match(r"\./(etc|usr)/", it) or it.endswith("/") and not it.startswith(OWN)]
+    expect(not wrong, "it has", wrong)
+
+
+def merged(folder):
+    """A machine with a merged /usr, whose folders have modes that no package has; what they are."""
+    for it in ("etc/logrotate.d", "usr/lib/systemd/system", "usr/bin", "usr/sbin"):
+        (folder / it).mkdir(parents=True)
+    for it in ("lib", "bin", "sbin"):
+        (folder / it).symlink_to(f"usr/{it}")
+    for number, it in enumerate((".", "etc", "etc/logrotate.d", "usr", "usr/lib", "usr/bin", "usr/lib/systemd/system")):
+        (folder / it).chmod(0o2700 + number)
+    return {it: it.lstat().st_mode for it in (folder, *folder.rglob("*"))}
+
+
+def test_tarball_extracted(folder, releases):
+    """The line of RELEASE leaves links and modes of a machine as they are, and each file is in its place."""
+    line, = re.findall(r"(?m)^tar -C / .*$", (ROOT / "docs/RELEASE.md").read_text())
+    root = folder / "root"
+    before = merged(root)
+    told = run("sh", "-euc", line.replace("-C /", f"-C {root}"), env={**os.environ, "TARBALL": str(tarball_in(releases.now))})
+    expect(told.returncode == 0 and not told.stderr, line, "tells", told)
+    for it, mode in before.items():
+        expect(it.lstat().st_mode == mode, it, "has the mode", oct(it.lstat().st_mode), "and had", oct(mode))
+    with tarfile.open(tarball_in(releases.now)) as tar:
+        for it in tar:
+            place = root / it.name
+            expect(os.path.lexists(place), "there is no", it.name)
+            expect(not it.isreg() or place.read_bytes() == tar.extractfile(it).read(), it.name, "is another one")
+            expect(it.issym() or stat.S_IMODE(place.stat().st_mode) == it.mode, it.name, "has another mode")
 
 
 def test_not_proved(folder, releases):
