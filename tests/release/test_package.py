@@ -2,37 +2,27 @@
 import hashlib
 import os
 import re
-import subprocess
+import stat
 import tarfile
 from pathlib import Path
 
 import help_texts
 import needs
-from releasing import ROOT, package_in, version
+from releasing import ROOT, package_in, run, tarball_in, version
 from serving import expect
 
-# It prints what the program prints for --version, and is small, where only what stands around the program is tried.
-STAND_IN = "#!/bin/sh\necho 'hq {} (calls 1)'\n"
-
-
-def run(*words, **more):
-    return subprocess.run(words, capture_output=True, text=True, stdin=subprocess.DEVNULL, timeout=300, **more)
-
-
-def stand_in(folder, version):
-    path = folder / f"program-{version}"
-    path.write_text(STAND_IN.format(version))
-    path.chmod(0o755)
-    return path
+# The folders that are the package's own.
+OWN = ("./etc/hq/", "./usr/libexec/hq-desk/", "./usr/share/doc/hq-desk/", "./usr/share/hq-desk/")
 
 
 def test_lintian(releases):
-    """lintian finds nothing, down to what it is least sure of, and each override is one that is needed. (Of the machine code
-    of a program it takes some bytes for misspelled words.)"""
+    """lintian finds nothing in both packages, down to what it is least sure of, and each override is one that is needed. (Of
+    the machine code of a program it takes some bytes for misspelled words.)"""
     needs.command("lintian")
-    found = run("lintian", "--info", "--display-info", "--display-experimental", "--pedantic", "--no-tag-display-limit",
-                "--suppress-tags", "spelling-error-in-binary", "--fail-on", "error,warning,info,pedantic,experimental", package_in(releases.now))
-    expect(found.returncode == 0 and not re.search(r"(?m)^[A-Z]: ", found.stdout), "lintian:", found.stdout, found.stderr)
+    for it in (package_in(releases.now), next(releases.now.glob("*.dsc"))):
+        found = run("lintian", "--info", "--display-info", "--display-experimental", "--pedantic", "--tag-display-limit", "0",
+                    "--suppress-tags", "spelling-error-in-binary", "--fail-on", "error,warning,info,pedantic,experimental", it)
+        expect(found.returncode == 0 and not re.search(r"(?m)^[A-Z]: ", found.stdout), "lintian:", found.stdout, found.stderr)
 
 
 def test_evidence(releases, program):
@@ -40,49 +30,57 @@ def test_evidence(releases, program):
     now = releases.now
     found = run("sha256sum", "--check", "--strict", "SHA256SUMS", cwd=now)
     names = {it.name for it in now.iterdir()} - {"SHA256SUMS"}
-    expect(found.returncode == 0 and len(names) == found.stdout.count(": OK") == 3, "sums:", found.stdout, found.stderr)
+    expect(found.returncode == 0 and len(names) == found.stdout.count(": OK") == 5, "sums:", found.stdout, found.stderr)
     told = (now / "PROVED").read_text()
     its_sum = hashlib.sha256(Path(program).read_bytes()).hexdigest()
     commit = run("git", "rev-parse", "HEAD", cwd=ROOT).stdout.strip()
     for it in (f"hq-desk {releases.version}\n", f"sha256    {its_sum}\n", f"commit    {commit}", "\nkit       "):
         expect(it in told, "PROVED lacks", it, "and has", told)
-    with tarfile.open(next(now.glob("*.tar.gz"))) as tar:
+    with tarfile.open(tarball_in(now)) as tar:
         inside = {it.name: it for it in tar}
         for name, wanted in (("./usr/bin/hq", Path(program).read_bytes()), ("./usr/share/doc/hq-desk/PROVED", told.encode())):
             expect(tar.extractfile(name).read() == wanted, "the tarball has another", name)
     listed = {line.split(None, 5)[5].split(" -> ")[0] for line in run("dpkg-deb", "-c", package_in(now)).stdout.splitlines()}
-    expect({it.rstrip("/") for it in inside} == {it.rstrip("/") for it in listed}, "the tarball has other files")
+    wanted = {it.rstrip("/") for it in listed if not it.endswith("/") or it.startswith(OWN)}
+    expect(set(inside) == wanted, "the tarball and the package differ in", set(inside) ^ wanted)
     expect(all(it.uname == it.gname == "root" for it in inside.values()), "the tarball has files of others")
 
 
-def test_not_proved(folder, releases):
-    """Of a program that was handed over, and is not the one that was proved, nothing is said of a proof."""
-    ended = run(ROOT / "release", "--program", stand_in(folder, releases.version), folder / "made")
-    expect(ended.returncode == 0, "./release:", ended)
-    told = (folder / "made/PROVED").read_text()
-    expect("Nothing is said of a proof." in told and "The kit proved" not in told, "of a stand-in PROVED says", told)
+def test_tarball(releases):
+    """It has nothing below /lib, a link of a merged /usr, and no entry of a folder that is the machine's."""
+    with tarfile.open(tarball_in(releases.now)) as tar:
+        inside = [it.name + "/" * it.isdir() for it in tar]
+    expect("./usr/lib/systemd/system/hq-desk@.service" in inside, "it has no units")
+    wrong = [it for it in inside if not re.match(r"\./(etc|usr)/", it) or it.endswith("/") and not it.startswith(OWN)]
+    expect(not wrong, "it has", wrong)
 
 
-def test_same_to_the_byte(folder, releases):
-    """Made twice, with other settings around it, a release is the same to the byte."""
-    program = stand_in(folder, releases.version)
-    (folder / "elsewhere").mkdir()
-    others = {**os.environ, "TZ": "Asia/Tokyo", "LC_ALL": "C", "HOME": "/", "TMPDIR": str(folder / "elsewhere")}
-    for name, how, mask in (("one", dict(os.environ), 0o022), ("two", others, 0o077)):
-        ended = run(ROOT / "release", "--program", program, folder / name, env=how, umask=mask)
-        expect(ended.returncode == 0, "./release:", ended)
-    for it in sorted((folder / "one").iterdir()):
-        expect(it.read_bytes() == (folder / "two" / it.name).read_bytes(), it.name, "is another one the second time")
+def merged(folder):
+    """A machine with a merged /usr, whose folders have modes that no package has; what they are."""
+    for it in ("etc/logrotate.d", "usr/lib/systemd/system", "usr/bin", "usr/sbin"):
+        (folder / it).mkdir(parents=True)
+    for it in ("lib", "bin", "sbin"):
+        (folder / it).symlink_to(f"usr/{it}")
+    for number, it in enumerate((".", "etc", "etc/logrotate.d", "usr", "usr/lib", "usr/bin", "usr/lib/systemd/system")):
+        (folder / it).chmod(0o2700 + number)
+    return {it: it.lstat().st_mode for it in (folder, *folder.rglob("*"))}
 
 
-def test_refused(folder, releases):
-    """A program of another release, none, and what is no version."""
-    for words, told in ((["--program", stand_in(folder, "0.0.1")], "the program prints 'hq 0.0.1 (calls 1)'"),
-                        (["--program", folder / "none"], "none is no file"),
-                        (["--program", stand_in(folder, releases.version), "--as", "../x"], "../x is no version")):
-        ended = run(ROOT / "release", *words, folder / "refused")
-        expect(ended.returncode == 1 and told in ended.stderr, words, "are told", ended)
-    expect(not (folder / "refused").exists(), "something was made")
+def test_tarball_extracted(folder, releases):
+    """The line of RELEASE leaves links and modes of a machine as they are, and each file is in its place."""
+    line, = re.findall(r"(?m)^tar -C / .*$", (ROOT / "docs/RELEASE.md").read_text())
+    root = folder / "root"
+    before = merged(root)
+    told = run("sh", "-euc", line.replace("-C /", f"-C {root}"), env={**os.environ, "TARBALL": str(tarball_in(releases.now))})
+    expect(told.returncode == 0 and not told.stderr, line, "tells", told)
+    for it, mode in before.items():
+        expect(it.lstat().st_mode == mode, it, "has the mode", oct(it.lstat().st_mode), "and had", oct(mode))
+    with tarfile.open(tarball_in(releases.now)) as tar:
+        for it in tar:
+            place = root / it.name
+            expect(os.path.lexists(place), "there is no", it.name)
+            expect(not it.isreg() or place.read_bytes() == tar.extractfile(it).read(), it.name, "is another one")
+            expect(it.issym() or stat.S_IMODE(place.stat().st_mode) == it.mode, it.name, "has another mode")
 
 
 def test_one_version():

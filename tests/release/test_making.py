@@ -1,0 +1,79 @@
+"""What ./release makes and tells, of a program that is a script, where only what stands around the program is tried."""
+import os
+import shutil
+import sys
+
+from releasing import ROOT, copied, run, stand_in
+from serving import expect
+
+
+def test_not_proved(folder, releases):
+    """Of a program that was handed over, and is not the one that was proved, nothing is said of a proof. One line says that the
+    repository states no licence."""
+    ended = run(ROOT / "release", "--program", stand_in(folder, releases.version), folder / "made")
+    told = "release: the repository states no licence: ask its maintainers before you hand the release on\n"
+    expect(ended.returncode == 0 and ended.stderr == told, "./release:", ended)
+    told = (folder / "made/PROVED").read_text()
+    expect("Nothing is said of a proof." in told and "The kit proved" not in told, "of a stand-in PROVED says", told)
+
+
+def test_same_to_the_byte(folder, releases):
+    """Made twice, in two places and with other settings around it, each file of a release is the same to the byte."""
+    program = stand_in(folder, releases.version)
+    (folder / "elsewhere").mkdir()
+    others = {**os.environ, "TZ": "Asia/Tokyo", "LC_ALL": "C", "HOME": "/", "TMPDIR": str(folder / "elsewhere"),
+              "XZ_OPT": "-0", "TAR_OPTIONS": "--mode=a+w", "DEB_BUILD_OPTIONS": "nodoc", "DPKG_DEB_COMPRESSOR_TYPE": "gzip"}
+    for name, how, mask in (("one", dict(os.environ), 0o022), ("two", others, 0o077)):
+        place = copied(folder / f"repository-{name}", mask)
+        ended = run(place / "release", "--program", program, folder / name, env=how, umask=mask)
+        expect(ended.returncode == 0, "./release:", ended)
+    kinds = {"".join(it.suffixes[-2:]) for it in (folder / "one").iterdir()}
+    expect({".tar.xz", ".tar.gz"} < kinds, "it makes", kinds)
+    for it in sorted((folder / "one").iterdir()):
+        expect(it.read_bytes() == (folder / "two" / it.name).read_bytes(), it.name, "is another one the second time")
+
+
+# What ./release needs, and the package that has it.
+NEEDED = {"dh": "debhelper", "dpkg-buildpackage": "dpkg-dev", "dpkg-deb": "dpkg", "dpkg-source": "dpkg-dev", "git": "git"}
+
+
+def test_missing(folder, releases):
+    """Where a program is lacking, one line names it and the package that has it, before anything is proved or made."""
+    for lacking, package in NEEDED.items():
+        path = folder / f"without-{lacking}"
+        path.mkdir()
+        for it in {*NEEDED, "dpkg-parsechangelog"} - {lacking}:
+            (path / it).symlink_to(shutil.which(it))
+        ended = run(sys.executable, ROOT / "release", folder / "made", env={"PATH": str(path)})
+        wanted = f"release: there is no {lacking} (of the package {package})\n"
+        expect((ended.returncode, ended.stdout, ended.stderr) == (1, "", wanted), "without", lacking, "it tells", ended)
+    expect(not (folder / "made").exists(), "something was made")
+
+
+def test_no_clone(folder, releases):
+    """Of files without git's folder nothing is made, as one line says."""
+    for it in ("release", "tools", "packaging"):
+        run("cp", "-r", ROOT / it, folder)
+    ended = run(folder / "release", "--program", stand_in(folder, releases.version), folder / "made")
+    told = ended.stderr.splitlines()
+    expect(ended.returncode == 1 and told[-1].startswith("release: git ") and "not a git repository" in told[-1] and
+           "Traceback" not in ended.stderr, "without git's folder it tells", ended)
+
+
+def test_licence(folder, releases):
+    """Where the repository states a licence, no line says that it states none."""
+    place = copied(folder / "repository")
+    page = place / "packaging/debian/copyright"
+    page.write_text(page.read_text().replace(": none-stated", ": Expat"))
+    ended = run(place / "release", "--program", stand_in(folder, releases.version), "--as", "0.9", folder / "made")
+    expect(ended.returncode == 0 and "licence" not in ended.stderr, "a licence is told by", ended)
+
+
+def test_refused(folder, releases):
+    """A program of another release, none, and what is no version."""
+    for words, told in ((["--program", stand_in(folder, "0.0.1")], "the program prints 'hq 0.0.1 (calls 1)'"),
+                        (["--program", folder / "none"], "none is no file"),
+                        (["--program", stand_in(folder, releases.version), "--as", "../x"], "../x is no version")):
+        ended = run(ROOT / "release", *words, folder / "refused")
+        expect(ended.returncode == 1 and told in ended.stderr, words, "are told", ended)
+    expect(not (folder / "refused").exists(), "something was made")
