@@ -1,7 +1,8 @@
 """The files of /etc/hq that say who is a customer, for the scripts beside it: read, tried, and written all or none.
 
-`NAME.csv` of each desk is the directory that it serves, `NAME.keys.csv` its named keys, where it has any, and
-`senders.csv` has the logins and domains of the worker. Made of these are the worker's copy of the directories,
+`NAME.csv` of each desk is the directory that it serves, `NAME.keys.csv` its named keys, where it has any,
+`senders.csv` has the logins and domains of the worker, and `dropped.csv` the customers that were dropped, whose
+records are still there. Made of these are the worker's copy of the directories,
 which has no key (`relay.csv`), the maps of nginx, and the line of `NAME.env` by which a desk gets its named keys.
 What is to be written stands beside each file first, synced; a file `.customers.whole` then says that all of it
 is there, and each takes its place. Whoever comes next ends what was stopped between.
@@ -28,9 +29,14 @@ FURTHER = "history"
 KEYS, SETTING = ".keys.csv", "KEYS"
 NAMED = ["customer", "name", "key", "right"]
 SENDERS = ["kind", "name", "customer"]
+DROPPED = ["name", "desk", "day"]
 LOCK, WHOLE, BESIDE, GONE, TRIAL = ".customers.lock", ".customers.whole", ".customers-new", ".customers-gone", ".customers-trial-"
+# Tables of this folder that are no directory.
+OTHERS = ("relay", "senders", "dropped")
 # In seconds: how long another one may have the lock, and what a command may take.
 PATIENCE, LONGEST = 60, 120
+# What `desk-store` ends with where it did its work: wholly, where it knows no such customer, and where more is left.
+DONE, UNKNOWN, MORE = 0, 3, 4
 # So many seconds a `deliver` that has little under way takes to go by other tables.
 SETTLES = 2
 
@@ -106,6 +112,14 @@ def rows_of(path: Path) -> List[List[str]]:
         return [it for it in csv.reader(file) if it]
 
 
+def table_of(path: Path, header: List[str]) -> List[List[str]]:
+    """The rows of a table under its header; none where there is no such file."""
+    first, *rows = (rows_of(path) or [[]]) if path.exists() else [header]
+    if first != header or any(len(it) != len(header) for it in rows):
+        raise Refused(f"{path} has not the header {','.join(header)}")
+    return rows
+
+
 def text_of(rows: List[List[str]]) -> str:
     made = io.StringIO()
     csv.writer(made, lineterminator="\n").writerows(rows)
@@ -139,6 +153,8 @@ class Desk:
 
     def __init__(self, settings: Path):
         self.name, self.folder, self.place = settings.stem, settings.parent, settings
+        if self.name in OTHERS:
+            raise Refused(f"{settings}: a desk cannot be called {self.name}, since {self.name}.csv is another file")
         self.written = settings.read_bytes().decode()
         self.settings = dict(it.split("=", 1) for it in self.written.splitlines() if "=" in it and not it.startswith("#"))
         if not {"HOST", "LISTEN"} <= self.settings.keys():
@@ -208,11 +224,8 @@ class Folder:
         self.told: Optional[str] = None
         self.left: Optional[str] = None
         self.is_again = False
-        table = path / "senders.csv"
-        header, *rows = (rows_of(table) or [[]]) if table.exists() else [SENDERS]
-        if header != SENDERS or any(len(it) != len(SENDERS) for it in rows):
-            raise Refused(f"{table} has not the header {','.join(SENDERS)}")
-        self.senders = {(kind, name): customer for kind, name, customer in rows}
+        self.senders = {(kind, name): customer for kind, name, customer in table_of(path / "senders.csv", SENDERS)}
+        self.dropped = {name: (desk, day) for name, desk, day in table_of(path / "dropped.csv", DROPPED)}
 
     def of_worker(self) -> str:
         """The directories of all desks, without a key."""
@@ -241,6 +254,8 @@ class Folder:
             self.check(it)
         senders = [SENDERS, *([*it, name] for it, name in sorted(self.senders.items()))]
         put_beside(self.path / "senders.csv", text_of(senders), 0o640, workers)
+        gone = [DROPPED, *([name, *row] for name, row in sorted(self.dropped.items()))]
+        put_beside(self.path / "dropped.csv", text_of(gone), 0o640, desks)
         put_beside(self.path / "relay.csv", self.of_worker(), 0o640, workers)
         with tempfile.TemporaryDirectory(dir=self.path, prefix=TRIAL) as made:
             given = [f"{it.settings['LISTEN']}={it.path}{BESIDE}" for it in self.desks]
@@ -317,3 +332,39 @@ def done(words: list) -> None:
     ended = subprocess.run(words, stdin=subprocess.DEVNULL, stderr=subprocess.PIPE, text=True, timeout=LONGEST)
     if ended.returncode:
         raise Refused(f"the files are written, and not taken up: {' '.join(map(str, words))}: {ended.stderr.strip()}")
+
+
+def of_worker(folder: Path, name: str) -> str:
+    """What the worker erases of a customer, as its user, in its own words."""
+    if not (folder / "relay.ini").exists():
+        return "it is not set up"
+    words = ["hq-relay", folder / "relay.ini", "erase", name]
+    if os.geteuid() == 0:
+        words = ["runuser", "-u", "hqrelay", "--", *words]
+    ended = subprocess.run(words, stdin=subprocess.DEVNULL, capture_output=True, text=True, timeout=LONGEST)
+    if ended.returncode:
+        told = " / ".join(ended.stderr.strip().splitlines())
+        raise Refused(f"the worker erases nothing: {told or f'status {ended.returncode}'}")
+    return ended.stdout.strip()
+
+
+def count_again() -> None:
+    """Has the counts for Prometheus made anew, without waiting, where they are made at all."""
+    if shutil.which("systemctl") and is_active("hq-desk-metrics.timer"):
+        subprocess.run(["systemctl", "start", "--no-block", "hq-desk-metrics-publish.service"], stdin=subprocess.DEVNULL, check=False)
+
+
+def of_store(scripts: Path, desk: Desk, stores: Path, command: str, what: str) -> Optional[Tuple[int, str]]:
+    """What `desk-store` does with the store of a desk, as the user of the desks, while the desk is away for that moment: its
+    status, and what it prints. None where there is no store."""
+    store = stores / f"{desk.name}.db"
+    if not os.path.lexists(store):
+        return None
+    words = [scripts / "desk-store", command, store, what]
+    if os.geteuid() == 0 and shutil.which("systemctl"):
+        words = [scripts / "desk-restart", desk.name, "--stopped", *words]
+    ended = subprocess.run(words, stdin=subprocess.DEVNULL, capture_output=True, text=True, timeout=LONGEST)
+    if ended.returncode not in (DONE, UNKNOWN, MORE):
+        told = " / ".join(ended.stderr.strip().splitlines())
+        raise Refused(f"the store of {desk.name}: {told or f'status {ended.returncode}'}")
+    return ended.returncode, ended.stdout.strip()

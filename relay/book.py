@@ -84,6 +84,8 @@ class Book:
             database = sqlite3.connect(str(self.path), timeout=LONGEST_WAIT, isolation_level=None)
             database.execute("PRAGMA journal_mode = WAL")
             database.execute("PRAGMA synchronous = FULL")
+            # (what is deleted is mail of somebody)
+            database.execute("PRAGMA secure_delete = ON")
             self.own.database = database
             self.own.turn = open(self.path.with_suffix(".turn"), "wb")
         return self.own.database
@@ -191,6 +193,19 @@ class Book:
     def forget_messages(self, customer: str) -> None:
         with self.writing() as database:
             database.execute("DELETE FROM messages WHERE customer = ?", (customer,))
+
+    def forget_customer(self, customer: str) -> int:
+        """Drops all records of a customer; how many there were."""
+        with self.writing() as database:
+            tables = database.execute("SELECT name FROM sqlite_master WHERE type = 'table'")
+            return sum(database.execute(f"DELETE FROM {table} WHERE customer = ?",
+                                        (customer,)).rowcount for table, in tables.fetchall())
+
+    def overwrite(self) -> bool:
+        """Has nothing left of deleted records, also in the log that SQLite writes first; not where
+        somebody reads for long."""
+        is_busy, _, _ = self.database().execute("PRAGMA wal_checkpoint(TRUNCATE)").fetchone()
+        return not is_busy
 
     # ---- outcomes that the desk was not told yet
 

@@ -172,6 +172,8 @@ class Delivery:
 
     def tell(self, customer: str) -> bool:
         """Tells a customer's outcomes. Whatever else has its lock has them told behind."""
+        if customer not in self.locks:
+            return False  # (it was dropped since its mail was handed over)
         # (first, so that a lock that is let go of just now is not missed)
         self.turned_away.add(customer)
         if not self.locks[customer].acquire(blocking=False):
@@ -217,7 +219,7 @@ class Delivery:
         self.resting.end(attempt.recipients)
         self.resting.answered(outcomes)
         self.handover.go_on()
-        if not outcomes:
+        if not outcomes and attempt.customer in self.locks:
             self.handover.turns.add(attempt.customer)
 
     # ---- sweeps and clean-up

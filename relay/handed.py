@@ -66,6 +66,10 @@ class Handed:
         """The last attempt of a name."""
         return next(iter(self.find("spool = ? ORDER BY at DESC LIMIT 1", spool)), None)
 
+    def lying(self, customer: str) -> List[Attempt]:
+        """The customer's attempts that may lie in the queue of the Postfix that delivers."""
+        return self.find("customer = ? AND (done IS NULL OR is_lost)", customer)
+
     def under_way(self) -> List[Attempt]:
         return self.find("done IS NULL")
 
@@ -98,8 +102,9 @@ class Handed:
     def resolved(self, attempt: Attempt, outcomes: List[Outcome], is_lost: bool = False) -> None:
         """Nothing more is awaited of an attempt. Its outcomes, if there are any, are to be told."""
         with self.book.writing() as database:
-            self.end(database, attempt.envelope, list(attempt.outcomes), is_lost)
-            if outcomes:
+            # (of a customer who was erased meanwhile there is nothing to tell)
+            is_there = self.end(database, attempt.envelope, list(attempt.outcomes), is_lost)
+            if outcomes and is_there:
                 self.book.journal(database, attempt.report(outcomes))
 
     def moved(self, attempt: Attempt, id: str, number: int) -> None:
@@ -128,10 +133,11 @@ class Handed:
         return found
 
     @staticmethod
-    def end(database, envelope: str, outcomes: List[Outcome], is_lost: bool) -> None:
-        database.execute(
+    def end(database, envelope: str, outcomes: List[Outcome], is_lost: bool) -> bool:
+        """Nothing more is awaited of an attempt; whether it is written down at all."""
+        return database.execute(
             "UPDATE handed SET outcomes = ?, done = ?, is_lost = ? WHERE envelope = ?",
-            (json.dumps(outcomes), time.time(), is_lost, envelope))
+            (json.dumps(outcomes), time.time(), is_lost, envelope)).rowcount > 0
 
     def forget(self, before: float) -> None:
         """Drops what was done before a moment."""

@@ -171,10 +171,11 @@ class Intake:
         self.settings, self.desk, self.spool, self.book = settings, desk, spool, book
         self.names, self.guard, self.unsettled = Names(desk, spool, book), threading.Lock(), unsettled
 
-    def take_up(self, settings: Settings) -> None:
+    def take_up(self, settings: Settings) -> Settings:
         """From now on mail is of these customers, by these logins and domains; all else stays."""
         self.settings = replace(self.settings, customers=settings.customers, logins=settings.logins,
                                 domains=settings.domains)
+        return self.settings
 
     def answered(self, name: str) -> Optional[str]:
         """What was answered when this name was taken."""
@@ -217,7 +218,7 @@ class Intake:
             before = self.answered(envelope.spool)
             if before:
                 return before
-            self.spool.keep(draft, envelope.spool)
+            self.keep(envelope, draft)
             try:
                 reply = self.desk.submit(envelope.customer, envelope.spool, envelope.sender,
                                          envelope.recipient, draft.size)
@@ -230,12 +231,26 @@ class Intake:
                 return "451 4.3.0 the desk is away"
             return self.judged(envelope, reply)
 
+    def keep(self, envelope: Envelope, draft: Draft) -> None:
+        """Keeps a message, unless its customer was dropped since it was begun.
+
+        (`erase` looks for contents when this process knows the customer no more: what is kept
+        before that it finds, and what is kept behind that goes here.)
+        """
+        if envelope.customer in self.settings.customers:
+            self.spool.keep(draft, envelope.spool)
+            if envelope.customer in self.settings.customers:
+                return
+        self.spool.remove(envelope.spool)
+        log.warning("customer dropped", customer=envelope.customer, spool=envelope.spool)
+        raise NotTaken("451 4.3.0 its customer has just been dropped")
+
     def settle(self) -> None:
         """Learns which submits were done that nobody heard of, before the MTA tries them again: a
         customer may have deleted them by then. While the desk is away they wait."""
         with self.guard:
             customers, self.unsettled = self.unsettled, set()
-        for customer in sorted(customers):
+        for customer in sorted(customers.intersection(self.settings.customers)):
             try:
                 self.names.queued(customer)
             except (Away, Refused, OSError, sqlite3.Error) as error:

@@ -44,7 +44,9 @@ class Missing:
                 lying.append(attempt)
             else:
                 self.miss(attempt, queue, now)
-        self.take_back([it for it in lying if it.queue_id], queue)
+        # (the desk knows nothing of a customer who was dropped)
+        known_to = self.settings.customers
+        self.take_back([it for it in lying if it.queue_id and it.customer in known_to], queue)
 
     def miss(self, attempt: Attempt, queue: Queue, now: float) -> None:
         since = self.since.setdefault(attempt.envelope, now)

@@ -16,7 +16,7 @@ from dsn import STATUS, clean
 from handed import Attempt, Handed, Outcome, told_of
 from names import Names
 from postfix_lines import SOFT_MARK
-from settings import Settings
+from settings import CUSTOMER, Settings
 
 # So many reports are read at once, and so many bytes of each.
 BATCH, LARGEST = 200, 262_144
@@ -71,6 +71,17 @@ def read_report(message: Message) -> Tuple[Optional[str], List[Outcome]]:
     return None, []
 
 
+def read_text(text: bytes, file: str) -> Tuple[Optional[str], List[Outcome]]:
+    """What a file says that may be a report; no ID where it is none."""
+    try:
+        # (of mail with SMTPUTF8 it is the same by another name: RFC 6533)
+        text = text.replace(b"message/global-delivery-status", b"message/delivery-status")
+        return read_report(email.message_from_bytes(text, policy=email.policy.compat32))
+    except Exception as error:  # whatever a stranger wrote
+        log.error("report not read", file=file, why=repr(error))
+        return None, []
+
+
 class Outcomes:
     """Reads reports, and journals what is to be told. `journaled` hears of whom there is something,
     `ended` of each attempt that has ended so."""
@@ -95,6 +106,9 @@ class Outcomes:
             if envelope and self.handed.of(envelope):
                 reports.setdefault(envelope, []).extend(told)
                 keys.setdefault(envelope, []).append(key)
+            elif self.is_of_dropped(envelope):
+                log.warning("report of a dropped customer", file=key)
+                box.discard(key)
             else:
                 self.put_aside(box, key)
         taken = self.take(reports) if reports else set()
@@ -102,18 +116,18 @@ class Outcomes:
             box.discard(key)
         return len(taken)
 
+    def is_of_dropped(self, envelope: Optional[str]) -> bool:
+        """Whether an envelope ID is of a customer who is in the settings no more."""
+        name, dot, _ = (envelope or "").partition(".")
+        is_name = bool(dot and CUSTOMER.fullmatch(name))
+        return is_name and name not in self.settings.customers
+
     def read_one(self, box: mailbox.Maildir, key: str) -> Tuple[Optional[str], List[Outcome]]:
         """The envelope ID of a report and what it says; no ID where it is none. (A file that cannot
         be opened now raises OSError, and stays.)"""
         with box.get_file(key) as file:
             text = file.read(LARGEST)
-        try:
-            # (of mail with SMTPUTF8 it is the same by another name: RFC 6533)
-            text = text.replace(b"message/global-delivery-status", b"message/delivery-status")
-            return read_report(email.message_from_bytes(text, policy=email.policy.compat32))
-        except Exception as error:  # whatever a stranger wrote
-            log.error("report not read", file=key, why=repr(error))
-            return None, []
+        return read_text(text, key)
 
     def take(self, reports: Dict[str, List[Outcome]]) -> Set[str]:
         """Journals what reports say; the envelope IDs of those that need not be read again."""
@@ -126,7 +140,7 @@ class Outcomes:
                 reports.pop(attempt.envelope)
         for envelope, told in reports.items():
             attempt = self.handed.of(envelope)
-            if told and not attempt.with_more(told):
+            if attempt and told and not attempt.with_more(told):
                 log.error("report of nobody", customer=attempt.customer, id=attempt.id,
                           envelope=envelope, recipients=",".join(it["recipient"] for it in told))
         done = self.handed.reported(reports)

@@ -10,6 +10,8 @@ from typing import BinaryIO, Iterator, List, Optional
 
 # How many bytes of a message are searched for the end of its header fields.
 LARGEST_HEAD = 65536
+# How many bytes the line of an envelope has at most.
+LONGEST_ENVELOPE = 65536
 # How the locks of spool names begin.
 LOCK_OF_A_NAME = "name-"
 
@@ -189,7 +191,7 @@ class Spool:
 def kept_in(file: BinaryIO) -> Optional[Kept]:
     """The message of a file; None where its first line is no envelope."""
     try:
-        envelope = Envelope(**json.loads(file.readline()))
+        envelope = Envelope(**json.loads(file.readline(LONGEST_ENVELOPE)))
     except (TypeError, ValueError):
         return None
     start = file.tell()

@@ -253,21 +253,20 @@ class Proxy:
 
     def configure(self, without_limits):
         folder = str(self.folder)
-        first = self.desks[0].address if self.desks else named(free_address())
         as_user = "" if os.getuid() else "user www-data;\n"
+        self.listen()
+        (self.folder / "nginx-name.conf").write_text("server_name desk.example;\n")
         temporary = "".join(f"  {it}_temp_path {folder}/{it};\n" for it in TEMPORARY)
         self.put("nginx-main.conf", "nginx.conf", {
             "user www-data;\n": as_user,
             "/run/nginx.pid": f"{folder}/nginx.pid", "/var/log/nginx": folder,
             "  include /etc/nginx/conf.d/*.conf;\n": f"{temporary}  include {folder}/hq-desk.conf;\n"})
         self.put("nginx.conf", "hq-desk.conf", {
-            "listen 443": f"listen {self.public}", "listen [::]:443": self.of_ipv6(self.public),
-            "listen 80;": f"listen {self.plain};", "listen [::]:80;": f"{self.of_ipv6(self.plain)};", "127.0.0.1:825": first, "/etc/hq": folder,
-            "/var/log/nginx": folder, "/usr/share/hq-desk/web": f"{folder}/web"})
+            "listen 80;": f"listen {self.plain};", "listen [::]:80;": f"{self.of_ipv6(self.plain)};", "/etc/hq": folder,
+            "/var/log/hq-nginx": folder, "/usr/share/hq-desk/web": f"{folder}/web"})
         self.put("nginx-workers.conf", "nginx-workers.conf", {
             # (its unit has another user)
-            "worker_processes 1;\n": f"{as_user}worker_processes 1;\n", "127.0.0.1:825": first,
-            "127.0.0.1:824": self.inner, "/etc/hq": folder,
+            "worker_processes 1;\n": f"{as_user}worker_processes 1;\n", "127.0.0.1:824": self.inner, "/etc/hq": folder,
             "/run/hq-desk-workers": f"{folder}/workers"})
         for name in ("nginx-errors.conf", "nginx-refusals.conf"):
             shutil.copy(DEPLOY / name, self.folder)
@@ -278,6 +277,14 @@ class Proxy:
             path.write_text(re.sub(r"(?m)^ *limit_(req|conn) .*;\n", "", path.read_text()))
         shutil.copytree(DEPLOY.parent / "web", self.folder / "web", dirs_exist_ok=True)
         (self.folder / "sessions.map").write_text(self.sessions)
+
+    def listen(self):
+        """Where nginx listens, by the file of deploy/ for its release."""
+        told = subprocess.run(["nginx", "-v"], stderr=subprocess.PIPE, text=True, check=True).stderr
+        release = tuple(map(int, re.search(r"nginx/(\d+)\.(\d+)\.(\d+)", told).groups()))
+        kind = "1.25" if release >= (1, 25, 1) else "1.22"
+        self.put(f"nginx-listen-{kind}.conf", "nginx-listen.conf", {
+            "listen 443": f"listen {self.public}", "listen [::]:443": self.of_ipv6(self.public)})
 
     def maps(self):
         """Writes which desk has whom, by the script."""

@@ -1,4 +1,4 @@
-"""The procedures of docs/PRODUCTION.md, each run by the very lines that the page shows.
+"""The procedures of docs/PROCEDURES.md, each run by the very lines that the page shows.
 
 What calls systemctl is done to the desks and the two nginx of the test; all else is run by a shell,
 with the folders and addresses of the test.
@@ -11,12 +11,12 @@ from pathlib import Path
 from deploying import DEPLOY
 from serving import LONGEST, Wrong, expect
 
-PAGE = Path(__file__).resolve().parents[2] / "docs/PRODUCTION.md"
+PAGE = Path(__file__).resolve().parents[2] / "docs/PROCEDURES.md"
 
 
 def lines_of(title):
     """The lines that the page shows under a title."""
-    found = re.search(rf"(?ms)^### {re.escape(title)}\n.*?^```\n(.*?)^```$", PAGE.read_text())
+    found = re.search(rf"(?ms)^## {re.escape(title)}\n.*?^```\n(.*?)^```$", PAGE.read_text())
     expect(found, PAGE, "has no lines under", title)
     return found[1].replace("\\\n", " ").rstrip("\n").split("\n")
 
@@ -28,7 +28,7 @@ class Place:
         self.proxy, self.desks = proxy, {it.name: it for it in desks}
         # (the program is called `hq`, as the package has it, and an upgrade writes over it)
         there = {"/etc/hq": folder, "/var/lib/hqdesk": folder, "/usr/libexec/hq-desk": DEPLOY, "/usr/bin/hq": program,
-                 "apt-get install -y \"$NEW\"": f"install -m 755 \"$NEW\" {program}", "runuser -u hqdesk -- ": ""}
+                 "apt-get install -y \"$NEW\"": f"install -m 755 \"$NEW\" {program}", "runuser -u hqdesk -- ": "", " -g hqdesk": ""}
         self.path = f"{Path(program).parent}:/usr/bin:/bin:/usr/sbin"
         shown = {f"127.0.0.1:{825 + it}": desk.address for it, desk in enumerate(desks)}
         self.here = {**there, **shown}

@@ -1,6 +1,7 @@
 """hq-ask: a desk that runs is asked at its address, and one that does not over its store; all customers by hundreds."""
 import json
 import os
+import pwd
 import stat
 import subprocess
 import time
@@ -23,8 +24,9 @@ Queue ID          Size Arrival                         Sender/Recipient
 MANY = [f"c{number:03}" for number in range(1, 103)]
 MANY_ROWS = [f"{it},{it}key000000001,10,100000,10,10,0" for it in MANY]
 SWEPT = {"expired": 0, "notices": 0, "warned": 0}
-# A user that owns nothing.
+# A user that owns nothing, as the user of the desks.
 NOBODY = 65534
+USER = pwd.getpwuid(os.getuid() or NOBODY).pw_name
 NOTHING = "accepted 0, pending 0, delivered 0, failed 0, deleted 0, expired 0"
 
 
@@ -66,7 +68,7 @@ class Asking:
         return set((self.folder / "users").read_text().split())
 
     def run(self, *given):
-        words = [DEPLOY / "hq-ask", "--folder", self.folder, "--store", self.folder, *given]
+        words = [DEPLOY / "hq-ask", "--folder", self.folder, "--store", self.folder, "--user", USER, *given]
         env = {**os.environ, "PATH": f"{self.bin}:{os.environ['PATH']}"}
         return subprocess.run(words, capture_output=True, text=True, timeout=LONGEST, env=env, stdin=subprocess.DEVNULL)
 
@@ -120,7 +122,7 @@ def test_over_a_desk_that_runs(asking, desk):
 
 
 def test_over_its_store(asking, desk):
-    """The same over the store of a desk that was stopped, by the store's owner; its files stay the owner's."""
+    """The same over the store of a desk that was stopped, as the user of the desks; its files stay that user's."""
     desk.stop()
     asking.watch_users()
     owner = os.getuid() or NOBODY

@@ -22,9 +22,11 @@ from serving import ACME, BIRCH, HEADER, LONGEST, RELAY, Wrong, answered, expect
 
 USAGE = "GET", "/v1/usage"
 CLOSED = 503, {"error": 93, "name": "Closed"}
-SERVICES = "hq-desk@.service", "hq-desk-check@.service", "hq-desk-workers.service"
-OTHERS_OF_US = "hq-relay-intake.service", "hq-relay-deliver.service", "hq-desk-metrics.service"
-UNITS = *SERVICES, "hq-desk-check@.timer", *OTHERS_OF_US, "hq-desk-metrics.timer"
+UNITS = sorted(it.name for kind in ("service", "socket", "timer") for it in DEPLOY.glob(f"hq-*.{kind}"))
+SERVICES = [it for it in UNITS if it.endswith(".service")]
+# What takes a port below 1024; and what runs without an end.
+AT_LOW_PORTS = "hq-desk@.service", "hq-desk-workers.service"
+ENDLESS = *AT_LOW_PORTS, "hq-relay-intake.service", "hq-relay-deliver.service"
 # The greatest exposure of a unit, in tenths.
 EXPOSED = 20
 LOW_PORT = "CAP_NET_BIND_SERVICE"
@@ -44,8 +46,8 @@ def test_units(folder, program):
         (folder / name).write_text(text)
     names = [it.replace("@", "@north") for it in UNITS]
     for lines in ("", lines_of_unit()):
-        (folder / f"{names[0]}.d").mkdir(exist_ok=True)
-        (folder / f"{names[0]}.d" / "path.conf").write_text(lines)
+        (folder / "hq-desk@north.service.d").mkdir(exist_ok=True)
+        (folder / "hq-desk@north.service.d" / "path.conf").write_text(lines)
         found = run("systemd-analyze", "verify", "--man=no", *names, SYSTEMD_UNIT_PATH=f"{folder}:")
         expect(found.returncode == 0 and not found.stderr, "systemd-analyze verify:", found.stderr)
     for name in SERVICES:
@@ -54,13 +56,45 @@ def test_units(folder, program):
         expect(found.returncode == 0, "systemd-analyze security:", name, found.stdout[-200:],
                found.stderr)
         unit = all_settings_of(DEPLOY / name)
-        wanted = [] if "check" in name else [LOW_PORT]
+        wanted = [LOW_PORT] if name in AT_LOW_PORTS else []
         expect(unit.get("AmbientCapabilities", []) == wanted, name, "has other capabilities")
+        expect(unit["LimitCORE"] == ["0"], name, "may leave a core, in which keys stand")
+        expect(unit["UMask"] == ["0077"], name, "makes files for others")
+        if name in ENDLESS:
+            expect((unit["Restart"], unit["StartLimitIntervalSec"]) == (["always"], ["0"]), name, "is not started again for ever")
+            for it in ("Wants", "After"):
+                expect({"network-online.target", "time-sync.target"} <= set(" ".join(unit[it]).split()), name, "waits for no clock or network")
+        else:
+            expect(unit["Type"] == ["oneshot"] or "@" in name, name, "runs without an end, and is none of", ENDLESS)
     # (a variable that is a word of its own is none where it is empty; one that is not set at all is a warning at each start)
-    unit = all_settings_of(DEPLOY / SERVICES[0])
+    unit = all_settings_of(DEPLOY / "hq-desk@.service")
     expect(unit["Environment"] == ["KEYS="] and unit["ExecStart"][0].endswith(" $KEYS"), "named keys are asked for without any")
-    for name in (*SERVICES, *OTHERS_OF_US):
-        expect(all_settings_of(DEPLOY / name)["LimitCORE"] == ["0"], name, "may leave a core, in which keys stand")
+    expect(float(unit["MemoryMax"][0].rstrip("G")) >= 2.5, "a store of a million messages cannot be opened in", unit["MemoryMax"])
+
+
+def test_refused_start():
+    """A start whose files are refused fails, by the very check of the program, and is tried again each two seconds, not ten times."""
+    unit = all_settings_of(DEPLOY / "hq-desk@.service")
+    check, = unit["ExecStartPre"]
+    expect(check.startswith("/usr/bin/hq check --directory /etc/hq/%i.csv ") and check.endswith(" $KEYS"), "before a start there is", check)
+    for word in ("--directory /etc/hq/%i.csv", "--host ${HOST}", "--relay-key-file /etc/hq/%i.key"):
+        expect(word in check and word in unit["ExecStart"][0], "the check and the start differ by", word)
+    behind = unit["ExecStopPost"][0]
+    expect(behind.startswith("/bin/sh -c '") and behind.endswith("'"), "behind an end there is", behind)
+    script = behind[len("/bin/sh -c '"):-1].replace("$$", "$")
+    for result, least in (("exit-code", 2), ("success", 0), ("signal", 0), ("core-dump", 0)):
+        begun = time.monotonic()
+        expect(run("sh", "-c", script, SERVICE_RESULT=result).returncode == 0, "behind", result, "it fails")
+        took = time.monotonic() - begun
+        expect(least <= took < least + 1.5, "behind", result, "it takes", took)
+
+
+def test_nginx_restarts():
+    """systemd starts Debian's nginx again whenever it ends, by the file that the page has put beside its unit."""
+    unit = all_settings_of(DEPLOY / "nginx-restart.conf")
+    expect((unit["Restart"], unit["StartLimitIntervalSec"]) == (["always"], ["0"]), "nginx is not started again")
+    page = (DEPLOY.parent / "docs/PRODUCTION.md").read_text()
+    expect("examples/nginx-restart.conf /etc/systemd/system/nginx.service.d/hq-desk.conf\n" in page, "the page does not put it there")
 
 
 def run(*words, **more):
@@ -137,7 +171,7 @@ def test_rotated(folder, program):
     rules, state = folder / "hq-desk.logrotate", folder / "logrotate.state"
     text = (DEPLOY / rules.name).read_text().replace("/var/log/hqdesk", str(folder))
     expect("  su hqdesk hqdesk\n" in text, "the logs are moved by another user")
-    rules.write_text(text.replace("  su hqdesk hqdesk\n", ""))
+    rules.write_text(text.replace("  su hqdesk hqdesk\n", "").replace("/var/log/hq-nginx", str(folder / "nginx")))
     rules.chmod(0o644)
     with Desk(folder, program, "rotated", ROWS) as desk:
         used(desk)

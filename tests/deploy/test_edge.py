@@ -3,12 +3,10 @@
 A stranger has no customer's key. Its addresses are those of loopback.
 """
 import json
-import os
 import re
 import resource
 import socket
 import subprocess
-import sys
 import time
 from contextlib import ExitStack
 from concurrent.futures import ThreadPoolExecutor
@@ -279,31 +277,3 @@ def test_alerted(proxy):
                            capture_output=True, text=True, timeout=LONGEST)
     count = re.search(r"Lines: \d+ lines, \d+ ignored, (\d+) matched", found.stdout)
     expect(count and int(count[1]) == len(wrong), "fail2ban finds", found.stdout[-300:], found.stderr)
-
-
-CONNECTS = """\
-import socket, sys
-def made(source, count):
-    them = []
-    for _ in range(count):
-        try:
-            them.append(socket.create_connection(("127.0.0.1", 443), 5, source_address=(source, 0)))
-        except ConnectionRefusedError:
-            break
-    return them
-listener = socket.create_server(("127.0.0.1", 443), backlog=1000)
-first = made("127.0.0.2", 150)
-print(len(first), len(made("127.0.0.3", 50)))
-"""
-
-
-def test_firewalled():
-    """The rules of the firewall let an address have a hundred connections, in a network of its own."""
-    needs.command("nft", "unshare")
-    rules = f"ip link set lo up && nft -f {DEPLOY / 'hq-desk.nft'}"
-    tried = ["unshare", "-n", "sh", "-c"]
-    if os.getuid() or subprocess.run([*tried, rules], capture_output=True, timeout=LONGEST).returncode:
-        pytest.skip("no root, or no rules in a network of its own")
-    found = subprocess.run([*tried, f'{rules} && exec "$0" -c "$1"', sys.executable, CONNECTS],
-                           capture_output=True, text=True, timeout=LONGEST)
-    expect(found.stdout == "100 50\n", "of 150 and 50 connections there are", found.stdout, found.stderr)

@@ -58,9 +58,9 @@ def test_added(place):
     expect(settings_of(place) == f"# ours\n{SETTINGS}\nKEYS=--keys={place.folder}/north.keys.csv\n", "settings are",
            settings_of(place))
     texts = {name: text.decode() for name, text in place.files().items()}
-    for key, name in ((panel, "acme"), (report, "acme"), (birch, "birch"), ("acmekey000000001", "acme")):
-        expect(f"{key} {name};\n" in texts["keys.map"], "the map lacks a key of", name)
-    expect(texts["names.map"] == "acme 127.0.0.1:825;\nbirch 127.0.0.1:825;\n", "the names are", texts["names.map"])
+    for key, holder in ((panel, "acme/panel"), (report, "acme/report-1"), (birch, "birch/panel"), ("acmekey000000001", "acme")):
+        expect(f"{key} {holder};\n" in texts["keys.map"], "the map lacks a key of", holder)
+    expect(texts["names.map"] == "default 127.0.0.1:825;\nacme 127.0.0.1:825;\nbirch 127.0.0.1:825;\n", "the names are", texts["names.map"])
     expect([it for it, text in sorted(texts.items()) if report in text] == ["keys.map", "north.keys.csv"], "its key is told elsewhere")
     expect(texts["north.csv"] == HEADER + ACME + BIRCH, "the directory is", texts["north.csv"])
     expect(mode(place.folder / "north.keys.csv") == 0o640, "its mode is", oct(mode(place.folder / "north.keys.csv")))
@@ -158,10 +158,11 @@ def test_maps_by_hand(place):
         return subprocess.run(words, capture_output=True, text=True, timeout=LONGEST)
     (place.folder / "north.keys.csv").write_text(f"{NAMED}birch,panel,NamedKey00000001,read\n")
     expect(mapped().returncode == 0, "the maps are refused:", mapped())
-    wanted = "acmekey000000001 acme;\nbirchkey00000001 birch;\nnamedkey00000001 birch;\n"
+    wanted = "acmekey000000001 acme;\nbirchkey00000001 birch;\nnamedkey00000001 birch/panel;\n"
     expect((place.folder / "keys.map").read_text() == wanted, "the map is", (place.folder / "keys.map").read_text())
     for row, told in (("cedar,panel,namedkey00000001,all", "'cedar' is not in the directory"),
                       ("acme,panel,short,all", "a row of 'acme' has no key"),
+                      ("acme,a b,namedkey00000001,all", "'a b' is no name of a key"),
                       ("acme,panel,BIRCHKEY00000001,all", "has a key of an earlier one")):
         (place.folder / "north.keys.csv").write_text(f"{NAMED}{row}\n")
         expect(mapped().returncode == 1 and told in mapped().stderr, row, "is told as", mapped())

@@ -1,4 +1,4 @@
-"""The procedures of docs/PRODUCTION.md with the compiled program, each by the very lines of that page.
+"""The procedures of docs/PROCEDURES.md with the compiled program, each by the very lines of that page.
 
 Desks run by the unit of deploy/, behind its nginx. Meanwhile workers submit without a pause, and
 customers look. What is 502 is asked again, as docs/API.md says. The tests of this file go on from
@@ -8,6 +8,7 @@ import shutil
 import sqlite3
 import stat
 import subprocess
+import tarfile
 from pathlib import Path
 
 import needs
@@ -109,20 +110,26 @@ def restored(place, north, copy, before, load, stopped, there):
 
 def new_key(place, north, proxy):
     """acme has another key from now on; its mail stays, and nobody else is troubled."""
-    new, beside = "acmekey0000000002", north.folder / "north.new"
+    new, wanted = "acmekey0000000002", north.folder / "wanted"
     rows, good = [row("acme", new), *map(row, NORTH[1:])], north.directory.read_text()
-    beside.write_text(HEADER + "\n".join([*rows, row("Bad")]) + "\n")
+    # (an editor writes into the file that it is given)
+    editor = north.folder / "editor"
+    editor.write_text(f'#!/bin/sh\ncat {wanted} >"$1"\n')
+    editor.chmod(0o755)
+    north.directory.chmod(0o600)
+    wanted.write_text(HEADER + "\n".join([*rows, row("Bad")]) + "\n")
     try:
-        place.run("A new directory")
+        place.run("A new directory", EDITOR=str(editor))
     except Wrong as wrong:
         why = "hq: row 4, column name: not 1 to 32 lower-case letters, digits and hyphens\n"
         told = 1, "hq: 53 BadDirectory row 4\n" + why
         expect(wrong.args[2:] == told, "a bad row is told as", *wrong.args)
     expect(north.directory.read_text() == good, "a bad directory is in its place")
-    beside.write_text(HEADER + "\n".join(rows) + "\n")
+    wanted.write_text(HEADER + "\n".join(rows) + "\n")
     before = kept(north.address, "acme")
     with Load(proxy, customers(*NORTH[1:]), "key") as load:
-        _, took = place.run("A new directory")
+        _, took = place.run("A new directory", EDITOR=str(editor))
+    expect(stat.S_IMODE(north.directory.stat().st_mode) == 0o640, "the directory may be read by others")
     expect(proxy.ask("GET", "/v1/usage", key_of("acme"))[0] == 401, "the old key is taken")
     found = done(proxy.ask("GET", "/v1/usage", new), "the new key")
     expect(before and found["messages"] == len(before), "of the mail there is", found)
@@ -148,24 +155,6 @@ def filled(desk, name):
     table = {"label": "one", "csv": "class,pattern,action\nrecipient,c.example,HOLD\n"}
     done(desk.ask("POST", "/v1/import", key, table))
     return table
-
-
-def erased(place, north, proxy):
-    """A customer, which has one message alone, has nothing any more, and others have all."""
-    north.stop()
-    north.has(map(row, [*NORTH[1:], "dale"]))
-    north.start()
-    one = {"spool": "one", "sender": "", "recipients": ["p@far.example"], "size": 1}
-    done(north.ask("POST", "/relay/submit/dale", body=one), "dale")
-    others = {it: kept(north.address, it) for it in NORTH[1:]}
-    with Load(proxy, customers(*NORTH[1:]), "erase") as load:
-        place.run("Erasing a customer")
-    found = done(north.ask("GET", "/v1/usage", key_of("dale")), "dale")
-    expect(not any(found.values()), "of dale there is", found)
-    expect(not [*north.folder.glob("gone.db*")], "the other store is not deleted")
-    for name, before in others.items():
-        found = kept(north.address, name) - before
-        expect(found == load.ids(name), name, "has", len(found), "of", len(load.ids(name)))
 
 
 def unlabelled(place, north):
@@ -264,8 +253,9 @@ def upgraded(place, program, used, proxy, served):
         place.run("An upgrade", NEW=program, BACKUP=str(folder / "upgrade"))
     expect(used.read_bytes() == Path(program).read_bytes(), "the new program is not in its place")
     expect((folder / "upgrade" / used.name).read_bytes() == old, "the old program is not kept")
-    for name in ("north.db", "south.db"):
-        expect(len(files(folder / "upgrade" / name)) == 2, name, "is not copied whole")
+    with tarfile.open(folder / "upgrade/stores.tar") as copy:
+        lacking = {f"{it}{end}" for it in ("north.db", "south.db") for end in ("", "-wal")} - set(copy.getnames())
+    expect(not lacking, "the copy of the stores lacks", lacking)
     found = [all_of(desk.address, key_of(it)) for it, desk in served]
     expect(found == before, "something else is told behind an upgrade")
 
@@ -302,11 +292,9 @@ def procedures(place, used, north, south, proxy):
 
 
 def test_procedures(procedures, program, used, north, south, proxy):
-    """Backup and restore, a new key, the erasing of a customer and of labels, a move to another desk,
-    and an upgrade."""
+    """Backup and restore, a new key, the erasing of labels, a move to another desk, and an upgrade."""
     backups(procedures, north)
     new_key(procedures, north, proxy)
-    erased(procedures, north, proxy)
     if shutil.which("sqlite3"):
         unlabelled(procedures, north)
     move(procedures, north, south, proxy)

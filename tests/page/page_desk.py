@@ -43,7 +43,7 @@ def proxy(folder, address, by_cookie=False):
     """nginx before a desk at an address: it serves a copy of the page."""
     folder.mkdir()
     shutil.copytree(ROOT / "web", folder / "web")
-    serves = SERVES.replace("127.0.0.1:8025", named(address))
+    serves = SERVES.replace("127.0.0.1:825", named(address))
     serves = serves.replace("/usr/share/hq-desk/web", f"{folder}/web")
     if by_cookie:
         serves = serves.replace("proxy_pass", f"{TAKES_KEY.strip()} proxy_pass")

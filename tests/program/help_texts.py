@@ -65,7 +65,7 @@ Options:
                                    where it is missing. By default the desk stands in memory,
                                    and is empty at first. Example: --store desk.db
       --listen <ADDRESS>           The address to listen on: an IP address and a port, with port 0
-                                   a free one; or unix: and a path. Example: --listen 127.0.0.1:8025 [default: 127.0.0.1:8025]
+                                   a free one; or unix: and a path. Example: --listen unix:desk.sock [default: 127.0.0.1:8025]
       --count <N>                  How many connections are served before it ends, 1 to 1000000.
                                    Example: --count 100 [default: 1000000]
       --idle-timeout <SECONDS>     How long a client may take from one byte to the next,
@@ -88,12 +88,12 @@ Example of a directory, the file customers.csv:
   acme,acmekey000000001,1000,500000000,1000,100,14400
 
 Example of a request:
-  curl -H 'X-Desk-Key: acmekey000000001' http://127.0.0.1:8025/v1/messages
+  curl -H 'X-Desk-Key: acmekey000000001' --unix-socket desk.sock http://desk/v1/messages
 
 Examples:
   hq serve --directory customers.csv --host relay.example --relay-key relaykey00000001
   hq serve --directory customers.csv --host relay.example --relay-key-file relay.key \\
-    --store desk.db --listen 127.0.0.1:0 --count 100 --log desk.log
+    --store desk.db --listen unix:desk.sock --count 100 --log desk.log
 """
 BATCH_HELP = b"""\
 Reply to the lines of standard input, for the customers of a directory

@@ -6,20 +6,17 @@ the reply to the line before it. (`</dev/null` says that there is none of the fi
 line where it ends in `\\`. The sessions are run in one folder, in the order of the documents, and the output must be the
 one that is shown, byte for byte.
 
-`$ hq serve WORDS &` is a server, which runs until `$ kill %1`: it listens on a free port, and its line tells that one in
-the place of the one that is shown. `$ curl WORDS` asks it, there too, and the lines below are what curl prints, a last line
-without an end and those of `-i` with LF. Where there is no curl, the request is made here, by the options -X, -H, -d and -i.
+`$ hq serve WORDS --listen unix:PATH &` is a server, which runs until `$ kill %1`. `$ curl WORDS` asks it at that path, and the
+lines below are what curl prints, a last line without an end and those of `-i` with LF.
 """
-import http.client
 import re
 import shlex
-import shutil
 import subprocess
 from pathlib import Path
-from urllib.parse import urlsplit
 
+import needs
 import pytest
-from serving import LONGEST, Server, expect, named
+from serving import LONGEST, Server, expect
 
 ROOT = Path(__file__).resolve().parents[2]
 PAGES = ("README.md", "docs/OPERATIONS.md")
@@ -55,18 +52,16 @@ class Served:
     """A server that a session has begun; `shown` is the line that is shown of it."""
 
     def __init__(self, program, words, shown, folder):
-        if "--listen" in words or len(shown) != 1 or not re.fullmatch(r"listening on 127\.0\.0\.1:\d+", shown[0]):
-            pytest.fail(f"{words}: a server is shown without --listen, and with one line, its address")
-        self.shown = shown[0].rpartition(" ")[2]
-        self.server = Server([program, *words], folder, 1000)
-        self.address = named(self.server.address)
+        *words, option, listen = words
+        if option != "--listen" or not listen.startswith("unix:") or shown != [f"listening on {listen}"]:
+            pytest.fail(f"{words}: a server is shown with --listen unix:PATH, and with one line, that path")
+        self.server, self.path, self.folder = Server([program, *words], folder, 1000, listen), listen[len("unix:"):], folder
 
     def curl(self, words, shown):
         """Asks the server; answers how many lines were as they are shown."""
-        url = words[-1].replace(self.shown, self.address)
-        if url == words[-1]:
-            pytest.fail(f"curl {words} does not ask {self.shown}")
-        told = by_curl([*words[:-1], url]) if shutil.which("curl") else by_hand([*words[:-1], url])
+        if words[-3:-1] != ["--unix-socket", self.path]:
+            pytest.fail(f"curl {words} does not ask at {self.path}")
+        told = by_curl(words, self.folder)
         wanted = "\n".join(shown)
         if told.replace("\r\n", "\n") != wanted:
             pytest.fail(f"curl {words}\n  tells {told}\n  and is shown with {wanted}")
@@ -81,42 +76,12 @@ class Served:
             pytest.fail(f"the server told {told}")
 
 
-def by_curl(words):
+def by_curl(words, folder):
     asked = ["curl", "-q", "-sS", "--noproxy", "*", "--max-time", str(LONGEST), *words]
-    ended = subprocess.run(asked, capture_output=True, timeout=LONGEST + 5)
+    ended = subprocess.run(asked, capture_output=True, timeout=LONGEST + 5, cwd=folder)
     if (ended.returncode, ended.stderr) != (0, b""):
         pytest.fail(f"curl {words}: status {ended.returncode}\n{ended.stderr.decode()}")
     return ended.stdout.decode()
-
-
-def by_hand(words):
-    """What curl prints for these words."""
-    method, body, head, fields = None, None, False, {}
-    *options, url = words
-    given = iter(options)
-    for option in given:
-        if option == "-X":
-            method = next(given)
-        elif option == "-H":
-            name, _, value = next(given).partition(":")
-            fields[name] = value.strip()
-        elif option == "-d":
-            body = next(given)
-        elif option == "-i":
-            head = True
-        else:
-            pytest.fail(f"curl {words}: {option} is not known here")
-    parts = urlsplit(url)
-    connection = http.client.HTTPConnection(parts.hostname, parts.port, timeout=LONGEST)
-    connection.request(method or ("POST" if body else "GET"), parts.path, body, fields)
-    response = connection.getresponse()
-    told = response.read().decode()
-    connection.close()
-    if not head:
-        return told
-    lines = [f"HTTP/1.1 {response.status} {response.reason}"]
-    lines += [*(f"{name}: {value}" for name, value in response.getheaders()), ""]
-    return "".join(f"{line}\r\n" for line in lines) + told
 
 
 def session(program, folder):
@@ -150,4 +115,5 @@ def session(program, folder):
 
 def test_sessions(program, folder):
     """Each line of the pages has what they show below it."""
+    needs.command("curl")
     expect(session(program, folder), "no session is shown")

@@ -16,8 +16,8 @@ from releasing import ROOT, package_in
 from rooted import Root, fetched, place
 from serving import expect, until
 
-PRODUCTION, RELAY, README = "docs/PRODUCTION.md", "docs/RELAY.md", "README.md"
-NAMES = {"TLS": "/root/tls"}
+PRODUCTION, PROCEDURES, RELAY, README = "docs/PRODUCTION.md", "docs/PROCEDURES.md", "docs/RELAY.md", "README.md"
+NAMES = {"TLS": "/root/tls", "NAME": "desk.example"}
 OURS = ("/etc/hq", "/var/lib/hqdesk", "/var/lib/hqrelay", "/var/log/hqdesk", "/usr/share/hq-desk", "/usr/libexec/hq-desk")
 HERE = Path(__file__).resolve().parent
 # A host of recipients: it keeps each message, and waits while the file `waits` is there.
@@ -115,15 +115,15 @@ def test_first_session(root):
     shown = next(it for it in re.findall(r"(?ms)^```\n(.*?)^```$", (ROOT / README).read_text()) if "hq serve" in it)
     asked = [it for it in re.findall(r"(?ms)^```\n(.*?)^```$", (ROOT / README).read_text()) if it.startswith("$ curl")]
     begin = re.search(r"(?s)cat > customers.csv.*?\nEND\n", shown)[0]
-    serve = re.search(r"(?m)^\$ (hq serve .*) &$", shown)[1]
+    serve = re.search(r"(?ms)^\$ (hq serve .*?) &$", shown)[1]
     with root.begin(f"mkdir -p first; cd first; {begin} exec {serve}", "/tmp/first.log"):
         try:
-            until(lambda: "listening on 127.0.0.1:8025\n" in root.path("/tmp/first.log").read_text(), "hq does not listen")
+            until(lambda: "listening on unix:desk.sock\n" in root.path("/tmp/first.log").read_text(), "hq does not listen")
             count = 0
             for part in re.split(r"(?m)^\$ ", asked[0])[1:]:
                 lines = part.replace("\\\n", " ").rstrip("\n").split("\n")
                 if lines[0].startswith("curl"):
-                    told = root.run(lines[0].replace("curl ", "curl -sS ", 1))
+                    told = root.run(f"cd first; {lines[0].replace('curl ', 'curl -sS ', 1)}")
                     expect(told == lines[1], lines[0], "is told", told, "and shown with", lines[1])
                     count += 1
             expect(count == 3, "README shows", count, "calls")
@@ -144,6 +144,8 @@ def test_set_up(root, folder):
         for it in blocks(PRODUCTION, title):
             root.run(it, **NAMES)
     until(lambda: usage(root, "acme").get("messages") == 0, "acme is not answered")
+    for it in ("hq-desk.log", "error.log"):
+        expect(root.run(f"stat -c %a /var/log/hq-nginx/{it}") == "640\n", it, "may be read by others")
     modes = root.run("stat -c '%n %U:%G %a' /etc/hq/north.csv /etc/hq/north.key /etc/hq/tls.key /etc/hq/keys.map "
                      "/var/lib/hqdesk/north.db /var/log/hqdesk/north.log")
     for it in ("north.csv root:hqdesk 640", "north.key root:hqdesk 640", "tls.key root:root 600", "keys.map root:root 600",
@@ -228,30 +230,59 @@ def test_mail_under_way(root):
 
 
 def test_customers_of_the_page(root):
-    """The lines of PRODUCTION's "Customers", one after another."""
-    for it in blocks(PRODUCTION, "Customers"):
+    """The lines of PROCEDURES's "Customers", one after another."""
+    for it in blocks(PROCEDURES, "Customers"):
         told = root.run(it)
     keys = re.findall(r"(?m)^[0-9a-f]{40}$", told)
     expect(len(set(keys)) == 4 and "birch north: messages 200," in told and "login birch@b.example" in told, "they tell", told)
     expect("key panel all, key auditor read\n" in told, "of keys they tell", told)
     expect("birch" not in root.run("cat /etc/hq/*.csv /etc/hq/*.map /etc/hq/*.env"), "birch is left")
+    for it in ("the store of north: ", "the worker: "):
+        expect(it in told, "of what is erased they tell", told)
+    expect(root.run("grep -c birch /var/lib/hqdesk/north.db || true") == "0\n", "the store has birch")
+
+
+def test_a_name_again(root):
+    """A name that was dropped is refused while the desk serves others, and is free when it is erased; no call gets anything but 200."""
+    root.run("hq-customers add fir --domain f.example")
+    send(root, "ann@f.example", "of fir")
+    until(lambda: usage(root, "fir").get("delivered") == 1, "fir's mail is not delivered", 60)
+    root.run("hq-customers drop fir")
+    root.run("rm -f stop begun enough")
+    load = root.begin(f"exec python3 load.py /etc/hq/north.key acme {key_of(root, 'acme')} >load.json", "/tmp/load.log")
+    until(lambda: root.path("/root/begun").exists(), "the load does not begin")
+    expect("fir was dropped on" in root.run("hq-customers add fir", status=1), "its name is given again")
+    root.run("sed -i /^fir,/d /etc/hq/dropped.csv")
+    expect("has records of an earlier fir" in root.run("hq-customers add fir", status=1), "the store is not asked")
+    told = root.run("hq-customers erase fir; hq-customers retain 30; hq-customers add fir")
+    expect("0 rows" not in told and "north: " in told and "backups from before now" in told, "erased is told as", told)
+    until(lambda: root.path("/root/enough").exists(), "a thousand calls take too long", 60)
+    root.run("touch stop")
+    expect(load.wait(60) == 0, "the load ended", root.run("cat /tmp/load.log"))
+    found = json.loads(root.run("cat load.json"))
+    expect(found["good"] > 1000 and not found["others"], "of the calls", found)
+    expect(usage(root, "fir").get("accepted") == 0, "the new fir has", usage(root, "fir"))
+    expect(taken(root, "of fir") == 1 and usage(root, "acme").get("delivered") == 3, "something else is lost")
+    root.run("hq-customers drop fir; hq-customers erase fir; rm stop begun enough")
 
 
 def test_alerts_of_the_page(root):
     """The lines of PRODUCTION's "Firewall and alerts", and what desk-metrics writes."""
     for it in ("/etc/fail2ban/filter.d", "/etc/fail2ban/jail.d", "/var/lib/prometheus/node-exporter"):
         root.path(it).mkdir(parents=True, exist_ok=True)
+    root.run("id prometheus 2>/dev/null || useradd --system --no-create-home prometheus; chown prometheus /var/lib/prometheus/node-exporter")
     root.put("/usr/local/bin/journalctl", "#!/bin/sh\necho 'level=error event=\"lost notices\" customer=acme numbers=1'\n", 0o755)
     for it in blocks(PRODUCTION, "Firewall and alerts"):
         root.run(it)
     expect("hq_desk" in root.run("nft list tables"), "the firewall has no rules")
     expect("hq-desk-metrics.timer" in root.run("cat /run/units/done"), "no timer runs")
-    root.run("/usr/libexec/hq-desk/desk-metrics /var/lib/prometheus/node-exporter")
+    root.run("systemctl start hq-desk-metrics hq-desk-metrics-publish")
     told = root.run("cat /var/lib/prometheus/node-exporter/*.prom")
     for it in ('desk_messages_limit{customer="acme"} ', 'desk_recipients_delivered_total{customer="acme"} 3\n',
                'desk_worker_errors{event="lost notices"} 1\n'):
         expect(it in told, "nothing tells", it, "but", told)
-    root.run("systemctl stop hq-desk@north; /usr/libexec/hq-desk/desk-metrics /var/lib/prometheus/node-exporter && exit 9 || true")
+    expect(root.run("stat -c %U /var/lib/prometheus/node-exporter/hq-desk-north.prom") == "prometheus\n", "root wrote there")
+    root.run("systemctl stop hq-desk@north; systemctl start hq-desk-metrics && exit 9; systemctl start hq-desk-metrics-publish")
     expect(root.run("cat /var/lib/prometheus/node-exporter/hq-desk-north.prom") in told, "the file of before is lost")
     root.run("systemctl start hq-desk@north")
     until(lambda: "acme" in root.run("cat /etc/hq/keys.map") and usage(root, "acme").get("delivered") == 3, "acme is not answered")
@@ -277,7 +308,7 @@ def test_upgrade(root, releases):
 
 def test_migrated(root, releases):
     """Behind a release of another schema no desk is started again, and the lines that are told make its store one of now."""
-    root.run("systemctl stop hq-desk@north; cp -p /var/lib/hqdesk/north.db* /root")
+    root.run("systemctl stop hq-desk@north; cp -p /var/lib/hqdesk/north.db* /root; rm -rf backup")
     old = root.take(OLD_STORES / "version-2.db")
     root.run(f"rm /var/lib/hqdesk/north.db*; install -m 600 -o hqdesk -g hqdesk {old} /var/lib/hqdesk/north.db")
     root.run("sed -i s/3/2/ /usr/share/hq-desk/schema; systemctl start hq-desk@north; mkdir backup")
@@ -289,7 +320,7 @@ def test_migrated(root, releases):
     expect(len(lines) == 4, "the lines are", lines)
     root.run("\n".join(it.replace("BACKUP", "backup") for it in lines))
     until(lambda: "listening" in root.run("tail -n 1 /run/units/hq-desk@north.service.log"), "the migrated desk does not start")
-    expect(root.path("/root/backup/north.db").exists(), "nothing was copied")
+    expect("north.db\n" in root.run("tar -t -f backup/north.tar"), "nothing was copied")
     root.run("systemctl stop hq-desk@north; rm /var/lib/hqdesk/north.db*; cp -p north.db* /var/lib/hqdesk; "
              "systemctl start hq-desk@north")
     until(lambda: usage(root, "acme").get("delivered") == 3, "acme is not answered")
@@ -300,8 +331,13 @@ def test_removed(root):
     kept = [it for it in ("/etc/hq/north.csv", "/etc/hq/north.key", "/var/lib/hqdesk/north.db", "/var/log/hqdesk/north.log",
                           "/var/lib/hqrelay/spool/book.db", "/etc/hq/nginx.conf") if not root.path(it).exists()]
     expect(not kept, "there was no", kept)
+    # (what the page has enabled, and what an administrator has changed)
+    root.run("mkdir -p /etc/systemd/system/multi-user.target.wants; for it in hq-desk@north hq-desk-workers hq-relay-intake; do "
+             "ln -sf /lib/systemd/system/${it%north}.service /etc/systemd/system/multi-user.target.wants/$it.service; done")
     root.run("apt-get remove -y hq-desk", longest=120)
-    expect(not re.search(r"(?m)^hq", root.run("cat /proc/[0-9]*/comm")), "a desk runs on")
+    for user in ("hqdesk", "hqrelay"):
+        expect(root.run(f"ps -o args= -u {user} || true") == "", "of", user, "there runs", root.run(f"ps -o args= -u {user} || true"))
+    expect("hq_desk" not in root.run("nft list tables"), "its firewall is left")
     expect(not root.path("/usr/bin/hq").exists(), "the program is there")
     for it in ("/etc/hq/north.csv", "/etc/hq/north.key", "/var/lib/hqdesk/north.db", "/var/log/hqdesk/north.log",
                "/var/lib/hqrelay/spool/book.db", "/etc/hq/nginx.conf"):
@@ -309,9 +345,15 @@ def test_removed(root):
 
 
 def test_purged(root):
-    """Keys, settings and logs go; mail of customers stays, and is named; nothing else is left."""
+    """Keys, settings and logs go, and what was put elsewhere; mail of customers stays, and is named; nothing else is left unsaid."""
+    before = root.path("/etc/nginx/nginx.conf.before-hq-desk").read_text()
     told = root.run("apt-get purge -y hq-desk", longest=120)
-    for it in ("/etc/hq", "/var/log/hqdesk", "/usr/share/hq-desk", "/usr/libexec/hq-desk"):
+    expect(root.path("/etc/nginx/nginx.conf").read_text() == before, "nginx has not its own nginx.conf again")
+    for it in ("/etc/postfix has the lines", "/etc/postfix-desk has the lines", "the users hqdesk and hqrelay stay"):
+        expect(it in told, "it does not tell that", it, "but", told[-800:])
+    dangling = root.run("find /etc/systemd/system -xtype l -name 'hq-*'; ls /etc/sudoers.d | grep -v README || true")
+    expect(dangling == "", "a purge left", dangling)
+    for it in ("/etc/hq", "/var/log/hqdesk", "/var/log/hq-nginx", "/usr/share/hq-desk", "/usr/libexec/hq-desk"):
         expect(not root.path(it).exists(), "a purge left", it)
     for it in ("/var/lib/hqdesk", "/var/lib/hqrelay"):
         expect(any(root.path(it).iterdir()) and f"{it} has mail of customers, and stays" in told, it, "is told as", told[-800:])

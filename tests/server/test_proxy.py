@@ -87,7 +87,7 @@ def test_proxy(program, folder):
     needs.command("nginx")
     (folder / "customers.csv").write_text(DIRECTORY)
     with Server(words(program, "serve"), folder, len(ASKED) + len(AT_ONCE)) as server:
-        serves = SERVES.replace("127.0.0.1:8025", named(server.address))
+        serves = SERVES.replace("127.0.0.1:825", named(server.address))
         with Nginx(folder, serves, keeps_alive=True) as proxy:
             through(proxy, server)
             at_once(proxy, server)

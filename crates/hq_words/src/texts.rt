@@ -68,12 +68,12 @@ Example of a directory, the file customers.csv:
   acme,acmekey000000001,1000,500000000,1000,100,14400
 
 Example of a request:
-  curl -H 'X-Desk-Key: acmekey000000001' http://127.0.0.1:8025/v1/messages
+  curl -H 'X-Desk-Key: acmekey000000001' --unix-socket desk.sock http://desk/v1/messages
 
 Examples:
   hq serve --directory customers.csv --host relay.example --relay-key relaykey00000001
   hq serve --directory customers.csv --host relay.example --relay-key-file relay.key \\
-    --store desk.db --listen 127.0.0.1:0 --count 100 --log desk.log";
+    --store desk.db --listen unix:desk.sock --count 100 --log desk.log";
 
 /// What `batch` does.
 pub(crate) const BATCH: &str =
@@ -151,7 +151,7 @@ and is empty at first. Example: --store desk.db";
 
 pub(crate) const LISTEN: &str = "\
 The address to listen on: an IP address and a port, with port 0
-a free one; or unix: and a path. Example: --listen 127.0.0.1:8025";
+a free one; or unix: and a path. Example: --listen unix:desk.sock";
 
 pub(crate) const COUNT: &str = "\
 How many connections are served before it ends, 1 to 1000000.

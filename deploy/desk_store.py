@@ -1,0 +1,78 @@
+"""The store of a desk that does not run, as its rows: for the scripts beside it, each of which runs as the user of the desks."""
+import contextlib
+import os
+import sqlite3
+from typing import Dict, Iterator, List
+
+VERSION = 3
+TABLES = ("heads", "messages", "recipients", "lines", "marks", "notices", "holds", "ends")
+
+
+class Refused(Exception):
+    """Nothing was changed; the text says why."""
+
+
+def opened(path: str) -> sqlite3.Connection:
+    """A store that no desk has, by a connection whose commits are synced, and which overwrites what is deleted."""
+    if not os.path.isfile(path):
+        raise Refused(f"{path} is no file")
+    store = sqlite3.connect(path, timeout=0, isolation_level=None)
+    store.execute("PRAGMA synchronous = FULL")
+    store.execute("PRAGMA secure_delete = ON")
+    names = {it for it, in store.execute("SELECT name FROM sqlite_master WHERE type = 'table'")}
+    if names != {"desk_schema", *TABLES}:
+        raise Refused(f"{path} is no store of this release")
+    if store.execute("SELECT version FROM desk_schema").fetchall() != [(VERSION,)]:
+        raise Refused(f"{path} is no store of this release")
+    return store
+
+
+def rows(store: sqlite3.Connection, name: str) -> Dict[str, List[tuple]]:
+    """What a store has of a customer, by table."""
+    asked = "SELECT * FROM {} WHERE customer = ?"
+    return {it: sorted(store.execute(asked.format(it), (name,))) for it in TABLES}
+
+
+def has_any(store: sqlite3.Connection, name: str) -> bool:
+    """Whether a store has a row of a customer."""
+    return any(store.execute(f"SELECT 1 FROM {it} WHERE customer = ? LIMIT 1", (name,)).fetchone() for it in TABLES)
+
+
+@contextlib.contextmanager
+def changing(store: sqlite3.Connection) -> Iterator[None]:
+    """A transaction, undone where it is not whole."""
+    store.execute("BEGIN IMMEDIATE")
+    try:
+        yield
+    except BaseException:
+        store.execute("ROLLBACK")
+        raise
+    store.execute("COMMIT")
+
+
+def dropped(store: sqlite3.Connection, name: str) -> int:
+    """Deletes all rows of a customer in the transaction under way; how many there were."""
+    return sum(store.execute(f"DELETE FROM {it} WHERE customer = ?", (name,)).rowcount for it in TABLES)
+
+
+# What retention deletes: whatever is older, up to the last row in the order of the numbers that is. Of notices the newest stays: by
+# it the worker knows whether the desk is the one that it mailed for.
+OLD = {
+    "notices": "SELECT customer, max(number) FROM notices AS it WHERE moment < :before AND number <"
+               " (SELECT max(number) FROM notices WHERE customer = it.customer) GROUP BY customer",
+    "ends": "SELECT customer, max(number) FROM ends WHERE moment < :before GROUP BY customer",
+}
+
+
+def aged(store: sqlite3.Connection, before: int, most: int) -> Dict[str, int]:
+    """Deletes notices and history from before a moment, the oldest first, so many at most; how many of each there were."""
+    found = {}
+    with changing(store):
+        for table, asked in OLD.items():
+            found[table] = 0
+            for customer, last in store.execute(asked, {"before": before}).fetchall():
+                found[table] += store.execute(
+                    f"DELETE FROM {table} WHERE customer = ? AND number IN"
+                    f" (SELECT number FROM {table} WHERE customer = ? AND number <= ? ORDER BY number LIMIT ?)",
+                    (customer, customer, last, most - sum(found.values()))).rowcount
+    return found

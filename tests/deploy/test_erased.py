@@ -1,0 +1,209 @@
+"""A customer's name is never somebody else's: hq-customers refuses one that is known, erases, and keeps nothing for longer than it is told.
+
+The stores are those of the program. A stand-in of systemctl says that no desk runs; tests/release has desks that do.
+"""
+import sqlite3
+import subprocess
+import time
+
+import pytest
+from customers_place import Place
+from deploying import DEPLOY
+from serving import HEADER, LONGEST, RELAY, batch_line, expect, submission
+
+DAY = 86_400
+BOTH = "acme,acmekey000000001,1000,500000000,1000,100,14400,1000\nbirch,birchkey00000001,1000,500000000,1000,100,14400,1000\n"
+WITH_HISTORY = HEADER.strip() + ",history\n"
+SENDER = "someone.of.birch@a.example"
+
+
+class Stores(Place):
+    """A folder of settings whose stores stand beside it, and what runs as another user as this one."""
+
+    def __init__(self, folder, program):
+        super().__init__(folder, program)
+        self.stores = folder / "stores"
+        self.stores.mkdir()
+        self.directory(BOTH)
+        for name in ("north", "south"):
+            (self.bin / "runuser").write_text('#!/bin/sh\nshift 3\nexec "$@"\n')
+        (self.bin / "runuser").chmod(0o755)
+        self.worker("echo nothing")
+
+    def directory(self, rows):
+        (self.folder / "north.csv").write_text(WITH_HISTORY + rows)
+
+    def worker(self, erases):
+        """The worker takes its settings, and erases so."""
+        (self.bin / "hq-relay").unlink()
+        (self.bin / "hq-relay").write_text(f'#!/bin/sh\n[ "$2" != erase ] || {{ {erases}; }}\n')
+        (self.bin / "hq-relay").chmod(0o755)
+
+    def words(self, *given):
+        first, *rest = super().words(*given)
+        return [first, "--store", self.stores, *rest]
+
+    def batch(self, *lines, name="north"):
+        """The replies to lines, each a moment, a path, a key and a body."""
+        text = "".join(f"{batch_line(at, method, path, key, *body)}\n" for at, method, path, key, *body in lines)
+        words = [self.bin / "hq", "batch", "--directory", self.folder / f"{name}.csv", "--host", "relay.example", "--relay-key", RELAY,
+                 "--store", self.stores / f"{name}.db"]
+        told = subprocess.run(words, input=text, capture_output=True, text=True, timeout=LONGEST)
+        expect((told.returncode, told.stderr) == (0, "") and all(it.startswith("200 ") for it in told.stdout.splitlines()), "a batch got", told)
+        return told.stdout.splitlines()
+
+    def filled(self, name, at, many=3):
+        """Has a customer be what one can be: mail, a notice, an end of the history, a line and a label."""
+        key = f"{name}key000000001" if name == "acme" else f"{name}key00000001"
+        lines = [(at, "POST", f"/relay/submit/{name}", RELAY, {**submission(f"{name}-{at}-{it}"), "sender": SENDER}) for it in range(many)]
+        ids = [it.split('"id":"')[1][:10] for it in self.batch(*lines)]
+        outcome = {"attempt": 1, "outcomes": [{"recipient": "bob@far.example", "result": "failed", "status": "5.1.1", "text": "no"}]}
+        self.batch(*((at, "POST", f"/relay/outcome/{name}", RELAY, {"id": it, **outcome}) for it in ids[:-1]))
+        self.batch((at, "POST", "/v1/line-put", key, {"class": "sender", "pattern": f"p{at}.example", "action": "HOLD"}))
+        return key
+
+    def told(self, key, at):
+        """All that the desk replies of a customer."""
+        return self.batch(*((at, "GET", f"/v1/{it}", key) for it in ("usage", "messages", "lines", "notices", "history")))
+
+    def bytes_of(self, text):
+        """Whether a store's files have these bytes."""
+        return [it.name for it in self.stores.iterdir() if text.encode() in it.read_bytes()]
+
+
+@pytest.fixture
+def place(folder, program):
+    return Stores(folder, program)
+
+
+def test_a_name_again(place):
+    """A name that was dropped is refused until it is erased; then the new customer has nothing of the old one."""
+    now = int(time.time())
+    place.filled("birch", now)
+    place.done("drop", "birch", "--queued")
+    before = place.files()
+    expect("birch north: dropped on 20" in place.done("list"), "it is listed as", place.done("list"))
+    ended = place.run("add", "birch")
+    expect(ended.returncode == 1 and "birch was dropped on 20" in ended.stderr and "hq-customers erase birch" in ended.stderr
+           and place.files() == before, "its name is given again:", ended)
+    told = place.done("erase", "birch")
+    expect("the store of north: " in told and "0 rows" not in told and "backups" in told, "erased is told as", told)
+    key = place.done("add", "birch").strip()
+    found = place.told(key, now)
+    expect(found[1:] == ['200 {"messages":[],"more":false}', '200 {"lines":[],"more":false}', '200 {"more":false,"notices":[]}',
+                         '200 {"history":[],"next":null}'], "the new one is told", found)
+
+
+def test_a_name_that_a_store_knows(place):
+    """So is a name whose row was taken out by hand, in the store that the new one would have."""
+    now = int(time.time())
+    key = place.filled("birch", now)
+    wanted = place.told(key, now)
+    place.directory(BOTH.splitlines(True)[0])
+    ended = place.run("add", "birch")
+    expect(ended.returncode == 1 and "the desk north has records of an earlier birch" in ended.stderr, "it is given again:", ended)
+    again = place.done("add", "birch", "--same-firm").strip()
+    found = place.told(again, now)
+    expect(found == wanted, "the same firm is told", found, "and not", wanted)
+    place.done("add", "cedar")
+
+
+def test_same_firm(place):
+    """The same firm finds its records again, behind a drop too."""
+    now = int(time.time())
+    wanted = place.told(place.filled("birch", now), now)
+    place.done("drop", "birch", "--queued")
+    key = place.done("add", "birch", "--same-firm", "--history", "1000", "--notices", "100").strip()
+    expect(place.told(key, now) == wanted, "it is told", place.told(key, now))
+    expect("dropped" not in place.done("list"), "it is listed as dropped")
+
+
+def test_erased(place):
+    """All of a customer goes from the store and its log, down to its bytes, and nothing of another's."""
+    now = int(time.time())
+    acme = place.filled("acme", now)
+    place.batch((now, "POST", "/v1/import", "birchkey00000001", {"label": "birch-label-1", "csv": "class,pattern,action\nsender,q.example,HOLD\n"}))
+    place.filled("birch", now, 30)
+    (place.folder / "north.csv").write_text((place.folder / "north.csv").read_text())
+    wanted = place.told(acme, now)
+    expect(place.bytes_of("birch-label-1"), "nothing is there to be erased")
+    ended = place.run("erase", "birch")
+    expect(ended.returncode == 1 and "birch is a customer: `hq-customers drop birch` comes first" in ended.stderr, "one that is there:", ended)
+    place.done("drop", "birch", "--queued")
+    place.worker("echo 'birch: 3 contents' ; exit 0")
+    told = place.done("erase", "birch")
+    expect("the worker: birch: 3 contents\n" in told, "the worker is told as", told)
+    expect(not place.bytes_of("birch-label-1") and not place.bytes_of("birch"), "left are bytes in", place.bytes_of("birch"))
+    expect(place.told(acme, now) == wanted, "another customer is told", place.told(acme, now))
+    expect("the store of north: 0 rows\n" in place.done("erase", "birch"), "a second time it erases something")
+    for name in ("Birch", "../birch", "b" * 33):
+        expect(place.run("erase", name).returncode == 1, name, "is a name")
+
+
+def test_erased_in_part(place):
+    """Where the worker erases nothing the name stays refused, and the next call ends what is left."""
+    place.filled("birch", int(time.time()))
+    place.done("drop", "birch", "--queued")
+    place.worker("echo 'it is locked' >&2; exit 1")
+    ended = place.run("erase", "birch")
+    expect(ended.returncode == 1 and "the worker erases nothing: it is locked" in ended.stderr, "erased is", ended)
+    expect("birch was dropped" in place.run("add", "birch").stderr, "its name is free")
+    place.worker("true")
+    place.done("erase", "birch")
+    place.done("add", "birch")
+
+
+def test_retained(place):
+    """What is older goes, the oldest first; the newest notice, all mail, lines and counts stay, and the desk goes on from there."""
+    now = int(time.time())
+    old, new = now - 100 * DAY, now - 50 * DAY
+    for at in (old, new):
+        place.filled("acme", at)
+    key = place.filled("birch", old)
+    before = {it: place.told(k, now) for it, k in (("acme", "acmekey000000001"), ("birch", key))}
+    expect(place.done("retain", "90") == "north: 3 notices, 4 of the history\n", "retained is told as", place.done("retain", "90"))
+    with sqlite3.connect(place.stores / "north.db") as store:
+        kept = store.execute("SELECT customer, number FROM notices ORDER BY 1, 2").fetchall()
+        ends = store.execute("SELECT customer, number FROM ends ORDER BY 1, 2").fetchall()
+    store.close()
+    expect(kept == [("acme", 3), ("acme", 4), ("birch", 2)] and len(ends) == 2 and {it[0] for it in ends} == {"acme"}, "left are", kept, ends)
+    for name, its in (("acme", "acmekey000000001"), ("birch", key)):
+        found = place.told(its, now)
+        expect(found[:3] == before[name][:3], name, "has other mail, lines or counts:", found[:3])
+    expect(place.done("retain", "90") == "north: 0 notices, 0 of the history\n", "a second time something is old")
+    place.filled("birch", now)
+    told = place.batch((now, "GET", "/v1/notices", key))[0]
+    expect('"number":3' in told and '"number":4' in told, "the next notices are", told)
+
+
+def test_retained_by_portions(place):
+    """A command erases a bounded number of rows, and says that more is left."""
+    now = int(time.time())
+    place.filled("acme", now - 100 * DAY, 40)
+    words = [DEPLOY / "desk-store", "retain", place.stores / "north.db", "90"]
+    script = (DEPLOY / "desk-store").read_text().replace("100_000", "25").replace("Path(__file__).resolve().parent", f"Path({str(DEPLOY)!r})")
+    (place.bin / "bounded").write_text(script)
+    (place.bin / "bounded").chmod(0o755)
+    found = [subprocess.run([place.bin / "bounded", *words[1:]], capture_output=True, text=True, timeout=LONGEST) for _ in range(4)]
+    expect([(it.returncode, it.stdout) for it in found] == [(4, "25 notices, 0 of the history\n"), (4, "13 notices, 12 of the history\n"),
+                                                           (4, "0 notices, 25 of the history\n"), (0, "0 notices, 2 of the history\n")], "portions are", found)
+
+
+@pytest.mark.parametrize("days", ["6", "0", "-1", "36501", "9x", "", "1e3"])
+def test_retained_too_shortly(place, days):
+    """A notice waits five days for the worker, so that none of the last week goes."""
+    place.filled("acme", int(time.time()))
+    ended = place.run("retain", "--", days) if days.startswith("-") else place.run("retain", days)
+    expect(ended.returncode == 1 and "is no number of days from 7 to 36500" in ended.stderr, days, "is told as", ended)
+
+
+def test_other_stores(place):
+    """What is no store of this release stays as it is."""
+    path = place.stores / "north.db"
+    with sqlite3.connect(path) as store:
+        store.execute("CREATE TABLE other (x)")
+    store.close()
+    before = path.read_bytes()
+    for words in (("add", "cedar"), ("erase", "cedar"), ("retain", "90")):
+        ended = place.run(*words)
+        expect(ended.returncode == 1 and "is no store of this release" in ended.stderr and path.read_bytes() == before, words, "got", ended)

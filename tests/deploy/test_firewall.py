@@ -1,0 +1,153 @@
+"""The firewall of deploy/, in a network of a test's own: who is refused, and that it may be put in place again and again.
+
+The users of the package are not those of the machine that tests run on, so that others have their numbers.
+"""
+import os
+import re
+import subprocess
+import sys
+
+import needs
+import pytest
+from deploying import DEPLOY, settings_of
+from serving import LONGEST, expect
+
+# Numbers of users: the desks, the worker, Postfix, and one that is none of them.
+DESK, WORKER, POSTFIX, STRANGER = 61001, 61002, 61003, 61004
+CONNECTS = """\
+import os, socket, sys, time
+host, port, user, count = sys.argv[1], int(sys.argv[2]), int(sys.argv[3]), int(sys.argv[4])
+listener = socket.create_server((host, port), backlog=1000)
+os.setuid(user)
+made = []
+for at in range(count):
+    try:
+        made.append(socket.create_connection((host, port), 0.3, source_address=(sys.argv[5], 0) if len(sys.argv) > 5 else None))
+    except OSError:
+        pass
+    if len(sys.argv) > 6:
+        made.pop().close() if made else None
+        listener.accept()[0].close() if at < int(sys.argv[6]) else None
+print(len(made))
+"""
+
+
+class Network:
+    """A network with loopback alone, in which the rules of deploy/ are put in place."""
+
+    def __init__(self, folder):
+        needs.root()
+        needs.command("nft", "unshare", "ip")
+        self.rules = folder / "hq-desk.nft"
+        text = (DEPLOY / "hq-desk.nft").read_text()
+        for name, number in (("hqdesk", DESK), ("hqrelay", WORKER)):
+            expect(name in text, "the rules name no", name)
+            text = text.replace(name, str(number))
+        (folder / "firewall.d").mkdir()
+        self.rules.write_text(text.replace("/etc/hq", str(folder)))
+        self.put = f"ip link set lo up; nft -D postfix={POSTFIX} -f {self.rules}"
+        tried = subprocess.run(["unshare", "-n", "sh", "-ec", self.put], capture_output=True, text=True, timeout=LONGEST)
+        needs.that(not tried.returncode, f"rules in a network of its own: {tried.stderr[-300:]}")
+
+    def run(self, script, *words):
+        """What a script prints, behind the rules; `$0` is Python."""
+        ended = subprocess.run(["unshare", "-n", "sh", "-ec", f"{self.put}; {script}", sys.executable, *map(str, words)],
+                               capture_output=True, text=True, timeout=LONGEST)
+        expect(ended.returncode == 0, script[:80], "ended with", ended)
+        return ended.stdout
+
+    def connected(self, *words):
+        """How many connections a user gets, of so many that it begins at an address and a port."""
+        return int(self.run('exec "$0" -c "$@"', CONNECTS, *words))
+
+
+@pytest.fixture
+def network(folder):
+    return Network(folder)
+
+
+def test_connections_of_an_address(network):
+    """An address has a hundred connections to nginx, with TLS and without, and another address has its own."""
+    for port in (80, 443):
+        expect(network.connected("127.0.0.1", port, 0, 150, "127.0.0.2") == 100, "of 150 connections to", port)
+        expect(network.connected("127.0.0.1", port, 0, 50, "127.0.0.3") == 50, "of 50 connections to", port)
+
+
+@pytest.mark.parametrize("port, users", [(824, (0, 33, DESK, WORKER)), (825, (0, 33, DESK, WORKER)), (899, (0, 33, DESK, WORKER)),
+                                         (10024, (0, WORKER, POSTFIX)), (10026, (0, WORKER, POSTFIX)), (10027, (0, WORKER, POSTFIX))])
+def test_who_reaches_a_desk(network, port, users):
+    """At the ports of desks and of the worker only the programs that ask there are let in; elsewhere everybody is."""
+    for user in (0, 33, DESK, WORKER, POSTFIX, STRANGER):
+        expect(network.connected("127.0.0.1", port, user, 3) == (3 if user in users else 0), "at", port, "the user", user)
+    expect(network.connected("127.0.0.1", 8026, STRANGER, 3) == 3, "at a port of others")
+
+
+def test_ports_of_other_machines(network):
+    """A port of the desks' numbers at another machine is no desk's: 853 and 873 are ports that others use."""
+    told = network.run("ip link add d0 type dummy && ip addr add 192.0.2.1/24 dev d0 && ip link set d0 up && "
+                       "setpriv --reuid=61004 --clear-groups \"$0\" -c \"$1\"; nft list chain inet hq_desk output",
+                       "import socket\nmade = socket.socket()\nmade.settimeout(0.5)\n"
+                       "try:\n    made.connect(('192.0.2.9', 853))\nexcept OSError as fault:\n    print(type(fault).__name__)\n")
+    expect(not told.startswith("ConnectionRefused") and "counter packets 0 bytes 0" in told, "a port elsewhere:", told)
+
+
+def test_handshakes(network):
+    """An address begins two hundred connections to nginx at once, and twenty a second after that: each costs a handshake."""
+    told = network.run('"$0" -c "$1"; nft list chain inet hq_desk input', """\
+import socket, time
+listener = socket.create_server(("127.0.0.1", 443), backlog=500)
+begun, got = time.monotonic(), 0
+while got < 600 and time.monotonic() - begun < 6:
+    client = socket.socket()
+    client.setsockopt(socket.SOL_TCP, socket.TCP_SYNCNT, 1)
+    client.settimeout(0.02)
+    try:
+        client.connect(("127.0.0.1", 443))
+        listener.accept()[0].close()
+        got += 1
+    except OSError:
+        pass
+    client.close()
+print(got, time.monotonic() - begun)
+""")
+    got, took = map(float, told.split("\n", 1)[0].split())
+    expect(200 <= got <= 200 + 25 * took + 20, "of one address came", got, "in", took, "seconds")
+    expect(re.search(r"limit rate over 20/second.*counter packets [1-9]\d* .*drop", told), "nothing was dropped:", told)
+
+
+def test_counts(network):
+    """Nobody from elsewhere reads the counts of node_exporter but whom a file of the administrator names."""
+    (network.rules.parent / "firewall.d/prometheus.nft").write_text("add element inet hq_desk monitors { 198.51.100.3 }\n")
+    told = network.run("""
+ip link add inner type veth peer name outer; unshare -n sleep 30 & holder=$!; sleep 0.3
+ip link set outer netns $holder; ip addr add 198.51.100.1/24 dev inner; ip link set inner up
+nsenter -t $holder -n sh -c 'ip addr add 198.51.100.2/24 dev outer; ip addr add 198.51.100.3/24 dev outer; ip link set outer up'
+"$0" -m http.server 9100 --bind 0.0.0.0 >/dev/null 2>&1 & server=$!
+sleep 1
+for source in 198.51.100.2 198.51.100.3; do
+  nsenter -t $holder -n curl -s -o /dev/null -w "%{http_code}\\n" --max-time 3 --interface $source http://198.51.100.1:9100/ || true
+done
+curl -s -o /dev/null -w "%{http_code}\\n" --max-time 3 http://127.0.0.1:9100/
+kill $server $holder""")
+    expect(told.split() == ["000", "200", "200"], "a stranger, a monitor and the machine itself get", told)
+
+
+def test_again(network):
+    """The rules are put in place again without one of them twice; a desk that is started again adds one rule, however often."""
+    again = f"{network.put.partition('; ')[2]}; "
+    first = network.run("nft list ruleset")
+    expect(network.run(again * 3 + "nft list ruleset") == first, "put in place again they are", first)
+    restart = (DEPLOY / "desk-restart").read_text()
+    rules = re.search(r'(?s)RULES = """\\\n(.*?)"""', restart)[1].format(port=825, stay=10)
+    (network.rules.parent / "restart.nft").write_text(rules)
+    told = network.run(f"for it in 1 2 3; do nft -f {network.rules.parent}/restart.nft; done; nft list chain inet hq_restart input")
+    expect(told.count(" drop") == 1, "three times started again it has", told)
+
+
+def test_unit(network):
+    """The unit puts in place the very file, and takes all of it away."""
+    unit = settings_of(DEPLOY / "hq-desk-firewall.service")
+    for name in ("ExecStart", "ExecReload"):
+        expect("/usr/sbin/nft -D postfix=" in unit[name] and unit[name].endswith("-f /etc/hq/hq-desk.nft'"), name, "is", unit[name])
+    expect(network.run(f"{unit['ExecStop']}; nft list ruleset") == "", "something is left")
+    expect(os.access("/bin/sh", os.X_OK) and unit["ExecStart"].startswith("/bin/sh -c "), "no shell")
