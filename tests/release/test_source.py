@@ -36,3 +36,11 @@ def test_made_again(root, releases):
     root.run(f"mkdir again; cp release/*.dsc release/*.tar.xz again; cd again; {lines_of('From the source package')}", longest=300)
     name = package_in(releases.now).name
     expect(root.run(f"cmp again/{name} release/{name} && echo same") == "same\n", "it is another one")
+
+
+def test_own_test(root, releases):
+    """The test of the source package passes, as Debian's own tool runs it over the installed package."""
+    fetched(lambda: root.run("apt-get -qq install -y --no-install-recommends autopkgtest curl", longest=400))
+    name = package_in(releases.now).name
+    told = root.run(f"autopkgtest -U release/{name} release/*.dsc -- null", longest=400)
+    expect(re.search(r"(?m)^first-session +PASS$", told), "it tells", told[-2000:])
