@@ -10,14 +10,13 @@ from releasing import ROOT, package_in
 from rooted import Root, fetched, place
 from serving import expect
 
-TO_BUILD = "build-essential debhelper"
+TO_BUILD, FROM_SOURCE = "build-essential debhelper", "From the source package"
 
 
-def lines_of(title):
-    """The lines that docs/RELEASE.md shows under a title."""
+def blocks_of(title):
+    """The blocks of lines that docs/RELEASE.md shows under a title."""
     section = (ROOT / "docs/RELEASE.md").read_text().partition(f"\n## {title}\n")[2].partition("\n## ")[0]
-    found, = re.findall(r"(?ms)^```\n(.*?)^```$", section)
-    return found
+    return re.findall(r"(?ms)^```\n(.*?)^```$", section)
 
 
 @pytest.fixture(scope="module")
@@ -33,7 +32,7 @@ def test_made_again(root, releases):
     for it in releases.now.iterdir():
         root.take(it)
     root.run("mkdir release; mv hq-desk* SHA256SUMS PROVED release")
-    root.run(f"mkdir again; cp release/*.dsc release/*.tar.xz again; cd again; {lines_of('From the source package')}", longest=300)
+    root.run(f"mkdir again; cp release/*.dsc release/*.tar.xz again; cd again; {blocks_of(FROM_SOURCE)[0]}", longest=300)
     name = package_in(releases.now).name
     expect(root.run(f"cmp again/{name} release/{name} && echo same") == "same\n", "it is another one")
 
@@ -41,6 +40,5 @@ def test_made_again(root, releases):
 def test_own_test(root, releases):
     """The test of the source package passes, as Debian's own tool runs it over the installed package."""
     fetched(lambda: root.run("apt-get -qq install -y --no-install-recommends autopkgtest curl", longest=400))
-    name = package_in(releases.now).name
-    told = root.run(f"autopkgtest -U release/{name} release/*.dsc -- null", longest=400)
+    told = root.run(f"cd again; {blocks_of(FROM_SOURCE)[1]}", longest=400)
     expect(re.search(r"(?m)^first-session +PASS$", told), "it tells", told[-2000:])
