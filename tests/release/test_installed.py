@@ -64,7 +64,7 @@ def root(debian, releases):
     # (there is all that it wants, by their lists; a mirror may fail as it gives them)
     it.run(f"apt-get -qq install --simulate {package} curl")
     fetched(lambda: it.run(f"apt-get -qq install -y --download-only {package} curl", longest=240))
-    it.run(blocks(PRODUCTION, "The package")[0], longest=240, PACKAGE=package)
+    it.run(blocks(PRODUCTION, "The package")[-1], longest=240, PACKAGE=package)
     it.run("apt-get -qq install -y --no-install-recommends curl", longest=120)
     it.alone()
     return it

@@ -8,10 +8,11 @@ from serving import expect
 
 
 def test_not_proved(folder, releases):
-    """Of a program that was handed over, and is not the one that was proved, nothing is said of a proof. One line says that the
-    repository states no licence."""
+    """Of a program that was handed over, and is not the one that was proved, nothing is said of a proof. Lines say that the
+    repository states no licence, and that the sums are not signed."""
     ended = run(ROOT / "release", "--program", stand_in(folder, releases.version), folder / "made")
-    told = "release: the repository states no licence: ask its maintainers before you hand the release on\n"
+    told = ("release: the repository states no licence: ask its maintainers before you hand the release on\n"
+            "release: the sums are not signed: --sign KEY has gpg sign them\n")
     expect(ended.returncode == 0 and ended.stderr == told, "./release:", ended)
     told = (folder / "made/PROVED").read_text()
     expect("Nothing is said of a proof." in told and "The kit proved" not in told, "of a stand-in PROVED says", told)

@@ -30,7 +30,7 @@ def test_evidence(releases, program):
     now = releases.now
     found = run("sha256sum", "--check", "--strict", "SHA256SUMS", cwd=now)
     names = {it.name for it in now.iterdir()} - {"SHA256SUMS"}
-    expect(found.returncode == 0 and len(names) == found.stdout.count(": OK") == 5, "sums:", found.stdout, found.stderr)
+    expect(found.returncode == 0 and len(names) == found.stdout.count(": OK") == 6, "sums:", found.stdout, found.stderr)
     told = (now / "PROVED").read_text()
     its_sum = hashlib.sha256(Path(program).read_bytes()).hexdigest()
     commit = run("git", "rev-parse", "HEAD", cwd=ROOT).stdout.strip()
@@ -108,3 +108,19 @@ def test_manual_page():
     expect(len(commands) > 10 and len(options) > 12, "the help has only", commands, options)
     for it in (*commands, *options):
         expect(re.search(rf"(?m)^\.(B|BI|BR)\b.*(?<![a-z-]){it}(?![a-z-])", page), "packaging/man/hq.1 lacks", it)
+
+
+def test_first_session(folder, program):
+    """The test that the source package brings passes over the program, and fails where README shows another reply, or none."""
+    needs.command("curl")
+    (folder / "hq").symlink_to(program)
+    script, page = ROOT / "packaging/debian/tests/first-session", (ROOT / "README.md").read_text()
+    settings = {**os.environ, "PATH": f"{folder}:{os.environ['PATH']}", "AUTOPKGTEST_TMP": str(folder)}
+    calls = page.count("\n$ curl ")
+    for text, status, told in ((page, 0, f" commands were run, of which {calls} are calls\n"),
+                               (page.replace('{"changed":1}', '{"changed":2}'), 1, '{"changed":1}'),
+                               (page.replace("\n$ curl ", "\n$ true "), 1, "README.md shows only ")):
+        (folder / "README.md").write_text(text)
+        ended = run(script, cwd=folder, env=settings)
+        expect(ended.returncode == status and told in ended.stdout + ended.stderr, "it tells", ended)
+    expect(calls == 3, "README shows", calls, "calls")

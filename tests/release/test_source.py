@@ -1,0 +1,44 @@
+"""The source package in a clean Debian: the package is made of it again, and is installed, tried and taken away.
+
+The tests of this file go on from one another's machine, in their order.
+"""
+import re
+from pathlib import Path
+
+import pytest
+from releasing import ROOT, package_in
+from rooted import Root, fetched, place
+from serving import expect
+
+TO_BUILD, FROM_SOURCE = "build-essential debhelper", "From the source package"
+
+
+def blocks_of(title):
+    """The blocks of lines that docs/RELEASE.md shows under a title."""
+    section = (ROOT / "docs/RELEASE.md").read_text().partition(f"\n## {title}\n")[2].partition("\n## ")[0]
+    return re.findall(r"(?ms)^```\n(.*?)^```$", section)
+
+
+@pytest.fixture(scope="module")
+def root(begun):
+    with place() as folder, Root(Path(folder) / "debian") as it:
+        fetched(lambda: it.run("apt-get -qq update", longest=120))
+        yield it
+
+
+def test_made_again(root, releases):
+    """The package that the lines of RELEASE make of the source package has the sum of the one in the release."""
+    fetched(lambda: root.run(f"apt-get -qq install -y --no-install-recommends {TO_BUILD}", longest=400))
+    for it in releases.now.iterdir():
+        root.take(it)
+    root.run("mkdir release; mv hq-desk* SHA256SUMS PROVED release")
+    root.run(f"mkdir again; cp release/*.dsc release/*.tar.xz again; cd again; {blocks_of(FROM_SOURCE)[0]}", longest=300)
+    name = package_in(releases.now).name
+    expect(root.run(f"cmp again/{name} release/{name} && echo same") == "same\n", "it is another one")
+
+
+def test_own_test(root, releases):
+    """The test of the source package passes, as Debian's own tool runs it over the installed package."""
+    fetched(lambda: root.run("apt-get -qq install -y --no-install-recommends autopkgtest curl", longest=400))
+    told = root.run(f"cd again; {blocks_of(FROM_SOURCE)[1]}", longest=400)
+    expect(re.search(r"(?m)^first-session +PASS$", told), "it tells", told[-2000:])
