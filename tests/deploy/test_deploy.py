@@ -22,9 +22,10 @@ from serving import ACME, BIRCH, HEADER, LONGEST, RELAY, Wrong, answered, expect
 
 USAGE = "GET", "/v1/usage"
 CLOSED = 503, {"error": 93, "name": "Closed"}
-SERVICES = "hq-desk@.service", "hq-desk-check@.service", "hq-desk-workers.service"
-OTHERS_OF_US = "hq-relay-intake.service", "hq-relay-deliver.service", "hq-desk-metrics.service"
-UNITS = *SERVICES, "hq-desk-check@.timer", *OTHERS_OF_US, "hq-desk-metrics.timer"
+SERVICES = ("hq-desk@.service", "hq-desk-check@.service", "hq-desk-workers.service",
+            "hq-relay-intake.service", "hq-relay-deliver.service", "hq-relay-postsuper@.service")
+OTHERS_OF_US = ("hq-desk-metrics.service",)
+UNITS = *SERVICES, "hq-desk-check@.timer", "hq-relay-postsuper.socket", *OTHERS_OF_US, "hq-desk-metrics.timer"
 # The greatest exposure of a unit, in tenths.
 EXPOSED = 20
 LOW_PORT = "CAP_NET_BIND_SERVICE"
@@ -54,7 +55,7 @@ def test_units(folder, program):
         expect(found.returncode == 0, "systemd-analyze security:", name, found.stdout[-200:],
                found.stderr)
         unit = all_settings_of(DEPLOY / name)
-        wanted = [] if "check" in name else [LOW_PORT]
+        wanted = [] if "check" in name or "relay" in name else [LOW_PORT]
         expect(unit.get("AmbientCapabilities", []) == wanted, name, "has other capabilities")
     # (a variable that is a word of its own is none where it is empty; one that is not set at all is a warning at each start)
     unit = all_settings_of(DEPLOY / SERVICES[0])

@@ -8,6 +8,7 @@ import json
 import os
 import shutil
 import signal
+import socket
 import subprocess
 import sys
 from pathlib import Path
@@ -283,11 +284,29 @@ def no_sudo():
     unchanged()
 
 
+def by_socket():
+    """Where root's helper takes mail back, no rule of sudo is there, and one of before goes. The socket
+    is to be enabled."""
+    settings(delivery={"postsuper": "unix:/run/helper.sock"})
+    told = install()
+    expect("/etc/sudoers.d: hqrelay = unset, was " in told, "the rule is told", told)
+    expect("there is no /run/helper.sock: systemctl enable --now hq-relay-postsuper.socket\n" in told, "of no socket is told", told)
+    expect(not (SUDOERS / "hqrelay").exists(), "a rule of sudo is left")
+    with socket.socket(socket.AF_UNIX) as made:
+        made.bind("/run/helper.sock")
+        unchanged()
+    (SUDOERS / "hqrelay").write_text("hqrelay ALL=(ALL) ALL\n")
+    expect("sudoers" not in install() and (SUDOERS / "hqrelay").exists(), "somebody else's rule is gone")
+    (SUDOERS / "hqrelay").unlink()
+    settings()
+    expect("/etc/sudoers.d: hqrelay = " in install() and (SUDOERS / "hqrelay").exists(), "the rule is not back")
+
+
 def whole():
     foreign()
     fresh()
     found = state()
-    for it in (taken_back, firm, ours_changed, moved, no_listener, silent, no_sudo):
+    for it in (taken_back, firm, ours_changed, moved, no_listener, silent, no_sudo, by_socket):
         it()
     print(json.dumps(found))
 
