@@ -79,8 +79,7 @@ def kept():
 
 def refused(*wanted):
     """Install refuses, tells all of this, and changes nothing."""
-    before = kept()
-    told = install(1)
+    before, told = kept(), install(1)
     expect(all(it in told for it in wanted), "of", wanted, "not all is told:", told)
     expect(kept() == before, "a refused install changed", set(kept().items()) ^ set(before.items()))
 
@@ -285,13 +284,11 @@ def no_sudo():
 
 
 def by_socket():
-    """Where root's helper takes mail back, no rule of sudo is there, and one of before goes. The socket
-    is to be enabled."""
+    """Where root's helper takes mail back, the rule of sudo goes, and the socket is to be enabled."""
     settings(delivery={"postsuper": "unix:/run/helper.sock"})
     told = install()
-    expect("/etc/sudoers.d: hqrelay = unset, was " in told, "the rule is told", told)
-    expect("there is no /run/helper.sock: systemctl enable --now hq-relay-postsuper.socket\n" in told, "of no socket is told", told)
-    expect(not (SUDOERS / "hqrelay").exists(), "a rule of sudo is left")
+    for it in ("/etc/sudoers.d: hqrelay = unset, was ", "there is no /run/helper.sock: systemctl enable --now hq-relay-postsuper.socket\n"):
+        expect(it in told and not (SUDOERS / "hqrelay").exists(), it, "is not told in", told)
     with socket.socket(socket.AF_UNIX) as made:
         made.bind("/run/helper.sock")
         unchanged()
@@ -306,8 +303,7 @@ def whole():
     foreign()
     fresh()
     found = state()
-    for it in (taken_back, firm, ours_changed, moved, no_listener, silent, no_sudo, by_socket):
-        it()
+    for it in (taken_back, firm, ours_changed, moved, no_listener, silent, no_sudo, by_socket): it()
     print(json.dumps(found))
 
 
