@@ -5,6 +5,7 @@ step may be cut: what was dropped by then is gone, and the next run drops the re
 """
 import fcntl
 import os
+import signal
 import sys
 import time
 from contextlib import suppress
@@ -168,6 +169,8 @@ def told(count: int, what: str) -> str:
 
 
 def erase(settings: Settings, customer: str) -> int:
+    # (a signal may cut it)
+    signal.pthread_sigmask(signal.SIG_SETMASK, [])
     try:
         if not CUSTOMER.fullmatch(customer):
             raise NotErased(f"{customer!r} is no name of a customer")

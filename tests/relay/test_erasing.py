@@ -315,6 +315,20 @@ def intake_of(place, reply):
         yield begun, desk
 
 
+def test_cut_by_a_signal(place):
+    """SIGTERM ends it while it waits, and nothing is erased."""
+    with StandIn(lambda _: (200, '{"done":[],"stopped":null,"next":null}')) as desk:
+        place.desk = named(desk.server_address)
+        place.has(*ALL)
+        place.run("deliver")
+        until(lambda: desk.asked, "deliver does not work")
+        place.has(*LEFT)
+        begun = expect_waiting(place)
+        begun.process.send_signal(signal.SIGTERM)
+        begun.ends(-signal.SIGTERM)
+        expect(place.files("dale").keys() >= {"content/dale-1", "aside/dale-2"}, "something was erased")
+
+
 def test_waits_for_deliver(place):
     """It waits for a deliver that works by earlier settings, also where these are faulty meanwhile."""
     with StandIn(lambda _: (200, '{"done":[],"stopped":null,"next":null}')) as desk:
