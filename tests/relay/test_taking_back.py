@@ -15,6 +15,7 @@ from types import SimpleNamespace
 import needs
 import pytest
 from deploying import DEPLOY, all_settings_of
+from filled import Place
 from machine import FAR, PYTHON, WORKER, Relay
 from serving import expect, until
 from test_deploy import let_through
@@ -115,7 +116,6 @@ def test_over_a_socket(helper, folder):
 
 def test_settings(folder):
     """A socket is named by its whole path."""
-    from test_erasing import Place
     with Place(folder) as place:
         text = (place.folder / "relay.ini").read_text()
         for it in BAD_SETTINGS:
