@@ -4,6 +4,7 @@ No Postfix is needed: scripts stand for `postqueue` and `postsuper`, and a stub 
 """
 import contextlib
 import os
+import shutil
 import signal
 import time
 
@@ -65,6 +66,14 @@ def test_refused(place):
     place.run("erase", "dale").ends(2)
     place.has(*ALL)
     expect({it: place.has_of(it) for it in ALL} == before and not place.asked(), "something was done")
+
+
+def test_no_spool(place):
+    """Where no worker ever ran there is nothing to erase, and no spool is made."""
+    shutil.rmtree(place.spool)
+    expect("drop it first" in place.erase(status=1), "a customer of the settings")
+    place.has(*LEFT)
+    expect(place.erase() == f"dale: there is no {place.spool}\n" and not place.spool.exists(), "a spool is made")
 
 
 def test_not_taken_back(place):
