@@ -351,7 +351,7 @@ def of_worker(folder: Path, name: str) -> str:
 def count_again() -> None:
     """Has the counts for Prometheus made anew, without waiting, where they are made at all."""
     if shutil.which("systemctl") and is_active("hq-desk-metrics.timer"):
-        subprocess.run(["systemctl", "start", "--no-block", "hq-desk-metrics-publish.service"], stdin=subprocess.DEVNULL, check=False)
+        subprocess.run(["systemctl", "start", "--no-block", "hq-desk-metrics.service"], stdin=subprocess.DEVNULL, check=False)
 
 
 def of_store(scripts: Path, desk: Desk, stores: Path, command: str, what: str) -> Optional[Tuple[int, str]]:

@@ -7,11 +7,10 @@ import os
 import re
 import subprocess
 import time
-from pathlib import Path
 
 import needs
 import pytest
-from deploying import DEPLOY, HEADER, OTHERS, ROWS
+from deploying import DEPLOY, HEADER, OTHERS, ROWS, all_settings_of
 from serving import LONGEST, RELAY, batch_line, expect, submission
 from steps import lines_of
 
@@ -153,16 +152,8 @@ def test_asked(service):
         service.back()
 
 
-def test_counted(service):
-    """The counts are put into the folder of node_exporter as its user, and files of its own there are links at most to what it may write."""
-    told = Path(DEPLOY / "hq-desk-metrics-publish.service").read_text()
-    expect("\nUser=prometheus\n" in told and "\nCapabilityBoundingSet=\n" in told, "the counts are written by another user")
-    unit = Path(DEPLOY / "hq-desk-metrics.service").read_text()
-    expect("\nUser=hqrelay\n" in unit and "ReadWritePaths" not in unit, "the counts are asked for by another user")
-    (service.folder / "from").mkdir()
-    (service.folder / "from/hq-desk-north.prom").write_text("desk_messages 1\n")
-    for number, name in enumerate((".hq-desk-north.prom.new", "hq-desk-north.prom")):
-        service.plant([name])
-        told = service.as_service(DEPLOY / "desk-metrics", "publish", service.folder / "from", service.own)
-        service.unharmed("counts", number)
-        service.back()
+def test_counted():
+    """What writes the counts is the worker's user, into a folder of its own: node_exporter reads there by links."""
+    unit = all_settings_of(DEPLOY / "hq-desk-metrics.service")
+    expect(unit["User"] == ["hqrelay"] and unit["CapabilityBoundingSet"] == [""] and "ReadWritePaths" not in unit, "counts are written by", unit)
+    expect(unit["ExecStart"][0].endswith(f"/desk-metrics /run/{unit['RuntimeDirectory'][0]}"), "they are written to", unit["ExecStart"])

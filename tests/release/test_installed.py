@@ -283,19 +283,18 @@ def test_alerts_of_the_page(root):
     """The lines of PRODUCTION's "Firewall and alerts", and what desk-metrics writes."""
     for it in ("/etc/fail2ban/filter.d", "/etc/fail2ban/jail.d", "/var/lib/prometheus/node-exporter"):
         root.path(it).mkdir(parents=True, exist_ok=True)
-    root.run("id prometheus 2>/dev/null || useradd --system --no-create-home prometheus; chown prometheus /var/lib/prometheus/node-exporter")
     root.put("/usr/local/bin/journalctl", "#!/bin/sh\necho 'level=error event=\"lost notices\" customer=acme numbers=1'\n", 0o755)
     for it in blocks(PRODUCTION, "Firewall and alerts"):
         root.run(it)
     expect("hq_desk" in root.run("nft list tables"), "the firewall has no rules")
     expect("hq-desk-metrics.timer" in root.run("cat /run/units/done"), "no timer runs")
-    root.run("systemctl start hq-desk-metrics hq-desk-metrics-publish")
+    root.run("systemctl start hq-desk-metrics")
     told = root.run("cat /var/lib/prometheus/node-exporter/*.prom")
     for it in ('desk_messages_limit{customer="acme"} ', 'desk_recipients_delivered_total{customer="acme"} 3\n',
                'desk_worker_errors{event="lost notices"} 1\n'):
         expect(it in told, "nothing tells", it, "but", told)
-    expect(root.run("stat -c %U /var/lib/prometheus/node-exporter/hq-desk-north.prom") == "prometheus\n", "root wrote there")
-    root.run("systemctl stop hq-desk@north; systemctl start hq-desk-metrics && exit 9; systemctl start hq-desk-metrics-publish")
+    expect(root.run("stat -Lc '%U %a' /var/lib/prometheus/node-exporter/hq-desk-north.prom") == "hqrelay 644\n", "root wrote there")
+    root.run("systemctl stop hq-desk@north; systemctl start hq-desk-metrics && exit 9 || true")
     expect(root.run("cat /var/lib/prometheus/node-exporter/hq-desk-north.prom") in told, "the file of before is lost")
     root.run("systemctl start hq-desk@north")
     until(lambda: "acme" in root.run("cat /etc/hq/keys.map") and usage(root, "acme").get("delivered") == 3, "acme is not answered")
