@@ -1,13 +1,14 @@
-"""The source package in a clean Debian: the package is made of it again, and is installed, tried and taken away.
+"""Both packages in a clean Debian: the one is installed and taken away, and is made again of the other, and tried.
 
 The tests of this file go on from one another's machine, in their order.
 """
 import re
 from pathlib import Path
 
+import needs
 import pytest
-from releasing import ROOT, package_in
-from rooted import Root, fetched, place
+from releasing import ROOT, linted, package_in, run
+from rooted import Root, fetched, mirror, place
 from serving import expect
 
 TO_BUILD, FROM_SOURCE = "build-essential debhelper", "From the source package"
@@ -26,6 +27,19 @@ def root(begun):
         yield it
 
 
+def test_taken_away(root, releases):
+    """Installed, removed and purged by Debian's own tool, the package leaves nothing behind, and breaks no file of others. (What
+    the packages leave that it depends on, is theirs.)"""
+    needs.command("piuparts")
+    address, name = mirror()
+    ended = run("piuparts", "--distribution", name, "--mirror", f"{address} main", "--existing-chroot", root.folder,
+                "--tmpdir", root.folder.parent, "--no-eatmydata", "--warn-on-others", package_in(releases.now))
+    needs.that("Failed to fetch" not in ended.stdout, "mirror of Debian that gives all")
+    wrong = re.findall(r"(?m)^\S+ ERROR: (?:.|\n )*", ended.stdout)
+    passed = ended.returncode == 0 and "PASS: All tests." in ended.stdout
+    expect(passed, "piuparts:", wrong, ended.stdout[-500:], ended.stderr[-500:])
+
+
 def test_made_again(root, releases):
     """The package that the lines of RELEASE make of the source package has the sum of the one in the release."""
     fetched(lambda: root.run(f"apt-get -qq install -y --no-install-recommends {TO_BUILD}", longest=400))
@@ -35,6 +49,12 @@ def test_made_again(root, releases):
     root.run(f"mkdir again; cp release/*.dsc release/*.tar.xz again; cd again; {blocks_of(FROM_SOURCE)[0]}", longest=300)
     name = package_in(releases.now).name
     expect(root.run(f"cmp again/{name} release/{name} && echo same") == "same\n", "it is another one")
+
+
+def test_changes(root):
+    """lintian finds nothing in what such a build would hand to Debian."""
+    needs.command("lintian")
+    linted(next(root.path("/root/again").glob("*.changes")))
 
 
 def test_own_test(root, releases):
