@@ -5,6 +5,7 @@ step may be cut: what was dropped by then is gone, and the next run drops the re
 """
 import fcntl
 import os
+import signal
 import sys
 import time
 from contextlib import suppress
@@ -53,8 +54,7 @@ class Erasing:
     def check(self, settings: Settings) -> None:
         if settings.folder != self.settings.folder:
             raise NotErased("the settings name another spool by now")
-        if self.customer in settings.customers:
-            raise NotErased(f"{self.customer} is a customer of the settings: drop it first")
+        refuse_known(settings, self.customer)
         self.settings = settings
 
     def drop(self) -> List[str]:
@@ -159,6 +159,11 @@ class Erasing:
         return LIFETIME
 
 
+def refuse_known(settings: Settings, customer: str) -> None:
+    if customer in settings.customers:
+        raise NotErased(f"{customer} is a customer of the settings: drop it first")
+
+
 def files_of(folder: Path) -> Iterator[Path]:
     return (folder / it for it in sorted(os.listdir(folder)))
 
@@ -168,11 +173,15 @@ def told(count: int, what: str) -> str:
 
 
 def erase(settings: Settings, customer: str) -> int:
+    # (a signal may cut it)
+    signal.pthread_sigmask(signal.SIG_SETMASK, [])
     try:
         if not CUSTOMER.fullmatch(customer):
             raise NotErased(f"{customer!r} is no name of a customer")
+        refuse_known(settings, customer)
         if not settings.folder.is_dir():
-            raise NotErased(f"there is no {settings.folder}")
+            print(f"{customer}: there is no {settings.folder}")
+            return 0
         if settings.folder.stat().st_uid != os.geteuid():
             raise NotErased(f"{settings.folder} is another user's: run it as {settings.user}")
         print(*Erasing(settings, customer).erase(), sep="\n")

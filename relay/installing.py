@@ -14,7 +14,7 @@ import stat
 import sys
 import tempfile
 from pathlib import Path
-from typing import Iterator, List, Optional
+from typing import Dict, Iterator, List, Optional
 
 import postfix_lines
 from plans import LISTENER, Plan, Target
@@ -32,6 +32,8 @@ QUEUE_ID = "[0-9B-DF-HJ-NP-TV-Zb-df-hj-np-tv-z]+"
 LEAST_UID = 100
 MAILDIR = ("new", "cur", "tmp")
 HELP = "apt-get install postfix"
+# The unit of the package that listens at the socket of root's helper.
+HELPER = "hq-relay-postsuper.socket"
 
 
 # ---- the worker's right to take mail back
@@ -96,7 +98,8 @@ class Installation:
     def __init__(self, settings: Settings):
         self.settings = settings
         self.folders = listed()
-        self.why_no_rule = lacks_sudo() if settings.postsuper[0] == "sudo" else "by other words"
+        self.is_by_sudo = settings.postsuper[0] == "sudo"
+        self.why_no_rule = lacks_sudo() if self.is_by_sudo else ""
         self.front = self.plan_of(settings.front, postfix_lines.front(settings), [])
         self.is_made = settings.delivering in self.folders and not self.front.record.making
         self.delivering = self.plan_of_delivery()
@@ -106,10 +109,16 @@ class Installation:
         numbers = (user.pw_uid, user.pw_gid) if user else (0, 0)
         lines = postfix_lines.delivering(self.settings, *numbers)
         if not self.why_no_rule:
-            where = run("postconf", "-h", "command_directory").stdout.strip()
-            rule = Line(rule_of(self.settings, f"{where}/postsuper"), "takes deleted mail back")
-            more = [(SUDOERS, {self.settings.user: rule}, 0o440, check_rule)]
+            more = [(SUDOERS, self.rules(), 0o440, check_rule)]
         return self.plan_of(self.settings.delivering, lines, more, self.is_made)
+
+    def rules(self) -> Dict[str, Line]:
+        """The rules of sudo: none where the worker has another way, and one of before goes then."""
+        if not self.is_by_sudo:
+            return {}
+        where = run("postconf", "-h", "command_directory").stdout.strip()
+        rule = rule_of(self.settings, f"{where}/postsuper")
+        return {self.settings.user: Line(rule, "takes deleted mail back")}
 
     def plan_of(self, folder: Path, lines: Instance, more: list, is_there: bool = True) -> Plan:
         record = Record.load(folder) or Record(str(self.settings.folder))
@@ -234,7 +243,10 @@ class Installation:
             yield f"add to your listener of customers in master.cf: -o {way}"
         if not postfix_lines.is_loopback(self.settings.notices_hop):
             yield "[notices] next-hop is another machine's: its Postfix must not lead to the desk"
-        if self.why_no_rule.startswith("sudo"):
+        helper = self.settings.socket
+        if helper and not helper.is_socket():
+            yield f"there is no {helper}: systemctl enable --now {HELPER}"
+        if self.why_no_rule:
             yield (f"{self.why_no_rule}: mail that is deleted while it is being delivered is not"
                    " taken back")
 

@@ -6,6 +6,7 @@ import socket
 import subprocess
 import threading
 from dataclasses import dataclass
+from pathlib import Path
 from typing import Dict, Set, Tuple
 
 from dsn import OF_POLICY, OF_THE_SYSTEM, STATUS, xtext
@@ -19,6 +20,8 @@ LONGEST_END = 600
 # After these nobody knows whether a message was taken.
 BROKEN = (OSError, smtplib.SMTPException)
 QUEUED = re.compile(rb"queued as ([0-9A-Za-z]+)")
+# What `take-back` answers, and the most that is read of it.
+DELETED, NOT_THERE, LONGEST_ANSWER = "deleted", "not there", 1000
 
 
 class NotTaken(Exception):
@@ -162,6 +165,8 @@ def queue(settings: Settings) -> Queue:
 def take_back(settings: Settings, id: str) -> bool:
     """Deletes a message from the instance's queue, and tells whether it was there. It wants the
     rights of root; OSError where they are not given."""
+    if settings.socket:
+        return take_back_over(settings.socket, id, settings.timeout)
     asked = [*settings.postsuper, "-c", str(settings.delivering), "-d", id]
     try:
         done = subprocess.run(asked, stdin=subprocess.DEVNULL, capture_output=True,
@@ -171,3 +176,16 @@ def take_back(settings: Settings, id: str) -> bool:
     if done.returncode:
         raise OSError(done.stderr[-300:].decode(errors="replace").strip())
     return b"Deleted: 1 message" in done.stderr
+
+
+def take_back_over(path: Path, id: str, timeout: float) -> bool:
+    """The same by root's helper `take-back`, which answers one line of a socket with another."""
+    with socket.socket(socket.AF_UNIX) as helper:
+        helper.settimeout(timeout)
+        helper.connect(str(path))
+        helper.sendall(f"{id}\n".encode())
+        with helper.makefile("rb") as answers:
+            told = answers.readline(LONGEST_ANSWER).decode(errors="replace").strip()
+    if told not in (DELETED, NOT_THERE):
+        raise OSError(f"{path} answers {told!r}")
+    return told == DELETED

@@ -30,6 +30,7 @@ class Known:
             self.file = self.hold(settings.customers)
             if before:
                 before.close()
+            self.others(settings.customers)  # (so that no lock is left which nobody holds)
             return settings
 
     def close(self) -> None:

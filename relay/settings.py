@@ -20,6 +20,8 @@ COLUMNS = ["name", "key", "messages", "bytes", "lines", "notices", "delay"]
 # (a directory may have one column more)
 FURTHER = "history"
 SENDERS = ["kind", "name", "customer"]
+# What stands before the path of a socket in the place of a command.
+SOCKET = "unix:"
 REQUIRED = object()
 
 
@@ -78,6 +80,12 @@ class Settings:
     notices_hop: Address
     notices_from: str
 
+    @property
+    def socket(self) -> Optional[Path]:
+        """The socket of root's helper that takes mail back; None where a command does."""
+        named = self.postsuper[0]
+        return Path(named[len(SOCKET):]) if named.startswith(SOCKET) else None
+
 
 # ---- values, each of which is refused by ValueError with its reason
 
@@ -108,10 +116,12 @@ def user(text: str) -> str:
 
 
 def words(text: str) -> List[str]:
-    """The words of a command, as a shell parts them."""
+    """The words of a command, as a shell parts them; or the path of a socket behind `unix:`, as one."""
     found = shlex.split(text)
     if not found:
         raise ValueError("is not a command")
+    if found[0].startswith(SOCKET) and (len(found) > 1 or not found[0].startswith(f"{SOCKET}/")):
+        raise ValueError("is not unix: and the path of a socket, from / on")
     return found
 
 

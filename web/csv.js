@@ -26,11 +26,21 @@ export function rowsOf(text) {
   return rows;
 }
 
-// A field of a file that is made. A text of strangers must be no formula of a spreadsheet; what is
-// to be imported again must stay as it is.
+// Where a cell may begin with a formula, or with what a spreadsheet leaves out before one: at the
+// beginning of a text, or behind a letter of it. Which letters part cells is each program's own
+// choice: Excel's in German is the semicolon, and then quotes do not hold the text together.
+const FORMULA = /(^|[\t\n\r,;|])(?=[ \u00a0"]*[-=+@\uff1d\uff0b\uff20\uff0d])/g;
+// Some programs leave these out at the beginning of a cell.
+const LEFT_OUT = /^(?=[\t\n\r])/;
+
+// A text of strangers, which is no formula of a spreadsheet: an apostrophe stands before each that
+// it might be (OWASP, "CSV Injection").
+const harmless = (text) => text.replace(FORMULA, "$1'").replace(LEFT_OUT, "'");
+
+// A field of a file that is made. What is to be imported again must stay as it is.
 function field(value, isSafe) {
-  const text = String(value);
-  return `"${isSafe && /^[=+@\t\r-]/.test(text) ? "'" : ""}${text.replaceAll('"', '""')}"`;
+  const text = isSafe ? harmless(String(value)) : String(value);
+  return `"${text.replaceAll('"', '""')}"`;
 }
 
 export const csvOf = (rows, isSafe = true) =>

@@ -26,7 +26,6 @@ MANY_ROWS = [f"{it},{it}key000000001,10,100000,10,10,0" for it in MANY]
 SWEPT = {"expired": 0, "notices": 0, "warned": 0}
 # A user that owns nothing, as the user of the desks.
 NOBODY = 65534
-USER = pwd.getpwuid(os.getuid() or NOBODY).pw_name
 NOTHING = "accepted 0, pending 0, delivered 0, failed 0, deleted 0, expired 0"
 
 
@@ -34,7 +33,7 @@ class Asking:
     """The script over the files of a desk."""
 
     def __init__(self, folder, program):
-        self.folder, self.bin = folder, folder / "bin"
+        self.folder, self.bin, self.user = folder, folder / "bin", os.getuid()
         self.bin.mkdir()
         (self.bin / "hq").symlink_to(program)
 
@@ -68,7 +67,7 @@ class Asking:
         return set((self.folder / "users").read_text().split())
 
     def run(self, *given):
-        words = [DEPLOY / "hq-ask", "--folder", self.folder, "--store", self.folder, "--user", USER, *given]
+        words = [DEPLOY / "hq-ask", "--folder", self.folder, "--store", self.folder, "--user", pwd.getpwuid(self.user).pw_name, *given]
         env = {**os.environ, "PATH": f"{self.bin}:{os.environ['PATH']}"}
         return subprocess.run(words, capture_output=True, text=True, timeout=LONGEST, env=env, stdin=subprocess.DEVNULL)
 
@@ -125,7 +124,7 @@ def test_over_its_store(asking, desk):
     """The same over the store of a desk that was stopped, as the user of the desks; its files stay that user's."""
     desk.stop()
     asking.watch_users()
-    owner = os.getuid() or NOBODY
+    owner = asking.user = os.getuid() or NOBODY
     if not os.getuid():
         for it in (asking.folder, *asking.folder.glob("north.db*")):
             os.chown(it, owner, owner)

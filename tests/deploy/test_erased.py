@@ -14,7 +14,7 @@ from serving import HEADER, LONGEST, RELAY, batch_line, expect, submission
 DAY = 86_400
 BOTH = "acme,acmekey000000001,1000,500000000,1000,100,14400,1000\nbirch,birchkey00000001,1000,500000000,1000,100,14400,1000\n"
 WITH_HISTORY = HEADER.strip() + ",history\n"
-SENDER = "someone.of.birch@a.example"
+SENDER = "someone@a.example"
 
 
 class Stores(Place):
@@ -91,7 +91,7 @@ def test_a_name_again(place):
     key = place.done("add", "birch").strip()
     found = place.told(key, now)
     expect(found[1:] == ['200 {"messages":[],"more":false}', '200 {"lines":[],"more":false}', '200 {"more":false,"notices":[]}',
-                         '200 {"history":[],"next":null}'], "the new one is told", found)
+                         '200 {"history":[],"more":false}'], "the new one is told", found)
 
 
 def test_a_name_that_a_store_knows(place):

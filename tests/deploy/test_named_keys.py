@@ -103,7 +103,8 @@ def test_with_its_customer(place):
     expect(ended.returncode == 1 and keys_of(place) == before, "a customer that stays has", keys_of(place), ended)
     place.done("drop", "acme", "--queued")
     expect(keys_of(place) == [["birch", "panel", kept, "all"]], "the rows are", keys_of(place))
-    expect("acme" not in b"".join(place.files().values()).decode(), "acme is left in", place.files())
+    left = [name for name, text in place.files().items() if b"acme" in text]
+    expect(left == ["dropped.csv"], "acme is left in", left)
     starts(place)
 
 

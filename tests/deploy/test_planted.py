@@ -29,6 +29,7 @@ class Service:
         needs.root()
         needs.command("runuser", "tar")
         self.folder, self.own, self.etc, self.backup = folder, folder / "hqdesk", folder / "etc", folder / "backup"
+        self.path = f"{folder}/bin:/usr/sbin:/usr/bin:/sbin:/bin"
         for it in (self.own, self.etc, folder / "bin"):
             it.mkdir()
             it.chmod(0o755)
@@ -41,7 +42,6 @@ class Service:
                               ("env", f"HOST=relay.example\nLISTEN=unix:{folder}/none/{name}.sock\n")):
                 (self.etc / f"{name}.{end}").write_text(text)
         self.as_service("chown", f"{USER}:{GROUP}", self.own, as_root=True)
-        self.path = f"{folder}/bin:/usr/sbin:/usr/bin:/sbin:/bin"
         for name, customer in (("north", "acme"), ("south", "birch")):
             line = batch_line(int(time.time()), "POST", f"/relay/submit/{customer}", RELAY, submission("s1"))
             told = self.as_service("hq", "batch", "--directory", self.etc / f"{name}.csv", "--host", "relay.example", "--relay-key", RELAY,

@@ -1,4 +1,8 @@
 """Of tests/page: what became of mail: the history, the notices and the usage, with the ways between them."""
+import csv
+import io
+import re
+
 from page_desk import CEDAR
 from serving import ACME, BIRCH, expect
 from test_rules import KEEPS, KEPT
@@ -8,6 +12,15 @@ WIDTHS = """[...document.querySelectorAll('#bar rect')].map((it) => [it.classLis
   ...['x', 'width'].map((name) => Number(it.getAttribute(name))), it.getBoundingClientRect().width])"""
 ENDS = """[...document.querySelectorAll('#ends tbody tr')].filter((it) => !it.hidden).map(
   (it) => [...it.cells].slice(1).map((one) => one.innerText.trim().replace(/\\s*\\n\\s*/, ' | ')))"""
+
+
+# Texts that are formulas behind something that parts cells in some program, and texts that are none.
+FORMULAS = [";=HYPERLINK(1)", "=1", "+1", "-1", "@x", "\t=1", "a;=b", "a\r\n=b", "a\n=b", "a\r=b", "a,=b", "a|-b", "a\t+b", ";;@b",
+            " =1", "; =1", ';"=1', '"=1', ",,=,=", "\t\t=1", "a;\uff1d1", "\r", "a;\u00a0=1"]
+TEXTS = ["550 5.1.1 no such user <script>alert(1)</script>", "a=b; c+d, e-f", 'said "no"; go away', "1-2"]
+SEPARATORS = ",;\t|"
+# (a program may take quotes and spaces away)
+BEGINS_A_FORMULA = "[\\s\"]*[=+@\uff1d\uff0b\uff20\uff0d-]"
 
 
 def find(visit, side, pattern):
@@ -56,6 +69,29 @@ def test_the_history(visit):
     visit.turn_to("sent")
     find(visit, "recipient", "<>")
     browser.until(lambda: visit.told() and visit.told()[0].endswith("(24 BadPattern)"), "told is", visit.told())
+
+
+def test_no_formulas(paper, visit):
+    """Whatever parts cells in a spreadsheet, no text of strangers is a formula in what is downloaded, and
+    no letter of it is lost. Other texts stay as they are."""
+    ends = [{"at": 1767225600, "id": f"{number:010X}", "number": number, "recipient": "bob@far.example", "result": "failed",
+             "sender": "ann@a.example", "status": "5.0.0", "text": text} for number, text in enumerate((*FORMULAS, *TEXTS), 1)]
+    ends[0].update(recipient=f"{FORMULAS[0]}@far.example", sender="=2@a.example", status="+3")
+    paper.history = ends
+    visit.on_paper("sent")
+    visit.browser.run(KEEPS)
+    visit.browser.click("#ends-csv")
+    saved = visit.browser.run(KEPT)
+    for separator in SEPARATORS:
+        cells = [it for row in csv.reader(io.StringIO(saved, newline=""), delimiter=separator) for it in row]
+        cells += re.split(rf"[\r\n{re.escape(separator)}]", saved)
+        found = [it for it in cells if re.match(BEGINS_A_FORMULA, it)]
+        expect(not found, "of cells that are parted by", repr(separator), "formulas are", found)
+    rows = [*csv.DictReader(io.StringIO(saved, newline=""))]
+    wanted = {name: [str(it[name]) for it in ends] for name in ends[0]}
+    found = {name: [it[name].replace("'", "") for it in rows] for name in ends[0]}
+    expect(found == wanted, "of the texts is left", found)
+    expect([it["text"] for it in rows[len(FORMULAS):]] == TEXTS, "other texts are", rows[len(FORMULAS):])
 
 
 def test_no_history(visit):

@@ -3,199 +3,24 @@
 No Postfix is needed: scripts stand for `postqueue` and `postsuper`, and a stub for the desk.
 """
 import contextlib
-import json
 import os
+import shutil
 import signal
 import time
-from pathlib import Path
-from types import SimpleNamespace
 
 import needs
 import pytest
+from filled import ALL, IDS, LEFT, REPORT, Place
 from lmtp_client import TEXT, lmtp
-from machine import PYTHON, WORKER, Running
-from serving import KEYS, RELAY, expect, free_address, named, until
+from machine import PYTHON
+from serving import expect, named, until
 from stand_in import StandIn
 
-from book import Book, Report
+from book import Book
 from handed import Attempt, Handed
-from spool import Envelope, Spool
 
-HEADER = "name,key,messages,bytes,lines,notices,delay"
-LIMITS = "1000,500000000,1000,1000,0"
-SETTINGS = """\
-[desk]
-address = {desk}
-key-file = relay.key
-directory = names.csv
-[spool]
-folder = spool
-[intake]
-listen = {intake}
-[domains]
-{domains}
-[delivery]
-host = relay.example
-postfix = delivering
-postsuper = {postsuper}
-pause = 1
-[notices]
-from = MAILER-DAEMON@relay.example
-"""
-# Two customers whose names begin alike, and one that is dropped.
-ALL, LEFT = ("acme", "dale", "dale-2"), ("acme", "dale-2")
-POSTQUEUE = "#!/bin/sh\ncat {folder}/queue\nexit $(cat {folder}/status)\n"
-POSTSUPER = """\
-#!/bin/sh
-echo "$@" >>{folder}/asked
-[ ! -e {folder}/closed ] || {{ echo "a password is required" >&2; exit 1; }}
-echo "postsuper: Deleted: 1 message" >&2
-"""
-REPORT = """\
-Content-Type: multipart/report; report-type=delivery-status; boundary="b"
-
---b
-Content-Type: message/delivery-status
-
-Original-Envelope-Id: {envelope}
-
-Final-Recipient: rfc822; bob@far.example
-Action: delivered
-Status: 2.0.0
-
---b--
-"""
-TABLES = "names", "messages", "journal", "handed", "notices", "mailing", "waiting"
-IDS = {"acme": "4jbPwk62v8z1bcMh", "dale": "4jbPwk62v8z1bcMk", "dale-2": "4jbPwk62v8z1bcMl"}
 STEPS = ("instance.take_back", "erasing.Erasing.take_back", "erasing.Erasing.drop_one", "erasing.Erasing.drop_contents",
          "book.Book.forget_customer", "book.Book.overwrite", "erasing.Erasing.drop_reports")
-
-
-class Place:
-    """A folder with settings and a spool, in which each customer has something everywhere."""
-
-    def __init__(self, folder):
-        self.folder, self.spool = folder, folder / "spool"
-        self.shared = SimpleNamespace(intake=free_address())
-        self.desk, self.begun = "127.0.0.1:1", []
-        (folder / "relay.key").write_text(RELAY)
-        for name, text in (("postqueue", POSTQUEUE), ("postsuper", POSTSUPER)):
-            path = folder / "bin" / name
-            path.parent.mkdir(exist_ok=True)
-            path.write_text(text.format(folder=folder))
-            path.chmod(0o755)
-        self.queue()
-        self.has(*ALL)
-
-    def __enter__(self):
-        return self
-
-    def __exit__(self, *_):
-        for it in self.begun:
-            it.kill()
-
-    def has(self, *customers):
-        """The settings have these customers."""
-        rows = [f"{it},{KEYS['acme'][::-1]},{LIMITS}" for it in customers]
-        (self.folder / "names.csv").write_text("\n".join([HEADER, *rows, ""]))
-        domains = "\n".join(f"{it}.example = {it}" for it in customers)
-        (self.folder / "relay.ini").write_text(SETTINGS.format(
-            desk=self.desk, intake=named(self.shared.intake), domains=domains, postsuper=self.folder / "bin/postsuper"))
-
-    def queue(self, *rows, status=0):
-        """What postqueue tells of the delivering instance: queue IDs, or senders with recipients."""
-        told = [{"queue_name": "active", "queue_id": id, "arrival_time": 1, "sender": sender,
-                 "recipients": [{"address": recipient}]} for id, sender, recipient in rows]
-        (self.folder / "queue").write_text("".join(f"{json.dumps(it)}\n" for it in told))
-        (self.folder / "status").write_text(str(status))
-
-    def asked(self):
-        """What postsuper was asked for."""
-        with contextlib.suppress(FileNotFoundError):
-            return (self.folder / "asked").read_text().splitlines()
-        return []
-
-    def fill(self, customer):
-        spool, book = Spool(self.spool), Book(self.spool)
-        kept, aside = f"{customer}-1", f"{customer}-2"
-        for it in (kept, aside):
-            draft = spool.draft(Envelope(customer, it, f"ann@{customer}.example", "bob@far.example"))
-            draft.write(b"Subject: tried\r\n\r\nof " + customer.encode() + b"\r\n")
-            spool.keep(draft, it)
-        spool.put_aside(aside)
-        half = spool.draft(Envelope(customer, "half", "ann@a.example", "bob@far.example"))
-        half.file.close()
-        os.rename(half.file.name, spool.new / f"1.{customer}")
-        (spool.content / f"broken-{customer}").write_text(f'{{"customer": "{customer}"\n')
-        book.taken(customer, kept, "0000000001", f"250 2.0.0 queued as {customer}")
-        self.attempts(book, customer, kept)
-        book.attempted(Report(customer, kept, "0000000001", 1, [{"recipient": f"bob@{customer}.example", "result": "failed"}]))
-        book.set_aside(customer, 3, f"ann@{customer}.example", b"a notice of " + customer.encode() * 3000)
-        book.mailing(customer, 4)
-        book.close()
-        for folder in ("new", "cur", "tmp", ".aside/new"):
-            path = self.spool / "reports" / folder
-            path.mkdir(parents=True, exist_ok=True)
-            if folder != "tmp":
-                (path / f"1.{customer}").write_text(REPORT.format(envelope=f"{customer}.0000000001.1.abc"))
-
-    @staticmethod
-    def attempts(book, customer, kept):
-        """One that is done, and one under way whose queue ID is known."""
-        for number, spool in ((1, "gone"), (2, kept)):
-            it = Attempt(f"{customer}.0000000001.{number}.abc", customer, spool, "0000000001", number,
-                         [f"bob@{customer}.example"], f"ann@{customer}.example", 1.0)
-            Handed(book).about([it])
-            Handed(book).over({it.envelope: IDS[customer]}, [])
-            if number == 1:
-                Handed(book).resolved(it, [])
-
-    # ---- what is there
-
-    def files(self, customer):
-        """The files of which a customer is the one, with what they have."""
-        names = [f"content/{customer}-1", f"content/broken-{customer}", f"aside/{customer}-2", f"new/1.{customer}",
-                 *(f"reports/{it}/1.{customer}" for it in ("new", "cur", ".aside/new"))]
-        return {it: (self.spool / it).read_bytes() for it in names if (self.spool / it).exists()}
-
-    def rows(self, customer):
-        book = Book(self.spool)
-        try:
-            found = {it: book.database().execute(f"SELECT * FROM {it} WHERE customer = ?", (customer,)).fetchall()
-                     for it in TABLES}
-            known = {it for it, in book.database().execute("SELECT name FROM sqlite_master WHERE type = 'table'")}
-            expect(known == set(TABLES), "a table is not tried:", known)
-            return found
-        finally:
-            book.close()
-
-    def has_of(self, customer):
-        return self.files(customer), self.rows(customer)
-
-    def expect_erased(self, customer):
-        # (it is removed where nobody has the book open)
-        log = self.spool / "book.db-wal"
-        expect(not log.exists() or log.stat().st_size == 0, "the log of the book is not empty")
-        files, rows = self.has_of(customer)
-        expect([*files] == [f"content/broken-{customer}"], "of", customer, "is left", files)
-        expect(not any(rows.values()), "of", customer, "is left", rows)
-        for it in (f"ann@{customer}.example", f"queued as {customer}\0", customer * 100):
-            expect(it.encode() not in (self.spool / "book.db").read_bytes(), "the book has", it, "in what was deleted")
-
-    # ---- the worker
-
-    def run(self, *asked, killed=None):
-        way = [str(WORKER), "relay.ini", *asked]
-        if killed:
-            way = [str(Path(__file__).parent / "killed.py"), str(WORKER), *killed, *way[1:]]
-        self.begun.append(Running(["env", f"PATH={self.folder}/bin:{os.environ['PATH']}", PYTHON, "-B", *way],
-                                  self.folder, self.folder / f"{asked[0]}.{len(self.begun)}.log"))
-        return self.begun[-1]
-
-    def erase(self, customer="dale", status=0, killed=None):
-        begun = self.run("erase", customer, killed=killed)
-        begun.ends(status)
-        return begun.log.read_text()
 
 
 @pytest.fixture
@@ -241,6 +66,14 @@ def test_refused(place):
     place.run("erase", "dale").ends(2)
     place.has(*ALL)
     expect({it: place.has_of(it) for it in ALL} == before and not place.asked(), "something was done")
+
+
+def test_no_spool(place):
+    """Where no worker ever ran there is nothing to erase, and no spool is made."""
+    shutil.rmtree(place.spool)
+    expect("drop it first" in place.erase(status=1), "a customer of the settings")
+    place.has(*LEFT)
+    expect(place.erase() == f"dale: there is no {place.spool}\n" and not place.spool.exists(), "a spool is made")
 
 
 def test_not_taken_back(place):
@@ -313,6 +146,20 @@ def intake_of(place, reply):
         begun = place.run("intake")
         until(lambda: b"listening on " in begun.log.read_bytes(), "the intake does not listen")
         yield begun, desk
+
+
+def test_cut_by_a_signal(place):
+    """SIGTERM ends it while it waits, and nothing is erased."""
+    with StandIn(lambda _: (200, '{"done":[],"stopped":null,"next":null}')) as desk:
+        place.desk = named(desk.server_address)
+        place.has(*ALL)
+        place.run("deliver")
+        until(lambda: desk.asked, "deliver does not work")
+        place.has(*LEFT)
+        begun = expect_waiting(place)
+        begun.process.send_signal(signal.SIGTERM)
+        begun.ends(-signal.SIGTERM)
+        expect(place.files("dale").keys() >= {"content/dale-1", "aside/dale-2"}, "something was erased")
 
 
 def test_waits_for_deliver(place):

@@ -8,6 +8,7 @@ import json
 import os
 import shutil
 import signal
+import socket
 import subprocess
 import sys
 from pathlib import Path
@@ -78,8 +79,7 @@ def kept():
 
 def refused(*wanted):
     """Install refuses, tells all of this, and changes nothing."""
-    before = kept()
-    told = install(1)
+    before, told = kept(), install(1)
     expect(all(it in told for it in wanted), "of", wanted, "not all is told:", told)
     expect(kept() == before, "a refused install changed", set(kept().items()) ^ set(before.items()))
 
@@ -283,12 +283,27 @@ def no_sudo():
     unchanged()
 
 
+def by_socket():
+    """Where root's helper takes mail back, the rule of sudo goes, and the socket is to be enabled."""
+    settings(delivery={"postsuper": "unix:/run/helper.sock"})
+    told = install()
+    for it in ("/etc/sudoers.d: hqrelay = unset, was ", "there is no /run/helper.sock: systemctl enable --now hq-relay-postsuper.socket\n"):
+        expect(it in told and not (SUDOERS / "hqrelay").exists(), it, "is not told in", told)
+    with socket.socket(socket.AF_UNIX) as made:
+        made.bind("/run/helper.sock")
+        unchanged()
+    (SUDOERS / "hqrelay").write_text("hqrelay ALL=(ALL) ALL\n")
+    expect("sudoers" not in install() and (SUDOERS / "hqrelay").exists(), "somebody else's rule is gone")
+    (SUDOERS / "hqrelay").unlink()
+    settings()
+    expect("/etc/sudoers.d: hqrelay = " in install() and (SUDOERS / "hqrelay").exists(), "the rule is not back")
+
+
 def whole():
     foreign()
     fresh()
     found = state()
-    for it in (taken_back, firm, ours_changed, moved, no_listener, silent, no_sudo):
-        it()
+    for it in (taken_back, firm, ours_changed, moved, no_listener, silent, no_sudo, by_socket): it()
     print(json.dumps(found))
 
 

@@ -177,6 +177,19 @@ def test_first_mail(root):
     expect(taken(root, "hello") == 1, "the mail is another one")
 
 
+def test_taken_back(root):
+    """Mail that its customer deletes while Postfix has it is taken back by root's helper, under the worker's units."""
+    key = key_of(root, "acme")
+    root.run("postconf -c /etc/postfix-desk -e defer_transports=smtp; postfix -c /etc/postfix-desk reload")
+    send(root, "ann@a.example", "never sent")
+    until(lambda: "bob@far.example" in root.run("postqueue -c /etc/postfix-desk -j"), "the mail is not handed over", 60)
+    root.run(f"curl -sS --cacert tls/tls.crt -H 'X-Desk-Key: {key}' -X POST https://desk.example/v1/delete-all")
+    until(lambda: root.run("postqueue -c /etc/postfix-desk -j") == "", "the mail is not taken back", 60)
+    root.run("postconf -c /etc/postfix-desk -X defer_transports; postfix -c /etc/postfix-desk reload")
+    expect(root.run("cat /etc/sudoers.d/hqrelay 2>&1 || true").endswith("No such file or directory\n"), "sudo lets the worker do more")
+    expect(taken(root, "never sent") == 0, "the mail was sent")
+
+
 # ---- customers
 
 def test_no_call_refused(root):
