@@ -3,6 +3,8 @@ import re
 import subprocess
 from pathlib import Path
 
+from serving import expect
+
 ROOT = Path(__file__).resolve().parents[2]
 # It prints what the program prints for --version.
 STAND_IN = "#!/bin/sh\necho 'hq {} (calls 1)'\n"
@@ -44,3 +46,11 @@ def copied(folder: Path, mask: int = 0o022) -> Path:
     run("git", "clone", "--quiet", "--shared", "--no-checkout", ROOT, folder, umask=mask).check_returncode()
     run("bash", "-euc", COPY, folder, cwd=ROOT, umask=mask).check_returncode()
     return folder
+
+
+def linted(path: Path) -> None:
+    """Expects that lintian finds nothing in a package, down to what it is least sure of. (Of the machine code of a program it
+    takes some bytes for misspelled words.)"""
+    found = run("lintian", "--info", "--display-info", "--display-experimental", "--pedantic", "--tag-display-limit", "0",
+                "--suppress-tags", "spelling-error-in-binary", "--fail-on", "error,warning,info,pedantic,experimental", path)
+    expect(found.returncode == 0 and not re.search(r"(?m)^[A-Z]: ", found.stdout), "lintian:", found.stdout, found.stderr)

@@ -3,6 +3,7 @@ import os
 import shutil
 import sys
 
+import needs
 from releasing import ROOT, copied, run, stand_in
 from serving import expect
 
@@ -35,17 +36,19 @@ def test_same_to_the_byte(folder, releases):
 
 
 # What ./release needs, and the package that has it.
-NEEDED = {"dh": "debhelper", "dpkg-buildpackage": "dpkg-dev", "dpkg-deb": "dpkg", "dpkg-source": "dpkg-dev", "git": "git"}
+NEEDED = {"dh": "debhelper", "dpkg-buildpackage": "dpkg-dev", "dpkg-deb": "dpkg", "dpkg-source": "dpkg-dev", "git": "git",
+          "gpg": "gnupg"}
 
 
-def test_missing(folder, releases):
+def test_missing(folder):
     """Where a program is lacking, one line names it and the package that has it, before anything is proved or made."""
+    needs.command(*NEEDED)
     for lacking, package in NEEDED.items():
         path = folder / f"without-{lacking}"
         path.mkdir()
         for it in {*NEEDED, "dpkg-parsechangelog"} - {lacking}:
             (path / it).symlink_to(shutil.which(it))
-        ended = run(sys.executable, ROOT / "release", folder / "made", env={"PATH": str(path)})
+        ended = run(sys.executable, ROOT / "release", "--sign", "key", folder / "made", env={"PATH": str(path)})
         wanted = f"release: there is no {lacking} (of the package {package})\n"
         expect((ended.returncode, ended.stdout, ended.stderr) == (1, "", wanted), "without", lacking, "it tells", ended)
     expect(not (folder / "made").exists(), "something was made")

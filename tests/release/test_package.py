@@ -8,7 +8,7 @@ from pathlib import Path
 
 import help_texts
 import needs
-from releasing import ROOT, package_in, run, tarball_in, version
+from releasing import ROOT, linted, package_in, run, tarball_in, version
 from serving import expect
 
 # The folders that are the package's own.
@@ -16,13 +16,10 @@ OWN = ("./etc/hq/", "./usr/libexec/hq-desk/", "./usr/share/doc/hq-desk/", "./usr
 
 
 def test_lintian(releases):
-    """lintian finds nothing in both packages, down to what it is least sure of, and each override is one that is needed. (Of
-    the machine code of a program it takes some bytes for misspelled words.)"""
+    """lintian finds nothing in both packages, and each override is one that is needed."""
     needs.command("lintian")
-    for it in (package_in(releases.now), next(releases.now.glob("*.dsc"))):
-        found = run("lintian", "--info", "--display-info", "--display-experimental", "--pedantic", "--tag-display-limit", "0",
-                    "--suppress-tags", "spelling-error-in-binary", "--fail-on", "error,warning,info,pedantic,experimental", it)
-        expect(found.returncode == 0 and not re.search(r"(?m)^[A-Z]: ", found.stdout), "lintian:", found.stdout, found.stderr)
+    linted(package_in(releases.now))
+    linted(next(releases.now.glob("*.dsc")))
 
 
 def test_evidence(releases, program):
@@ -92,11 +89,11 @@ def test_one_version():
 
 
 def test_one_schema():
-    """The package and the script that moves customers name the schema of the program's stores."""
+    """The package and the scripts that open stores name the schema of the program's stores."""
     schema = (ROOT / "packaging/schema").read_text().strip()
     of_program = re.search(r"(?m)^//! Schema (\d+):", (ROOT / "crates/hq_schema/src/lib.rt").read_text())
     expect(of_program and of_program[1] == schema, "the program has the schema", of_program)
-    expect(f"\nVERSION = {schema}\n" in (ROOT / "deploy/move-customer").read_text(), "move-customer has another than", schema)
+    expect(f"\nVERSION = {schema}\n" in (ROOT / "deploy/desk_store.py").read_text(), "desk_store.py has another than", schema)
 
 
 def test_manual_page():
