@@ -20,6 +20,8 @@ PRODUCTION, PROCEDURES, RELAY, README = "docs/PRODUCTION.md", "docs/PROCEDURES.m
 NAMES = {"TLS": "/root/tls", "NAME": "desk.example"}
 OURS = ("/etc/hq", "/var/lib/hqdesk", "/var/lib/hqrelay", "/var/log/hqdesk", "/usr/share/hq-desk", "/usr/libexec/hq-desk")
 HERE = Path(__file__).resolve().parent
+# What the page has an administrator install beside it.
+BESIDE = "fail2ban python3-systemd logrotate prometheus-node-exporter"
 # A host of recipients: it keeps each message, and waits while the file `waits` is there.
 SINK = """exec /usr/bin/python3 -c '
 import asyncio, os, signal, time, uuid
@@ -63,9 +65,9 @@ def root(debian, releases):
     package = it.take(package_in(releases.before))
     # (there is all that it wants, by their lists; a mirror may fail as it gives them)
     it.run(f"apt-get -qq install --simulate {package} curl")
-    fetched(lambda: it.run(f"apt-get -qq install -y --download-only {package} curl", longest=240))
+    fetched(lambda: it.run(f"apt-get -qq install -y --download-only {package} curl {BESIDE}", longest=240))
     it.run(blocks(PRODUCTION, "The package")[-1], longest=240, PACKAGE=package)
-    it.run("apt-get -qq install -y --no-install-recommends curl", longest=120)
+    it.run(f"apt-get -qq install -y --no-install-recommends curl {BESIDE}", longest=240)
     it.alone()
     return it
 
@@ -281,12 +283,12 @@ def test_a_name_again(root):
 
 def test_alerts_of_the_page(root):
     """The lines of PRODUCTION's "Firewall and alerts", and what desk-metrics writes."""
-    for it in ("/etc/fail2ban/filter.d", "/etc/fail2ban/jail.d", "/var/lib/prometheus/node-exporter"):
-        root.path(it).mkdir(parents=True, exist_ok=True)
+    expect(f"apt-get install {BESIDE}" in (ROOT / PRODUCTION).read_text(), "the page installs other packages than", BESIDE)
     root.put("/usr/local/bin/journalctl", "#!/bin/sh\necho 'level=error event=\"lost notices\" customer=acme numbers=1'\n", 0o755)
     for it in blocks(PRODUCTION, "Firewall and alerts"):
         root.run(it)
     expect("hq_desk" in root.run("nft list tables"), "the firewall has no rules")
+    until(lambda: "hq-desk-strangers" in root.run("fail2ban-client status 2>&1 || true"), "fail2ban does not run")
     expect("hq-desk-metrics.timer" in root.run("cat /run/units/done"), "no timer runs")
     root.run("systemctl start hq-desk-metrics")
     told = root.run("cat /var/lib/prometheus/node-exporter/*.prom")
