@@ -35,6 +35,8 @@ LOCK, WHOLE, BESIDE, GONE, TRIAL = ".customers.lock", ".customers.whole", ".cust
 OTHERS = ("relay", "senders", "dropped")
 # In seconds: how long another one may have the lock, and what a command may take.
 PATIENCE, LONGEST = 60, 120
+# And the worker, which waits until nobody works by earlier settings.
+LONGEST_ERASING = 300
 # What `desk-store` ends with where it did its work: wholly, where it knows no such customer, and where more is left.
 DONE, UNKNOWN, MORE = 0, 3, 4
 # So many seconds a `deliver` that has little under way takes to go by other tables.
@@ -341,7 +343,7 @@ def of_worker(folder: Path, name: str) -> str:
     words = ["hq-relay", folder / "relay.ini", "erase", name]
     if os.geteuid() == 0:
         words = ["runuser", "-u", "hqrelay", "--", *words]
-    ended = subprocess.run(words, stdin=subprocess.DEVNULL, capture_output=True, text=True, timeout=LONGEST)
+    ended = subprocess.run(words, stdin=subprocess.DEVNULL, capture_output=True, text=True, timeout=LONGEST_ERASING)
     if ended.returncode:
         told = " / ".join(ended.stderr.strip().splitlines())
         raise Refused(f"the worker erases nothing: {told or f'status {ended.returncode}'}")
