@@ -1,0 +1,142 @@
+"""The units of the package under a systemd that runs, set up by the lines of the pages: who is started again, who waits, and who ends.
+
+The tests of this file go on from one another's machine, in their order.
+"""
+import re
+import subprocess
+import time
+from pathlib import Path
+
+import pytest
+from booted import Booted
+from releasing import package_in
+from rooted import Root, fetched, place
+from serving import expect, until
+from test_installed import BESIDE, NAMES, PRODUCTION, RELAY, blocks
+
+OURS = ("hq-desk@north", "hq-desk-workers", "nginx", "hq-desk-firewall", "fail2ban", "hq-relay-intake", "hq-relay-deliver", "hq-relay-postsuper.socket")
+MORE = f"systemd systemd-sysv dbus curl iproute2 {BESIDE}"
+STRANGER = "runuser -u stranger -- curl -sS http://127.0.0.1:{}/v1/usage 2>&1 || true"
+
+
+@pytest.fixture(scope="module")
+def machine(begun, releases):
+    with place() as folder:
+        with Root(Path(folder) / "debian") as root:
+            fetched(lambda: root.run("apt-get -qq update", longest=120))
+            package = root.take(package_in(releases.now))
+            fetched(lambda: root.run(f"apt-get -qq install -y {package} {MORE}", longest=400))
+            made = ["openssl", "req", "-x509", "-newkey", "ec", "-pkeyopt", "ec_paramgen_curve:P-256", "-nodes", "-days", "2", "-subj",
+                    "/CN=desk.example", "-addext", "subjectAltName=DNS:desk.example", "-keyout", root.path("/root/tls.key"), "-out",
+                    root.path("/root/tls.crt")]
+            subprocess.run(made, check=True, capture_output=True)
+            root.run("mkdir tls; mv tls.key tls.crt tls; useradd stranger; systemctl mask systemd-networkd-wait-online")
+            root.put("/etc/hosts", "127.0.0.1 localhost desk.example\n")
+            (root.path("/usr/sbin/policy-rc.d")).unlink()
+        with Booted(Path(folder) / "debian") as it:
+            yield it
+
+
+def usage(machine):
+    """What nginx hands on of acme's usage."""
+    key = machine.run("sed -n 's/^acme,\\([^,]*\\),.*/\\1/p' /etc/hq/north.csv").strip()
+    return machine.run(f"curl -sS --cacert tls/tls.crt -H 'X-Desk-Key: {key}' https://desk.example/v1/usage || true")
+
+
+def pid_of(machine, unit):
+    return machine.run(f"systemctl show -p MainPID --value {unit}").strip()
+
+
+def test_set_up(machine):
+    """All lines of the pages work, and what they start runs, within its restrictions."""
+    for page, title in ((PRODUCTION, "A desk"), (PRODUCTION, "nginx"), (RELAY, "Units"), (PRODUCTION, "Firewall and alerts")):
+        for it in blocks(page, title):
+            machine.run(it, longest=120, **NAMES)
+    machine.until_active(*OURS)
+    until(lambda: '"messages":0' in usage(machine), "acme is not answered")
+    failed = machine.run("systemctl --failed --no-legend --plain --no-pager 'hq-*' 'nginx*' 'fail2ban*'")
+    expect(failed == "", "failed are", failed)
+
+
+def test_counts(machine):
+    """node_exporter shows what the unit has counted."""
+    machine.run("systemctl start hq-desk-metrics")
+    until(lambda: 'desk_messages{customer="acme"}' in machine.run("curl -sS http://127.0.0.1:9100/metrics || true"), "no counts are shown")
+
+
+def test_refused_start(machine):
+    """A start that its files refuse fails at once, says why each two seconds, and comes up once they are good."""
+    machine.run("cp -p /etc/hq/north.csv good.csv; echo 'bad row' >>/etc/hq/north.csv")
+    told = machine.run("systemctl restart hq-desk@north && exit 9 || true; systemctl is-active hq-desk@north || true")
+    expect("failed" in told and told.split()[-1] != "active", "a start by bad files is told as", told)
+    since = machine.run("date '+%F %T'").strip()
+    time.sleep(7)
+    lines = machine.run(f"journalctl -u hq-desk@north --since='{since}' -o cat --no-pager").count("BadDirectory")
+    expect(2 <= lines <= 5, "in seven seconds it is told", lines, "times")
+    machine.run("cat good.csv >/etc/hq/north.csv")
+    machine.until_active("hq-desk@north")
+
+
+def test_killed(machine):
+    """Whatever is killed comes back."""
+    for unit in ("hq-desk@north", "hq-desk-workers", "nginx", "hq-relay-intake", "hq-relay-deliver"):
+        before = pid_of(machine, unit)
+        machine.run(f"kill -9 {before}")
+        until(lambda: pid_of(machine, unit) not in (before, "0"), f"{unit} does not come back")
+        machine.until_active(unit)
+    until(lambda: '"messages":0' in usage(machine), "acme is not answered")
+
+
+def test_strangers(machine):
+    """Another user of the machine reaches no desk, also after the firewall of the machine was started again."""
+    machine.run("systemctl enable --now nftables && systemctl restart hq-desk-firewall")
+    for _ in range(2):
+        for port in (824, 825):
+            told = machine.run(STRANGER.format(port))
+            expect("Failed to connect" in told or "refused" in told, "a stranger at", port, "gets", told)
+        expect("NoKey" in machine.run("runuser -u hqrelay -- curl -sS http://127.0.0.1:825/v1/usage"), "the worker does not reach its desk")
+        machine.run("systemctl restart nftables; systemctl reload nftables; sleep 1")
+    expect("hq_desk" in machine.run("nft list tables"), "the rules are gone")
+
+
+def test_names(machine):
+    """A name that was dropped is refused until it is erased, with worker and desk under their restrictions."""
+    machine.run("hq-customers add birch --domain b.example; hq-customers drop birch")
+    expect("birch was dropped on" in machine.run("hq-customers add birch", status=1), "its name is given again")
+    told = machine.run("hq-customers erase birch; hq-customers retain 30; hq-customers add birch; hq-customers drop birch", longest=120)
+    expect("the store of north: " in told and "the worker: birch: " in told, "erased is told as", told)
+    machine.until_active(*OURS)
+
+
+def test_retention(machine):
+    """The desk is back behind its retention; one that was stopped stays so, and its timer with it."""
+    machine.run("systemctl enable --now hq-desk-retain@north.timer; systemctl start hq-desk-retain@north")
+    machine.until_active("hq-desk@north", "hq-desk-retain@north.timer", "hq-desk-check@north.timer")
+    expect("notices" in machine.run("journalctl -u hq-desk-retain@north -o cat --no-pager"), "nothing was retained")
+    machine.run("systemctl stop hq-desk@north")
+    expect(machine.active("hq-desk@north", "hq-desk-retain@north.timer") == ["inactive"] * 2, "a stopped desk has a timer")
+    machine.run("systemctl start hq-desk@north")
+    machine.until_active("hq-desk@north", "hq-desk-retain@north.timer")
+
+
+def test_order(machine):
+    """Each waits for the network and the clock."""
+    for unit in ("hq-desk@north", "hq-desk-workers", "hq-relay-intake", "hq-relay-deliver"):
+        told = machine.run(f"systemctl show -p After --value {unit}")
+        expect({"network-online.target", "time-sync.target"} <= set(told.split()), unit, "waits for", told)
+
+
+def test_removed(machine):
+    """Nothing of it runs after a removal, and a purge leaves no unit and no rule."""
+    machine.run("apt-get remove -y hq-desk", longest=120)
+    running = machine.run("systemctl list-units --no-legend --plain --no-pager 'hq-*' | grep -v not-found || true")
+    expect(running == "", "there runs", running)
+    for user in ("hqdesk", "hqrelay"):
+        expect(machine.run(f"ps -o args= -u {user} || true") == "", "of", user, "there runs a process")
+    expect("hq_desk" not in machine.run("nft list tables"), "its firewall is left")
+    told = machine.run("apt-get purge -y hq-desk", longest=120)
+    expect("stays" in told, "a purge tells", told)
+    left = machine.run("find /etc/systemd/system -name 'hq-*' -o -path '*/nginx.service.d/*' -o -path '*/logrotate.timer.d/*'")
+    expect(left == "", "left are", left)
+    machine.run("systemctl daemon-reload; nginx -t; systemctl restart nginx fail2ban logrotate.timer")
+    expect(re.fullmatch("(active\n?){3}", machine.run("systemctl is-active nginx fail2ban logrotate.timer")), "what was beside it does not run")
