@@ -140,6 +140,30 @@ def test_erased(place):
         expect(place.run("erase", name).returncode == 1, name, "is a name")
 
 
+def test_killed(place):
+    """Killed at any moment, an erasing leaves a store that the desk opens, with all of others; run again it ends its work."""
+    now = int(time.time())
+    acme = place.filled("acme", now)
+    place.filled("birch", now, 60)
+    wanted = place.told(acme, now)
+    words, left = [DEPLOY / "desk-store", "erase", place.stores / "north.db", "birch"], set()
+    kept = {it.name: it.read_bytes() for it in place.stores.iterdir()}
+    for step in range(40):
+        process = subprocess.Popen(words, stdout=subprocess.PIPE)
+        time.sleep(0.03 + 0.004 * step)
+        process.kill()
+        process.communicate(timeout=LONGEST)
+        found = place.told(acme, now)
+        expect(found == wanted, "killed after", step, "steps, another customer is told", found)
+        left.add(bool(place.bytes_of("birch")))
+        for name, text in kept.items():
+            (place.stores / name).write_bytes(text)
+        for it in place.stores.iterdir():
+            it.unlink() if it.name not in kept else None
+    subprocess.run(words, check=True, capture_output=True, timeout=LONGEST)
+    expect(place.told(acme, now) == wanted and not place.bytes_of("birch") and True in left, "in the end it left", left)
+
+
 def test_erased_in_part(place):
     """Where the worker erases nothing the name stays refused, and the next call ends what is left."""
     place.filled("birch", int(time.time()))
