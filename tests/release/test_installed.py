@@ -236,7 +236,9 @@ def test_mail_under_way(root):
     expect("birch" in root.path("/etc/hq/north.csv").read_text() and "b.example" not in root.run("cat /etc/hq/senders.csv"), "half")
     root.run("rm /tmp/waits")
     until(lambda: usage(root, "birch").get("delivered") == 2, "birch's last mail is not delivered", 60)
-    expect(root.run("hq-customers drop birch") == "" and "birch" not in root.run("hq-customers list; cat /etc/hq/*.csv"), "birch stays")
+    expect(root.run("hq-customers drop birch") == "" and "birch north: dropped on" in root.run("hq-customers list"), "birch stays")
+    told = root.run("hq-customers erase birch")
+    expect("the store of north: " in told and "the worker: birch: " in told and "birch" not in root.run("cat /etc/hq/*.csv"), "erased is", told)
     for it in ("intake", "deliver"):
         log = root.run(f"cat /run/units/hq-relay-{it}.service.log")
         # (a new start sweeps at once, and leaves out who has an outcome to be told)

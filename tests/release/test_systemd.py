@@ -30,7 +30,7 @@ def machine(begun, releases):
                     "/CN=desk.example", "-addext", "subjectAltName=DNS:desk.example", "-keyout", root.path("/root/tls.key"), "-out",
                     root.path("/root/tls.crt")]
             subprocess.run(made, check=True, capture_output=True)
-            root.run("mkdir tls; mv tls.key tls.crt tls; useradd stranger; systemctl mask systemd-networkd-wait-online")
+            root.run("mkdir tls; mv tls.key tls.crt tls; useradd stranger")
             root.put("/etc/hosts", "127.0.0.1 localhost desk.example\n")
             (root.path("/usr/sbin/policy-rc.d")).unlink()
         with Booted(Path(folder) / "debian") as it:
