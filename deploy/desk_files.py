@@ -32,7 +32,7 @@ SENDERS = ["kind", "name", "customer"]
 DROPPED = ["name", "desk", "day"]
 LOCK, WHOLE, BESIDE, GONE, TRIAL = ".customers.lock", ".customers.whole", ".customers-new", ".customers-gone", ".customers-trial-"
 # Tables of this folder that are no directory.
-OTHERS = ("relay", "senders", "dropped")
+OTHERS = ("relay", "senders", "dropped", "events")
 # In seconds: how long another one may have the lock, and what a command may take.
 PATIENCE, LONGEST = 60, 120
 # And the worker, which waits until nobody works by earlier settings.
@@ -156,7 +156,7 @@ class Desk:
     def __init__(self, settings: Path):
         self.name, self.folder, self.place = settings.stem, settings.parent, settings
         if self.name in OTHERS:
-            raise Refused(f"{settings}: a desk cannot be called {self.name}, since {self.name}.csv is another file")
+            raise Refused(f"{settings}: no desk is called {self.name}, since another file has that name")
         self.written = settings.read_bytes().decode()
         self.settings = dict(it.split("=", 1) for it in self.written.splitlines() if "=" in it and not it.startswith("#"))
         if not {"HOST", "LISTEN"} <= self.settings.keys():
@@ -342,7 +342,7 @@ def of_worker(folder: Path, name: str) -> str:
         return "it is not set up"
     words = ["hq-relay", folder / "relay.ini", "erase", name]
     if os.geteuid() == 0:
-        words = ["runuser", "-u", "hqrelay", "--", *words]
+        words = ["setsid", "--wait", "runuser", "-u", "hqrelay", "--", "env", "HOME=/nonexistent", *words]
     ended = subprocess.run(words, stdin=subprocess.DEVNULL, capture_output=True, text=True, timeout=LONGEST_ERASING)
     if ended.returncode:
         told = " / ".join(ended.stderr.strip().splitlines())
@@ -365,7 +365,8 @@ def of_store(scripts: Path, desk: Desk, stores: Path, command: str, what: str) -
     words = [scripts / "desk-store", command, store, what]
     if os.geteuid() == 0 and shutil.which("systemctl"):
         words = [scripts / "desk-restart", desk.name, "--stopped", *words]
-    ended = subprocess.run(words, stdin=subprocess.DEVNULL, capture_output=True, text=True, timeout=LONGEST)
+    # (it takes as long as it takes: who ends it would leave the desk stopped)
+    ended = subprocess.run(words, stdin=subprocess.DEVNULL, capture_output=True, text=True)
     if ended.returncode not in (DONE, UNKNOWN, MORE):
         told = " / ".join(ended.stderr.strip().splitlines())
         raise Refused(f"the store of {desk.name}: {told or f'status {ended.returncode}'}")

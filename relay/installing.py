@@ -10,7 +10,6 @@ import re
 import shutil
 import signal
 import socket
-import stat
 import sys
 import tempfile
 from pathlib import Path
@@ -51,6 +50,11 @@ def check_rule(text: str) -> None:
             file.write(text)
             file.flush()
             run("visudo", "-c", "-q", "-f", file.name)
+
+
+def owner_above(path: Path) -> int:
+    """The number of the user who has the nearest folder above a path that is there."""
+    return next(it for it in path.parents if it.exists()).stat().st_uid
 
 
 def lacks_sudo() -> str:
@@ -201,17 +205,22 @@ class Installation:
             print(f"user {self.settings.user}: is made", flush=True)
 
     def make_folders(self) -> None:
-        """The spool, and the Maildir of reports, for the worker alone."""
+        """The spool, and the Maildir of reports, for the worker alone. What lies in a folder of the
+        worker's it makes itself: it may have put a link there that leads root elsewhere."""
         user, reports = user_of(self.settings), self.settings.reports
         for made in (self.settings.folder, reports, *(reports / it for it in MAILDIR)):
-            if not made.exists():
+            is_there, is_of_worker = made.exists(), owner_above(made) == user.pw_uid
+            if is_of_worker:
+                run("setsid", "--wait", "runuser", "-u", user.pw_name, "--",
+                    "mkdir", "-p", "-m", "700", made)
+            elif not is_there:
                 made.parent.mkdir(parents=True, exist_ok=True)
                 made.mkdir(0o700)
-                print(f"{made}: is made", flush=True)
-            # (a run that was cut may have left it root's; a link would lead elsewhere)
-            found = made.lstat()
-            if stat.S_ISDIR(found.st_mode) and found.st_uid == 0:
+            # (a run that was cut may have left it root's)
+            if not is_of_worker and made.lstat().st_uid == 0:
                 os.chown(made, user.pw_uid, user.pw_gid, follow_symlinks=False)
+            if not is_there:
+                print(f"{made}: is made", flush=True)
 
     def make_instance(self) -> None:
         """Has postmulti make the delivering instance, with nothing of it that listens, and no

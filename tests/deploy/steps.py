@@ -18,7 +18,8 @@ def lines_of(title):
     """The lines that the page shows under a title."""
     found = re.search(rf"(?ms)^## {re.escape(title)}\n.*?^```\n(.*?)^```$", PAGE.read_text())
     expect(found, PAGE, "has no lines under", title)
-    return found[1].replace("\\\n", " ").rstrip("\n").split("\n")
+    # (a line that ends in `&&` is followed by the next one where it succeeds, as each is here)
+    return [it.removesuffix(" &&") for it in found[1].replace("\\\n", " ").rstrip("\n").split("\n")]
 
 
 class Place:

@@ -2,14 +2,13 @@
 
 The users of the package are not those of the machine that tests run on, so that others have their numbers.
 """
-import os
 import re
 import subprocess
 import sys
 
 import needs
 import pytest
-from deploying import DEPLOY, settings_of
+from deploying import DEPLOY, all_settings_of, settings_of
 from serving import LONGEST, expect
 
 # Numbers of users: the desks, the worker, Postfix, and one that is none of them.
@@ -45,7 +44,7 @@ class Network:
             text = text.replace(name, str(number))
         (folder / "firewall.d").mkdir()
         self.rules.write_text(text.replace("/etc/hq", str(folder)))
-        self.put = f"ip link set lo up; nft -D postfix={POSTFIX} -f {self.rules}"
+        self.put = f"ip link set lo up; nft -D postfix={POSTFIX} -f {self.rules}; for it in {folder}/firewall.d/*.nft; do [ ! -e $it ] || nft -f $it; done"
         tried = subprocess.run(["unshare", "-n", "sh", "-ec", self.put], capture_output=True, text=True, timeout=LONGEST)
         needs.that(not tried.returncode, f"rules in a network of its own: {tried.stderr[-300:]}")
 
@@ -73,7 +72,7 @@ def test_connections_of_an_address(network):
         expect(network.connected("127.0.0.1", port, 0, 50, "127.0.0.3") == 50, "of 50 connections to", port)
 
 
-@pytest.mark.parametrize("port, users", [(824, (0, 33, DESK, WORKER)), (825, (0, 33, DESK, WORKER)), (899, (0, 33, DESK, WORKER)),
+@pytest.mark.parametrize("port, users", [(824, (0, 33, DESK, WORKER)), (825, (0, 33, DESK, WORKER)), (849, (0, 33, DESK, WORKER)),
                                          (10024, (0, WORKER, POSTFIX)), (10026, (0, WORKER, POSTFIX)), (10027, (0, WORKER, POSTFIX))])
 def test_who_reaches_a_desk(network, port, users):
     """At the ports of desks and of the worker only the programs that ask there are let in; elsewhere everybody is."""
@@ -117,7 +116,8 @@ print(got, time.monotonic() - begun)
 
 def test_counts(network):
     """Nobody from elsewhere reads the counts of node_exporter but whom a file of the administrator names."""
-    (network.rules.parent / "firewall.d/prometheus.nft").write_text("add element inet hq_desk monitors { 198.51.100.3 }\n")
+    (network.rules.parent / "firewall.d/prometheus.nft").write_text("add element inet hq_desk monitors { 198.51.100.3 }\n"
+                                                                    "add element inet hq_desk monitors6 { 2001:db8::7 }\n")
     told = network.run("""
 ip link add inner type veth peer name outer; unshare -n sleep 30 & holder=$!; sleep 0.3
 ip link set outer netns $holder; ip addr add 198.51.100.1/24 dev inner; ip link set inner up
@@ -148,6 +148,8 @@ def test_unit(network):
     """The unit puts in place the very file, and takes all of it away."""
     unit = settings_of(DEPLOY / "hq-desk-firewall.service")
     for name in ("ExecStart", "ExecReload"):
-        expect("/usr/sbin/nft -D postfix=" in unit[name] and unit[name].endswith("-f /etc/hq/hq-desk.nft'"), name, "is", unit[name])
+        base, own = all_settings_of(DEPLOY / "hq-desk-firewall.service")[name]
+        expect("/usr/sbin/nft -D postfix=" in base and base.endswith("-f /etc/hq/hq-desk.nft'"), name, "is", base)
+        # (a fault in a file of the administrator's takes no rule of the base away)
+        expect(own.startswith("-/bin/sh -c ") and "/etc/hq/firewall.d/*.nft" in own, name, "of the administrator's files is", own)
     expect(network.run(f"{unit['ExecStop']}; nft list ruleset") == "", "something is left")
-    expect(os.access("/bin/sh", os.X_OK) and unit["ExecStart"].startswith("/bin/sh -c "), "no shell")

@@ -148,6 +148,20 @@ def test_slow_bodies_of_one_key(front):
                 done(it, "four at once of the customer's own key")
 
 
+def test_long_calls_of_a_reading_key(front):
+    """A key that may only read has no place of the lists and the long calls of its customer, however slow its bodies are."""
+    host, _, port = front.public.rpartition(":")
+    with ExitStack() as kept:
+        for line in ("POST /v1/import", "GET /v1/messages", "GET /v1/messages"):
+            made = socket.create_connection((host, int(port)), LONGEST)
+            client = kept.enter_context(front.context.wrap_socket(made, server_hostname=host))
+            client.sendall(f"{line} HTTP/1.1\r\nHost: desk.example\r\nX-Desk-Key: {READING}\r\nContent-Length: 200000\r\n\r\n{{".encode())
+        until(lambda: front.ask("GET", "/v1/report", READING) == OFTEN, "a second long call of the reading key is taken", 5)
+        for method, path in (("GET", "/v1/report"), ("POST", "/v1/hold-all"), ("GET", "/v1/messages")):
+            done(front.ask(method, path, ACME), path, "of the customer's own key")
+            time.sleep(0.5)
+
+
 def test_lists(front):
     """A customer that floods lists is held to ten a second, two at once; its other calls and other customers are served."""
     bodies = {"/v1/lines-after": {"class": "sender", "pattern": "a.example"}, "/v1/history-find": {"class": "sender", "pattern": "a.example", "before": None}}

@@ -58,7 +58,7 @@ def test_added(place):
     expect(settings_of(place) == f"# ours\n{SETTINGS}\nKEYS=--keys={place.folder}/north.keys.csv\n", "settings are",
            settings_of(place))
     texts = {name: text.decode() for name, text in place.files().items()}
-    for key, holder in ((panel, "acme/panel"), (report, "acme/report-1"), (birch, "birch/panel"), ("acmekey000000001", "acme")):
+    for key, holder in ((panel, "acme/panel"), (report, "acme/report-1/read"), (birch, "birch/panel"), ("acmekey000000001", "acme")):
         expect(f"{key} {holder};\n" in texts["keys.map"], "the map lacks a key of", holder)
     expect(texts["names.map"] == "default 127.0.0.1:825;\nacme 127.0.0.1:825;\nbirch 127.0.0.1:825;\n", "the names are", texts["names.map"])
     expect([it for it, text in sorted(texts.items()) if report in text] == ["keys.map", "north.keys.csv"], "its key is told elsewhere")
@@ -159,7 +159,7 @@ def test_maps_by_hand(place):
         return subprocess.run(words, capture_output=True, text=True, timeout=LONGEST)
     (place.folder / "north.keys.csv").write_text(f"{NAMED}birch,panel,NamedKey00000001,read\n")
     expect(mapped().returncode == 0, "the maps are refused:", mapped())
-    wanted = "acmekey000000001 acme;\nbirchkey00000001 birch;\nnamedkey00000001 birch/panel;\n"
+    wanted = "acmekey000000001 acme;\nbirchkey00000001 birch;\nnamedkey00000001 birch/panel/read;\n"
     expect((place.folder / "keys.map").read_text() == wanted, "the map is", (place.folder / "keys.map").read_text())
     for row, told in (("cedar,panel,namedkey00000001,all", "'cedar' is not in the directory"),
                       ("acme,panel,short,all", "a row of 'acme' has no key"),

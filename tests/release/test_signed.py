@@ -45,11 +45,12 @@ def signed(made, folder):
     return shutil.copytree(made / "made", folder / "signed"), made / "keys/releaser.gpg"
 
 
-def checked(place, public):
-    """The status of the lines that the page shows, and what they tell."""
+def checked(place, public, package=None):
+    """The status of the lines that the page shows, and what they tell of a package."""
+    package = package or next(place.glob("*.deb"), place / "none.deb")
     section = (ROOT / "docs/PRODUCTION.md").read_text().partition("\n### The package\n")[2].partition("\n### ")[0]
     lines = next(it for it in re.findall(r"(?ms)^```\n(.*?)^```$", section) if "gpgv" in it)
-    ended = run("bash", "-c", lines, cwd=place, env={**os.environ, "RELEASER": str(public)})
+    ended = run("bash", "-c", lines, env={**os.environ, "RELEASER": str(public), "PACKAGE": str(package)})
     return ended.returncode, ended.stdout + ended.stderr
 
 
@@ -65,6 +66,15 @@ def test_signed(signed):
             it.unlink()
     status, told = checked(place, public)
     expect(status == 0 and told.count(": OK") == 1, "of the package alone the lines tell", status, told)
+
+
+def test_another_package(signed):
+    """A package that the signed sums do not name is refused, whatever stands beside it."""
+    place, public = signed
+    other = place / "hq-desk_1.0.1_amd64.deb"
+    other.write_bytes(b"of somebody else")
+    status, told = checked(place, public, other)
+    expect(status != 0, "a package that nobody signed is told as", told)
 
 
 def changed(path):

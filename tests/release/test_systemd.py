@@ -12,7 +12,7 @@ from booted import Booted
 from releasing import package_in
 from rooted import Root, fetched, place
 from serving import expect, until
-from test_installed import BESIDE, NAMES, PRODUCTION, RELAY, blocks
+from test_installed import BESIDE, NAMES, PROCEDURES, PRODUCTION, RELAY, blocks
 
 OURS = ("hq-desk@north", "hq-desk-workers", "nginx", "hq-desk-firewall", "fail2ban", "hq-relay-intake", "hq-relay-deliver", "hq-relay-postsuper.socket")
 MORE = f"systemd systemd-sysv dbus curl iproute2 {BESIDE}"
@@ -54,7 +54,7 @@ def test_set_up(machine):
             machine.run(it, longest=120, **NAMES)
     machine.until_active(*OURS)
     until(lambda: '"messages":0' in usage(machine), "acme is not answered")
-    failed = machine.run("systemctl --failed --no-legend --plain --no-pager 'hq-*' 'nginx*' 'fail2ban*'")
+    failed = machine.run("systemctl list-units --failed --no-legend --plain --no-pager 'hq-*' 'nginx*' 'fail2ban*'")
     expect(failed == "", "failed are", failed)
 
 
@@ -89,14 +89,31 @@ def test_killed(machine):
 
 def test_strangers(machine):
     """Another user of the machine reaches no desk, also after the firewall of the machine was started again."""
-    machine.run("systemctl enable --now nftables && systemctl restart hq-desk-firewall")
-    for _ in range(2):
+    for change in ("true", "systemctl enable --now nftables", "systemctl restart nftables", "systemctl stop nftables; systemctl start nftables",
+                   "mkdir -p /etc/hq/firewall.d; echo 'add element inet hq_desk monitors { 2001:db8::7 }' >/etc/hq/firewall.d/bad.nft; "
+                   "systemctl restart hq-desk-firewall", "systemctl reload hq-desk-firewall"):
+        machine.run(f"{change}; sleep 1")
         for port in (824, 825):
             told = machine.run(STRANGER.format(port))
             expect("Failed to connect" in told or "refused" in told, "a stranger at", port, "gets", told)
         expect("NoKey" in machine.run("runuser -u hqrelay -- curl -sS http://127.0.0.1:825/v1/usage"), "the worker does not reach its desk")
-        machine.run("systemctl restart nftables; systemctl reload nftables; sleep 1")
+    machine.run("rm /etc/hq/firewall.d/bad.nft; systemctl reload nftables; sleep 1")
     expect("hq_desk" in machine.run("nft list tables"), "the rules are gone")
+
+
+def test_stopped(machine):
+    """The lines of PROCEDURES stop a customer: its key is another one, and new mail of it is refused for now."""
+    before = usage(machine)
+    shown = machine.run("sed -n 's/^acme,\\([^,]*\\),.*/\\1/p' /etc/hq/north.csv").strip()
+    for it in blocks(PROCEDURES, "Stopping a customer"):
+        machine.run(it)
+    machine.until_active("hq-desk@north")
+    old = machine.run(f"curl -sS --cacert tls/tls.crt -H 'X-Desk-Key: {shown}' https://desk.example/v1/usage")
+    expect("NoKey" in old and '"messages":0' in before, "its old key gets", old)
+    refused = machine.run("curl -sS -H \"X-Desk-Key: $(cat /etc/hq/north.key)\" -d '{\"spool\":\"s1\",\"sender\":\"a@a.example\",\"recipients\":"
+                          "[\"b@far.example\"],\"size\":900}' http://127.0.0.1:824/relay/submit/acme")
+    expect("QuotaBytes" in refused, "its new mail gets", refused)
+    machine.run("hq-customers set acme --bytes 500000000")
 
 
 def test_names(machine):
@@ -133,9 +150,11 @@ def test_removed(machine):
     expect(running == "", "there runs", running)
     for user in ("hqdesk", "hqrelay"):
         expect(machine.run(f"ps -o args= -u {user} || true") == "", "of", user, "there runs a process")
-    expect("hq_desk" not in machine.run("nft list tables"), "its firewall is left")
+    expect("hq_desk" in machine.run("nft list tables") and machine.run("postconf -h defer_transports") == "desk\n", "mail is open to others")
+    expect("desk_" not in machine.run("curl -sS http://127.0.0.1:9100/metrics"), "counts are shown")
+    machine.run("nginx -t; systemctl restart nginx")
     told = machine.run("apt-get purge -y hq-desk", longest=120)
-    expect("stays" in told, "a purge tells", told)
+    expect("stays" in told and "hq_desk" not in machine.run("nft list tables"), "a purge tells", told)
     left = machine.run("find /etc/systemd/system -name 'hq-*' -o -path '*/nginx.service.d/*' -o -path '*/logrotate.timer.d/*'")
     expect(left == "", "left are", left)
     machine.run("systemctl daemon-reload; nginx -t; systemctl restart nginx fail2ban logrotate.timer")
