@@ -20,7 +20,6 @@ PRODUCTION, PROCEDURES, RELAY, README = "docs/PRODUCTION.md", "docs/PROCEDURES.m
 NAMES = {"TLS": "/root/tls", "NAME": "desk.example"}
 OURS = ("/etc/hq", "/var/lib/hqdesk", "/var/lib/hqrelay", "/var/log/hqdesk", "/usr/share/hq-desk", "/usr/libexec/hq-desk")
 HERE = Path(__file__).resolve().parent
-# What the page has an administrator install beside it.
 BESIDE = "fail2ban python3-systemd logrotate prometheus-node-exporter"
 # A host of recipients: it keeps each message, and waits while the file `waits` is there.
 SINK = """exec /usr/bin/python3 -c '
