@@ -156,4 +156,5 @@ def test_counted():
     """What writes the counts is the worker's user, into a folder of its own: node_exporter reads there by links."""
     unit = all_settings_of(DEPLOY / "hq-desk-metrics.service")
     expect(unit["User"] == ["hqrelay"] and unit["CapabilityBoundingSet"] == [""] and "ReadWritePaths" not in unit, "counts are written by", unit)
+    expect(unit["SupplementaryGroups"] == ["systemd-journal"], "it may read what customers' keys stand in:", unit["SupplementaryGroups"])
     expect(unit["ExecStart"][0].endswith(f"/desk-metrics /run/{unit['RuntimeDirectory'][0]}"), "they are written to", unit["ExecStart"])

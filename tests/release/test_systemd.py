@@ -87,6 +87,13 @@ def test_killed(machine):
     until(lambda: '"messages":0' in usage(machine), "acme is not answered")
 
 
+def test_hung_up(machine):
+    """A desk that was stopped for its store is started again, also where the terminal is closed meanwhile."""
+    machine.run("/usr/libexec/hq-desk/desk-restart north --stopped sleep 3 & p=$!; sleep 1; systemctl is-active hq-desk@north && exit 9; "
+                "kill -HUP $p; kill -INT $p; kill -TERM $p; wait $p")
+    machine.until_active("hq-desk@north")
+
+
 def test_strangers(machine):
     """Another user of the machine reaches no desk, also after the firewall of the machine was started again."""
     for change in ("true", "systemctl enable --now nftables", "systemctl restart nftables", "systemctl stop nftables; systemctl start nftables",
