@@ -70,7 +70,7 @@ class Booted:
         """What systemd says of units, each by a word."""
         return self.run(f"systemctl is-active {' '.join(units)} || true").split()
 
-    def until_active(self, *units, seconds=20):
+    def until_active(self, *units, seconds=LONGEST):
         end = time.monotonic() + seconds
         while set(self.active(*units)) != {"active"}:
             expect(time.monotonic() < end, units, "are", self.active(*units), self.run("systemctl --failed --no-pager || true"))

@@ -72,7 +72,7 @@ def test_refused_start(machine):
     since = machine.run("date '+%F %T'").strip()
     time.sleep(7)
     lines = machine.run(f"journalctl -u hq-desk@north --since='{since}' -o cat --no-pager").count("BadDirectory")
-    expect(2 <= lines <= 5, "in seven seconds it is told", lines, "times")
+    expect(1 <= lines <= 5, "in seven seconds it is told", lines, "times")
     machine.run("cat good.csv >/etc/hq/north.csv")
     machine.until_active("hq-desk@north")
 
