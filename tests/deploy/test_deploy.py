@@ -25,8 +25,8 @@ CLOSED = 503, {"error": 93, "name": "Closed"}
 UNITS = sorted(it.name for kind in ("service", "socket", "timer") for it in DEPLOY.glob(f"hq-*.{kind}"))
 SERVICES = [it for it in UNITS if it.endswith(".service")]
 # What takes a port below 1024; and what runs without an end.
-AT_LOW_PORTS = "hq-desk@.service", "hq-desk-workers.service"
-ENDLESS = *AT_LOW_PORTS, "hq-relay-intake.service", "hq-relay-deliver.service"
+AT_LOW_PORTS = "hq-desk@.service", "hq-desk-workers.service", "hq-relay-intake.service"
+ENDLESS = *AT_LOW_PORTS, "hq-relay-deliver.service"
 # The greatest exposure of a unit, in tenths.
 EXPOSED = 20
 LOW_PORT = "CAP_NET_BIND_SERVICE"

@@ -73,7 +73,7 @@ def test_connections_of_an_address(network):
 
 
 @pytest.mark.parametrize("port, users", [(824, (0, 33, DESK, WORKER)), (825, (0, 33, DESK, WORKER)), (849, (0, 33, DESK, WORKER)),
-                                         (10024, (0, WORKER, POSTFIX)), (10026, (0, WORKER, POSTFIX)), (10027, (0, WORKER, POSTFIX))])
+                                         (821, (0, WORKER, POSTFIX)), (823, (0, WORKER, POSTFIX)), (10024, (0, WORKER, POSTFIX)), (10026, (0, WORKER, POSTFIX)), (10027, (0, WORKER, POSTFIX))])
 def test_who_reaches_a_desk(network, port, users):
     """At the ports of desks and of the worker only the programs that ask there are let in; elsewhere everybody is."""
     for user in (0, 33, DESK, WORKER, POSTFIX, STRANGER):

@@ -13,7 +13,7 @@ class Client(smtplib.SMTP):
     ehlo_msg = "lhlo"
 
 
-client = Client("127.0.0.1", 10024, timeout=60)
+client = Client("127.0.0.1", 823, timeout=60)
 client.ehlo("mta.relay.example")
 for told in (client.docmd("XFORWARD", f"IDENT={IDENT}"), client.mail("ann@a.example"), client.rcpt("bob@far.example"),
              client.docmd("DATA")):
