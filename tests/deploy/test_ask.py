@@ -10,6 +10,7 @@ import pytest
 from deploying import DEPLOY, Desk
 from serving import LONGEST, RELAY, batch_line, expect, named, submission
 from stand_in import StandIn, by_hundreds
+from steps import lines_of
 
 ROWS = ["acme,acmekey000000001,1000,500000000,1000,100,14400", "birch,birchkey00000001,100,1000000,100,10,0"]
 QUEUE = """\
@@ -134,6 +135,15 @@ def test_over_its_store(asking, desk):
         expect((stat.S_IMODE(it.stat().st_mode), it.stat().st_uid) == (0o600, owner), it)
     desk.start()
     expect("0000000002" in asking.done("queue", "acme"), "the desk does not have what was done")
+
+
+def test_a_burst(asking, folder, program):
+    """The lines of docs/PROCEDURES.md for a burst of mail hold, list and delete that of its sender alone."""
+    Desk(folder, program, "north", ROWS)
+    asking.submit({**submission("s1"), "sender": "bot@acme.example"}, submission("s2"))
+    held, found, deleted = (asking.done(*line.split()[1:]) for line in lines_of("Stopping a burst of mail"))
+    expect((held, deleted) == ("changed 1\n", "changed 1\n") and found.endswith(" bot@acme.example\n"), "it prints", held, found, deleted)
+    expect("-- 1 queued, " in asking.done("queue", "acme"), "left is", asking.done("queue", "acme"))
 
 
 def test_a_store_that_another_process_has(asking, desk):
