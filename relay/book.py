@@ -22,17 +22,24 @@ from dataclasses import dataclass
 from pathlib import Path
 from typing import Dict, List, Optional, Set, Tuple
 
+import log
+
 SCHEMA = """
 CREATE TABLE IF NOT EXISTS names (
   spool TEXT PRIMARY KEY, customer TEXT NOT NULL, answer TEXT NOT NULL, at INTEGER NOT NULL,
   finished INTEGER NOT NULL DEFAULT 0, gone INTEGER, cleaned INTEGER NOT NULL DEFAULT 0);
 CREATE INDEX IF NOT EXISTS uncleaned ON names (customer) WHERE NOT cleaned;
+CREATE INDEX IF NOT EXISTS failed ON names (customer) WHERE finished = 2;
+CREATE INDEX IF NOT EXISTS cleaned ON names (customer, at) WHERE cleaned;
 CREATE TABLE IF NOT EXISTS messages (
   customer TEXT NOT NULL, id TEXT NOT NULL, spool TEXT NOT NULL, at INTEGER NOT NULL,
   PRIMARY KEY (customer, id));
+CREATE INDEX IF NOT EXISTS messages_at ON messages (customer, at);
+CREATE INDEX IF NOT EXISTS messages_spool ON messages (customer, spool);
 CREATE TABLE IF NOT EXISTS journal (
   number INTEGER PRIMARY KEY, customer TEXT NOT NULL, spool TEXT NOT NULL, id TEXT NOT NULL,
   attempt INTEGER NOT NULL, outcomes TEXT NOT NULL);
+CREATE INDEX IF NOT EXISTS journal_spool ON journal (customer, spool);
 CREATE TABLE IF NOT EXISTS handed (
   envelope TEXT PRIMARY KEY, customer TEXT NOT NULL, spool TEXT NOT NULL, id TEXT NOT NULL,
   attempt INTEGER NOT NULL, recipients TEXT NOT NULL, sender TEXT NOT NULL, at REAL NOT NULL,
@@ -40,12 +47,23 @@ CREATE TABLE IF NOT EXISTS handed (
 CREATE UNIQUE INDEX IF NOT EXISTS under_way ON handed (customer, spool) WHERE done IS NULL;
 CREATE INDEX IF NOT EXISTS handed_done ON handed (done) WHERE done IS NOT NULL;
 CREATE INDEX IF NOT EXISTS handed_spool ON handed (spool);
+CREATE INDEX IF NOT EXISTS handed_of ON handed (customer) WHERE done IS NOT NULL;
 CREATE TABLE IF NOT EXISTS notices (customer TEXT PRIMARY KEY, number INTEGER NOT NULL);
 CREATE TABLE IF NOT EXISTS mailing (customer TEXT PRIMARY KEY, number INTEGER NOT NULL);
 CREATE TABLE IF NOT EXISTS waiting (
   name TEXT PRIMARY KEY, customer TEXT NOT NULL, recipient TEXT NOT NULL, content BLOB NOT NULL,
   since REAL NOT NULL, tried REAL NOT NULL);
+CREATE INDEX IF NOT EXISTS waiting_of ON waiting (customer);
 """
+# The rows of a customer in each table, by its indexes.
+FORGET_CUSTOMER = [f"DELETE FROM {table} WHERE customer = ?{part}" for table, part in (
+    ("names", " AND cleaned"), ("names", " AND NOT cleaned"), ("messages", ""), ("journal", ""),
+    ("handed", " AND done IS NULL"), ("handed", " AND done IS NOT NULL"), ("notices", ""),
+    ("mailing", ""), ("waiting", ""))]
+OLD_MESSAGES = "SELECT id FROM messages WHERE customer = ? AND at < ?"
+OLD_NAMES = (
+    "SELECT spool FROM names WHERE customer = ? AND at < ? AND cleaned AND NOT EXISTS "
+    "(SELECT 1 FROM messages WHERE messages.customer = names.customer AND messages.spool = names.spool)")
 # How many seconds a thread waits for another one's writing.
 LONGEST_WAIT = 60
 # So many notices of deliveries may wait for each customer.
@@ -69,6 +87,14 @@ class Waiting:
     recipient: str
     since: float
     tried: float
+
+
+@dataclass(frozen=True)
+class Notice:
+    """A notice of the worker's own, as a mail."""
+    name: str
+    recipient: str
+    content: bytes
 
 
 class Book:
@@ -182,13 +208,14 @@ class Book:
     def forget(self, customer: str, ids: Set[str], before: float) -> None:
         """Drops records older than a moment, but those of messages queued under these IDs."""
         old = (customer, int(before))
+        # (asked first, so that nobody waits for the lock where nothing is old)
+        rows = self.database().execute(OLD_MESSAGES, old).fetchall()
+        gone = [(customer, id) for id, in rows if id not in ids]
+        if not gone and not self.one(OLD_NAMES, *old):
+            return
         with self.writing() as database:
-            rows = database.execute("SELECT id FROM messages WHERE customer = ? AND at < ?", old)
-            gone = [(customer, id) for id, in rows.fetchall() if id not in ids]
             database.executemany("DELETE FROM messages WHERE customer = ? AND id = ?", gone)
-            database.execute(
-                "DELETE FROM names WHERE customer = ? AND at < ? AND cleaned AND spool NOT IN "
-                "(SELECT spool FROM messages WHERE customer = ?)", (*old, customer))
+            database.execute(f"DELETE FROM names WHERE spool IN ({OLD_NAMES})", old)
 
     def forget_messages(self, customer: str) -> None:
         with self.writing() as database:
@@ -197,9 +224,7 @@ class Book:
     def forget_customer(self, customer: str) -> int:
         """Drops all records of a customer; how many there were."""
         with self.writing() as database:
-            tables = database.execute("SELECT name FROM sqlite_master WHERE type = 'table'")
-            return sum(database.execute(f"DELETE FROM {table} WHERE customer = ?",
-                                        (customer,)).rowcount for table, in tables.fetchall())
+            return sum(database.execute(statement, (customer,)).rowcount for statement in FORGET_CUSTOMER)
 
     def overwrite(self) -> bool:
         """Has nothing left of deleted records, also in the log that SQLite writes first; not where
@@ -236,12 +261,16 @@ class Book:
                     database.execute("UPDATE names SET finished = ? WHERE spool = ?",
                                      (2 if is_failure else 1, report.spool))
 
-    @staticmethod
-    def journal(database, report: Report) -> None:
+    @classmethod
+    def journal(cls, database, report: Report, success: Optional[Notice] = None) -> None:
+        """The desk is to be told this, and a sender by a notice of its own: at the same moment, so that it
+        is told once."""
         database.execute(
             "INSERT INTO journal (customer, spool, id, attempt, outcomes) VALUES (?, ?, ?, ?, ?)",
             (report.customer, report.spool, report.id, report.attempt,
              json.dumps(report.outcomes)))
+        if success:
+            cls.wait_with(database, report.customer, success)
 
     @staticmethod
     def forget_report(database, report: Report) -> None:
@@ -265,6 +294,11 @@ class Book:
         """The names whose outcomes the desk was not told."""
         asked = "SELECT DISTINCT spool FROM journal WHERE customer = ?"
         return [spool for spool, in self.database().execute(asked, (customer,)).fetchall()]
+
+    def all_untold(self) -> List[str]:
+        """The customers of whom outcomes are untold."""
+        rows = self.database().execute("SELECT DISTINCT customer FROM journal")
+        return [customer for customer, in rows.fetchall()]
 
     # ---- notices
 
@@ -290,14 +324,15 @@ class Book:
             self.wait(database, customer, Waiting(f"{customer}/{number}", recipient, now, now),
                       content)
 
-    def wait_with(self, customer: str, name: str, recipient: str, content: bytes) -> bool:
+    @classmethod
+    def wait_with(cls, database, customer: str, it: Notice) -> None:
         """A notice of the worker's own waits to be mailed: one of each name. Not if too many do."""
-        with self.writing() as database:
-            count, = database.execute("SELECT COUNT(*) FROM waiting WHERE customer = ?",
-                                      (customer,)).fetchone()
-            if count < MOST_WAITING:
-                self.wait(database, customer, Waiting(name, recipient, time.time(), 0), content)
-            return count < MOST_WAITING
+        count, = database.execute("SELECT COUNT(*) FROM waiting WHERE customer = ?",
+                                  (customer,)).fetchone()
+        if count < MOST_WAITING:
+            cls.wait(database, customer, Waiting(it.name, it.recipient, time.time(), 0), it.content)
+        else:
+            log.error("notice given up", customer=customer, to=it.recipient, means="too many wait")
 
     @staticmethod
     def wait(database, customer: str, it: Waiting, content: bytes) -> None:
@@ -331,9 +366,10 @@ class Book:
         """A notice that was set aside, as a mail."""
         return self.one("SELECT content FROM waiting WHERE name = ?", name) or b""
 
-    def tried(self, name: str) -> None:
+    def tried(self, name: str, at: float) -> None:
+        """A notice that was set aside is tried at this moment; 0: it never was."""
         with self.writing() as database:
-            database.execute("UPDATE waiting SET tried = ? WHERE name = ?", (time.time(), name))
+            database.execute("UPDATE waiting SET tried = ? WHERE name = ?", (at, name))
 
     def waited(self, name: str) -> None:
         """A notice that was set aside is done with."""

@@ -39,14 +39,21 @@ class Cleaning:
         self.book.gone([it for it in names if it in kept and names[it][1]], None)
         self.book.forget(customer, set(queued), now - self.settings.keep_days * 86400)
 
-    def clean_unknown(self) -> None:
-        """Removes content that belongs to no message for so long that the MTA gave it up."""
+    def clean_unknown(self, customers: List[str]) -> None:
+        """Removes content of these customers, and of nobody's, that belongs to no message for so long that the MTA
+        gave it up."""
         now, longest = time.time(), self.settings.keep_days * 86400
-        old = {it for it in self.spool.names()
-               if self.spool.age(it, now) > longest and not self.book.answer(it)}
-        for spool in sorted(old.intersection(self.unknown()) if old else ()):
-            self.spool.remove(spool)
-            log.info("cleaned", spool=spool, means="the MTA gave it up")
+        old = [it for it in self.spool.names()
+               if self.spool.age(it, now) > longest and not self.book.answer(it)]
+        owners = {it: envelope.customer if envelope else "" for it in old for envelope in [self.spool.envelope(it)]}
+        # (the book learns what is queued)
+        for customer in sorted(set(customers).intersection(owners.values())):
+            self.names.queued(customer)
+        for spool, owner in owners.items():
+            is_asked = owner in customers or owner not in self.settings.customers
+            if is_asked and not self.book.answer(spool):
+                self.spool.remove(spool)
+                log.info("cleaned", spool=spool, means="the MTA gave it up")
 
     def unknown(self) -> List[str]:
         """The names whose content belongs to no message: none is queued, and no record is there."""

@@ -8,15 +8,18 @@ import hashlib
 import re
 import sqlite3
 import threading
+from contextlib import nullcontext
 from dataclasses import dataclass, replace
 from email.utils import formatdate
-from typing import Optional, Set, Tuple
+from typing import ContextManager, Optional, Set, Tuple
 
 import desk as desks
 import log
 from book import Book
+from calls import Calls
 from desk import Away, Desk, Refused
 from names import Names
+from postfix_lines import MOST_TO_THE_WORKER
 from settings import Settings
 from spool import Draft, Envelope, Spool
 
@@ -170,11 +173,13 @@ class Intake:
                  unsettled: Set[str]):
         self.settings, self.desk, self.spool, self.book = settings, desk, spool, book
         self.names, self.guard, self.unsettled = Names(desk, spool, book), threading.Lock(), unsettled
+        # (each process has its part of those that bring mail)
+        self.calls = Calls(max(1, MOST_TO_THE_WORKER // 2 // settings.processes))
 
     def take_up(self, settings: Settings) -> Settings:
         """From now on mail is of these customers, by these logins and domains; all else stays."""
-        self.settings = replace(self.settings, customers=settings.customers, logins=settings.logins,
-                                domains=settings.domains)
+        self.settings = replace(self.settings, customers=settings.customers, desks=settings.desks,
+                                logins=settings.logins, domains=settings.domains)
         return self.settings
 
     def answered(self, name: str) -> Optional[str]:
@@ -220,8 +225,9 @@ class Intake:
                 return before
             self.keep(envelope, draft)
             try:
-                reply = self.desk.submit(envelope.customer, envelope.spool, envelope.sender,
-                                         envelope.recipient, draft.size)
+                with self.call_for(envelope.customer):
+                    reply = self.desk.submit(envelope.customer, envelope.spool, envelope.sender,
+                                             envelope.recipient, draft.size)
             except Refused as refusal:
                 return self.refused(envelope, refusal)
             except Away as error:
@@ -230,6 +236,12 @@ class Intake:
                     self.unsettled.add(envelope.customer)
                 return "451 4.3.0 the desk is away"
             return self.judged(envelope, reply)
+
+    def call_for(self, customer: str) -> ContextManager[None]:
+        """A call of its desk; among several, one that hangs leaves the others' mail room to come in."""
+        if not self.settings.has_several_desks:
+            return nullcontext()
+        return self.calls.one_of(self.settings.desks.get(customer, ""))
 
     def keep(self, envelope: Envelope, draft: Draft) -> None:
         """Keeps a message, unless its customer was dropped since it was begun.
@@ -250,11 +262,16 @@ class Intake:
         customer may have deleted them by then. While the desk is away they wait."""
         with self.guard:
             customers, self.unsettled = self.unsettled, set()
+        away: Set[Optional[str]] = set()
         for customer in sorted(customers.intersection(self.settings.customers)):
+            desk = self.settings.desks.get(customer)
             try:
+                if desk in away:
+                    raise Away("as for another customer of its desk")
                 self.names.queued(customer)
             except (Away, Refused, OSError, sqlite3.Error) as error:
                 log.warning("not settled", customer=customer, why=repr(error))
+                away.update({desk} if desk and isinstance(error, Away) else ())
                 with self.guard:
                     self.unsettled.add(customer)
             else:

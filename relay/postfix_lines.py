@@ -18,9 +18,12 @@ HEADER_ROOM = 4096
 # What stands before the subject of a status where a soft failure is made a hard one.
 SOFT_MARK = "9"
 # A failed STARTTLS is tried again in plain text by the instance itself; each other soft failure
-# comes back as a hard one, marked in its status (RFC 3463 has no subject that begins so).
+# comes back as a hard one, marked in its status (RFC 3463 has no subject that begins so). A host that
+# writes the mark itself, or a subject that has no room for it, has told no subject.
 SOFT_FAILURES = rf"""/^4(\.7\.5 Cannot start TLS: .*)/ 4$1
+/^5\.{SOFT_MARK}[0-9]*(\.[0-9]+ .*)/ 5.0$1
 /^4\.([0-9]{{1,2}}\.[0-9]+ .*)/ 5.{SOFT_MARK}$1
+/^4\.[0-9]+(\.[0-9]+ .*)/ 5.{SOFT_MARK}0$1
 """
 TO_THE_WORKER = f"/^Content-Type: multipart\\/report/ REDIRECT {REPORTS}\n"
 

@@ -111,8 +111,10 @@ def delivering(folder, hops):
     made = []
 
     def make(desk, *customers):
+        names = customers or ("acme",)
         settings = SimpleNamespace(
-            customers={it: Customer(it, 10, 1000, 1) for it in customers or ("acme",)}, sessions=1, pause=PAUSE, rest=1.0,
+            customers={it: Customer(it, 10, 1000, 1) for it in names}, desks={}, has_several_desks=False,
+            of_desks=lambda: [[*names]], sessions=1, pause=PAUSE, rest=1.0,
             keep_days=7, lost_after=0.0, settle_after=0.0, sweep_every=3600.0, clean_every=3600.0, reports=folder / "reports",
             host="relay.example", notices_from="MAILER-DAEMON@relay.example")
         made.append(Delivery(settings, desk, Spool(folder), Book(folder)))
@@ -133,7 +135,7 @@ def keeping(delivering, monkeypatch):
         for it in found.settings.customers:
             found.book.taken(it, f"s-{it}", None, "250 2.0.0 delivered")
         found.nobodys = []
-        monkeypatch.setattr(found.cleaning, "clean_unknown", lambda: found.nobodys.append(left(found)))
+        monkeypatch.setattr(found.cleaning, "clean_unknown", lambda customers: found.nobodys.append(left(found)))
         return found
     return make
 
@@ -195,7 +197,7 @@ def test_an_outcome_that_comes_during_a_sweep(delivering):
     found = delivering(Told())
     found.desk.gate.clear()
     found.telling.start()
-    sweeping = begun(lambda: found.chores({"acme"}, set(), True))
+    sweeping = begun(lambda: found.chores(["acme"], {"acme"}, set(), True))
     expect(found.desk.is_listing.wait(SOON), "nothing is swept")
     comes(found, "A", GOOD, "delivered")
     found.telling.wait()
