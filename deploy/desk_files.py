@@ -342,7 +342,7 @@ def of_worker(folder: Path, name: str) -> str:
         return "it is not set up"
     words = ["hq-relay", folder / "relay.ini", "erase", name]
     if os.geteuid() == 0:
-        words = ["setsid", "--wait", "runuser", "-u", "hqrelay", "--", "env", "HOME=/nonexistent", *words]
+        words = [Path(__file__).resolve().parent / "hq-as", "hqrelay", *words]
     ended = subprocess.run(words, stdin=subprocess.DEVNULL, capture_output=True, text=True, timeout=LONGEST_ERASING)
     if ended.returncode:
         told = " / ".join(ended.stderr.strip().splitlines())

@@ -77,6 +77,9 @@ def front(settings: Settings) -> Instance:
             "yes", "the worker finds the customer by the login"),
         "desk_destination_recipient_limit": Line(
             "1", "the worker answers each recipient by itself, also after a stop"),
+        "authorized_mailq_users": Line(
+            "root", "nobody else on the machine lists senders and recipients", True),
+        "authorized_flush_users": Line("root", "nobody else has all mail tried", True),
     }, services, {})
 
 
@@ -140,6 +143,9 @@ def whose_mail(settings: Settings) -> Dict[str, Line]:
         "smtpd_recipient_restrictions": Line(
             f"check_recipient_access inline:{{{{{REPORTS_DOMAIN} = {NO_SUCH_DOMAIN}}}}}, "
             "permit_mynetworks, reject", "no customer writes a report"),
+        "authorized_mailq_users": Line(f"root, {settings.user}",
+                                       "nobody else on the machine lists senders and recipients"),
+        "authorized_flush_users": Line(f"root, {settings.user}", "nobody else has all mail tried"),
         "smtpd_peername_lookup": Line("no", "DNS knows nothing of loopback"),
         "smtpd_client_connection_count_limit": Line("0", "all sessions come from one address"),
         "smtpd_error_sleep_time": Line("0", "one refused message does not slow down the others"),

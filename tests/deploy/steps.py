@@ -27,9 +27,11 @@ class Place:
 
     def __init__(self, folder, program, desks, proxy):
         self.proxy, self.desks = proxy, {it.name: it for it in desks}
+        # (no worker runs here: tests/relay has what it does)
+        self.of_worker = []
         # (the program is called `hq`, as the package has it, and an upgrade writes over it)
         there = {"/etc/hq": folder, "/var/lib/hqdesk": folder, "/usr/libexec/hq-desk": DEPLOY, "/usr/bin/hq": program,
-                 "apt-get install -y \"$NEW\"": f"install -m 755 \"$NEW\" {program}", "runuser -u hqdesk -- ": "", " -g hqdesk": ""}
+                 "apt-get install -y \"$NEW\"": f"install -m 755 \"$NEW\" {program}", "hq-as hqdesk ": "", " -g hqdesk": ""}
         self.path = f"{Path(program).parent}:/usr/bin:/bin:/usr/sbin"
         shown = {f"127.0.0.1:{825 + it}": desk.address for it, desk in enumerate(desks)}
         self.here = {**there, **shown}
@@ -38,7 +40,9 @@ class Place:
         """Runs a procedure; when the desks were stopped, and how long they were away."""
         stopped, paused = 0.0, 0.0
         for line in lines_of(title):
-            if line.startswith("systemctl stop"):
+            if "hq-relay" in line:
+                self.of_worker.append(line)
+            elif line.startswith("systemctl stop"):
                 stopped = time.monotonic()
                 self.step(line, names)
                 begun = time.monotonic()

@@ -296,9 +296,11 @@ def test_alerts_of_the_page(root):
     for it in ('desk_messages_limit{customer="acme"} ', 'desk_recipients_delivered_total{customer="acme"} 3\n',
                'desk_worker_errors{event="lost notices"} 1\n'):
         expect(it in told, "nothing tells", it, "but", told)
-    expect(root.run("stat -Lc '%U %a' /var/lib/prometheus/node-exporter/hq-desk-north.prom") == "hqrelay 644\n", "root wrote there")
+    expect(root.run("stat -c '%U %a %F' /var/lib/prometheus/node-exporter/hq-desk-north.prom") == "root 644 regular file\n", "shown is no copy")
     root.run("systemctl stop hq-desk@north; systemctl start hq-desk-metrics && exit 9 || true")
-    expect(root.run("cat /var/lib/prometheus/node-exporter/hq-desk-north.prom") in told, "the file of before is lost")
+    shown = "cat /var/lib/prometheus/node-exporter/hq-desk-"
+    expect(root.run(f"{shown}north.prom") in told, "the file of before is lost")
+    expect('desk_up{desk="north"} 0\n' in root.run(f"{shown}up.prom"), "nothing tells that the desk is away")
     root.run("systemctl start hq-desk@north")
     until(lambda: "acme" in root.run("cat /etc/hq/keys.map") and usage(root, "acme").get("delivered") == 3, "acme is not answered")
 
