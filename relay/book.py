@@ -4,7 +4,7 @@ What a call has written is synced to the disk when it returns. The tables:
 
 `names`: spool names that were taken, and what was answered; a record outlives the MTA's retries.
 `finished` are those of which all was told (2: its notices are still to be mailed), `gone` is since
-when one is in no list of the desk.
+when one is in no list of the desk, `size` are the bytes of its content.
 `messages`: which spool name a queue ID of the desk stands for.
 `journal`: outcomes that the desk was not told yet.
 `handed`: attempts that were handed over to the Postfix that delivers (`handed.py`).
@@ -20,14 +20,15 @@ import time
 from contextlib import contextmanager
 from dataclasses import dataclass
 from pathlib import Path
-from typing import Dict, List, Optional, Set, Tuple
+from typing import Dict, List, NamedTuple, Optional, Set, Tuple
 
 import log
 
 SCHEMA = """
 CREATE TABLE IF NOT EXISTS names (
   spool TEXT PRIMARY KEY, customer TEXT NOT NULL, answer TEXT NOT NULL, at INTEGER NOT NULL,
-  finished INTEGER NOT NULL DEFAULT 0, gone INTEGER, cleaned INTEGER NOT NULL DEFAULT 0);
+  finished INTEGER NOT NULL DEFAULT 0, gone INTEGER, cleaned INTEGER NOT NULL DEFAULT 0,
+  size INTEGER NOT NULL DEFAULT 0);
 CREATE INDEX IF NOT EXISTS uncleaned ON names (customer) WHERE NOT cleaned;
 CREATE INDEX IF NOT EXISTS failed ON names (customer) WHERE finished = 2;
 CREATE INDEX IF NOT EXISTS cleaned ON names (customer, at) WHERE cleaned;
@@ -89,6 +90,13 @@ class Waiting:
     tried: float
 
 
+class Uncleaned(NamedTuple):
+    """Whether a name is finished, since when it is gone, and the bytes of its content."""
+    is_finished: bool
+    gone: Optional[int]
+    size: int
+
+
 @dataclass(frozen=True)
 class Notice:
     """A notice of the worker's own, as a mail."""
@@ -103,6 +111,10 @@ class Book:
         with self.writing() as database:
             for statement in SCHEMA.split(";"):
                 database.execute(statement)
+            columns = [it[1] for it in database.execute("PRAGMA table_info (names)")]
+            if "size" not in columns:
+                database.execute("ALTER TABLE names ADD COLUMN size INTEGER NOT NULL DEFAULT 0")
+            database.execute("CREATE INDEX IF NOT EXISTS kept ON names (customer, size) WHERE NOT cleaned")
 
     def database(self) -> sqlite3.Connection:
         """The connection of this thread."""
@@ -151,13 +163,13 @@ class Book:
         """What was answered for a name that was taken."""
         return self.one("SELECT answer FROM names WHERE spool = ?", spool)
 
-    def taken(self, customer: str, spool: str, id: Optional[str], answer: str) -> None:
+    def taken(self, customer: str, spool: str, id: Optional[str], answer: str, size: int = 0) -> None:
         """A name was taken, under this ID where it was queued, else it is finished. The first
         answer stays."""
         with self.writing() as database:
             database.execute(
-                "INSERT OR IGNORE INTO names (spool, customer, answer, at, finished) "
-                "VALUES (?, ?, ?, ?, ?)", (spool, customer, answer, int(time.time()), not id))
+                "INSERT OR IGNORE INTO names (spool, customer, answer, at, finished, size) "
+                "VALUES (?, ?, ?, ?, ?, ?)", (spool, customer, answer, int(time.time()), not id, size))
             if id:
                 self.name(database, customer, id, spool)
 
@@ -187,12 +199,15 @@ class Book:
     def is_finished(self, spool: str) -> bool:
         return bool(self.one("SELECT finished = 1 OR cleaned FROM names WHERE spool = ?", spool))
 
-    def uncleaned(self, customer: str) -> Dict[str, Tuple[bool, Optional[int]]]:
-        """The customer's names whose content was not cleaned away: whether they are finished, and
-        since when they are gone."""
-        asked = "SELECT spool, finished = 1, gone FROM names WHERE customer = ? AND NOT cleaned"
+    def kept_bytes(self, customer: str) -> int:
+        """The bytes of the customer's contents that were not cleaned away."""
+        return self.one("SELECT TOTAL(size) FROM names WHERE customer = ? AND NOT cleaned", customer) or 0
+
+    def uncleaned(self, customer: str) -> Dict[str, Uncleaned]:
+        """The customer's names whose content was not cleaned away."""
+        asked = "SELECT spool, finished = 1, gone, size FROM names WHERE customer = ? AND NOT cleaned"
         rows = self.database().execute(asked, (customer,))
-        return {spool: (bool(finished), gone) for spool, finished, gone in rows}
+        return {spool: Uncleaned(bool(finished), gone, size) for spool, finished, gone, size in rows}
 
     def gone(self, spools: List[str], since: Optional[int]) -> None:
         """These are in no list of the desk since a moment; None for those that are again."""
@@ -225,6 +240,10 @@ class Book:
         """Drops all records of a customer; how many there were."""
         with self.writing() as database:
             return sum(database.execute(statement, (customer,)).rowcount for statement in FORGET_CUSTOMER)
+
+    def has_any(self, customer: str) -> bool:
+        """Whether there is a record of a customer."""
+        return any(self.one(it.replace("DELETE", "SELECT 1", 1), customer) for it in FORGET_CUSTOMER)
 
     def overwrite(self) -> bool:
         """Has nothing left of deleted records, also in the log that SQLite writes first; not where

@@ -169,7 +169,8 @@ class Destinations:
                 domain = self.domain(domain_of(outcome["recipient"]))
                 most = MOST_FAILURES if domain.is_proven else 1
                 if outcome.get("unreached") == DOMAIN:
-                    domain.is_proven = domain.is_proven and not domain.rest.fail(now, most, self.first)
+                    rests = domain.rest.fail(now, most, self.first)
+                    domain.is_proven = domain.is_proven and not rests
                 elif outcome.get("unreached") == CUSTOMER_ALONE:
                     domain.cut.setdefault(customer, Rest()).fail(now, most, self.first)
                 else:

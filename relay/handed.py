@@ -6,7 +6,7 @@ It stays for a while, so that a late report finds it.
 """
 import json
 import time
-from dataclasses import dataclass
+from dataclasses import dataclass, replace
 from typing import Callable, Dict, List, Optional, Set, Tuple
 
 from book import Book, Notice, Report
@@ -56,7 +56,7 @@ class Handed:
 
     def __init__(self, book: Book):
         self.book = book
-        self.success_of: Callable[[Report], Optional[Notice]] = lambda report: None
+        self.success_of: Callable[[Report, Attempt], Optional[Notice]] = lambda report, attempt: None
 
     def find(self, where: str, *values) -> List[Attempt]:
         rows = self.book.database().execute(f"SELECT {COLUMNS} FROM handed WHERE {where}", values)
@@ -106,7 +106,7 @@ class Handed:
     def resolved(self, attempt: Attempt, outcomes: List[Outcome], is_lost: bool = False) -> None:
         """Nothing more is awaited of an attempt. Its outcomes, if there are any, are to be told."""
         report = attempt.report(outcomes)
-        success = self.success_of(report)
+        success = self.success_of(report, attempt)
         with self.book.writing() as database:
             # (nothing where a report came meanwhile, or its customer was erased)
             is_there = self.end(database, attempt.envelope, list(attempt.outcomes), is_lost)
@@ -125,8 +125,8 @@ class Handed:
         found = []
         # (a notice is written before the lock is taken, for which others wait)
         attempts = [it for it in map(self.of, reports) if it and not it.done]
-        notices = {it.envelope: self.success_of(it.report(told_of(it.with_more(reports[it.envelope]))))
-                   for it in attempts}
+        notices = {it.envelope: self.success_of(it.report(told_of(list(it.outcomes))), it) for it in
+                   (replace(it, outcomes=tuple(it.with_more(reports[it.envelope])), done=time.time()) for it in attempts)}
         with self.book.writing() as database:
             for envelope in notices:
                 attempt = self.of(envelope)

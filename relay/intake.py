@@ -23,6 +23,9 @@ from postfix_lines import MOST_TO_THE_WORKER
 from settings import Settings
 from spool import Draft, Envelope, Spool
 
+# The spool keeps so many times the bytes of a customer's quota: what is queued, and what is gone and may be wanted
+# behind a restore (`cleaning.py`).
+MOST_KEPT = 2
 # Postfix's long queue IDs; short ones are used again, so no name can be made of them.
 CONSONANTS = "0-9B-DF-HJ-NP-TV-Zb-df-hj-np-tv-y"
 LONG_ID = re.compile(f"[{CONSONANTS}z]{{10,24}}z[{CONSONANTS}]{{1,16}}")
@@ -158,6 +161,7 @@ class Incoming:
         if before:
             raise NotTaken(before)
         customer = self.intake.customer(ident, self.name, self.asked.sender, first_field(self.head))
+        self.intake.expect_room(customer)
         self.envelope = self.asked.envelope(customer, self.name)
         self.draft = self.intake.spool.draft(self.envelope)
         self.draft.write(self.intake.received(self.asked.client, self.envelope))
@@ -210,6 +214,14 @@ class Intake:
             raise NotTaken("550 5.7.1 no customer sends as this")
         return found
 
+    def expect_room(self, customer: str) -> None:
+        """Refuses mail of a customer of whom the spool keeps too much: what it deletes stays for a while, and counts in no
+        quota of the desk."""
+        found = self.settings.customers.get(customer)
+        if found and self.book.kept_bytes(customer) > MOST_KEPT * found.bytes:
+            log.warning("too much is kept", customer=customer)
+            raise NotTaken("452 4.2.2 too much deleted mail is kept, try later")
+
     def received(self, client: str, envelope: Envelope) -> bytes:
         text = (f"Received: from {client}\r\n"
                 f"\tby {self.settings.host} with LMTP id {envelope.spool}\r\n"
@@ -235,7 +247,7 @@ class Intake:
                 with self.guard:
                     self.unsettled.add(envelope.customer)
                 return "451 4.3.0 the desk is away"
-            return self.judged(envelope, reply)
+            return self.judged(envelope, reply, draft.size)
 
     def call_for(self, customer: str) -> ContextManager[None]:
         """A call of its desk; among several, one that hangs leaves the others' mail room to come in."""
@@ -277,7 +289,7 @@ class Intake:
             else:
                 log.info("settled", customer=customer)
 
-    def judged(self, envelope: Envelope, reply: dict) -> str:
+    def judged(self, envelope: Envelope, reply: dict, size: int) -> str:
         verdict = reply["verdict"]
         if verdict == "rejected":
             self.spool.remove(envelope.spool)
@@ -289,7 +301,7 @@ class Intake:
             self.spool.remove(envelope.spool)
         else:
             answer = f"250 2.0.0 queued as {reply['id']}"
-            self.book.taken(envelope.customer, envelope.spool, reply["id"], answer)
+            self.book.taken(envelope.customer, envelope.spool, reply["id"], answer, size)
         log.info(verdict, customer=envelope.customer, spool=envelope.spool, answer=answer)
         return answer
 

@@ -6,7 +6,7 @@ from typing import Dict, List, Optional, Set
 import log
 from book import Notice, Report, Waiting
 from desk import Desk
-from handed import Handed
+from handed import Attempt, Handed
 from mailing import (ASIDE, DONE, LATER, REFUSED, Hop, Original, is_wanted, original_of, success,
                      written)
 from names import Names
@@ -76,7 +76,8 @@ class Notices:
         words = dict(customer=customer, number=number, kind=notice["kind"], id=notice["id"],
                      to=notice["to"])
         self.begin(customer, number, words)
-        original = self.original(customer, notice["id"])
+        spool = self.book.spool_of(customer, notice["id"])
+        original = self.original(customer, spool, spool and self.handed.last_of(spool))
         if is_wanted(notice["kind"], original.envelope):
             content = self.written(notice, original)
             result = self.mail(hop, notice["to"], content, words)
@@ -143,18 +144,17 @@ class Notices:
             self.until = time.monotonic() + self.settings.pause
         return result
 
-    def original(self, customer: str, id: str) -> Original:
+    def original(self, customer: str, spool: Optional[str], attempt: Optional[Attempt]) -> Original:
         """The message that a notice is of, if its content is known."""
-        spool = self.book.spool_of(customer, id)
         if spool:
             with self.spool.opened(spool) as kept:
                 if kept and kept.envelope.customer == customer:
-                    return original_of(kept, self.handed.last_of(spool))
+                    return original_of(kept, attempt)
         return Original()
 
     # ---- of mail that was delivered
 
-    def success_of(self, report: Report) -> Optional[Notice]:
+    def success_of(self, report: Report, attempt: Attempt) -> Optional[Notice]:
         """The notice of deliveries for a sender who asked for it (RFC 3461)."""
         delivered = [it for it in report.outcomes if it["result"] == "delivered"]
         try:
@@ -165,7 +165,7 @@ class Notices:
         if not (envelope and envelope.sender and is_wanted("SUCCESS", envelope)):
             return None
         notice = success(self.settings.host, report.id, envelope.sender, delivered)
-        content = self.written(notice, self.original(report.customer, report.id))
+        content = self.written(notice, self.original(report.customer, report.spool, attempt))
         return Notice(f"{report.customer}/{report.spool}/{report.attempt}", envelope.sender, content)
 
 

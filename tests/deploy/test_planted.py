@@ -16,7 +16,7 @@ import needs
 import pytest
 from deploying import DEPLOY, HEADER, OTHERS, ROWS, all_settings_of
 from serving import LONGEST, RELAY, batch_line, expect, submission
-from steps import lines_of
+from steps import SCRIPTS, lines_of, scripts_in
 
 USER, GROUP = "nobody", "nogroup"
 SECRET, KEPT = "a secret of root's", "a file of root's"
@@ -45,6 +45,8 @@ class Service:
                               ("env", f"HOST=relay.example\nLISTEN=unix:{folder}/none/{name}.sock\n")):
                 (self.etc / f"{name}.{end}").write_text(text)
         self.as_service("chown", f"{USER}:{GROUP}", self.own, as_root=True)
+        self.scripts = scripts_in(folder / "scripts", {"/run/hq-desk.stopped": folder / "none", "/var/lib/hqdesk": self.own,
+                                                       '"$here/hq-as" hqdesk ': f"{DEPLOY}/hq-as {USER} "})
         for name, customer in (("north", "acme"), ("south", "birch")):
             line = batch_line(int(time.time()), "POST", f"/relay/submit/{customer}", RELAY, submission("s1"))
             told = self.as_service("hq", "batch", "--directory", self.etc / f"{name}.csv", "--host", "relay.example", "--relay-key", RELAY,
@@ -72,6 +74,9 @@ class Service:
 
     def step(self, line, **names):
         """A line of a page, whatever its status; what calls systemctl or apt is left out."""
+        if "desk-stop" in line or "desk-start" in line:
+            return
+        line = line.replace(f"{SCRIPTS}/desk-backup", str(self.scripts / "desk-backup"))
         for it, here in (("hq-as hqdesk", f"{DEPLOY}/hq-as {USER}"), ("-init /dev/null ", ""), ("-g hqdesk", f"-g {GROUP}"), ("/etc/hq", self.etc),
                          ("/var/lib/hqdesk", self.own), ("/usr/libexec/hq-desk", DEPLOY)):
             line = line.replace(it, str(here))
@@ -99,7 +104,7 @@ def test_procedures(service, title):
     """Before each line all names are links; and before each in turn the store itself is one."""
     names = {"BACKUP": str(service.backup), "ASIDE": str(service.folder / "aside")}
     lines = lines_of(title)
-    expect(any("hqdesk" in it for it in lines), "no line is for the folder of the desks:", lines)
+    expect(any("hqdesk" in it or "desk-backup" in it for it in lines), "no line is for the folder of the desks:", lines)
     if title == "Restore":
         for it in lines_of("Backup"):
             service.step(it, **names)
@@ -225,6 +230,6 @@ def test_counted():
     unit = all_settings_of(DEPLOY / "hq-desk-metrics.service")
     expect(unit["User"] == ["hqrelay"] and unit["CapabilityBoundingSet"] == [""] and "ReadWritePaths" not in unit, "counts are written by", unit)
     expect(unit["SupplementaryGroups"] == ["systemd-journal"], "it may read what customers' keys stand in:", unit["SupplementaryGroups"])
-    place = f"/run/{unit['RuntimeDirectory'][0]}"
+    place = f"/var/lib/{unit['StateDirectory'][0]}"
     expect(unit["ExecStart"][0].endswith(f"/desk-metrics {place}"), "they are written to", unit["ExecStart"])
     expect(re.fullmatch(rf"\+\S+/desk-metrics-shown {place} \S+", unit["ExecStopPost"][0]), "they are shown by", unit["ExecStopPost"])
