@@ -70,7 +70,7 @@ def test_refused(place):
 
 def test_known(place):
     """`knows` tells whether there is anything of a customer, in each of the places where something may be, and changes nothing."""
-    place.has(*ALL)
+    place.has(*LEFT)
     before = {it: place.has_of(it) for it in ALL}
     for name, status in (("dale", 0), ("acme", 0), ("nobody", 3), ("Dale", 1)):
         place.run("knows", name).ends(status)
