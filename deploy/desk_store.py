@@ -7,6 +7,9 @@ from typing import Dict, Iterator, List
 VERSION = 3
 TABLES = ("heads", "messages", "recipients", "lines", "marks", "notices", "holds", "ends")
 
+# The tables whose rows have a moment, and where.
+MOMENTS = {"messages": "arrival", "notices": "moment", "ends": "moment"}
+
 
 class Refused(Exception):
     """Nothing was changed; the text says why."""
@@ -36,6 +39,12 @@ def rows(store: sqlite3.Connection, name: str) -> Dict[str, List[tuple]]:
 def has_any(store: sqlite3.Connection, name: str) -> bool:
     """Whether a store has a row of a customer."""
     return any(store.execute(f"SELECT 1 FROM {it} WHERE customer = ? LIMIT 1", (name,)).fetchone() for it in TABLES)
+
+
+def has_older(store: sqlite3.Connection, name: str, moment: int) -> bool:
+    """Whether a store has a row of a customer from before a moment."""
+    asked = "SELECT 1 FROM {} WHERE customer = ? AND {} < ? LIMIT 1"
+    return any(store.execute(asked.format(table, column), (name, moment)).fetchone() for table, column in MOMENTS.items())
 
 
 @contextlib.contextmanager
