@@ -30,8 +30,11 @@ FURTHER = "history"
 KEYS, SETTING = ".keys.csv", "KEYS"
 NAMED = ["customer", "name", "key", "right"]
 SENDERS = ["kind", "name", "customer"]
+# Since when a login or domain is the customer's: the worker takes no mail of it that came before.
+SINCE = "since"
 DROPPED = ["name", "desk", "day"]
 ERASED = ["name", "moment"]
+MOMENT = "%Y-%m-%dT%H:%M:%SZ"
 LOCK, WHOLE, BESIDE, GONE, TRIAL = ".customers.lock", ".customers.whole", ".customers-new", ".customers-gone", ".customers-trial-"
 # Tables of this folder that are no directory.
 OTHERS = ("relay", "senders", "dropped", "erased", "events")
@@ -110,12 +113,16 @@ def rows_of(path: Path) -> List[List[str]]:
         return [it for it in csv.reader(file) if it]
 
 
-def table_of(path: Path, header: List[str]) -> List[List[str]]:
-    """The rows of a table under its header; none where there is no such file."""
+def table_of(path: Path, header: List[str], *further: str) -> List[List[str]]:
+    """The rows of a table under its header, which may have further columns; none where there is no such file."""
     first, *rows = (rows_of(path) or [[]]) if path.exists() else [header]
-    if first != header or any(len(it) != len(header) for it in rows):
+    if first not in (header, [*header, *further]) or any(len(it) != len(first) for it in rows):
         raise Refused(f"{path} has not the header {','.join(header)}")
     return rows
+
+
+def now() -> str:
+    return datetime.now(timezone.utc).strftime(MOMENT)
 
 
 def text_of(rows: List[List[str]]) -> str:
@@ -217,12 +224,13 @@ class Folder:
         self.desks = [Desk(it) for it in sorted(path.glob("*.env"))]
         for it in self.desks:
             it.read_keys()
-        self.senders: Dict[Tuple[str, str], str] = {}
         # what is printed once all is written: a key, and why something is left to do; and whether it is tried again
         self.told: Optional[str] = None
         self.left: Optional[str] = None
         self.is_again = False
-        self.senders = {(kind, name): customer for kind, name, customer in table_of(path / "senders.csv", SENDERS)}
+        # (a row that an administrator or an earlier release wrote has always been there)
+        self.senders_before = {(row[0], row[1]): (row[2], *row[3:]) for row in table_of(path / "senders.csv", SENDERS, SINCE)}
+        self.senders: Dict[Tuple[str, str], str] = {it: row[0] for it, row in self.senders_before.items()}
         self.dropped = {name: (desk, day) for name, desk, day in table_of(path / "dropped.csv", DROPPED)}
         self.erased = {name: moment for name, moment in table_of(path / "erased.csv", ERASED)}
         # (a row that was taken out by hand is that of a customer who was dropped)
@@ -230,6 +238,11 @@ class Folder:
         known = {it["name"] for desk in self.desks for it in desk.rows}
         for name in (it for it in before if it not in known):
             self.dropped.setdefault(name, ("by hand", datetime.now(timezone.utc).strftime("%Y-%m-%d")))
+
+    def since(self, sender: Tuple[str, str]) -> str:
+        """Since when a login or domain is its customer's; nothing where nobody knows."""
+        customer, *moment = self.senders_before.get(sender, ("", now()))
+        return (moment or [""])[0] if customer in (self.senders[sender], "") else now()
 
     def of_worker(self) -> str:
         """The directories of all desks, without a key."""
@@ -256,7 +269,7 @@ class Folder:
             put_beside(it.path, it.text(), 0o640, desks)
             self.put_keys(it, desks)
             self.check(it)
-        senders = [SENDERS, *([*it, name] for it, name in sorted(self.senders.items()))]
+        senders = [[*SENDERS, SINCE], *([*it, name, self.since(it)] for it, name in sorted(self.senders.items()))]
         put_beside(self.path / "senders.csv", text_of(senders), 0o640, workers)
         gone = [DROPPED, *([name, *row] for name, row in sorted(self.dropped.items()))]
         put_beside(self.path / "dropped.csv", text_of(gone), 0o640, desks)

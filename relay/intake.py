@@ -28,6 +28,8 @@ from spool import Draft, Envelope, Spool
 MOST_KEPT = 2
 # Postfix's long queue IDs; short ones are used again, so no name can be made of them.
 CONSONANTS = "0-9B-DF-HJ-NP-TV-Zb-df-hj-np-tv-y"
+# They begin with the second in which the message came, in these digits, and four more for a part of it.
+DIGITS = "0123456789BCDFGHJKLMNPQRSTVWXYZbcdfghjklmnpqrstvwxyz"
 LONG_ID = re.compile(f"[{CONSONANTS}z]{{10,24}}z[{CONSONANTS}]{{1,16}}")
 # The first field of a message that Postfix hands over is its own. Nobody else's is read.
 FIRST_FIELD = re.compile(rb"[!-9;-~]+:[^\n]*\n(?:[ \t][^\n]*\n)*(?=[^ \t])")
@@ -85,6 +87,14 @@ def login_of(field: bytes, ident: str) -> Tuple[bool, Optional[str]]:
             return is_ours, login if is_ours else None
         login = found[1].decode("utf-8", "replace") if found else login
     return False, None
+
+
+def came(ident: str) -> int:
+    """When Postfix took in the message of a long queue ID."""
+    found = 0
+    for it in ident.rpartition("z")[0][:-4]:
+        found = found * len(DIGITS) + DIGITS.index(it)
+    return found
 
 
 class Incoming:
@@ -183,7 +193,7 @@ class Intake:
     def take_up(self, settings: Settings) -> Settings:
         """From now on mail is of these customers, by these logins and domains; all else stays."""
         self.settings = replace(self.settings, customers=settings.customers, desks=settings.desks,
-                                logins=settings.logins, domains=settings.domains)
+                                logins=settings.logins, domains=settings.domains, since=settings.since)
         return self.settings
 
     def answered(self, name: str) -> Optional[str]:
@@ -196,7 +206,8 @@ class Intake:
     def customer(self, ident: str, name: str, sender: str, field: bytes) -> str:
         """Whose message it is: as at an earlier try, by the login, or by the sender's domain.
 
-        A login that stands in no table is nobody's: its sender could name any domain.
+        A login that stands in no table is nobody's: its sender could name any domain. And mail that waited in Postfix since
+        before a login or domain was the customer's is an earlier one's.
         """
         before = self.spool.envelope(name)
         if before:
@@ -209,8 +220,9 @@ class Intake:
         domain = sender.rpartition("@")[2].lower()
         found = (self.settings.logins.get(login) if login is not None
                  else self.settings.domains.get(domain))
-        if not found:
-            log.warning("no customer", spool=name, sender=sender, login=login)
+        since = self.settings.since.get(("domain", domain) if login is None else ("login", login), 0)
+        if not found or came(ident) < since:
+            log.warning("no customer", spool=name, sender=sender, login=login, since=since)
             raise NotTaken("550 5.7.1 no customer sends as this")
         return found
 

@@ -32,7 +32,9 @@ def test_added(place):
     expect((row["key"], row["messages"], row["delay"]) == (key, "50", "14400"), "the row is", row)
     expect(place.rows("relay.csv")["birch"] == {**row, "key": ""}, "the worker's row is", place.rows("relay.csv"))
     texts = {name: text.decode() for name, text in place.files().items()}
-    expect(texts["senders.csv"] == "kind,name,customer\ndomain,b.example,birch\nlogin,birch@b.example,birch\n", texts["senders.csv"])
+    header, *rows = (it.rpartition(",") for it in texts["senders.csv"].splitlines())
+    expect(header == ("kind,name,customer", ",", "since") and [it[0] for it in rows] == ["domain,b.example,birch", "login,birch@b.example,birch"]
+           and all(it[2].startswith("20") for it in rows), texts["senders.csv"])
     expect(f"{key} birch;\n" in texts["keys.map"] and "birch 127.0.0.1:825;\n" in texts["names.map"], "the maps lack it")
     expect([it for it, text in texts.items() if key in text] == [it for it in texts if it in ("north.csv", "keys.map")], "its key")
     for name, wanted in (("north.csv", 0o640), ("relay.csv", 0o640), ("senders.csv", 0o640), ("keys.map", 0o600), ("names.map", 0o640)):
@@ -51,8 +53,24 @@ def test_changed(place):
     key = place.done("key", "acme").strip()
     expect(place.rows()["acme"]["key"] == key != "acmekey000000001", "the key is", key)
     place.done("set", "acme", "--no-domain", "a.example")
-    expect(place.files()["senders.csv"] == b"kind,name,customer\n", "the domain is there")
+    expect(place.files()["senders.csv"] == b"kind,name,customer,since\n", "the domain is there")
     expect(place.rows()["acme"]["history"] == "9" and place.rows()["acme"]["key"] == key, "a later change loses something")
+
+
+def test_since(place):
+    """A domain is a customer's from the call on that gives it, and no longer when it has gone; what stood there before stays."""
+    def since(domain):
+        return [it.split(",")[3] for it in (place.folder / "senders.csv").read_text().splitlines() if it.startswith(f"domain,{domain},")]
+    (place.folder / "senders.csv").write_text("kind,name,customer\ndomain,a.example,acme\n")
+    place.done("set", "acme", "--domain", "c.example", "--domain", "a.example")
+    first, = since("c.example")
+    expect(since("a.example") == [""] and first.endswith("Z"), "it is its since", since("a.example"), first)
+    time.sleep(1.1)
+    place.done("set", "acme", "--messages", "9", "--domain", "c.example")
+    expect(since("c.example") == [first], "it is its since", since("c.example"), "and not", first)
+    place.done("set", "acme", "--no-domain", "c.example")
+    place.done("set", "acme", "--domain", "c.example")
+    expect(since("c.example")[0] > first and since("a.example") == [""], "again it is its since", since("c.example"))
 
 
 def test_dropped(place):
