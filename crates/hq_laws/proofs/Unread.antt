@@ -1,6 +1,6 @@
 -- A call of all customers asks the same whatever its body is.
-use Rattle.std.proofs.Common.{◌≡◌, ℕ, Bool, true, List, Option, Some, Result, Ok, Err, refl, sym, ◌∙◌}
-use Rattle.std.proofs.Common.{subst}
+use Rattle.std.proofs.Common.{◌≡◌, ℕ, Bool, true, List, Option, Some, Result, Ok, Err, refl, sym}
+use Rattle.std.proofs.Common.{◌∙◌, subst}
 use Rattle.std.specs.Prelude.{length, nat_le}
 use Rattle.hq_values.specs.Limits.{most_bytes}
 use Rattle.hq_values.specs.Readers.{◌>>=◌, guard, or_refuse}
