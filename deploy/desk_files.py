@@ -20,6 +20,7 @@ import socket
 import subprocess
 import tempfile
 import time
+from datetime import datetime, timezone
 from pathlib import Path
 from typing import Dict, Iterator, List, Optional, Tuple
 
@@ -228,6 +229,11 @@ class Folder:
         self.is_again = False
         self.senders = {(kind, name): customer for kind, name, customer in table_of(path / "senders.csv", SENDERS)}
         self.dropped = {name: (desk, day) for name, desk, day in table_of(path / "dropped.csv", DROPPED)}
+        # (a row that was taken out by hand is that of a customer who was dropped)
+        before = [it[0] for it in rows_of(path / "relay.csv")[1:]] if (path / "relay.csv").exists() else []
+        known = {it["name"] for desk in self.desks for it in desk.rows}
+        for name in (it for it in before if it not in known):
+            self.dropped.setdefault(name, ("by hand", datetime.now(timezone.utc).strftime("%Y-%m-%d")))
 
     def of_worker(self) -> str:
         """The directories of all desks, without a key."""
@@ -340,14 +346,29 @@ def of_worker(folder: Path, name: str) -> str:
     """What the worker erases of a customer, as its user, in its own words."""
     if not (folder / "relay.ini").exists():
         return "it is not set up"
-    words = ["hq-relay", folder / "relay.ini", "erase", name]
-    if os.geteuid() == 0:
-        words = ["setsid", "--wait", "runuser", "-u", "hqrelay", "--", "env", "HOME=/nonexistent", *words]
-    ended = subprocess.run(words, stdin=subprocess.DEVNULL, capture_output=True, text=True, timeout=LONGEST_ERASING)
+    ended = as_worker(folder, "erase", name)
     if ended.returncode:
         told = " / ".join(ended.stderr.strip().splitlines())
         raise Refused(f"the worker erases nothing: {told or f'status {ended.returncode}'}")
     return ended.stdout.strip()
+
+
+def is_known_to_worker(folder: Path, name: str) -> bool:
+    """Whether the worker has anything of a customer."""
+    if not (folder / "relay.ini").exists():
+        return False
+    ended = as_worker(folder, "knows", name)
+    if ended.returncode not in (DONE, UNKNOWN):
+        told = " / ".join(ended.stderr.strip().splitlines())
+        raise Refused(f"the worker does not tell what it has: {told or f'status {ended.returncode}'}")
+    return ended.returncode == DONE
+
+
+def as_worker(folder: Path, command: str, name: str) -> "subprocess.CompletedProcess[str]":
+    words = ["hq-relay", folder / "relay.ini", command, name]
+    if os.geteuid() == 0:
+        words = [Path(__file__).resolve().parent / "hq-as", "hqrelay", *words]
+    return subprocess.run(words, stdin=subprocess.DEVNULL, capture_output=True, text=True, timeout=LONGEST_ERASING)
 
 
 def count_again() -> None:

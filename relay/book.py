@@ -4,7 +4,7 @@ What a call has written is synced to the disk when it returns. The tables:
 
 `names`: spool names that were taken, and what was answered; a record outlives the MTA's retries.
 `finished` are those of which all was told (2: its notices are still to be mailed), `gone` is since
-when one is in no list of the desk.
+when one is in no list of the desk, `size` are the bytes of its content.
 `messages`: which spool name a queue ID of the desk stands for.
 `journal`: outcomes that the desk was not told yet.
 `handed`: attempts that were handed over to the Postfix that delivers (`handed.py`).
@@ -20,19 +20,27 @@ import time
 from contextlib import contextmanager
 from dataclasses import dataclass
 from pathlib import Path
-from typing import Dict, List, Optional, Set, Tuple
+from typing import Dict, List, NamedTuple, Optional, Set, Tuple
+
+import log
 
 SCHEMA = """
 CREATE TABLE IF NOT EXISTS names (
   spool TEXT PRIMARY KEY, customer TEXT NOT NULL, answer TEXT NOT NULL, at INTEGER NOT NULL,
-  finished INTEGER NOT NULL DEFAULT 0, gone INTEGER, cleaned INTEGER NOT NULL DEFAULT 0);
+  finished INTEGER NOT NULL DEFAULT 0, gone INTEGER, cleaned INTEGER NOT NULL DEFAULT 0,
+  size INTEGER NOT NULL DEFAULT 0);
 CREATE INDEX IF NOT EXISTS uncleaned ON names (customer) WHERE NOT cleaned;
+CREATE INDEX IF NOT EXISTS failed ON names (customer) WHERE finished = 2;
+CREATE INDEX IF NOT EXISTS cleaned ON names (customer, at) WHERE cleaned;
 CREATE TABLE IF NOT EXISTS messages (
   customer TEXT NOT NULL, id TEXT NOT NULL, spool TEXT NOT NULL, at INTEGER NOT NULL,
   PRIMARY KEY (customer, id));
+CREATE INDEX IF NOT EXISTS messages_at ON messages (customer, at);
+CREATE INDEX IF NOT EXISTS messages_spool ON messages (customer, spool);
 CREATE TABLE IF NOT EXISTS journal (
   number INTEGER PRIMARY KEY, customer TEXT NOT NULL, spool TEXT NOT NULL, id TEXT NOT NULL,
   attempt INTEGER NOT NULL, outcomes TEXT NOT NULL);
+CREATE INDEX IF NOT EXISTS journal_spool ON journal (customer, spool);
 CREATE TABLE IF NOT EXISTS handed (
   envelope TEXT PRIMARY KEY, customer TEXT NOT NULL, spool TEXT NOT NULL, id TEXT NOT NULL,
   attempt INTEGER NOT NULL, recipients TEXT NOT NULL, sender TEXT NOT NULL, at REAL NOT NULL,
@@ -40,12 +48,23 @@ CREATE TABLE IF NOT EXISTS handed (
 CREATE UNIQUE INDEX IF NOT EXISTS under_way ON handed (customer, spool) WHERE done IS NULL;
 CREATE INDEX IF NOT EXISTS handed_done ON handed (done) WHERE done IS NOT NULL;
 CREATE INDEX IF NOT EXISTS handed_spool ON handed (spool);
+CREATE INDEX IF NOT EXISTS handed_of ON handed (customer) WHERE done IS NOT NULL;
 CREATE TABLE IF NOT EXISTS notices (customer TEXT PRIMARY KEY, number INTEGER NOT NULL);
 CREATE TABLE IF NOT EXISTS mailing (customer TEXT PRIMARY KEY, number INTEGER NOT NULL);
 CREATE TABLE IF NOT EXISTS waiting (
   name TEXT PRIMARY KEY, customer TEXT NOT NULL, recipient TEXT NOT NULL, content BLOB NOT NULL,
   since REAL NOT NULL, tried REAL NOT NULL);
+CREATE INDEX IF NOT EXISTS waiting_of ON waiting (customer);
 """
+# The rows of a customer in each table, by its indexes.
+FORGET_CUSTOMER = [f"DELETE FROM {table} WHERE customer = ?{part}" for table, part in (
+    ("names", " AND cleaned"), ("names", " AND NOT cleaned"), ("messages", ""), ("journal", ""),
+    ("handed", " AND done IS NULL"), ("handed", " AND done IS NOT NULL"), ("notices", ""),
+    ("mailing", ""), ("waiting", ""))]
+OLD_MESSAGES = "SELECT id FROM messages WHERE customer = ? AND at < ?"
+OLD_NAMES = (
+    "SELECT spool FROM names WHERE customer = ? AND at < ? AND cleaned AND NOT EXISTS "
+    "(SELECT 1 FROM messages WHERE messages.customer = names.customer AND messages.spool = names.spool)")
 # How many seconds a thread waits for another one's writing.
 LONGEST_WAIT = 60
 # So many notices of deliveries may wait for each customer.
@@ -71,12 +90,31 @@ class Waiting:
     tried: float
 
 
+class Uncleaned(NamedTuple):
+    """Whether a name is finished, since when it is gone, and the bytes of its content."""
+    is_finished: bool
+    gone: Optional[int]
+    size: int
+
+
+@dataclass(frozen=True)
+class Notice:
+    """A notice of the worker's own, as a mail."""
+    name: str
+    recipient: str
+    content: bytes
+
+
 class Book:
     def __init__(self, folder: Path):
         self.path, self.own = folder / "book.db", threading.local()
         with self.writing() as database:
             for statement in SCHEMA.split(";"):
                 database.execute(statement)
+            columns = [it[1] for it in database.execute("PRAGMA table_info (names)")]
+            if "size" not in columns:
+                database.execute("ALTER TABLE names ADD COLUMN size INTEGER NOT NULL DEFAULT 0")
+            database.execute("CREATE INDEX IF NOT EXISTS kept ON names (customer, size) WHERE NOT cleaned")
 
     def database(self) -> sqlite3.Connection:
         """The connection of this thread."""
@@ -125,13 +163,13 @@ class Book:
         """What was answered for a name that was taken."""
         return self.one("SELECT answer FROM names WHERE spool = ?", spool)
 
-    def taken(self, customer: str, spool: str, id: Optional[str], answer: str) -> None:
+    def taken(self, customer: str, spool: str, id: Optional[str], answer: str, size: int = 0) -> None:
         """A name was taken, under this ID where it was queued, else it is finished. The first
         answer stays."""
         with self.writing() as database:
             database.execute(
-                "INSERT OR IGNORE INTO names (spool, customer, answer, at, finished) "
-                "VALUES (?, ?, ?, ?, ?)", (spool, customer, answer, int(time.time()), not id))
+                "INSERT OR IGNORE INTO names (spool, customer, answer, at, finished, size) "
+                "VALUES (?, ?, ?, ?, ?, ?)", (spool, customer, answer, int(time.time()), not id, size))
             if id:
                 self.name(database, customer, id, spool)
 
@@ -161,12 +199,15 @@ class Book:
     def is_finished(self, spool: str) -> bool:
         return bool(self.one("SELECT finished = 1 OR cleaned FROM names WHERE spool = ?", spool))
 
-    def uncleaned(self, customer: str) -> Dict[str, Tuple[bool, Optional[int]]]:
-        """The customer's names whose content was not cleaned away: whether they are finished, and
-        since when they are gone."""
-        asked = "SELECT spool, finished = 1, gone FROM names WHERE customer = ? AND NOT cleaned"
+    def kept_bytes(self, customer: str) -> int:
+        """The bytes of the customer's contents that were not cleaned away."""
+        return self.one("SELECT TOTAL(size) FROM names WHERE customer = ? AND NOT cleaned", customer) or 0
+
+    def uncleaned(self, customer: str) -> Dict[str, Uncleaned]:
+        """The customer's names whose content was not cleaned away."""
+        asked = "SELECT spool, finished = 1, gone, size FROM names WHERE customer = ? AND NOT cleaned"
         rows = self.database().execute(asked, (customer,))
-        return {spool: (bool(finished), gone) for spool, finished, gone in rows}
+        return {spool: Uncleaned(bool(finished), gone, size) for spool, finished, gone, size in rows}
 
     def gone(self, spools: List[str], since: Optional[int]) -> None:
         """These are in no list of the desk since a moment; None for those that are again."""
@@ -182,13 +223,14 @@ class Book:
     def forget(self, customer: str, ids: Set[str], before: float) -> None:
         """Drops records older than a moment, but those of messages queued under these IDs."""
         old = (customer, int(before))
+        # (asked first, so that nobody waits for the lock where nothing is old)
+        rows = self.database().execute(OLD_MESSAGES, old).fetchall()
+        gone = [(customer, id) for id, in rows if id not in ids]
+        if not gone and not self.one(OLD_NAMES, *old):
+            return
         with self.writing() as database:
-            rows = database.execute("SELECT id FROM messages WHERE customer = ? AND at < ?", old)
-            gone = [(customer, id) for id, in rows.fetchall() if id not in ids]
             database.executemany("DELETE FROM messages WHERE customer = ? AND id = ?", gone)
-            database.execute(
-                "DELETE FROM names WHERE customer = ? AND at < ? AND cleaned AND spool NOT IN "
-                "(SELECT spool FROM messages WHERE customer = ?)", (*old, customer))
+            database.execute(f"DELETE FROM names WHERE spool IN ({OLD_NAMES})", old)
 
     def forget_messages(self, customer: str) -> None:
         with self.writing() as database:
@@ -197,9 +239,11 @@ class Book:
     def forget_customer(self, customer: str) -> int:
         """Drops all records of a customer; how many there were."""
         with self.writing() as database:
-            tables = database.execute("SELECT name FROM sqlite_master WHERE type = 'table'")
-            return sum(database.execute(f"DELETE FROM {table} WHERE customer = ?",
-                                        (customer,)).rowcount for table, in tables.fetchall())
+            return sum(database.execute(statement, (customer,)).rowcount for statement in FORGET_CUSTOMER)
+
+    def has_any(self, customer: str) -> bool:
+        """Whether there is a record of a customer."""
+        return any(self.one(it.replace("DELETE", "SELECT 1", 1), customer) for it in FORGET_CUSTOMER)
 
     def overwrite(self) -> bool:
         """Has nothing left of deleted records, also in the log that SQLite writes first; not where
@@ -236,12 +280,16 @@ class Book:
                     database.execute("UPDATE names SET finished = ? WHERE spool = ?",
                                      (2 if is_failure else 1, report.spool))
 
-    @staticmethod
-    def journal(database, report: Report) -> None:
+    @classmethod
+    def journal(cls, database, report: Report, success: Optional[Notice] = None) -> None:
+        """The desk is to be told this, and a sender by a notice of its own: at the same moment, so that it
+        is told once."""
         database.execute(
             "INSERT INTO journal (customer, spool, id, attempt, outcomes) VALUES (?, ?, ?, ?, ?)",
             (report.customer, report.spool, report.id, report.attempt,
              json.dumps(report.outcomes)))
+        if success:
+            cls.wait_with(database, report.customer, success)
 
     @staticmethod
     def forget_report(database, report: Report) -> None:
@@ -265,6 +313,11 @@ class Book:
         """The names whose outcomes the desk was not told."""
         asked = "SELECT DISTINCT spool FROM journal WHERE customer = ?"
         return [spool for spool, in self.database().execute(asked, (customer,)).fetchall()]
+
+    def all_untold(self) -> List[str]:
+        """The customers of whom outcomes are untold."""
+        rows = self.database().execute("SELECT DISTINCT customer FROM journal")
+        return [customer for customer, in rows.fetchall()]
 
     # ---- notices
 
@@ -290,14 +343,15 @@ class Book:
             self.wait(database, customer, Waiting(f"{customer}/{number}", recipient, now, now),
                       content)
 
-    def wait_with(self, customer: str, name: str, recipient: str, content: bytes) -> bool:
+    @classmethod
+    def wait_with(cls, database, customer: str, it: Notice) -> None:
         """A notice of the worker's own waits to be mailed: one of each name. Not if too many do."""
-        with self.writing() as database:
-            count, = database.execute("SELECT COUNT(*) FROM waiting WHERE customer = ?",
-                                      (customer,)).fetchone()
-            if count < MOST_WAITING:
-                self.wait(database, customer, Waiting(name, recipient, time.time(), 0), content)
-            return count < MOST_WAITING
+        count, = database.execute("SELECT COUNT(*) FROM waiting WHERE customer = ?",
+                                  (customer,)).fetchone()
+        if count < MOST_WAITING:
+            cls.wait(database, customer, Waiting(it.name, it.recipient, time.time(), 0), it.content)
+        else:
+            log.error("notice given up", customer=customer, to=it.recipient, means="too many wait")
 
     @staticmethod
     def wait(database, customer: str, it: Waiting, content: bytes) -> None:
@@ -331,9 +385,10 @@ class Book:
         """A notice that was set aside, as a mail."""
         return self.one("SELECT content FROM waiting WHERE name = ?", name) or b""
 
-    def tried(self, name: str) -> None:
+    def tried(self, name: str, at: float) -> None:
+        """A notice that was set aside is tried at this moment; 0: it never was."""
         with self.writing() as database:
-            database.execute("UPDATE waiting SET tried = ? WHERE name = ?", (time.time(), name))
+            database.execute("UPDATE waiting SET tried = ? WHERE name = ?", (at, name))
 
     def waited(self, name: str) -> None:
         """A notice that was set aside is done with."""

@@ -6,13 +6,14 @@ and cleans. What hangs or fails for one customer holds up no other.
 """
 import threading
 import time
-from contextlib import contextmanager
+from contextlib import ExitStack, contextmanager
 from typing import Callable, Dict, Iterator, List, Set
 
 import log
 from book import Book
 from cleaning import Cleaning
 from desk import Away, Desk
+from destinations import Capacity, Destinations
 from handed import Attempt, Handed
 from handover import Handover
 from missing import Missing
@@ -20,23 +21,24 @@ from names import Names
 from notices import Notices
 from outcomes import Outcomes
 from reports import Reports
-from resting import Resting
 from settings import Settings
 from spool import Spool
-from turns import Turns
+from turns import Turns, threads_for
 
 # How many seconds lie between two looks at the reports.
 BETWEEN_LOOKS = 0.1
 # At this age, in seconds, a sweep gives a message up.
 GIVEN_UP = 432_000
-# Threads that mail notices.
-MAILING = 2
+# Threads that mail notices, and that ask desks of what is under way.
+MAILING, CATCHING_UP = 2, 2
 
 
 class Delivery:
-    def __init__(self, settings: Settings, desk: Desk, spool: Spool, book: Book):
+    def __init__(self, settings: Settings, desk: Desk, spool: Spool, book: Book,
+                 capacity: Capacity = Capacity()):
         self.settings, self.desk, self.book = settings, desk, book
-        self.handed, self.resting = Handed(book), Resting(settings.rest)
+        self.handed = Handed(book)
+        self.destinations = Destinations(settings.rest, capacity)
         self.names = Names(desk, spool, book)
         self.notices = Notices(settings, desk, spool, self.handed, self.names)
         self.reports = Reports(desk, book, self.names, self.notices)
@@ -47,15 +49,22 @@ class Delivery:
         self.turned_away: Set[str] = set()
         self.want_room: Set[str] = set()
         self.ending = threading.Event()
-        self.handover = Handover(settings, desk, spool, self.handed, self.names, self.resting)
-        self.telling = Turns(settings.sessions, settings.pause, self.tell)
-        self.mailing = Turns(MAILING, settings.pause, self.mail)
-        self.turns = [self.telling, self.mailing]
-        self.outcomes = Outcomes(settings, self.handed, self.names, self.telling.add, self.ended)
+        self.handover = Handover(settings, desk, spool, self.handed, self.names,
+                                 self.destinations)
+        self.telling = self.turns_of(settings.sessions, self.tell)
+        self.mailing = self.turns_of(MAILING, self.mail)
+        self.catching_up = self.turns_of(CATCHING_UP, self.catch_up)
+        self.turns = [self.telling, self.mailing, self.catching_up]
+        self.outcomes = Outcomes(settings, self.handed, self.names, self.telling.add, self.ended,
+                                 self.catching_up.add)
         self.missing = Missing(settings, desk, self.handed, self.names, self.outcomes.read,
-                               self.ended)
-        self.threads = [threading.Thread(target=it, daemon=True)
-                        for it in (self.keep_house, self.watch)]
+                               self.ended, self.catching_up.add)
+        houses = [threading.Thread(target=self.keep_house, args=[it], daemon=True)
+                  for it in settings.of_desks()]
+        self.threads = [*houses, threading.Thread(target=self.watch, daemon=True)]
+
+    def turns_of(self, count: int, work: Callable[[str], bool]) -> Turns:
+        return Turns(threads_for(self.settings, count), self.settings.pause, work, self.settings.desks)
 
     def start(self) -> None:
         self.begin_turns()
@@ -64,8 +73,8 @@ class Delivery:
 
     def begin_turns(self) -> None:
         self.handover.start()
-        self.telling.start()
-        self.mailing.start()
+        for it in self.turns:
+            it.start()
 
     def is_well(self) -> bool:
         """Whether all threads are at work."""
@@ -101,7 +110,7 @@ class Delivery:
             self.telling.add(customer)
         self.wait()
         everyone = self.settings.customers
-        is_there = self.chores({*everyone}, {*everyone}, waits=True)
+        is_there = self.chores([*everyone], {*everyone}, {*everyone}, waits=True)
         self.wait()
         self.end()
         return is_there and self.is_there()
@@ -114,10 +123,12 @@ class Delivery:
             time.sleep(BETWEEN_LOOKS / 10)
 
     def is_working(self) -> bool:
-        """Whether a customer waits for a turn of either kind, or has it."""
-        # (both at one moment: before a turn ends it may give one of the other kind)
-        with self.telling.guard, self.mailing.guard:
-            return bool(self.telling.waiting or self.mailing.waiting)
+        """Whether a customer waits for a turn of any kind, or has it."""
+        # (all at one moment: before a turn ends it may give one of another kind)
+        with ExitStack() as guards:
+            for it in self.turns:
+                guards.enter_context(it.guard)
+            return any(it.waiting for it in self.turns)
 
     def is_there(self) -> bool:
         """Whether no customer's last turn has failed."""
@@ -125,14 +136,13 @@ class Delivery:
 
     def look(self) -> None:
         """Has what is in the journal told, and what is due handed over."""
-        for customer in self.settings.customers:
-            if self.book.untold(customer):
-                self.telling.add(customer)
+        for customer in self.book.all_untold():
+            self.telling.add(customer)
         self.handover.look()
 
-    def keep_house(self) -> None:
-        """Sweeps and cleans by the timers, until `end`. Who was passed over has its turn at each
-        `pause`."""
+    def keep_house(self, customers: List[str]) -> None:
+        """Sweeps and cleans those of a desk by the timers, until `end`. Who was passed over has its turn at
+        each `pause`."""
         swept = cleaned = float("-inf")
         to_sweep: Set[str] = set()
         to_clean: Set[str] = set()
@@ -140,11 +150,11 @@ class Delivery:
             now = time.monotonic()
             if now >= swept + self.settings.sweep_every:
                 swept = now
-                to_sweep.update(self.settings.customers)
+                to_sweep.update(customers)
             if now >= cleaned + self.settings.clean_every:
                 cleaned = now
-                to_clean.update(self.settings.customers)
-            self.chores(to_sweep, to_clean, waits=False)
+                to_clean.update(customers)
+            self.chores(customers, to_sweep, to_clean, waits=False)
             self.ending.wait(self.settings.pause)
 
     def watch(self) -> None:
@@ -161,6 +171,7 @@ class Delivery:
             if time.monotonic() >= looked + self.settings.pause:
                 looked = time.monotonic()
                 self.missing.look(self.handover.is_busy)
+                self.outcomes.ask_for_late()
             if not count:
                 self.ending.wait(BETWEEN_LOOKS)
         except Exception as error:
@@ -198,6 +209,11 @@ class Delivery:
             self.telling.add(customer)
         return False
 
+    def catch_up(self, customer: str) -> bool:
+        """Fits what is under way, or came late, to what a customer did meanwhile, as its desk tells."""
+        self.outcomes.take_late(customer)
+        return self.missing.take_back(customer)
+
     @contextmanager
     def locked(self, customer: str, waits: bool = True) -> Iterator[bool]:
         """Has a customer's lock, or tells that something else has it. Outcomes that came meanwhile
@@ -216,26 +232,26 @@ class Delivery:
 
     def ended(self, attempt: Attempt, outcomes: List[Dict[str, str]]) -> None:
         """Nothing more is awaited of an attempt. Without an outcome its message may be due again."""
-        self.resting.end(attempt.recipients)
-        self.resting.answered(outcomes)
-        self.handover.go_on()
+        self.destinations.answered(attempt.customer, outcomes)
+        self.handover.end_attempt(attempt)
         if not outcomes and attempt.customer in self.locks:
             self.handover.turns.add(attempt.customer)
 
     # ---- sweeps and clean-up
 
-    def chores(self, to_sweep: Set[str], to_clean: Set[str], waits: bool) -> bool:
-        """Cleans and sweeps these, and has everybody's notices mailed; whether the desk was there.
-        Unless it `waits`, it passes over whose lock something else has: a mailing may hang."""
+    def chores(self, customers: List[str], to_sweep: Set[str], to_clean: Set[str],
+               waits: bool) -> bool:
+        """Cleans and sweeps some of these customers, and has everybody's notices mailed; whether the desk
+        was there. Unless it `waits`, it passes over whose lock something else has: a mailing may hang."""
         is_cleaning, is_there = bool(to_clean), True
-        for it in self.settings.customers:
+        for it in customers:
             # (behind a sweep, its notices would hold up the clean-up)
             is_there = (self.do_for(it, to_clean, self.clean, waits)
                         and self.do_for(it, to_sweep, self.sweep, waits) and is_there)
             # (by threads of their own, since the next hop may hang)
             self.mailing.add(it)
         if is_cleaning and is_there and not to_clean:
-            self.clean_up()
+            self.clean_up(customers)
         return is_there
 
     def do_for(self, customer: str, wanted: Set[str], work: Callable[[str], None],
@@ -262,11 +278,11 @@ class Delivery:
             self.book.all_mailed(customer)
             self.cleaning.clean(customer, self.handed.spools_under_way(customer))
 
-    def clean_up(self) -> None:
-        """Removes what belongs to no customer's message any more."""
+    def clean_up(self, customers: List[str]) -> None:
+        """Removes what belongs to no message of these customers any more."""
         try:
             self.handed.forget(time.time() - self.settings.keep_days * 86400)
-            self.cleaning.clean_unknown()
+            self.cleaning.clean_unknown(customers)
         except Exception as error:
             log.error("not cleaned", why=repr(error))
 

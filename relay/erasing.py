@@ -1,4 +1,5 @@
-"""The command `erase`: what the worker has of a customer goes, who is in the settings no more.
+"""The command `erase`: what the worker has of a customer goes, who is in the settings no more. And `knows`, which
+tells whether there is anything.
 
 It works while `intake` and `deliver` do, once both have read the settings without the customer. Each
 step may be cut: what was dropped by then is gone, and the next run drops the rest.
@@ -23,6 +24,8 @@ from spool import Spool, drop, kept_in, sync_folder
 
 # How many seconds it waits for processes that work by earlier settings, and between two looks.
 LONGEST, BETWEEN_LOOKS = 90, 0.1
+# What `knows` ends with where there is nothing of a customer.
+UNKNOWN = 3
 # How long Postfix keeps a message, where it does not say so.
 LIFETIME = "5d"
 
@@ -136,20 +139,33 @@ class Erasing:
 
     def drop_reports(self) -> int:
         """Drops reports of its mail that lie in the Maildir, also those that are put aside."""
-        box, count = self.settings.reports, 0
-        folders = [it / name for it in (box, box / f".{ASIDE}") for name in ("new", "cur", "tmp")]
-        for folder in filter(Path.is_dir, folders):
-            for path in files_of(folder):
-                with suppress(FileNotFoundError):
-                    if self.is_report_of_its(path):
-                        drop(path)
-                        count += 1
+        count = 0
+        for path in self.reports():
+            if self.is_report_of_its(path):
+                drop(path)
+                count += 1
         return count
 
     def is_report_of_its(self, path: Path) -> bool:
-        with open(path, "rb") as file:
+        with suppress(FileNotFoundError), open(path, "rb") as file:
             envelope, _ = read_text(file.read(LARGEST), path.name)
-        return bool(envelope and envelope.startswith(f"{self.customer}."))
+            return bool(envelope and envelope.startswith(f"{self.customer}."))
+        return False
+
+    # ---- without erasing
+
+    def has_any(self) -> bool:
+        """Whether there is anything of the customer."""
+        contents = (it for folder in (self.spool.new, self.spool.content, self.spool.aside)
+                    for it in files_of(folder))
+        return (self.book.has_any(self.customer) or any(map(self.is_its, contents))
+                or any(self.is_report_of_its(it) for it in self.reports()))
+
+    def reports(self) -> Iterator[Path]:
+        """The files of the Maildir, also of those that are put aside."""
+        box = self.settings.reports
+        folders = [it / name for it in (box, box / f".{ASIDE}") for name in ("new", "cur", "tmp")]
+        return (path for folder in filter(Path.is_dir, folders) for path in files_of(folder))
 
     def lifetime(self) -> str:
         """How long the Postfix that delivers keeps a message."""
@@ -170,6 +186,13 @@ def files_of(folder: Path) -> Iterator[Path]:
 
 def told(count: int, what: str) -> str:
     return f"{count} {what}{'' if count == 1 else 's'}"
+
+
+def knows(settings: Settings, customer: str) -> int:
+    if not CUSTOMER.fullmatch(customer):
+        print(f"relay: {customer!r} is no name of a customer", file=sys.stderr)
+        return 1
+    return 0 if settings.folder.is_dir() and Erasing(settings, customer).has_any() else UNKNOWN
 
 
 def erase(settings: Settings, customer: str) -> int:

@@ -6,10 +6,10 @@ It stays for a while, so that a late report finds it.
 """
 import json
 import time
-from dataclasses import dataclass
-from typing import Dict, List, Optional, Set, Tuple
+from dataclasses import dataclass, replace
+from typing import Callable, Dict, List, Optional, Set, Tuple
 
-from book import Book, Report
+from book import Book, Notice, Report
 
 Outcome = Dict[str, str]
 COLUMNS = ("envelope, customer, spool, id, attempt, recipients, sender, at, queue_id, outcomes, "
@@ -52,8 +52,11 @@ def attempt_of(row: tuple) -> Attempt:
 
 
 class Handed:
+    """`success_of` makes of what the desk is to be told a notice of deliveries, where their sender wants one."""
+
     def __init__(self, book: Book):
         self.book = book
+        self.success_of: Callable[[Report, Attempt], Optional[Notice]] = lambda report, attempt: None
 
     def find(self, where: str, *values) -> List[Attempt]:
         rows = self.book.database().execute(f"SELECT {COLUMNS} FROM handed WHERE {where}", values)
@@ -68,7 +71,8 @@ class Handed:
 
     def lying(self, customer: str) -> List[Attempt]:
         """The customer's attempts that may lie in the queue of the Postfix that delivers."""
-        return self.find("customer = ? AND (done IS NULL OR is_lost)", customer)
+        return [*self.find("customer = ? AND done IS NULL", customer),
+                *self.find("customer = ? AND done IS NOT NULL AND is_lost", customer)]
 
     def under_way(self) -> List[Attempt]:
         return self.find("done IS NULL")
@@ -101,11 +105,13 @@ class Handed:
 
     def resolved(self, attempt: Attempt, outcomes: List[Outcome], is_lost: bool = False) -> None:
         """Nothing more is awaited of an attempt. Its outcomes, if there are any, are to be told."""
+        report = attempt.report(outcomes)
+        success = self.success_of(report, attempt)
         with self.book.writing() as database:
-            # (of a customer who was erased meanwhile there is nothing to tell)
+            # (nothing where a report came meanwhile, or its customer was erased)
             is_there = self.end(database, attempt.envelope, list(attempt.outcomes), is_lost)
             if outcomes and is_there:
-                self.book.journal(database, attempt.report(outcomes))
+                self.book.journal(database, report, success)
 
     def moved(self, attempt: Attempt, id: str, number: int) -> None:
         """An attempt under way is of the message under this queue ID, and its attempt of a number."""
@@ -117,26 +123,31 @@ class Handed:
         """Adds what reports say to the attempts under way. Those of which all recipients are known
         by now are journaled, and returned."""
         found = []
+        # (a notice is written before the lock is taken, for which others wait)
+        attempts = [it for it in map(self.of, reports) if it and not it.done]
+        notices = {it.envelope: self.success_of(it.report(told_of(list(it.outcomes))), it) for it in
+                   (replace(it, outcomes=tuple(it.with_more(reports[it.envelope])), done=time.time()) for it in attempts)}
         with self.book.writing() as database:
-            for envelope, told in reports.items():
+            for envelope in notices:
                 attempt = self.of(envelope)
+                outcomes = attempt.with_more(reports[envelope]) if attempt else []
                 if not attempt or attempt.done:
-                    continue
-                outcomes = attempt.with_more(told)
+                    continue  # (meanwhile)
                 if len(outcomes) < len({it.lower() for it in attempt.recipients}):
                     database.execute("UPDATE handed SET outcomes = ? WHERE envelope = ?",
                                      (json.dumps(outcomes), envelope))
                     continue
                 self.end(database, envelope, outcomes, False)
-                self.book.journal(database, attempt.report(told_of(outcomes)))
+                self.book.journal(database, attempt.report(told_of(outcomes)), notices[envelope])
                 found.append(attempt)
         return found
 
     @staticmethod
     def end(database, envelope: str, outcomes: List[Outcome], is_lost: bool) -> bool:
-        """Nothing more is awaited of an attempt; whether it is written down at all."""
+        """Nothing more is awaited of an attempt; whether something was, or it was lost."""
         return database.execute(
-            "UPDATE handed SET outcomes = ?, done = ?, is_lost = ? WHERE envelope = ?",
+            "UPDATE handed SET outcomes = ?, done = ?, is_lost = ? "
+            "WHERE envelope = ? AND (done IS NULL OR is_lost)",
             (json.dumps(outcomes), time.time(), is_lost, envelope)).rowcount > 0
 
     def forget(self, before: float) -> None:

@@ -7,19 +7,20 @@ import queue
 import secrets
 import threading
 import time
+from contextlib import ExitStack
 from typing import Dict, List, Optional, Set, Tuple
 
 import log
 from book import Book
 from desk import NO_ROUTE, Away, Desk, Refused
+from destinations import Destinations
 from dsn import clean
 from handed import Attempt, Handed
 from instance import BROKEN, NotTaken, Session
 from names import Names
-from resting import Resting
 from settings import Settings
 from spool import Spool
-from turns import Turns
+from turns import Turns, threads_for
 
 # So many messages, and bytes, are handed over behind one look at the desk's list; and so many of them
 # in one session before the next one takes some.
@@ -44,19 +45,18 @@ class Handover:
     be, each of which has a thread."""
 
     def __init__(self, settings: Settings, desk: Desk, spool: Spool, handed: Handed, names: Names,
-                 resting: Resting):
+                 destinations: Destinations):
         self.settings, self.desk, self.spool, self.handed = settings, desk, spool, handed
-        self.names, self.resting = names, resting
+        self.names, self.destinations = names, destinations
         self.book: Book = handed.book
-        self.turns = Turns(settings.sessions, settings.pause, self.turn)
+        self.turns = Turns(threads_for(settings, settings.sessions), settings.pause, self.turn, settings.desks)
         self.own = threading.local()  # each thread's session
         self.parts: "queue.Queue[Optional[List[Attempt]]]" = queue.Queue(settings.sessions)
         self.threads = [threading.Thread(target=self.run, daemon=True)
                         for _ in range(settings.sessions)]
         self.guard = threading.Lock()
-        # Customers of whom mail waits until a domain is free; behind which queue ID the list of each
-        # goes on; what is just being handed over; and how many attempts were begun.
-        self.held_up: Set[str] = set()
+        # Behind which queue ID the list of each customer goes on; what is just being handed over; and
+        # how many attempts were begun.
         self.after: Dict[str, str] = {}
         self.busy: Set[str] = set()
         self.begun = 0
@@ -65,8 +65,7 @@ class Handover:
         self.listing = {it: threading.Lock() for it in settings.customers}
 
     def start(self) -> None:
-        for attempt in self.handed.under_way():
-            self.resting.resume(attempt.recipients)
+        self.destinations.resume(self.handed.under_way())
         for it in self.threads:
             it.start()
         self.turns.start()
@@ -113,12 +112,11 @@ class Handover:
                 log.error("due of all not told", why=repr(error))
         return found
 
-    def go_on(self) -> None:
-        """Some attempt has ended: mail that waited for its domain may go."""
-        with self.guard:
-            customers, self.held_up = self.held_up, set()
-        for it in customers:
-            self.turns.add(it)
+    def end_attempt(self, attempt: Attempt) -> None:
+        """An attempt has ended, or was not begun: mail that waited for its domain may go."""
+        for it in self.destinations.end(attempt):
+            if it in self.listing:
+                self.turns.add(it)
 
     def is_busy(self, attempt: Attempt) -> bool:
         with self.guard:
@@ -153,29 +151,24 @@ class Handover:
     def due(self, customer: str, after: Optional[str]) -> Tuple[List[Attempt], Optional[str]]:
         """The customer's next messages that may be handed over now, and behind which queue ID the
         rest of its list begins."""
-        found, size, is_held_up = [], 0, False
-        with self.guard:
-            self.held_up.add(customer)  # (before the look: an attempt may end meanwhile)
+        found, size = [], 0
         not_free = self.handed.spools_under_way(customer) | set(self.book.untold(customer))
         try:
             for it in self.desk.due(customer, after):
                 if it["spool"] in not_free:
                     continue
-                if not self.resting.begin(it["recipients"]):
-                    is_held_up = True
+                attempt = self.attempt(customer, it)
+                if not self.destinations.begin(attempt):
                     continue
-                found.append(self.attempt(customer, it))
+                found.append(attempt)
                 not_free.add(it["spool"])  # (requeued meanwhile, it is met again under another ID)
                 size += self.spool.size(it["spool"])
                 if len(found) >= BATCH or size >= BATCH_BYTES:
                     return found, it["id"]
         except BaseException:
             for attempt in found:
-                self.resting.end(attempt.recipients)
+                self.end_attempt(attempt)
             raise
-        if not is_held_up:
-            with self.guard:
-                self.held_up.discard(customer)
         return found, None
 
     def attempt(self, customer: str, due: dict) -> Attempt:
@@ -199,7 +192,7 @@ class Handover:
         with self.guard:
             self.busy.difference_update(it.envelope for it in due)
         for it in not_begun:
-            self.resting.end(it.recipients)
+            self.end_attempt(it)
 
     def hand_over(self, due: List[Attempt]) -> None:
         """Hands over a part. What was not begun is as if it had never been written down."""
@@ -240,13 +233,15 @@ class Handover:
     def hand_over_one(self, attempt: Attempt, session: Session) -> Optional[str]:
         """The queue ID under which the instance took a message; None where it never will, and the
         outcome was journaled."""
-        if self.book.spool_of(attempt.customer, attempt.id) != attempt.spool:
-            self.names.record(attempt.customer, attempt.id, attempt.spool)
-        with self.spool.opened(attempt.spool) as kept:
+        with ExitStack() as opened:
+            try:
+                if self.book.spool_of(attempt.customer, attempt.id) != attempt.spool:
+                    self.names.record(attempt.customer, attempt.id, attempt.spool)
+                kept = opened.enter_context(self.spool.opened(attempt.spool))
+            except OSError as error:  # (of this file, and not of the session)
+                return self.defer_without_content(attempt, error)
             if not kept or kept.envelope.customer != attempt.customer:
-                log.error("content missing", customer=attempt.customer, id=attempt.id,
-                          spool=attempt.spool)
-                return self.refuse(attempt, "deferred", "4.3.0", "the content is missing")
+                return self.defer_without_content(attempt, "there is no such file")
             try:
                 return session.send(attempt, kept)
             except NotTaken as error:
@@ -256,9 +251,13 @@ class Handover:
                           id=attempt.id, why=error)
                 return self.refuse(attempt, error.result, error.status, clean(error))
 
+    def defer_without_content(self, attempt: Attempt, why) -> None:
+        log.error("content missing", customer=attempt.customer, id=attempt.id, spool=attempt.spool, why=why)
+        self.refuse(attempt, "deferred", "4.3.0", "the content is missing")
+
     def refuse(self, attempt: Attempt, result: str, status: str, text: str) -> None:
         """The outcome of an attempt that the instance does not take. (It is told from the journal.)"""
         self.handed.resolved(attempt, [
             {"recipient": it, "result": result, "status": status, "text": text}
             for it in attempt.recipients])
-        self.resting.end(attempt.recipients)
+        self.end_attempt(attempt)

@@ -9,6 +9,8 @@ from dataclasses import dataclass
 from pathlib import Path
 from typing import Dict, Set, Tuple
 
+import log
+from destinations import Capacity
 from dsn import OF_POLICY, OF_THE_SYSTEM, STATUS, xtext
 from handed import Attempt
 from postfix_lines import REPORTS
@@ -160,6 +162,24 @@ def queue(settings: Settings) -> Queue:
     if listing.returncode:
         raise OSError(f"postqueue ended with {listing.returncode}: {why}")
     return found
+
+
+def capacity(settings: Settings) -> Capacity:
+    """The processes by which the instance sends, and how many of them a domain may take. Where it cannot be asked, those of
+    an instance that nobody has changed."""
+    asked = ["postconf", "-c", str(settings.delivering)]
+    try:
+        told = [subprocess.run([*asked, *words], stdin=subprocess.DEVNULL, capture_output=True, timeout=settings.timeout,
+                               check=True, text=True).stdout.split()
+                for words in (("-xh", "default_process_limit", "smtp_destination_concurrency_limit"),
+                              ("-Fh", "smtp/unix/process_limit"))]
+        (of_all, at_a_domain), (of_smtp,) = told
+        processes = int(of_all if of_smtp == "-" else of_smtp)
+        # (0 is no limit, as Postfix has it)
+        return Capacity(processes or Capacity.processes, int(at_a_domain) or processes or Capacity.processes)
+    except (OSError, ValueError, subprocess.SubprocessError) as error:
+        log.warning("the delivering instance does not tell its limits", why=error)
+        return Capacity()
 
 
 def take_back(settings: Settings, id: str) -> bool:

@@ -8,18 +8,24 @@ import hashlib
 import re
 import sqlite3
 import threading
+from contextlib import nullcontext
 from dataclasses import dataclass, replace
 from email.utils import formatdate
-from typing import Optional, Set, Tuple
+from typing import ContextManager, Optional, Set, Tuple
 
 import desk as desks
 import log
 from book import Book
+from calls import Calls
 from desk import Away, Desk, Refused
 from names import Names
+from postfix_lines import MOST_TO_THE_WORKER
 from settings import Settings
 from spool import Draft, Envelope, Spool
 
+# The spool keeps so many times the bytes of a customer's quota: what is queued, and what is gone and may be wanted
+# behind a restore (`cleaning.py`).
+MOST_KEPT = 2
 # Postfix's long queue IDs; short ones are used again, so no name can be made of them.
 CONSONANTS = "0-9B-DF-HJ-NP-TV-Zb-df-hj-np-tv-y"
 LONG_ID = re.compile(f"[{CONSONANTS}z]{{10,24}}z[{CONSONANTS}]{{1,16}}")
@@ -155,6 +161,7 @@ class Incoming:
         if before:
             raise NotTaken(before)
         customer = self.intake.customer(ident, self.name, self.asked.sender, first_field(self.head))
+        self.intake.expect_room(customer)
         self.envelope = self.asked.envelope(customer, self.name)
         self.draft = self.intake.spool.draft(self.envelope)
         self.draft.write(self.intake.received(self.asked.client, self.envelope))
@@ -170,11 +177,13 @@ class Intake:
                  unsettled: Set[str]):
         self.settings, self.desk, self.spool, self.book = settings, desk, spool, book
         self.names, self.guard, self.unsettled = Names(desk, spool, book), threading.Lock(), unsettled
+        # (each process has its part of those that bring mail)
+        self.calls = Calls(max(1, MOST_TO_THE_WORKER // 2 // settings.processes))
 
     def take_up(self, settings: Settings) -> Settings:
         """From now on mail is of these customers, by these logins and domains; all else stays."""
-        self.settings = replace(self.settings, customers=settings.customers, logins=settings.logins,
-                                domains=settings.domains)
+        self.settings = replace(self.settings, customers=settings.customers, desks=settings.desks,
+                                logins=settings.logins, domains=settings.domains)
         return self.settings
 
     def answered(self, name: str) -> Optional[str]:
@@ -205,6 +214,14 @@ class Intake:
             raise NotTaken("550 5.7.1 no customer sends as this")
         return found
 
+    def expect_room(self, customer: str) -> None:
+        """Refuses mail of a customer of whom the spool keeps too much: what it deletes stays for a while, and counts in no
+        quota of the desk."""
+        found = self.settings.customers.get(customer)
+        if found and self.book.kept_bytes(customer) > MOST_KEPT * found.bytes:
+            log.warning("too much is kept", customer=customer)
+            raise NotTaken("452 4.2.2 too much deleted mail is kept, try later")
+
     def received(self, client: str, envelope: Envelope) -> bytes:
         text = (f"Received: from {client}\r\n"
                 f"\tby {self.settings.host} with LMTP id {envelope.spool}\r\n"
@@ -220,8 +237,9 @@ class Intake:
                 return before
             self.keep(envelope, draft)
             try:
-                reply = self.desk.submit(envelope.customer, envelope.spool, envelope.sender,
-                                         envelope.recipient, draft.size)
+                with self.call_for(envelope.customer):
+                    reply = self.desk.submit(envelope.customer, envelope.spool, envelope.sender,
+                                             envelope.recipient, draft.size)
             except Refused as refusal:
                 return self.refused(envelope, refusal)
             except Away as error:
@@ -229,7 +247,13 @@ class Intake:
                 with self.guard:
                     self.unsettled.add(envelope.customer)
                 return "451 4.3.0 the desk is away"
-            return self.judged(envelope, reply)
+            return self.judged(envelope, reply, draft.size)
+
+    def call_for(self, customer: str) -> ContextManager[None]:
+        """A call of its desk; among several, one that hangs leaves the others' mail room to come in."""
+        if not self.settings.has_several_desks:
+            return nullcontext()
+        return self.calls.one_of(self.settings.desks.get(customer, ""))
 
     def keep(self, envelope: Envelope, draft: Draft) -> None:
         """Keeps a message, unless its customer was dropped since it was begun.
@@ -250,17 +274,22 @@ class Intake:
         customer may have deleted them by then. While the desk is away they wait."""
         with self.guard:
             customers, self.unsettled = self.unsettled, set()
+        away: Set[Optional[str]] = set()
         for customer in sorted(customers.intersection(self.settings.customers)):
+            desk = self.settings.desks.get(customer)
             try:
+                if desk in away:
+                    raise Away("as for another customer of its desk")
                 self.names.queued(customer)
             except (Away, Refused, OSError, sqlite3.Error) as error:
                 log.warning("not settled", customer=customer, why=repr(error))
+                away.update({desk} if desk and isinstance(error, Away) else ())
                 with self.guard:
                     self.unsettled.add(customer)
             else:
                 log.info("settled", customer=customer)
 
-    def judged(self, envelope: Envelope, reply: dict) -> str:
+    def judged(self, envelope: Envelope, reply: dict, size: int) -> str:
         verdict = reply["verdict"]
         if verdict == "rejected":
             self.spool.remove(envelope.spool)
@@ -272,7 +301,7 @@ class Intake:
             self.spool.remove(envelope.spool)
         else:
             answer = f"250 2.0.0 queued as {reply['id']}"
-            self.book.taken(envelope.customer, envelope.spool, reply["id"], answer)
+            self.book.taken(envelope.customer, envelope.spool, reply["id"], answer, size)
         log.info(verdict, customer=envelope.customer, spool=envelope.spool, answer=answer)
         return answer
 

@@ -1,18 +1,19 @@
 """Looking after what was handed over: what is lost, what was never taken, and what is not wanted any
 more by its customer."""
 import time
-from typing import Callable, Dict, List
+from typing import Callable, Dict, List, Tuple
 
 import instance
 import log
-from desk import Away, Desk, Refused
+from desk import Desk
 from handed import Attempt, Handed, told_of
 from instance import Queue
 from names import Names
 from settings import Settings
 
-# A hold does not take back what is just being sent: nobody would know then whether it was.
-TAKEN_BACK_ON_HOLD = ("incoming", "deferred")
+# A hold does not take back what may just be being sent: nobody would know then whether it was. (A reload of
+# Postfix moves that from `active` to `incoming`.)
+TAKEN_BACK_ON_HOLD = "deferred"
 
 
 class Missing:
@@ -20,9 +21,12 @@ class Missing:
     report there before. One look is not believed: a message that moves there may be missed."""
 
     def __init__(self, settings: Settings, desk: Desk, handed: Handed, names: Names,
-                 read: Callable[[], int], ended: Callable[[Attempt, list], None]):
+                 read: Callable[[], int], ended: Callable[[Attempt, list], None],
+                 lies: Callable[[str], None]):
         self.settings, self.desk, self.handed, self.names = settings, desk, handed, names
-        self.read, self.ended = read, ended
+        self.read, self.ended, self.lies = read, ended, lies
+        # what lies in the queue, by customer, with the queue that it lies in
+        self.lying: Dict[str, List[Tuple[Attempt, str]]] = {}
         # since when an attempt is neither in the queue nor reported, by its envelope ID
         self.since: Dict[str, float] = {}
 
@@ -37,16 +41,18 @@ class Missing:
         left = {it.envelope: it for it in self.handed.under_way()}
         self.since = {it: at for it, at in self.since.items() if it in left}
         known = {it.queue_id for it in left.values() if it.queue_id}
-        lying: List[Attempt] = []
+        lying: Dict[str, List[Tuple[Attempt, str]]] = {}
         for attempt in (left[it.envelope] for it in old if it.envelope in left):
-            if queue.has(attempt, known):
-                self.since.pop(attempt.envelope, None)
-                lying.append(attempt)
-            else:
+            if not queue.has(attempt, known):
                 self.miss(attempt, queue, now)
-        # (the desk knows nothing of a customer who was dropped)
-        known_to = self.settings.customers
-        self.take_back([it for it in lying if it.queue_id and it.customer in known_to], queue)
+                continue
+            self.since.pop(attempt.envelope, None)
+            # (the desk knows nothing of a customer who was dropped)
+            if attempt.queue_id and attempt.customer in self.settings.customers:
+                lying.setdefault(attempt.customer, []).append((attempt, queue.ids[attempt.queue_id]))
+        self.lying = lying
+        for customer in lying:
+            self.lies(customer)
 
     def miss(self, attempt: Attempt, queue: Queue, now: float) -> None:
         since = self.since.setdefault(attempt.envelope, now)
@@ -70,23 +76,19 @@ class Missing:
         self.handed.resolved(attempt, told_of(list(attempt.outcomes)), is_lost)
         self.ended(attempt, [])
 
-    def take_back(self, lying: List[Attempt], queue: Queue) -> None:
-        """Takes back what its customer deleted meanwhile, and what it holds and nobody sends yet."""
-        for customer in sorted({it.customer for it in lying}):
-            try:
-                self.take_back_of(customer, [it for it in lying if it.customer == customer], queue)
-            except (Away, Refused) as error:
-                log.error("desk away", customer=customer, why=error)
-
-    def take_back_of(self, customer: str, lying: List[Attempt], queue: Queue) -> None:
-        states = {it["id"]: it["state"] for it in self.desk.messages(customer)}
-        for attempt in lying:
+    def take_back(self, customer: str) -> bool:
+        """Takes back what a customer deleted meanwhile, and what it holds and nobody sends yet. A turn: nothing is left
+        to do."""
+        lying = self.lying.pop(customer, [])
+        states = {it["id"]: it["state"] for it in self.desk.messages(customer)} if lying else {}
+        for attempt, queue in lying:
             state = states.get(attempt.id)
             if state == "hold":
-                if queue.ids[attempt.queue_id] in TAKEN_BACK_ON_HOLD:
+                if queue == TAKEN_BACK_ON_HOLD:
                     self.take_one_back(attempt)
             elif not state and not self.names.anywhere(customer, attempt.spool, attempt.id):
                 self.take_one_back(attempt)
+        return False
 
     def take_one_back(self, attempt: Attempt) -> None:
         words = dict(customer=attempt.customer, id=attempt.id, queue_id=attempt.queue_id)

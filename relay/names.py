@@ -18,7 +18,7 @@ class Names:
         """
         envelope = self.spool.envelope(spool)
         if envelope and envelope.customer == customer:
-            self.book.taken(customer, spool, id, f"250 2.0.0 queued as {id}")
+            self.book.taken(customer, spool, id, f"250 2.0.0 queued as {id}", self.spool.size(spool))
         else:
             self.book.named(customer, id, spool)
 

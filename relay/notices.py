@@ -1,12 +1,12 @@
 """Which notices are mailed, and when: the desk's, each once, in the order of their numbers, and the
 worker's own of mail that was delivered, where its sender asked for them."""
 import time
-from typing import Dict, List, Optional
+from typing import Dict, List, Optional, Set
 
 import log
-from book import Report, Waiting
+from book import Notice, Report, Waiting
 from desk import Desk
-from handed import Handed
+from handed import Attempt, Handed
 from mailing import (ASIDE, DONE, LATER, REFUSED, Hop, Original, is_wanted, original_of, success,
                      written)
 from names import Names
@@ -22,7 +22,10 @@ class Notices:
     def __init__(self, settings: Settings, desk: Desk, spool: Spool, handed: Handed, names: Names):
         self.settings, self.desk, self.spool, self.handed = settings, desk, spool, handed
         self.book, self.names = handed.book, names
-        self.mailed: Dict[str, int] = {}  # mailed, and not written down since the disk is full
+        handed.success_of = self.success_of
+        # mailed, and not written down since the disk is full: the desk's, and those that were set aside
+        self.mailed: Dict[str, int] = {}
+        self.waited: Set[str] = set()
         self.begun: Dict[str, int] = {}  # whose mailing this process has begun
         self.until = 0.0  # the moment up to which the next hop rests
 
@@ -73,7 +76,8 @@ class Notices:
         words = dict(customer=customer, number=number, kind=notice["kind"], id=notice["id"],
                      to=notice["to"])
         self.begin(customer, number, words)
-        original = self.original(customer, notice["id"])
+        spool = self.book.spool_of(customer, notice["id"])
+        original = self.original(customer, spool, spool and self.handed.last_of(spool))
         if is_wanted(notice["kind"], original.envelope):
             content = self.written(notice, original)
             result = self.mail(hop, notice["to"], content, words)
@@ -111,17 +115,22 @@ class Notices:
         now = time.time()
         for it in self.book.waiting(customer):
             words = dict(customer=customer, notice=it.name, to=it.recipient)
-            if now < next_try(it):
-                continue
-            result = self.mail(hop, it.recipient, self.book.content_of(it.name), words)
-            if result == ASIDE and now < it.since + LONGEST:
-                self.book.tried(it.name)
-            elif result == LATER:
-                return
-            else:
+            if it.name not in self.waited:
+                if now < next_try(it):
+                    continue
+                # (who cannot write this could not write either that it was mailed)
+                self.book.tried(it.name, now)
+                result = self.mail(hop, it.recipient, self.book.content_of(it.name), words)
+                if result == LATER:
+                    self.book.tried(it.name, it.tried)
+                    return
+                if result == ASIDE and now < it.since + LONGEST:
+                    continue
                 if result == ASIDE:
                     log.error("notice given up", **words)
-                self.book.waited(it.name)
+                self.waited.add(it.name)
+            self.book.waited(it.name)
+            self.waited.discard(it.name)
 
     def mail(self, hop: Hop, recipient: str, content: bytes, words: dict) -> str:
         result = hop.mail(recipient, content)
@@ -135,28 +144,29 @@ class Notices:
             self.until = time.monotonic() + self.settings.pause
         return result
 
-    def original(self, customer: str, id: str) -> Original:
+    def original(self, customer: str, spool: Optional[str], attempt: Optional[Attempt]) -> Original:
         """The message that a notice is of, if its content is known."""
-        spool = self.book.spool_of(customer, id)
         if spool:
             with self.spool.opened(spool) as kept:
                 if kept and kept.envelope.customer == customer:
-                    return original_of(kept, self.handed.last_of(spool))
+                    return original_of(kept, attempt)
         return Original()
 
     # ---- of mail that was delivered
 
-    def confirm(self, report: Report) -> None:
-        """Has those told of a delivery who asked for that (RFC 3461)."""
+    def success_of(self, report: Report, attempt: Attempt) -> Optional[Notice]:
+        """The notice of deliveries for a sender who asked for it (RFC 3461)."""
         delivered = [it for it in report.outcomes if it["result"] == "delivered"]
-        envelope = self.spool.envelope(report.spool) if delivered else None
-        if envelope and envelope.sender and is_wanted("SUCCESS", envelope):
-            notice = success(self.settings.host, report.id, envelope.sender, delivered)
-            content = self.written(notice, self.original(report.customer, report.id))
-            if not self.book.wait_with(report.customer, f"{report.customer}/{report.spool}",
-                                       envelope.sender, content):
-                log.error("notice given up", customer=report.customer, to=envelope.sender,
-                          means="too many wait")
+        try:
+            envelope = self.spool.envelope(report.spool) if delivered else None
+        except OSError as error:
+            log.error("notice given up", customer=report.customer, spool=report.spool, why=error)
+            return None
+        if not (envelope and envelope.sender and is_wanted("SUCCESS", envelope)):
+            return None
+        notice = success(self.settings.host, report.id, envelope.sender, delivered)
+        content = self.written(notice, self.original(report.customer, report.spool, attempt))
+        return Notice(f"{report.customer}/{report.spool}/{report.attempt}", envelope.sender, content)
 
 
 def next_try(waiting: Waiting) -> float:

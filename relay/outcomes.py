@@ -6,12 +6,13 @@ is: so a report counts only for an attempt whose envelope ID it has, and nobody 
 import email
 import email.policy
 import mailbox
+import re
 from dataclasses import replace
 from email.message import Message
-from typing import Callable, Dict, List, Optional, Set, Tuple
+from typing import Callable, Dict, List, Optional, Tuple
 
 import log
-from desk import Away, Refused
+from destinations import CUSTOMER_ALONE, DOMAIN
 from dsn import STATUS, clean
 from handed import Attempt, Handed, Outcome, told_of
 from names import Names
@@ -24,12 +25,16 @@ BATCH, LARGEST = 200, 262_144
 ASIDE, MOST_ASIDE = "aside", 100
 # The subject of a status that tells of the connection (RFC 3463).
 OF_THE_CONNECTION = 4
+# How Postfix says that a session was cut behind its greeting: "lost connection with HOST while sending RCPT TO".
+CUT = re.compile(r"(?:lost connection|conversation) with .* while sending ")
+
 
 def outcome_of(group: Message) -> Optional[Outcome]:
     """What a group of a report says of its recipient; None where it is still being tried.
 
-    A failure that would have been tried again has the mark of `postfix_lines` in its status. The
-    domain did not answer where the instance itself, and not a host, tells of the connection.
+    A failure that would have been tried again has the mark of `postfix_lines` in its status. Where the
+    instance itself, and not a host, tells of the connection, the domain was not reached; or this
+    message alone, where its session was cut.
     """
     kind, _, text = (it.strip() for it in clean(group["Diagnostic-Code"] or "").partition(";"))
     action = clean(group["Action"] or "").lower()
@@ -44,11 +49,11 @@ def outcome_of(group: Message) -> Optional[Outcome]:
         result, digit = ("deferred", "4") if is_soft else ("failed", "5")
     else:
         return None
-    is_dead = is_soft and int(subject) == OF_THE_CONNECTION and kind.lower() != "smtp"
+    is_lost = is_soft and int(subject) == OF_THE_CONNECTION and kind.lower() != "smtp"
     return {"recipient": recipient_of(group), "result": result,
             "status": f"{digit}.{int(subject)}.{int(detail)}", "text": text,
             "remote": clean(group["Remote-MTA"] or "").partition(";")[2].strip(),
-            "is_dead": "yes" if is_dead else ""}
+            "unreached": (CUSTOMER_ALONE if CUT.match(text) else DOMAIN) if is_lost else ""}
 
 
 def recipient_of(group: Message) -> str:
@@ -84,12 +89,17 @@ def read_text(text: bytes, file: str) -> Tuple[Optional[str], List[Outcome]]:
 
 class Outcomes:
     """Reads reports, and journals what is to be told. `journaled` hears of whom there is something,
-    `ended` of each attempt that has ended so."""
+    `ended` of each attempt that has ended so, and `comes_late` of whom a report has to be fitted, for
+    which its desk is asked."""
 
     def __init__(self, settings: Settings, handed: Handed, names: Names,
-                 journaled: Callable[[str], None], ended: Callable[[Attempt, list], None]):
+                 journaled: Callable[[str], None], ended: Callable[[Attempt, list], None],
+                 comes_late: Callable[[str], None]):
         self.settings, self.handed, self.names = settings, handed, names
-        self.journaled, self.ended = journaled, ended
+        self.journaled, self.ended, self.comes_late = journaled, ended, comes_late
+        # by customer what came of attempts that were given up, and the files that say so
+        self.late: Dict[str, Dict[str, List[Outcome]]] = {}
+        self.late_keys: Dict[str, List[str]] = {}
 
     def box(self) -> mailbox.Maildir:
         # (a new one each time: one that is kept may miss a file of the same moment)
@@ -101,7 +111,8 @@ class Outcomes:
         if not all((self.settings.reports / it).is_dir() for it in ("new", "cur", "tmp")):
             return 0
         box, reports, keys = self.box(), {}, {}
-        for key in box.keys()[:BATCH]:
+        set_apart = {it for some in self.late_keys.values() for it in some}
+        for key in [it for it in box.keys() if it not in set_apart][:BATCH]:
             envelope, told = self.read_one(box, key)
             if envelope and self.handed.of(envelope):
                 reports.setdefault(envelope, []).extend(told)
@@ -111,10 +122,41 @@ class Outcomes:
                 box.discard(key)
             else:
                 self.put_aside(box, key)
-        taken = self.take(reports) if reports else set()
-        for key in (it for envelope in taken for it in keys.get(envelope, ())):
+        self.set_apart({it: reports.pop(it) for it in [*reports] if self.handed.of(it).is_lost}, keys)
+        if reports:
+            self.take(reports)
+        for key in (it for envelope in reports for it in keys[envelope]):
             box.discard(key)
-        return len(taken)
+        return len(reports)
+
+    def set_apart(self, late: Dict[str, List[Outcome]], keys: Dict[str, List[str]]) -> None:
+        """These reports are of attempts that were given up: each is fitted in a turn of its customer."""
+        for envelope, told in late.items():
+            customer = self.handed.of(envelope).customer
+            self.late.setdefault(customer, {}).setdefault(envelope, []).extend(told)
+            self.late_keys.setdefault(envelope, []).extend(keys[envelope])
+        self.ask_for_late()
+
+    def ask_for_late(self) -> None:
+        """Gives those a turn of whom late reports wait."""
+        for customer in [*self.late]:
+            self.comes_late(customer)
+
+    def take_late(self, customer: str) -> bool:
+        """Fits the late reports of a customer. A turn: nothing is left to do."""
+        for envelope, told in [*self.late.get(customer, {}).items()]:
+            reports, attempt = {envelope: told}, self.handed.of(envelope)
+            if customer not in self.settings.customers:
+                log.warning("report of a dropped customer", envelope=envelope)
+            elif attempt:
+                self.move(attempt, reports)
+                self.take(reports)
+                self.journaled(customer)
+            self.late[customer].pop(envelope)
+            for key in self.late_keys.pop(envelope):
+                self.box().discard(key)
+        self.late.pop(customer, None)
+        return False
 
     def is_of_dropped(self, envelope: Optional[str]) -> bool:
         """Whether an envelope ID is of a customer who is in the settings no more."""
@@ -129,15 +171,8 @@ class Outcomes:
             text = file.read(LARGEST)
         return read_text(text, key)
 
-    def take(self, reports: Dict[str, List[Outcome]]) -> Set[str]:
-        """Journals what reports say; the envelope IDs of those that need not be read again."""
-        late = [it for it in map(self.handed.of, reports) if it and it.is_lost]
-        for attempt in late:
-            try:
-                self.move(attempt, reports)
-            except (Away, Refused) as error:
-                log.error("desk away", customer=attempt.customer, why=error)
-                reports.pop(attempt.envelope)
+    def take(self, reports: Dict[str, List[Outcome]]) -> None:
+        """Journals what reports say."""
         for envelope, told in reports.items():
             attempt = self.handed.of(envelope)
             if attempt and told and not attempt.with_more(told):
@@ -146,9 +181,8 @@ class Outcomes:
         done = self.handed.reported(reports)
         for attempt in done:
             self.ended(attempt, attempt.with_more(reports[attempt.envelope]))
-        for customer in sorted({it.customer for it in (*done, *late)}):
+        for customer in sorted({it.customer for it in done}):
             self.journaled(customer)
-        return set(reports)
 
     def move(self, lost: Attempt, reports: Dict[str, List[Outcome]]) -> None:
         """A report came of an attempt that was given up as lost. Where its message was delivered, or

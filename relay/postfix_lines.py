@@ -18,9 +18,12 @@ HEADER_ROOM = 4096
 # What stands before the subject of a status where a soft failure is made a hard one.
 SOFT_MARK = "9"
 # A failed STARTTLS is tried again in plain text by the instance itself; each other soft failure
-# comes back as a hard one, marked in its status (RFC 3463 has no subject that begins so).
+# comes back as a hard one, marked in its status (RFC 3463 has no subject that begins so). A host that
+# writes the mark itself, or a subject that has no room for it, has told no subject.
 SOFT_FAILURES = rf"""/^4(\.7\.5 Cannot start TLS: .*)/ 4$1
+/^5\.{SOFT_MARK}[0-9]*(\.[0-9]+ .*)/ 5.0$1
 /^4\.([0-9]{{1,2}}\.[0-9]+ .*)/ 5.{SOFT_MARK}$1
+/^4\.[0-9]+(\.[0-9]+ .*)/ 5.{SOFT_MARK}0$1
 """
 TO_THE_WORKER = f"/^Content-Type: multipart\\/report/ REDIRECT {REPORTS}\n"
 
@@ -74,6 +77,9 @@ def front(settings: Settings) -> Instance:
             "yes", "the worker finds the customer by the login"),
         "desk_destination_recipient_limit": Line(
             "1", "the worker answers each recipient by itself, also after a stop"),
+        "authorized_mailq_users": Line(
+            "root", "nobody else on the machine lists senders and recipients", True),
+        "authorized_flush_users": Line("root", "nobody else has all mail tried", True),
     }, services, {})
 
 
@@ -137,6 +143,9 @@ def whose_mail(settings: Settings) -> Dict[str, Line]:
         "smtpd_recipient_restrictions": Line(
             f"check_recipient_access inline:{{{{{REPORTS_DOMAIN} = {NO_SUCH_DOMAIN}}}}}, "
             "permit_mynetworks, reject", "no customer writes a report"),
+        "authorized_mailq_users": Line(f"root, {settings.user}",
+                                       "nobody else on the machine lists senders and recipients"),
+        "authorized_flush_users": Line(f"root, {settings.user}", "nobody else has all mail tried"),
         "smtpd_peername_lookup": Line("no", "DNS knows nothing of loopback"),
         "smtpd_client_connection_count_limit": Line("0", "all sessions come from one address"),
         "smtpd_error_sleep_time": Line("0", "one refused message does not slow down the others"),

@@ -55,7 +55,6 @@ class Reports:
                 continue
             log.info("outcome", customer=report.customer, id=report.id, spool=report.spool,
                      attempt=report.attempt, outcomes=words_of(report), result=reply["result"])
-            self.notices.confirm(report)
             return [(report, reply.get("left") == 0)]
         return []
 
@@ -77,7 +76,7 @@ class Reports:
             self.book.reported(report)
             log.warning("gone in the middle", customer=report.customer, id=report.id,
                         spool=report.spool, outcomes=words_of(report),
-                        means="deleted or expired during the attempt")
+                        means="deleted or expired during the attempt, or told before a stop")
         return mended
 
     def fitted(self, report: Report) -> Optional[Report]:

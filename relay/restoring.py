@@ -53,8 +53,8 @@ class Restoring:
 
     def submit_lost(self, customer: str, queued: Dict[str, str]) -> None:
         """What was taken, and the desk does not have any more, is submitted again."""
-        for spool, (is_finished, _) in self.book.uncleaned(customer).items():
-            if spool in queued or is_finished:
+        for spool, known in self.book.uncleaned(customer).items():
+            if spool in queued or known.is_finished:
                 continue
             with self.spool.opened(spool) as kept:
                 if not kept:

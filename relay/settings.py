@@ -20,6 +20,8 @@ COLUMNS = ["name", "key", "messages", "bytes", "lines", "notices", "delay"]
 # (a directory may have one column more)
 FURTHER = "history"
 SENDERS = ["kind", "name", "customer"]
+# And that of the table of desks.
+DESKS = ["customer", "desk"]
 # What stands before the path of a socket in the place of a command.
 SOCKET = "unix:"
 REQUIRED = object()
@@ -53,6 +55,7 @@ class Settings:
     desk_timeout: float
     key: str
     customers: Dict[str, Customer]
+    desks: Dict[str, str]
     folder: Path
     keep_days: float
     user: str
@@ -79,6 +82,17 @@ class Settings:
     clean_every: float
     notices_hop: Address
     notices_from: str
+
+    @property
+    def has_several_desks(self) -> bool:
+        return len(set(self.desks.values())) > 1
+
+    def of_desks(self) -> List[List[str]]:
+        """The customers of each desk; all together where no table tells."""
+        found: Dict[str, List[str]] = {}
+        for it in self.customers:
+            found.setdefault(self.desks.get(it, ""), []).append(it)
+        return [*found.values()]
 
     @property
     def socket(self) -> Optional[Path]:
@@ -170,17 +184,30 @@ def customers_of(path: Path) -> Dict[str, Customer]:
     return found
 
 
-def senders_of(path: Path, customer: Callable[[str], str]) -> Dict[str, Dict[str, str]]:
-    """By `login` and `domain` the customers of a table, as `hq-customers` writes it."""
-    found: Dict[str, Dict[str, str]] = {"login": {}, "domain": {}}
+def desks_of(path: Path) -> Dict[str, str]:
+    """Which desk each customer has, by a table as `hq-customers` writes it."""
+    rows = table_of(path, DESKS)
+    if any(len(it) != len(DESKS) or not CUSTOMER.fullmatch(it[0]) for it in rows):
+        raise ValueError("has a row that is not a customer and a desk")
+    return dict(rows)
+
+
+def table_of(path: Path, header: List[str]) -> List[List[str]]:
+    """The rows of a table behind its header."""
     try:
         with open(path, newline="", encoding="utf-8") as file:
             rows = list(csv.reader(file))
     except (OSError, ValueError, csv.Error) as error:
         raise ValueError(f"cannot be read: {error}") from None
-    if not rows or rows[0] != SENDERS:
-        raise ValueError(f"has not the header {','.join(SENDERS)}")
-    for number, row in enumerate(rows[1:], 1):
+    if not rows or rows[0] != header:
+        raise ValueError(f"has not the header {','.join(header)}")
+    return rows[1:]
+
+
+def senders_of(path: Path, customer: Callable[[str], str]) -> Dict[str, Dict[str, str]]:
+    """By `login` and `domain` the customers of a table, as `hq-customers` writes it."""
+    found: Dict[str, Dict[str, str]] = {"login": {}, "domain": {}}
+    for number, row in enumerate(table_of(path, SENDERS), 1):
         kind, name, its_customer = row if len(row) == len(SENDERS) else ("", "", "")
         name = name.lower() if kind == "domain" else name
         if kind not in found or not name or name in found[kind]:
@@ -261,6 +288,7 @@ def load(name: str) -> Settings:
         desk_timeout=reader.read("desk", "timeout", wait, 60.0),
         key=reader.read("desk", "key-file", lambda it: key_of(reader.path(it))),
         customers=customers,
+        desks=reader.read("desk", "desks", lambda it: desks_of(reader.path(it)), {}),
         folder=folder,
         keep_days=reader.read("spool", "keep-days", seconds, 7.0),
         user=reader.read("spool", "user", user, "hqrelay"),

@@ -258,7 +258,7 @@ class Proxy:
         (self.folder / "nginx-name.conf").write_text("server_name desk.example;\n")
         temporary = "".join(f"  {it}_temp_path {folder}/{it};\n" for it in TEMPORARY)
         self.put("nginx-main.conf", "nginx.conf", {
-            "user www-data;\n": as_user,
+            "user hqproxy;\n": as_user,
             "/run/nginx.pid": f"{folder}/nginx.pid", "/var/log/nginx": folder,
             "  include /etc/nginx/conf.d/*.conf;\n": f"{temporary}  include {folder}/hq-desk.conf;\n"})
         self.put("nginx.conf", "hq-desk.conf", {
@@ -267,7 +267,7 @@ class Proxy:
         self.put("nginx-workers.conf", "nginx-workers.conf", {
             # (its unit has another user)
             "worker_processes 1;\n": f"{as_user}worker_processes 1;\n", "127.0.0.1:824": self.inner, "/etc/hq": folder,
-            "/run/hq-desk-workers": f"{folder}/workers"})
+            "/var/cache/hq-desk-workers": f"{folder}/workers"})
         for name in ("nginx-errors.conf", "nginx-refusals.conf"):
             shutil.copy(DEPLOY / name, self.folder)
         (self.folder / "workers").mkdir(exist_ok=True)

@@ -11,6 +11,9 @@ from pathlib import Path
 from deploying import DEPLOY
 from serving import LONGEST, Wrong, expect
 
+SCRIPTS = "/usr/libexec/hq-desk"
+# The line with which a desk is away, until it is started.
+STOPS = re.compile(rf"{SCRIPTS}/desk-stop ")
 PAGE = Path(__file__).resolve().parents[2] / "docs/PROCEDURES.md"
 
 
@@ -22,23 +25,42 @@ def lines_of(title):
     return [it.removesuffix(" &&") for it in found[1].replace("\\\n", " ").rstrip("\n").split("\n")]
 
 
+def scripts_in(folder, here):
+    """A folder with `desk-backup` as it is for the places of a test, beside a `desk-stop` and a `desk-start` that do nothing."""
+    folder.mkdir()
+    text = (DEPLOY / "desk-backup").read_text()
+    for it, value in here.items():
+        expect(it in text, "desk-backup has no", it)
+        text = text.replace(it, str(value))
+    for name, script in (("desk-backup", text), ("desk-stop", "#!/bin/sh\n"), ("desk-start", "#!/bin/sh\n")):
+        (folder / name).write_text(script)
+        (folder / name).chmod(0o755)
+    return folder
+
+
 class Place:
     """Where procedures are run: the desks by their names, and the nginx before them."""
 
     def __init__(self, folder, program, desks, proxy):
         self.proxy, self.desks = proxy, {it.name: it for it in desks}
+        # (no worker runs here: tests/relay has what it does)
+        self.of_worker = []
         # (the program is called `hq`, as the package has it, and an upgrade writes over it)
         there = {"/etc/hq": folder, "/var/lib/hqdesk": folder, "/usr/libexec/hq-desk": DEPLOY, "/usr/bin/hq": program,
-                 "apt-get install -y \"$NEW\"": f"install -m 755 \"$NEW\" {program}", "runuser -u hqdesk -- ": "", " -g hqdesk": ""}
+                 "apt-get install -y \"$NEW\"": f"install -m 755 \"$NEW\" {program}", "hq-as hqdesk ": "", " -g hqdesk": ""}
         self.path = f"{Path(program).parent}:/usr/bin:/bin:/usr/sbin"
         shown = {f"127.0.0.1:{825 + it}": desk.address for it, desk in enumerate(desks)}
         self.here = {**there, **shown}
+        self.scripts = scripts_in(folder / "scripts", {"/run/hq-desk.stopped": folder / "none", "/var/lib/hqdesk": folder,
+                                                       '"$here/hq-as" hqdesk ': ""})
 
     def run(self, title, after_stop=lambda: None, **names):
         """Runs a procedure; when the desks were stopped, and how long they were away."""
         stopped, paused = 0.0, 0.0
         for line in lines_of(title):
-            if line.startswith("systemctl stop"):
+            if "hq-relay" in line:
+                self.of_worker.append(line)
+            elif STOPS.match(line):
                 stopped = time.monotonic()
                 self.step(line, names)
                 begun = time.monotonic()
@@ -52,6 +74,12 @@ class Place:
     def step(self, line, names):
         if line == "nginx -t":
             self.of_shell(f"nginx -t -p {self.proxy.folder} -c {self.proxy.folder}/nginx.conf", names)
+        elif line.startswith(f"{SCRIPTS}/desk-backup "):
+            _, _, *desks = line.split()
+            self.with_stopped(desks, lambda: self.of_shell(line.replace(SCRIPTS, str(self.scripts)), names))
+        elif STOPS.match(line) or line.startswith(f"{SCRIPTS}/desk-start "):
+            way, *desks = line.split()
+            self.of_desks(way.rpartition("-")[2], [self.desks[it] for it in desks])
         elif line.startswith("systemctl "):
             _, verb, *units = line.split()
             if "nginx" in units:
@@ -60,6 +88,12 @@ class Place:
                 self.of_desks(verb, [self.desks[it.partition("@")[2]] for it in units])
         else:
             self.of_shell(line, names)
+
+    def with_stopped(self, desks, work):
+        running = [self.desks[it] for it in desks if self.desks[it].runs]
+        self.of_desks("stop", running)
+        work()
+        self.of_desks("start", running)
 
     def of_nginx(self, verb, units):
         expect(sorted(units) == ["hq-desk-workers", "nginx"], "one nginx of two is left out:", units)

@@ -33,10 +33,10 @@ class Stores(Place):
     def directory(self, rows):
         (self.folder / "north.csv").write_text(WITH_HISTORY + rows)
 
-    def worker(self, erases):
-        """The worker takes its settings, and erases so."""
+    def worker(self, erases, knows="exit 3"):
+        """The worker takes its settings, and erases so; it knows a customer, or not."""
         (self.bin / "hq-relay").unlink()
-        (self.bin / "hq-relay").write_text(f'#!/bin/sh\n[ "$2" != erase ] || {{ {erases}; }}\n')
+        (self.bin / "hq-relay").write_text(f'#!/bin/sh\n[ "$2" != knows ] || {{ {knows}; }}\n[ "$2" != erase ] || {{ {erases}; }}\n')
         (self.bin / "hq-relay").chmod(0o755)
 
     def words(self, *given):
@@ -106,6 +106,34 @@ def test_a_name_that_a_store_knows(place):
     found = place.told(again, now)
     expect(found == wanted, "the same firm is told", found, "and not", wanted)
     place.done("add", "cedar")
+
+
+def test_a_name_that_another_desk_knows(place):
+    """So is one that a store of another desk has, and one of which the worker has something: both know customers by names alone."""
+    place.filled("birch", int(time.time()))
+    place.directory(BOTH.splitlines(True)[0])
+    place.desk("south", 826, "")
+    ended = place.run("add", "birch", "--desk", "south")
+    expect(ended.returncode == 1 and "the desk north has records of an earlier birch" in ended.stderr, "it is given again:", ended)
+    place.worker("echo nothing", knows="exit 0")
+    ended = place.run("add", "cedar", "--desk", "south")
+    expect(ended.returncode == 1 and "the worker has records of an earlier cedar" in ended.stderr, "it is given again:", ended)
+    place.worker("echo nothing", knows="echo broken >&2; exit 1")
+    ended = place.run("add", "cedar", "--desk", "south")
+    expect(ended.returncode == 1 and "the worker does not tell what it has: broken" in ended.stderr, "it is given:", ended)
+
+
+def test_a_name_that_went_by_hand(place):
+    """A row that somebody takes out of a directory is that of a customer who was dropped, until it is erased."""
+    place.done("set", "acme", "--messages", "999")
+    rows = (place.folder / "north.csv").read_text().splitlines(True)
+    (place.folder / "north.csv").write_text("".join(it for it in rows if not it.startswith("birch")))
+    expect("birch by hand: dropped on 20" in place.done("list"), "it is listed as", place.done("list"))
+    place.done("set", "acme", "--messages", "998")
+    ended = place.run("add", "birch")
+    expect(ended.returncode == 1 and "birch was dropped on 20" in ended.stderr, "its name is given again:", ended)
+    place.done("erase", "birch")
+    place.done("add", "birch")
 
 
 def test_same_firm(place):

@@ -12,7 +12,7 @@ from deploying import DEPLOY, all_settings_of, settings_of
 from serving import LONGEST, expect
 
 # Numbers of users: the desks, the worker, Postfix, and one that is none of them.
-DESK, WORKER, POSTFIX, STRANGER = 61001, 61002, 61003, 61004
+DESK, WORKER, POSTFIX, STRANGER, PROXY = 61001, 61002, 61003, 61004, 61005
 CONNECTS = """\
 import os, socket, sys, time
 host, port, user, count = sys.argv[1], int(sys.argv[2]), int(sys.argv[3]), int(sys.argv[4])
@@ -39,7 +39,7 @@ class Network:
         needs.command("nft", "unshare", "ip")
         self.rules = folder / "hq-desk.nft"
         text = (DEPLOY / "hq-desk.nft").read_text()
-        for name, number in (("hqdesk", DESK), ("hqrelay", WORKER)):
+        for name, number in (("hqdesk", DESK), ("hqrelay", WORKER), ("hqproxy", PROXY)):
             expect(name in text, "the rules name no", name)
             text = text.replace(name, str(number))
         (folder / "firewall.d").mkdir()
@@ -66,17 +66,64 @@ def network(folder):
 
 
 def test_connections_of_an_address(network):
-    """An address has a hundred connections to nginx, with TLS and without, and another address has its own."""
+    """An address has a hundred connections to nginx, with TLS and without, and another address has its own. Those of loopback are
+    one, of which each user of the machine has all."""
+    network.put += "; ip addr add 198.51.100.2/32 dev lo; ip addr add 198.51.100.3/32 dev lo"
     for port in (80, 443):
-        expect(network.connected("127.0.0.1", port, 0, 150, "127.0.0.2") == 100, "of 150 connections to", port)
-        expect(network.connected("127.0.0.1", port, 0, 50, "127.0.0.3") == 50, "of 50 connections to", port)
+        expect(network.connected("127.0.0.1", port, 0, 150, "198.51.100.2") == 100, "of 150 connections to", port)
+        told = network.run('"$0" -c "$@"', BOTH, port, "198.51.100.2", "198.51.100.3")
+        expect(told.split() == ["100", "50"], "two addresses have of 150 and 50 connections", told)
+        told = network.run('"$0" -c "$@"', BOTH, port, "127.0.0.2", "127.77.0.3")
+        expect(told.split() == ["100", "0"], "two addresses of loopback have", told)
 
 
-@pytest.mark.parametrize("port, users", [(824, (0, 33, DESK, WORKER)), (825, (0, 33, DESK, WORKER)), (849, (0, 33, DESK, WORKER)),
+BOTH = """\
+import socket, sys
+listener = socket.create_server(("", int(sys.argv[1])), backlog=1000)
+kept = []
+for source, count in zip(sys.argv[2:], (150, 50)):
+    got = 0
+    for _ in range(count):
+        try:
+            kept.append(socket.create_connection(("127.0.0.1", int(sys.argv[1])), 0.3, source_address=(source, 0)))
+            got += 1
+        except OSError:
+            pass
+    print(got)
+"""
+
+
+def test_a_session_of_before(network):
+    """What was begun at a port of the desk's before the rules were there goes on for nobody else either."""
+    told = network.run('nft delete table inet hq_desk; "$0" -c "$1"', SESSION.replace("PUT", network.put))
+    expect(told.split() == ["before", "cut"], "a session of a stranger's is", told)
+
+
+SESSION = """\
+import os, socket, subprocess
+listener = socket.create_server(("127.0.0.1", 823))
+os.setresuid(61004, 61004, 0)
+client = socket.create_connection(("127.0.0.1", 823), 2)
+server = listener.accept()[0]
+client.sendall(b"before")
+print(server.recv(10).decode())
+os.setresuid(0, 0, 0)
+subprocess.run(["sh", "-ec", ""\"PUT""\"], check=True)
+try:
+    client.sendall(b"behind")
+    client.settimeout(2)
+    server.settimeout(2)
+    print(server.recv(10).decode())
+except OSError:
+    print("cut")
+"""
+
+
+@pytest.mark.parametrize("port, users", [(824, (0, PROXY, DESK, WORKER)), (825, (0, PROXY, DESK, WORKER)), (849, (0, PROXY, DESK, WORKER)),
                                          (821, (0, WORKER, POSTFIX)), (823, (0, WORKER, POSTFIX)), (10024, (0, WORKER, POSTFIX)), (10026, (0, WORKER, POSTFIX)), (10027, (0, WORKER, POSTFIX))])
 def test_who_reaches_a_desk(network, port, users):
     """At the ports of desks and of the worker only the programs that ask there are let in; elsewhere everybody is."""
-    for user in (0, 33, DESK, WORKER, POSTFIX, STRANGER):
+    for user in (0, 33, PROXY, DESK, WORKER, POSTFIX, STRANGER):
         expect(network.connected("127.0.0.1", port, user, 3) == (3 if user in users else 0), "at", port, "the user", user)
     expect(network.connected("127.0.0.1", 8026, STRANGER, 3) == 3, "at a port of others")
 
@@ -152,4 +199,6 @@ def test_unit(network):
         expect("/usr/sbin/nft -D postfix=" in base and base.endswith("-f /etc/hq/hq-desk.nft'"), name, "is", base)
         # (a fault in a file of the administrator's takes no rule of the base away)
         expect(own.startswith("-/bin/sh -c ") and "/etc/hq/firewall.d/*.nft" in own, name, "of the administrator's files is", own)
-    expect(network.run(f"{unit['ExecStop']}; nft list ruleset") == "", "something is left")
+    # (a stop, and so a restart, opens nothing)
+    expect("ExecStop" not in unit, "a stop does", unit.get("ExecStop"))
+    expect(network.run("nft delete table inet hq_desk; nft list ruleset") == "", "something is left")

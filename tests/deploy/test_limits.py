@@ -76,8 +76,11 @@ def test_log_levels():
     text = (DEPLOY / "nginx.conf").read_text()
     servers = text.count("\nserver {")
     expect(servers == 2 and text.count("error_log /var/log/hq-nginx/error.log alert;") == servers, "some server logs more")
+    # (the machine's own nginx.conf may log each request of a server that says nothing)
+    logs = [re.findall(r"\n  access_log ([^;]+);", it) for it in text.split("\nserver {")[1:]]
+    expect(logs == [["off"], ["/var/log/hq-nginx/hq-desk.log hq if=$is_logged"]], "requests are logged by", logs)
     rules = (DEPLOY / "hq-desk.logrotate").read_text().partition("\n/var/log/hq-nginx/*.log {")[2]
-    expect("\n  maxsize 200M\n" in rules and "create 0640 " in rules, "its logs grow without an end:", rules)
+    expect("\n  maxsize 200M\n" in rules and "create 0640 hqproxy adm" in rules, "its logs grow without an end:", rules)
 
 
 # ---- who is one

@@ -97,6 +97,7 @@ def emptied(desk):
 def restored(place, north, copy, before, load, stopped, there):
     """The copy in its place: what was answered before the stop, and nothing of later."""
     place.run("Restore", BACKUP=str(copy), ASIDE=str(copy.parent / "aside"))
+    expect([it.split()[1] for it in place.of_worker] == ["stop", "hqrelay", "start"], "the worker is not away:", place.of_worker)
     for name in NORTH:
         found = kept(north.address, name) - before[name]
         sure = load.ids(name, lambda it: it.answered < stopped)
@@ -253,8 +254,11 @@ def upgraded(place, program, used, proxy, served):
         place.run("An upgrade", NEW=program, BACKUP=str(folder / "upgrade"))
     expect(used.read_bytes() == Path(program).read_bytes(), "the new program is not in its place")
     expect((folder / "upgrade" / used.name).read_bytes() == old, "the old program is not kept")
-    with tarfile.open(folder / "upgrade/stores.tar") as copy:
-        lacking = {f"{it}{end}" for it in ("north.db", "south.db") for end in ("", "-wal")} - set(copy.getnames())
+    copied = set()
+    for name in ("north", "south"):
+        with tarfile.open(folder / f"upgrade/{name}.tar") as copy:
+            copied.update(copy.getnames())
+    lacking = {f"{it}{end}" for it in ("north.db", "south.db") for end in ("", "-wal")} - copied
     expect(not lacking, "the copy of the stores lacks", lacking)
     found = [all_of(desk.address, key_of(it)) for it, desk in served]
     expect(found == before, "something else is told behind an upgrade")

@@ -3,16 +3,20 @@
 The user of the desks is `nobody` here, and its folder one of the test. Before each line it puts links into it, to a file that root
 alone may read, and to one that others may not write.
 """
+import contextlib
+import fcntl
 import os
+import pty
 import re
 import subprocess
+import termios
 import time
 
 import needs
 import pytest
 from deploying import DEPLOY, HEADER, OTHERS, ROWS, all_settings_of
 from serving import LONGEST, RELAY, batch_line, expect, submission
-from steps import lines_of
+from steps import SCRIPTS, lines_of, scripts_in
 
 USER, GROUP = "nobody", "nogroup"
 SECRET, KEPT = "a secret of root's", "a file of root's"
@@ -41,6 +45,8 @@ class Service:
                               ("env", f"HOST=relay.example\nLISTEN=unix:{folder}/none/{name}.sock\n")):
                 (self.etc / f"{name}.{end}").write_text(text)
         self.as_service("chown", f"{USER}:{GROUP}", self.own, as_root=True)
+        self.scripts = scripts_in(folder / "scripts", {"/run/hq-desk.stopped": folder / "none", "/var/lib/hqdesk": self.own,
+                                                       '"$here/hq-as" hqdesk ': f"{DEPLOY}/hq-as {USER} "})
         for name, customer in (("north", "acme"), ("south", "birch")):
             line = batch_line(int(time.time()), "POST", f"/relay/submit/{customer}", RELAY, submission("s1"))
             told = self.as_service("hq", "batch", "--directory", self.etc / f"{name}.csv", "--host", "relay.example", "--relay-key", RELAY,
@@ -68,7 +74,10 @@ class Service:
 
     def step(self, line, **names):
         """A line of a page, whatever its status; what calls systemctl or apt is left out."""
-        for it, here in (("runuser -u hqdesk", f"runuser -u {USER}"), ("-init /dev/null ", ""), ("-g hqdesk", f"-g {GROUP}"), ("/etc/hq", self.etc),
+        if "desk-stop" in line or "desk-start" in line:
+            return
+        line = line.replace(f"{SCRIPTS}/desk-backup", str(self.scripts / "desk-backup"))
+        for it, here in (("hq-as hqdesk", f"{DEPLOY}/hq-as {USER}"), ("-init /dev/null ", ""), ("-g hqdesk", f"-g {GROUP}"), ("/etc/hq", self.etc),
                          ("/var/lib/hqdesk", self.own), ("/usr/libexec/hq-desk", DEPLOY)):
             line = line.replace(it, str(here))
         if not re.match(r"systemctl|apt-get|nginx", line):
@@ -95,7 +104,7 @@ def test_procedures(service, title):
     """Before each line all names are links; and before each in turn the store itself is one."""
     names = {"BACKUP": str(service.backup), "ASIDE": str(service.folder / "aside")}
     lines = lines_of(title)
-    expect(any("hqdesk" in it for it in lines), "no line is for the folder of the desks:", lines)
+    expect(any("hqdesk" in it or "desk-backup" in it for it in lines), "no line is for the folder of the desks:", lines)
     if title == "Restore":
         for it in lines_of("Backup"):
             service.step(it, **names)
@@ -123,17 +132,19 @@ def test_backup_is_whole(service):
 
 
 def test_rotation(service):
-    """logrotate opens the logs as the user of the desks."""
+    """The user of the desks moves its logs away by a unit of its own, which has an end: root's logrotate opens none of them."""
     needs.command("logrotate")
+    unit = all_settings_of(DEPLOY / "hq-desk-logs.service")
+    expect(unit["User"] == ["hqdesk"] and int(unit["TimeoutStartSec"][0]) <= 600, "logs are moved by", unit)
+    expect("hqdesk" not in re.sub("(?m)^#.*", "", (DEPLOY / "hq-desk.logrotate").read_text()), "root moves the logs of desks")
     rules = service.folder / "rules"
-    text = (DEPLOY / "hq-desk.logrotate").read_text().partition("\n/var/log/hq-nginx/")[0]
-    rules.write_text(text.replace("su hqdesk hqdesk", f"su {USER} {GROUP}").replace("/var/log/hqdesk", str(service.own)))
+    rules.write_text((DEPLOY / "logs.conf").read_text().replace("/var/log/hqdesk", str(service.own)))
     rules.chmod(0o644)
     for swapped in (False, True):
         service.as_service("sh", "-c", f"echo a line >{service.own}/north.log")
         service.swap("north.log") if swapped else service.plant([it for it in NAMES if ".log" in it])
         for _ in range(3):
-            subprocess.run(["logrotate", "--force", "--state", service.folder / "state", rules], capture_output=True, timeout=LONGEST)
+            service.as_service("logrotate", "--force", "--state", service.own / ".moved", rules)
             service.unharmed("a rotation")
         service.back()
 
@@ -152,9 +163,73 @@ def test_asked(service):
         service.back()
 
 
+PRINTS_AND_LOOKS = "echo printed; echo told >&2; ls -l /proc/self/fd; ps -o tty= -p $$; exit 7"
+
+
+def test_no_terminal(folder):
+    """What hq-as runs has no way to the terminal of root, who sees what it prints, and its status."""
+    number, terminal = pty.openpty()
+    command = subprocess.Popen([DEPLOY / "hq-as", USER, "sh", "-c", PRINTS_AND_LOOKS], stdin=terminal, stdout=terminal, stderr=terminal,
+                               start_new_session=True, preexec_fn=lambda: fcntl.ioctl(0, termios.TIOCSCTTY, 0))
+    os.close(terminal)
+    told = b""
+    with contextlib.suppress(OSError):
+        for piece in iter(lambda: os.read(number, 4096), b""):
+            told += piece
+    os.close(number)
+    expect(command.wait(LONGEST) == 7, "the status is", command.returncode)
+    expect(b"printed" in told and b"told" in told and b"/dev/pts" not in told and b"\n?" in told.replace(b"\r", b""), "it has", told)
+    for words, given, wanted in ((("cat",), b"handed on", b"handed on"), (("sh", "-c", "exit 3"), b"", b"")):
+        ended = subprocess.run([DEPLOY / "hq-as", USER, *words], input=given, capture_output=True, timeout=LONGEST)
+        expect(ended.stdout == wanted and ended.returncode == (3 if "sh" in words else 0), words, "got", ended)
+
+
+def test_asked_without_terminal():
+    """hq-ask runs a batch as the user of the desks in a session of its own, and by pipes alone."""
+    found = re.search(r"subprocess\.run\((.*preexec_fn.*)\)", (DEPLOY / "hq-ask").read_text())
+    expect(found and "start_new_session=True" in found[1] and "capture_output=True" in found[1] and "input=" in found[1], "it runs", found)
+
+
+def shown(folder, *more):
+    words = [DEPLOY / "desk-metrics-shown", folder / "from", folder / "to", *more]
+    return subprocess.run(words, capture_output=True, text=True, timeout=LONGEST)
+
+
+def test_counts_planted(folder):
+    """What the worker's user plants among the counts holds up nothing, and is not shown: links, pipes, what is no count or too much."""
+    for it in ("from", "to"):
+        (folder / it).mkdir()
+    good = 'desk_up{desk="north"} 1\n# HELP desk_up Whether a desk tells its counts.\n'
+    (folder / "from/hq-desk-good.prom").write_text(good)
+    os.utime(folder / "from/hq-desk-good.prom", (1000, 1000))
+    (folder / "from/hq-desk-later.prom").write_text(good)
+    os.utime(folder / "from/hq-desk-later.prom", (time.time() + 9000, time.time() + 9000))
+    (folder / "secret").write_text(SECRET)
+    (folder / "from/hq-desk-link.prom").symlink_to(folder / "secret")
+    os.mkfifo(folder / "from/hq-desk-pipe.prom")
+    (folder / "from/hq-desk-dir.prom").mkdir()
+    (folder / "from/hq-desk-forged.prom").write_text(good + "node_filesystem_avail_bytes 1\n")
+    (folder / "from/hq-desk-bytes.prom").write_bytes(b'desk_up{desk="\xff\n"} 1\n')
+    with open(folder / "from/hq-desk-large.prom", "wb") as file:
+        file.truncate(40_000_000)
+    (folder / "from/other.prom").write_text(good)
+    (folder / "to/hq-desk-gone.prom").write_text(good)
+    (folder / "to/others.prom").write_text("node_mine 1\n")
+    told = shown(folder)
+    expect(told.returncode == 1 and told.stderr.count("is not shown") == 6, "it tells", told)
+    found = {it.name: it.read_text() for it in (folder / "to").iterdir()}
+    expect(found == {"hq-desk-good.prom": good, "hq-desk-later.prom": good, "others.prom": "node_mine 1\n"}, "shown is", found)
+    ages = [(folder / f"to/hq-desk-{it}.prom").stat() for it in ("good", "later")]
+    expect(ages[0].st_mtime == 1000 and ages[1].st_mtime <= time.time() and ages[0].st_mode & 0o777 == 0o644, "they are of", ages)
+    (folder / "to").rename(folder / "none")
+    expect(shown(folder).returncode == 0, "where there is no node_exporter it fails")
+
+
 def test_counted():
-    """What writes the counts is the worker's user, into a folder of its own: node_exporter reads there by links."""
+    """What writes the counts is the worker's user, into a folder of its own; root shows them, also where a desk does not tell."""
     unit = all_settings_of(DEPLOY / "hq-desk-metrics.service")
     expect(unit["User"] == ["hqrelay"] and unit["CapabilityBoundingSet"] == [""] and "ReadWritePaths" not in unit, "counts are written by", unit)
     expect(unit["SupplementaryGroups"] == ["systemd-journal"], "it may read what customers' keys stand in:", unit["SupplementaryGroups"])
-    expect(unit["ExecStart"][0].endswith(f"/desk-metrics /run/{unit['RuntimeDirectory'][0]}"), "they are written to", unit["ExecStart"])
+    place = f"/var/lib/{unit['StateDirectory'][0]}"
+    expect(unit["ExecStart"][0].endswith(f"/desk-metrics {place}"), "they are written to", unit["ExecStart"])
+    expect(re.fullmatch(rf"\+\S+/desk-metrics-shown {place} \S+", unit["ExecStopPost"][0]), "they are shown by", unit["ExecStopPost"])

@@ -277,7 +277,7 @@ class Delivering(Instance):
     def __init__(self, folder, hops=None, uid=65534, largest=LARGEST):
         self.reports = folder / "outcomes/reports"
         lines = postfix_lines.delivering(SimpleNamespace(
-            host="relay.example", instance=free_address(), largest=largest, reports=self.reports),
+            host="relay.example", user="hqrelay", instance=free_address(), largest=largest, reports=self.reports),
             uid, uid)
         at = next(it for it in lines.services if it.endswith("/inet"))
         host, port = at[:-len("/inet")].rsplit(":", 1)

@@ -16,7 +16,7 @@ from machine import PYTHON
 from serving import expect, named, until
 from stand_in import StandIn
 
-from book import Book
+from book import Book, Report
 from handed import Attempt, Handed
 
 STEPS = ("instance.take_back", "erasing.Erasing.take_back", "erasing.Erasing.drop_one", "erasing.Erasing.drop_contents",
@@ -66,6 +66,24 @@ def test_refused(place):
     place.run("erase", "dale").ends(2)
     place.has(*ALL)
     expect({it: place.has_of(it) for it in ALL} == before and not place.asked(), "something was done")
+
+
+def test_known(place):
+    """`knows` tells whether there is anything of a customer, in each of the places where something may be, and changes nothing."""
+    place.has(*LEFT)
+    before = {it: place.has_of(it) for it in ALL}
+    for name, status in (("dale", 0), ("acme", 0), ("nobody", 3), ("Dale", 1)):
+        place.run("knows", name).ends(status)
+    expect({it: place.has_of(it) for it in ALL} == before, "something was done")
+    place.queue()
+    place.erase()
+    place.run("knows", "dale").ends(3)
+    book = Book(place.spool)
+    book.attempted(Report("dale", "s1", "1", 1, []))
+    book.close()
+    place.run("knows", "dale").ends(0)
+    shutil.rmtree(place.spool)
+    place.run("knows", "dale").ends(3)
 
 
 def test_no_spool(place):

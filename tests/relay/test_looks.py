@@ -6,7 +6,7 @@ import log
 import pytest
 from desk import NO_ROUTE, Away, Desk, Refused
 from handover import LOOK_SECONDS, ROUNDS_ALONE, Handover
-from resting import UNPROVEN, Resting
+from destinations import UNPROVEN, Destinations
 from serving import expect
 
 NAMES = ["acme", "birch", "cedar"]
@@ -49,7 +49,7 @@ class Turns:
 
 
 def looking(desk, rests=()):
-    settings = SimpleNamespace(customers=dict.fromkeys(NAMES), sessions=1, pause=1.0)
+    settings = SimpleNamespace(customers=dict.fromkeys(NAMES), desks={}, has_several_desks=False, sessions=1, pause=1.0)
     found = Handover(settings, desk, None, SimpleNamespace(book=None), None, None)
     found.turns = Turns(rests)
     return found
@@ -145,11 +145,11 @@ def test_a_turn_that_fails_behind_its_first_page():
         raise Away("/relay/due/acme")
 
     found = looking(SimpleNamespace(due=listed))
-    found.resting = Resting(1.0)
+    found.destinations = Destinations(1.0)
     found.spool = SimpleNamespace(size=lambda name: 900)
     found.handed = SimpleNamespace(spools_under_way=lambda customer: set())
     found.book = SimpleNamespace(untold=lambda customer: [])
     for _ in range(UNPROVEN + 1):
         with pytest.raises(Away):
             found.due("acme", None)
-    expect(found.resting.begin(["q@far.example"]), "the domain is held up")
+    expect(found.destinations.begin(found.attempt("acme", entry(2) | {"recipients": ["q@far.example"]})), "the domain is held up")

@@ -296,9 +296,10 @@ def test_alerts_of_the_page(root):
     for it in ('desk_messages_limit{customer="acme"} ', 'desk_recipients_delivered_total{customer="acme"} 3\n',
                'desk_worker_errors{event="lost notices"} 1\n'):
         expect(it in told, "nothing tells", it, "but", told)
-    expect(root.run("stat -Lc '%U %a' /var/lib/prometheus/node-exporter/hq-desk-north.prom") == "hqrelay 644\n", "root wrote there")
+    expect(root.run("stat -c '%U %a %F' /var/lib/prometheus/node-exporter/hq-desk-north.prom") == "root 644 regular file\n", "shown is no copy")
     root.run("systemctl stop hq-desk@north; systemctl start hq-desk-metrics && exit 9 || true")
-    expect(root.run("cat /var/lib/prometheus/node-exporter/hq-desk-north.prom") in told, "the file of before is lost")
+    shown = root.run("cat /var/lib/prometheus/node-exporter/hq-desk-north.prom /var/lib/prometheus/node-exporter/hq-desk-up.prom")
+    expect(shown.partition("# HELP desk_up")[0] in told and 'desk_up{desk="north"} 0\n' in shown, "of a desk that is away is told", shown)
     root.run("systemctl start hq-desk@north")
     until(lambda: "acme" in root.run("cat /etc/hq/keys.map") and usage(root, "acme").get("delivered") == 3, "acme is not answered")
 
@@ -326,7 +327,7 @@ def test_migrated(root, releases):
     root.run("systemctl stop hq-desk@north; cp -p /var/lib/hqdesk/north.db* /root; rm -rf backup")
     old = root.take(OLD_STORES / "version-2.db")
     root.run(f"rm /var/lib/hqdesk/north.db*; install -m 600 -o hqdesk -g hqdesk {old} /var/lib/hqdesk/north.db")
-    root.run("sed -i s/3/2/ /usr/share/hq-desk/schema; systemctl start hq-desk@north; mkdir backup")
+    root.run("sed -i s/3/2/ /usr/share/hq-desk/schema; systemctl start hq-desk@north")
     done = root.run("wc -l </run/units/done")
     told = installed(root, f"/root/{package_in(releases.now).name}", "--reinstall")
     expect("the desk north was not started again: its store has schema 2." in told, "apt tells", told)
@@ -336,8 +337,7 @@ def test_migrated(root, releases):
     root.run("\n".join(it.replace("BACKUP", "backup") for it in lines))
     until(lambda: "listening" in root.run("tail -n 1 /run/units/hq-desk@north.service.log"), "the migrated desk does not start")
     expect("north.db\n" in root.run("tar -t -f backup/north.tar"), "nothing was copied")
-    root.run("systemctl stop hq-desk@north; rm /var/lib/hqdesk/north.db*; cp -p north.db* /var/lib/hqdesk; "
-             "systemctl start hq-desk@north")
+    root.run("systemctl stop hq-desk@north; rm /var/lib/hqdesk/north.db*; cp -p north.db* /var/lib/hqdesk; systemctl start hq-desk@north")
     until(lambda: usage(root, "acme").get("delivered") == 3, "acme is not answered")
 
 
@@ -365,7 +365,7 @@ def test_purged(root):
     before = root.path("/etc/nginx/nginx.conf.before-hq-desk").read_text()
     told = root.run("apt-get purge -y hq-desk", longest=120)
     expect(root.path("/etc/nginx/nginx.conf").read_text() == before, "nginx has not its own nginx.conf again")
-    for it in ("/etc/postfix has the lines", "/etc/postfix-desk has the lines", "the users hqdesk and hqrelay stay"):
+    for it in ("/etc/postfix has the lines", "/etc/postfix-desk has the lines", "the users hqdesk, hqproxy and hqrelay stay"):
         expect(it in told, "it does not tell that", it, "but", told[-800:])
     dangling = root.run("find /etc/systemd/system -xtype l -name 'hq-*'; ls /etc/sudoers.d | grep -v README || true")
     expect(dangling == "", "a purge left", dangling)

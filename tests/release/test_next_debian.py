@@ -28,7 +28,7 @@ def debian():
 def tried(debian, kind):
     """What nginx says of the files, with the lines for some release of it."""
     own = debian / "etc/hq"
-    for it in (own, debian / "var/log/hq-nginx", debian / "run/hq-desk-workers"):
+    for it in (own, debian / "var/log/hq-nginx", debian / "var/cache/hq-desk-workers"):
         it.mkdir(parents=True, exist_ok=True)
     for it in DEPLOY.glob("nginx*.conf"):
         shutil.copy(it, own)

@@ -71,10 +71,17 @@ def test_signed(signed):
 def test_another_package(signed):
     """A package that the signed sums do not name is refused, whatever stands beside it."""
     place, public = signed
-    other = place / "hq-desk_1.0.1_amd64.deb"
-    other.write_bytes(b"of somebody else")
-    status, told = checked(place, public, other)
-    expect(status != 0, "a package that nobody signed is told as", told)
+    named = next(place.glob("*.deb")).name
+    # (also by a name that is a pattern for the one that they name, or where that one is not there)
+    for name in ("hq-desk_1.0.1_amd64.deb", named.replace("_", "."), f"x{named}", named[:-4] + ".de?", ".*"):
+        for is_there in (True, False):
+            whole = (place / named).read_bytes()
+            (place / name).write_bytes(b"of somebody else")
+            (place / named).unlink() if not is_there else None
+            status, told = checked(place, public, place / name)
+            expect(status != 0, name, "that nobody signed is told as", told)
+            (place / name).unlink()
+            (place / named).write_bytes(whole)
 
 
 def changed(path):
