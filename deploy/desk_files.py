@@ -3,7 +3,8 @@
 `NAME.csv` of each desk is the directory that it serves, `NAME.keys.csv` its named keys, where it has any,
 `senders.csv` has the logins and domains of the worker, `dropped.csv` the customers that were dropped, whose
 records are still there, and `erased.csv` since when those of a name are gone. Made of these are the worker's copy of the
-directories, which has no key (`relay.csv`), the maps of nginx, and the line of `NAME.env` by which a desk gets its named keys.
+directories, which has no key (`relay.csv`), its table of the desk of each customer (`desks.csv`), the maps of nginx, and the
+line of `NAME.env` by which a desk gets its named keys.
 What is to be written stands beside each file first, synced; a file `.customers.whole` then says that all of it
 is there, and each takes its place. Whoever comes next ends what was stopped between.
 """
@@ -35,9 +36,10 @@ SINCE = "since"
 DROPPED = ["name", "desk", "day"]
 ERASED = ["name", "moment"]
 MOMENT = "%Y-%m-%dT%H:%M:%SZ"
+DESKS = ["customer", "desk"]
 LOCK, WHOLE, BESIDE, GONE, TRIAL = ".customers.lock", ".customers.whole", ".customers-new", ".customers-gone", ".customers-trial-"
 # Tables of this folder that are no directory.
-OTHERS = ("relay", "senders", "dropped", "erased", "events")
+OTHERS = ("relay", "senders", "dropped", "erased", "desks", "events", "up")
 # In seconds: how long another one may have the lock, and what a command may take.
 PATIENCE, LONGEST = 60, 120
 
@@ -276,6 +278,8 @@ class Folder:
         erased = [ERASED, *([*it] for it in sorted(self.erased.items()))]
         put_beside(self.path / "erased.csv", text_of(erased), 0o640, desks)
         put_beside(self.path / "relay.csv", self.of_worker(), 0o640, workers)
+        desks_of = [DESKS, *([row["name"], desk.name] for desk in self.desks for row in desk.rows)]
+        put_beside(self.path / "desks.csv", text_of(desks_of), 0o640, workers)
         with tempfile.TemporaryDirectory(dir=self.path, prefix=TRIAL) as made:
             given = [f"{it.settings['LISTEN']}={it.path}{BESIDE}" for it in self.desks]
             tried([scripts / "desk-maps", made, *given])
@@ -304,7 +308,7 @@ class Folder:
             if not (self.path / name).exists():
                 return
             shutil.copy(self.path / name, made)
-        for name in ("relay.csv", "senders.csv"):
+        for name in ("relay.csv", "senders.csv", "desks.csv"):
             shutil.copy(self.path / f"{name}{BESIDE}", made / name)
         tried(["hq-relay", made / "relay.ini", "settings"])
 

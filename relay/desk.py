@@ -63,9 +63,9 @@ class Desk:
     def usages(self) -> List[dict]:
         """What each customer of the desk has there, and what became of its recipients."""
         found: List[dict] = []
-        for told in self.by_hundreds("/relay/usage"):
+        for told in self.by_hundreds("/relay/usage-from"):
             if told["stopped"]:
-                raise Away(f"/relay/usage stopped: {told['stopped']}")
+                raise Away(f"/relay/usage-from stopped: {told['stopped']}")
             found += told["done"]
         return found
 
@@ -83,7 +83,7 @@ class Desk:
 
     def due_of_all(self, timeout: float) -> Iterator[dict]:
         """The first page of what is due of each customer, up to the one at whom a fault stopped it."""
-        return self.by_hundreds("/relay/due", timeout)
+        return self.by_hundreds("/relay/due-from", timeout)
 
     def due(self, customer: str, after: Optional[str] = None) -> Iterator[dict]:
         return self.pages("due", customer, "due", "id", after)
@@ -113,7 +113,7 @@ class Desk:
             after = page[-1][last]
 
     def by_hundreds(self, path: str, timeout: Optional[float] = None) -> Iterator[dict]:
-        """The replies to a call of all customers, a hundred a call, so that nobody waits for a long one.
+        """The replies to a call of a hundred customers at a time, so that nobody waits for a long one.
 
         The last reply tells of a fault, or that no customer is left.
         """
@@ -123,8 +123,7 @@ class Desk:
             asked.add(start)
             told = self.ask(path, {"from": start}, timeout)
             yield told
-            # (a desk that tells no `next` has asked everyone)
-            start = None if told["stopped"] else told.get("next")
+            start = None if told["stopped"] else told["next"]
         if start is not None:
             raise Away(f"{path}: it goes on at {start} again")
 

@@ -33,7 +33,8 @@ RANDOM_BYTES = 12
 
 
 def has_no_call_of_all(error: Exception) -> bool:
-    """Whether several desks stand behind the address: their proxy answers 404 to a call of all."""
+    """Whether the address has no call of all or of a hundred: the proxy of several desks answers 404, and so does a desk of an
+    earlier release."""
     if isinstance(error, Refused):
         return error.number == NO_ROUTE
     return isinstance(error, Away) and error.status == 404

@@ -154,7 +154,7 @@ class Installation:
 
     def faults_of_addresses(self) -> Iterator[str]:
         wanted = [self.settings.listen, self.settings.instance, self.settings.customers_at,
-                  self.settings.notices_hop]
+                  self.settings.policy, self.settings.notices_hop]
         wanted = [it for it in wanted if it]
         for it in sorted({it for it in wanted if wanted.count(it) > 1}):
             yield f"{postfix_lines.named(it)} stands twice in the settings"

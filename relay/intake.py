@@ -19,7 +19,7 @@ from book import Book
 from calls import Calls
 from desk import Away, Desk, Refused
 from names import Names
-from postfix_lines import MOST_TO_THE_WORKER
+from postfix_lines import most_to_the_worker
 from settings import Settings
 from spool import Draft, Envelope, Spool
 
@@ -38,6 +38,7 @@ LARGEST_FIELD = 4096
 BY_POSTFIX = re.compile(rb"[ \t]+by \S+ \(.*\) with \S+ id ([0-9A-Za-z]+)\b.*")
 LOGIN = re.compile(rb"[ \t]+\(Authenticated sender: (.*)\)")
 LINE_OF_LOGIN = re.compile(rb"\n[ \t]+\(Authenticated sender: [^\n]*\)\r?(?=\n)")
+NOBODY = "550 5.7.1 no customer sends as this"
 REFUSALS = {desks.BAD_ADDRESS: "553 5.1.3", desks.QUOTA_MESSAGES: "452 4.2.2",
             desks.QUOTA_BYTES: "452 4.2.2", desks.SERIALS_SPENT: "452 4.3.1"}
 
@@ -188,7 +189,7 @@ class Intake:
         self.settings, self.desk, self.spool, self.book = settings, desk, spool, book
         self.names, self.guard, self.unsettled = Names(desk, spool, book), threading.Lock(), unsettled
         # (each process has its part of those that bring mail)
-        self.calls = Calls(max(1, MOST_TO_THE_WORKER // 2 // settings.processes))
+        self.calls = Calls(max(1, most_to_the_worker(settings) // 2 // settings.processes))
 
     def take_up(self, settings: Settings) -> Settings:
         """From now on mail is of these customers, by these logins and domains; all else stays."""
@@ -217,14 +218,21 @@ class Intake:
             log.error("no Received of Postfix", spool=name, sender=sender,
                       help="the first field has to be Postfix's own")
             raise NotTaken("451 4.3.5 the first field does not tell the login")
-        domain = sender.rpartition("@")[2].lower()
-        found = (self.settings.logins.get(login) if login is not None
-                 else self.settings.domains.get(domain))
-        since = self.settings.since.get(("domain", domain) if login is None else ("login", login), 0)
-        if not found or came(ident) < since:
-            log.warning("no customer", spool=name, sender=sender, login=login, since=since)
-            raise NotTaken("550 5.7.1 no customer sends as this")
+        found = self.owner(login, sender)
+        if not found or came(ident) < self.since(login, sender):
+            log.warning("no customer", spool=name, sender=sender, login=login)
+            raise NotTaken(NOBODY)
         return found
+
+    def owner(self, login: Optional[str], sender: str) -> Optional[str]:
+        """The customer whose login this is; without a login that of the sender's domain."""
+        if login is not None:
+            return self.settings.logins.get(login)
+        return self.settings.domains.get(sender.rpartition("@")[2].lower())
+
+    def since(self, login: Optional[str], sender: str) -> float:
+        """Since when that is the customer's; 0 where no table tells."""
+        return self.settings.since.get(("domain", sender.rpartition("@")[2].lower()) if login is None else ("login", login), 0)
 
     def expect_room(self, customer: str) -> None:
         """Refuses mail of a customer of whom the spool keeps too much: what it deletes stays for a while, and counts in no

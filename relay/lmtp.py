@@ -19,7 +19,8 @@ from aiosmtpd.smtp import syntax
 import log
 from dsn import clean, from_xtext
 from intake import Asked, Incoming, Intake
-from settings import Settings
+from policy import Policy
+from settings import Address, Settings
 
 # How many seconds a client may say nothing; the bytes of a line of a command, and of a piece of the
 # data; and what ends the data.
@@ -167,9 +168,9 @@ class Session(LMTP):
             begins_at = 0
 
 
-def listen(settings: Settings) -> List[socket.socket]:
-    """Sockets that listen at the address of the settings: several where a name has several."""
-    found = socket.getaddrinfo(*settings.listen, type=socket.SOCK_STREAM, flags=socket.AI_PASSIVE)
+def listen(at: Address) -> List[socket.socket]:
+    """Sockets that listen at an address: several where a name has several."""
+    found = socket.getaddrinfo(*at, type=socket.SOCK_STREAM, flags=socket.AI_PASSIVE)
     addresses = dict.fromkeys((family, address) for family, _, _, _, address in found)
     listening = [socket.create_server(address, family=family, backlog=BACKLOG)
                  for family, address in addresses]
@@ -183,8 +184,10 @@ class Server:
     """Takes sessions of listening sockets, of which there are at most so many at once. The sessions
     run in one thread; what waits for a disk or the desk does so in others."""
 
-    def __init__(self, settings: Settings, intake: Intake, listening: List[socket.socket]):
-        self.settings, self.intake = settings, intake
+    def __init__(self, settings: Settings, intake: Intake, listening: List[socket.socket],
+                 asked: List[socket.socket]):
+        """`asked` are those at which Postfix asks whose mail comes."""
+        self.settings, self.intake, self.policy = settings, intake, Policy(intake, asked)
         self.sessions, self.is_ending, self.answers = set(), False, 0
         self.pool = ThreadPoolExecutor(settings.connections)
         self.loop, self.listening, self.beginning = asyncio.new_event_loop(), listening, set()
@@ -193,6 +196,7 @@ class Server:
             self.loop.add_reader(it, self.take, it)
 
     def start(self) -> None:
+        self.loop.run_until_complete(self.policy.start())
         threading.Thread(target=self.loop.run_forever, daemon=True).start()
 
     def take(self, listening: socket.socket) -> None:
@@ -269,6 +273,7 @@ class Server:
 
     async def end(self) -> None:
         self.is_ending = True
+        self.policy.close()
         for it in self.listening:
             self.loop.remove_reader(it)
             it.close()

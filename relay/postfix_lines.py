@@ -10,8 +10,9 @@ REPORTS_DOMAIN = "desk.invalid"
 REPORTS = f"outcome@{REPORTS_DOMAIN}"
 NO_SUCH_DOMAIN = "REJECT 5.1.2 no such domain"
 LOOPBACK = "127.0.0.0/8 [::1]/128"
-# Processes that bring mail to the worker: fewer than the sessions that it takes at once.
-MOST_TO_THE_WORKER = 10
+# Processes that bring mail to the worker: fewer than the sessions that it takes at once. Where each customer has a way
+# of its own there are more, and each way has a part of them.
+MOST_TO_THE_WORKER, MOST_BY_WAYS, MOST_BY_A_WAY = 10, 20, 5
 # What the header that each instance puts before a message may have, in bytes.
 HEADER_ROOM = 4096
 
@@ -64,7 +65,7 @@ def service(name: str, kind: str, processes: str, *words: str) -> str:
 # ---- the instance that takes mail in
 
 def front(settings: Settings) -> Instance:
-    most = min(MOST_TO_THE_WORKER, max(1, settings.connections - 1))
+    most = most_to_the_worker(settings)
     services = {"desk/unix": Line(
         service("desk", "unix", str(most), "lmtp", "-o", "lmtp_send_xforward_command=yes"),
         f"the way to the worker, with the queue ID; at most {most} at once")}
@@ -77,10 +78,24 @@ def front(settings: Settings) -> Instance:
             "yes", "the worker finds the customer by the login"),
         "desk_destination_recipient_limit": Line(
             "1", "the worker answers each recipient by itself, also after a stop"),
+        **ways(settings),
         "authorized_mailq_users": Line(
             "root", "nobody else on the machine lists senders and recipients", True),
         "authorized_flush_users": Line("root", "nobody else has all mail tried", True),
     }, services, {})
+
+
+def most_to_the_worker(settings: Settings) -> int:
+    most = MOST_BY_WAYS if settings.policy else MOST_TO_THE_WORKER
+    return min(most, max(1, settings.connections - 1))
+
+
+def ways(settings: Settings) -> Dict[str, Line]:
+    """How much of the way to the worker each customer may take, where each has its own (`policy.py`)."""
+    if not settings.policy:
+        return {}
+    return {"desk_destination_concurrency_limit": Line(
+        str(MOST_BY_A_WAY), "no customer's mail takes all ways to the worker")}
 
 
 def way_to_the_worker(settings: Settings) -> str:
@@ -94,10 +109,16 @@ def customers_listener(settings: Settings) -> Dict[str, Line]:
     if not settings.customers_at:
         return {}
     at = named(settings.customers_at)
-    return {f"{at}/inet": Line(
-        service(at, "inet", "-", "smtpd", "-o", way_to_the_worker(settings), "-o",
-                "smtpd_relay_restrictions=permit_mynetworks,permit_sasl_authenticated,reject"),
-        "takes the mail of customers; no other goes to the desk")}
+    options = [way_to_the_worker(settings),
+               "smtpd_relay_restrictions=permit_mynetworks,permit_sasl_authenticated,reject"]
+    if settings.policy:
+        # (while nobody answers, mail goes the common way)
+        options += [f"smtpd_recipient_restrictions=check_policy_service,inet:{named(settings.policy)}",
+                    "smtpd_policy_service_default_action=DUNNO", "smtpd_policy_service_try_limit=1",
+                    "smtpd_policy_service_timeout=10s"]
+    words = [it for option in options for it in ("-o", option)]
+    return {f"{at}/inet": Line(service(at, "inet", "-", "smtpd", *words),
+                               "takes the mail of customers; no other goes to the desk")}
 
 
 def notices_listener(settings: Settings) -> Dict[str, Line]:

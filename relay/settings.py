@@ -67,6 +67,7 @@ class Settings:
     connections: int
     processes: int
     front: Path
+    policy: Optional[Address]
     customers_at: Optional[Address]
     logins: Dict[str, str]
     domains: Dict[str, str]
@@ -308,6 +309,7 @@ def load(name: str) -> Settings:
         connections=reader.read("intake", "connections", count, 50),
         processes=reader.read("intake", "processes", count, 2),
         front=reader.read("intake", "postfix", reader.path, Path("/etc/postfix")),
+        policy=reader.read("intake", "policy", address, None),
         customers_at=reader.read("intake", "customers", address, None),
         logins=reader.joined("logins", reader.table("logins", customer), senders.get("login", {})),
         domains=reader.joined("domains", reader.table("domains", customer, str.lower), senders.get("domain", {})),

@@ -13,7 +13,8 @@ CALL, REFUSAL = re.compile(r"`(GET|POST|DELETE) (/[^`]+)`"), re.compile(r"(\d+) 
 # The refusals of every call, and of the relay's calls for a customer.
 COMMON, NO_CUSTOMER = {1, 2, 3, 6}, {13}
 # The faults of every call; a call of all customers tells the others within its reply.
-FAULTS, OF_ALL, FAULTS_OF_ALL = {90, 91, 93}, {"/relay/sweep", "/relay/usage", "/relay/due"}, {90}
+FAULTS, FAULTS_OF_ALL = {90, 91, 93}, {90}
+OF_ALL = {"/relay/sweep", "/relay/usage", "/relay/due", "/relay/sweep-from", "/relay/usage-from", "/relay/due-from"}
 
 # What a request that has the form of the file never gets.
 AGAINST_THE_FORM = {7, 8, 20, 23, 27, 28}

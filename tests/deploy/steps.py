@@ -57,7 +57,7 @@ class Place:
         shown = {f"127.0.0.1:{825 + it}": desk.address for it, desk in enumerate(desks)}
         self.here = {**there, **shown}
         self.scripts = scripts_in(folder / "scripts", {"/run/hq-desk.stopped": folder / "none", "/var/lib/hqdesk": folder,
-                                                       '"$here/hq-as" hqdesk ': ""})
+                                                       'hq-as hqdesk ': ""})
 
     def run(self, title, after_stop=lambda: None, **names):
         """Runs a procedure; when the desks were stopped, and how long they were away."""

@@ -190,7 +190,7 @@ def test_all_of_many(asking, folder, program):
             expect(names == MANY, command, "tells", names)
         expect(asking.done("usage", "c102") == f"c102: messages 0, bytes 0, lines 0, {NOTHING}\n", "of one it tells another usage")
     asked = [json.loads(it)["path"] for it in (folder / "north.log").read_text().splitlines()]
-    expect(asked == ["/relay/usage"] * 2 + ["/relay/sweep"] * 2 + ["/v1/usage"], "asked was", asked)
+    expect(asked == ["/relay/usage-from"] * 2 + ["/relay/sweep-from"] * 2 + ["/v1/usage"], "asked was", asked)
 
 
 @pytest.mark.parametrize("fault, starts", [("c050", [None]), ("c101", [None, "c101"])])

@@ -241,6 +241,9 @@ def test_refused_by_nginx(proxy, south):
             (404, "NoRoute", proxy.relay("/relay/sweep")),
             (404, "NoRoute", proxy.relay("/relay/usage")),
             (404, "NoRoute", proxy.relay("/relay/due")),
+            (404, "NoRoute", proxy.relay("/relay/sweep-from", {"from": None})),
+            (404, "NoRoute", proxy.relay("/relay/usage-from", {"from": None})),
+            (404, "NoRoute", proxy.relay("/relay/due-from", {"from": None})),
             (404, "NoRoute", proxy.relay("/v1/usage")),
             (413, "BodyTooLong", proxy.ask("POST", "/v1/check", ACME, long)),
             (400, "BadRequest", proxy.ask("GET", "/v1/usage", "k" * 40_000))):

@@ -120,7 +120,7 @@ except OSError:
 
 
 @pytest.mark.parametrize("port, users", [(824, (0, PROXY, DESK, WORKER)), (825, (0, PROXY, DESK, WORKER)), (849, (0, PROXY, DESK, WORKER)),
-                                         (821, (0, WORKER, POSTFIX)), (823, (0, WORKER, POSTFIX)), (10024, (0, WORKER, POSTFIX)), (10026, (0, WORKER, POSTFIX)), (10027, (0, WORKER, POSTFIX))])
+                                         (820, (0, WORKER, POSTFIX)), (821, (0, WORKER, POSTFIX)), (823, (0, WORKER, POSTFIX)), (10024, (0, WORKER, POSTFIX)), (10026, (0, WORKER, POSTFIX)), (10027, (0, WORKER, POSTFIX))])
 def test_who_reaches_a_desk(network, port, users):
     """At the ports of desks and of the worker only the programs that ask there are let in; elsewhere everybody is."""
     for user in (0, 33, PROXY, DESK, WORKER, POSTFIX, STRANGER):

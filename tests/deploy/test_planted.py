@@ -46,7 +46,7 @@ class Service:
                 (self.etc / f"{name}.{end}").write_text(text)
         self.as_service("chown", f"{USER}:{GROUP}", self.own, as_root=True)
         self.scripts = scripts_in(folder / "scripts", {"/run/hq-desk.stopped": folder / "none", "/var/lib/hqdesk": self.own,
-                                                       '"$here/hq-as" hqdesk ': f"{DEPLOY}/hq-as {USER} "})
+                                                       'hq-as hqdesk ': f"{DEPLOY}/hq-as {USER} "})
         for name, customer in (("north", "acme"), ("south", "birch")):
             line = batch_line(int(time.time()), "POST", f"/relay/submit/{customer}", RELAY, submission("s1"))
             told = self.as_service("hq", "batch", "--directory", self.etc / f"{name}.csv", "--host", "relay.example", "--relay-key", RELAY,

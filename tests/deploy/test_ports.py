@@ -31,7 +31,7 @@ def test_each_its_own():
     desk = re.search(r"(?m)^LISTEN=(.*)$", (SETTINGS / "north.env.example").read_text())[1]
     workers = re.search(r"listen (.*);", (DEPLOY / "nginx-workers.conf").read_text())[1]
     for unit, address in (("hq-desk@.service", desk), ("hq-desk-workers.service", workers),
-                          ("hq-relay-intake.service", relay["intake"]["listen"])):
+                          *(("hq-relay-intake.service", relay["intake"][it]) for it in ("listen", "policy"))):
         expect(int(address.rpartition(":")[2]) in ports[unit], unit, "may not listen at", address)
     # (the firewall has the same ports for desks and workers)
     rules = re.search(r"tcp dport (\d+)-(\d+) meta skuid", (DEPLOY / "hq-desk.nft").read_text())

@@ -198,7 +198,7 @@ def test_nginx_serves_what_it_must(visit):
         expect((reply.status, reply.headers["Content-Type"], got) == (200, kind, wanted), path,
                "is served with", [*reply.headers.items()])
     for method, path, status in (("POST", "/relay/sweep", 404), ("POST", "/relay/usage", 404),
-                                 ("GET", "/v1/usage", 200), ("GET", "/none", 404)):
+                                 ("POST", "/relay/usage-from", 404), ("GET", "/v1/usage", 200), ("GET", "/none", 404)):
         client.request(method, path, headers={"X-Desk-Key": RELAY if "relay" in path else CEDAR})
         reply = client.getresponse()
         reply.read()

@@ -188,7 +188,7 @@ def of_a_stub(folder):
 
 def asked_from(*names):
     """What is asked of the customers from each of these on, or from the first."""
-    return [("/relay/usage", RELAY, json.dumps({"from": it}).encode()) for it in names]
+    return [("/relay/usage-from", RELAY, json.dumps({"from": it}).encode()) for it in names]
 
 
 def of_words(folder):

@@ -69,7 +69,7 @@ class Place:
 
     def __init__(self, folder):
         self.folder, self.spool = folder, folder / "spool"
-        self.shared = SimpleNamespace(intake=free_address())
+        self.shared = SimpleNamespace(intake=free_address(), policy=None)
         self.desk, self.begun = "127.0.0.1:1", []
         (folder / "relay.key").write_text(RELAY)
         for name, text in (("postqueue", POSTQUEUE), ("postsuper", POSTSUPER)):

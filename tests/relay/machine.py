@@ -40,8 +40,8 @@ class Shared:
     """Both instances of Postfix, and the sinks: of mail that is accepted, refused, deferred and slow,
     and of what senders are told."""
 
-    def __init__(self, folder):
-        self.intake = free_address()
+    def __init__(self, folder, has_policy=False):
+        self.intake, self.policy = free_address(), free_address() if has_policy else None
         self.good, self.hard, self.soft = Sink(ACCEPTS), Sink(REFUSES), Sink(DEFERS)
         self.slow, self.senders = Sink(ACCEPTS), Sink(ACCEPTS)
         self.sinks = {"good": self.good, "hard": self.hard, "soft": self.soft, "slow": self.slow}
@@ -49,7 +49,7 @@ class Shared:
         folder.chmod(0o755)
         (folder / "front").mkdir()
         (folder / "delivering").mkdir()
-        self.postfix = Postfix(folder / "front", self.intake, self.senders.address)
+        self.postfix = Postfix(folder / "front", self.intake, self.senders.address, self.policy)
         self.delivering = Delivering(folder / "delivering", self.hops())
 
     def __enter__(self):
@@ -223,6 +223,8 @@ class Relay:
             found[section] = {it: of for it, of in found[section].items() if of in self.customers}
         found["desk"]["address"] = named(self.desk.address)
         found["intake"] = {"listen": named(self.shared.intake)}
+        if self.shared.policy:
+            found["intake"]["policy"] = named(self.shared.policy)
         delivering = self.shared.delivering
         found["delivery"].update({"instance": named(delivering.address),
                                   "postfix": delivering.conf, "reports": delivering.reports})

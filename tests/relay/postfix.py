@@ -244,10 +244,10 @@ class Instance:
 class Postfix(Instance):
     """The instance that takes mail in. Its worker listens at one address, its sink at another."""
 
-    def __init__(self, folder, worker, sink):
+    def __init__(self, folder, worker, sink, policy=None):
         address, self.plain = free_address(), free_address()
         lines = postfix_lines.front(SimpleNamespace(
-            listen=worker, customers_at=address, notices_hop=self.plain, connections=50))
+            listen=worker, customers_at=address, notices_hop=self.plain, connections=50, policy=policy))
         own = FRONT_OF_A_TEST.format(sink_host=sink[0], sink_port=sink[1])
         super().__init__(folder, address, lines, own)
 

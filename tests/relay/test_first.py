@@ -77,7 +77,7 @@ def page_faults():
     sys.path.append(str(ROOT / "relay"))
     import postfix_lines
     settings = SimpleNamespace(
-        listen=("127.0.0.1", 10024), customers_at=("127.0.0.1", 10025), connections=50,
+        listen=("127.0.0.1", 10024), customers_at=("127.0.0.1", 10025), connections=50, policy=None,
         notices_hop=("127.0.0.1", 10027), instance=("127.0.0.1", 10026), host="relay.example", user="hqrelay",
         largest=11_000_000, reports=Path("/srv/mail/spool/reports"))
     text = PAGE.read_text(encoding="utf-8").splitlines()

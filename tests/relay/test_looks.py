@@ -32,7 +32,7 @@ class Told(Desk):
         self.answers, self.starts = [*answers], []
 
     def ask(self, path, body=None, timeout=None):
-        expect(path == "/relay/due" and timeout == LOOK_SECONDS, "asked was", path, timeout)
+        expect(path == "/relay/due-from" and timeout == LOOK_SECONDS, "asked was", path, timeout)
         self.starts.append(body["from"])
         answer = self.answers.pop(0)
         if isinstance(answer, Exception):
@@ -74,15 +74,15 @@ def logged(monkeypatch):
     (told(part("acme"), part("birch"), part("cedar")), ["birch"], ["birch"]),
     (told(part("acme"), part("birch"), next="cedar", stopped="cedar"), [], ["cedar"]),
     (told(part("acme"), part("birch"), part("cedar"), part("dogwood", 1)), [], []),
-    (Away("/relay/due"), [], NAMES),
+    (Away("/relay/due-from"), [], NAMES),
     (Refused({"error": NO_ROUTE, "name": "NoRoute"}), [], NAMES),
     ({"done": [{"customer": "acme"}], "stopped": None}, [], NAMES),
-    ({"done": [part("acme", 1), part("birch"), part("cedar")], "stopped": None}, [], ["acme"]),
+    ({"done": [part("acme", 1), part("birch")], "stopped": None}, [], ["acme", "cedar"]),
     ([], [], NAMES),
 ])
 def test_who_gets_a_turn(answer, rests, wanted):
-    """All but those of whom nothing is due; those too who were not reached, or whose last turn failed. A desk that tells no
-    `next` was asked for all."""
+    """All but those of whom nothing is due; those too who were not reached, or whose last turn failed. Behind a reply that tells
+    no `next` nobody is reached."""
     desk = Told(answer)
     found = turns_of(looking(desk, rests))
     expect(found == wanted and desk.starts == [None], answer, found, desk.starts)
@@ -92,7 +92,7 @@ def test_who_gets_a_turn(answer, rests, wanted):
     ([told(part("acme", 1), part("birch"), next="cedar"), told(part("cedar"))], [None, "cedar"], ["acme"], []),
     ([told(part("acme"), next="birch"), told(part("birch"), next="cedar", stopped="cedar")], [None, "birch"], ["cedar"], [STOPPED]),
     ([told(part("acme"), next="birch"), told(next="birch", stopped="birch")], [None, "birch"], ["birch", "cedar"], [STOPPED]),
-    ([told(part("acme"), next="birch"), Away("/relay/due")], [None, "birch"], ["birch", "cedar"], [NOT_TOLD]),
+    ([told(part("acme"), next="birch"), Away("/relay/due-from")], [None, "birch"], ["birch", "cedar"], [NOT_TOLD]),
     ([told(part("acme"), next="birch"), told(part("birch"), next="birch")], [None, "birch"], ["cedar"], [NOT_TOLD]),
     ([told(part("acme"), next="birch"), told(part("birch"), next="acme"), told(part("acme"), next="birch")],
      [None, "birch", "acme"], ["cedar"], [NOT_TOLD]),
@@ -123,14 +123,14 @@ def test_a_look_that_takes_long(monkeypatch, logged):
 
 def test_rounds_behind_a_look_that_failed():
     """Each customer has its turn for some rounds, without another look at all of them."""
-    desk = Told(Away("/relay/due"), told(part("acme", 1), part("birch"), part("cedar")))
+    desk = Told(Away("/relay/due-from"), told(part("acme", 1), part("birch"), part("cedar")))
     found = looking(desk)
     rounds = [turns_of(found) for _ in range(1 + ROUNDS_ALONE + 1)]
     expect(rounds == [NAMES] * (1 + ROUNDS_ALONE) + [["acme"]] and desk.starts == [None, None], rounds, desk.starts)
 
 
 @pytest.mark.parametrize("answer, is_told", [
-    (Away("/relay/due"), True), (Away("/relay/due: 503 {}", 503), True), (Away("/relay/due: 404 {}", 404), False),
+    (Away("/relay/due-from"), True), (Away("/relay/due-from: 503 {}", 503), True), (Away("/relay/due-from: 404 {}", 404), False),
     (Refused({"error": NO_ROUTE, "name": "NoRoute"}), False), (Refused({"error": 3, "name": "WrongRole"}), True)])
 def test_what_is_told_of_a_look_that_failed(logged, answer, is_told):
     """The log tells why, but nothing of a proxy that has no such call."""

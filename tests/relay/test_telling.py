@@ -17,7 +17,7 @@ from handed import Attempt
 from mailing import DONE, LATER, Hop
 from serving import expect, until
 from settings import Customer
-from spool import Spool
+from spool import Envelope, Spool
 
 # In seconds: the longest that is waited for what comes at once, how long it is seen that nothing comes, and the worker's pause.
 SOON, WHILE, PAUSE = 10, 0.5, 0.05
@@ -266,6 +266,56 @@ def test_a_round_with_an_attempt_that_is_lost(delivering, hops, monkeypatch):
     found.handed.over({"acme.A.1.e": "F00D"}, [])
     found.handed.reported({"acme.A.1.e": [outcome(GOOD, "delivered")]})
     expect(found.once() and found.desk.told == ["A"] and not found.book.untold("acme"), found.desk.told)
+
+
+def test_reports_while_a_desk_hangs(delivering, monkeypatch):
+    """What lies in the queue is compared with the desk's list in a turn of its own: reports are read meanwhile."""
+    found = delivering(Told())
+    found.desk.gate.clear()
+    monkeypatch.setattr(instance, "queue", lambda _: SimpleNamespace(has=lambda *_: True, ids={"F00D": "active"}, oldest_report=0.0))
+    found.handed.about([Attempt("acme.A.1.e", "acme", "sA", "A", 1, [GOOD], "ann@a.example", time.time())])
+    found.handed.over({"acme.A.1.e": "F00D"}, [])
+    found.begin_turns()
+    begun = time.monotonic()
+    found.see_after(0.0)
+    expect(found.desk.is_listing.wait(SOON) and time.monotonic() - begun < SOON / 2, "reports wait for a desk")
+    expect(found.catching_up.waiting == {"acme"}, found.catching_up.waiting)
+
+
+class Sessions:
+    """A session with the delivering instance, which takes all that is sent."""
+
+    def __init__(self):
+        self.sent = []
+
+    def send(self, attempt, kept):
+        self.sent.append(attempt.id)
+        return f"4F{attempt.id}"
+
+    def is_alive(self):
+        return True
+
+
+def test_a_content_that_cannot_be_read(delivering, logged, monkeypatch):
+    """Its message alone is deferred; those beside it are handed over."""
+    found, session = delivering(Told()), Sessions()
+    monkeypatch.setattr(found.handover, "session", lambda: session)
+    due = [Attempt(f"acme.{it}.1.e", "acme", f"s{it}", it, 1, [GOOD], "ann@a.example", time.time()) for it in "ABC"]
+    for it in due:
+        draft = found.handover.spool.draft(Envelope("acme", it.spool, "ann@a.example", GOOD))
+        found.handover.spool.keep(draft, it.spool)
+    opened = found.handover.spool.opened
+
+    def broken(spool):
+        if spool == "sB":
+            raise OSError(5, "Input/output error")
+        return opened(spool)
+
+    monkeypatch.setattr(found.handover.spool, "opened", broken)
+    found.handed.about(due)
+    found.handover.hand_over(due)
+    expect(session.sent == ["A", "C"] and logged == ["content missing"], session.sent, logged)
+    expect(found.book.untold("acme") == ["sB"] and [it.id for it in found.handed.under_way()] == ["A", "C"], found.book.untold("acme"))
 
 
 @pytest.mark.parametrize("answer, uncleaned", [(DONE, []), (LATER, ["acme"])])

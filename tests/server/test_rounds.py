@@ -6,7 +6,7 @@ library counts the syncs (tests/support/interpose.c).
 
 1. 64 calls that change something share one commit, and 65 take two.
 2. Calls that only read take none.
-3. A report among calls that change something is done alone, between two commits.
+3. A report, or a call of a hundred customers, among calls that change something is done alone, between two commits.
 4. Each client gets the response to its own request: it moves a message, or reads one whose spool name is its own.
 5. Clients that ask again as soon as they have their responses share commits with those that asked meanwhile, where a sync takes
    long: a round is delayed for them. A client that asks alone waits for its sync alone.
@@ -23,6 +23,8 @@ from serving import ACME, HEADER, RELAY, Server, batch_line, expect, request, su
 ROWS = f"acme,{ACME},1000,500000000,2000,1000,14400\n"
 MESSAGES, TOGETHER = 70, 64
 HOLD, SHOW, REPORT = "hold", "show", "report"
+# Calls of a hundred customers.
+HUNDREDS = USAGE, DUE = "usage-from", "due-from"
 # As many clients that ask again, so often each, and how many commits that may take: without a delay it is two for each turn.
 CLIENTS, TURNS, MOST_COMMITS = 8, 10, 15
 # How long a sync takes in milliseconds, and how many more a client may wait that asks alone: a delay would be ten.
@@ -45,6 +47,8 @@ def sent(kind, number):
     """The request of a client, for the message of its number."""
     if kind == REPORT:
         return request("GET", "/v1/report", ACME)
+    if kind in HUNDREDS:
+        return request("POST", f"/relay/{kind}", RELAY, {"from": None})
     method, path = ("POST", "hold") if kind == HOLD else ("GET", "message")
     return request(method, f"/v1/{path}/{number:010X}", ACME)
 
@@ -57,6 +61,8 @@ def is_its_own(kind, number, told):
         return False
     if kind == SHOW:
         return (found["id"], found["spool"]) == (f"{number:010X}", f"spool-{number}")
+    if kind in HUNDREDS:
+        return [it["customer"] for it in found["done"]] == ["acme"]
     return "changed" not in found if kind == REPORT else found == {"changed": 1}
 
 
@@ -84,7 +90,9 @@ def syncs_of(program, folder, library, kinds, first=1):
     ([HOLD] * (TOGETHER + 1), 2),
     ([HOLD] * 3 + [REPORT] + [HOLD] * 3, 2),
     ([REPORT, HOLD, HOLD], 1),
-], ids=["reads", "two", "mixed", "as-many-as-share", "one-more", "a-report-between", "a-report-first"])
+    ([HOLD] * 3 + [USAGE] + [HOLD] * 3, 2),
+    ([HOLD] * 3 + [DUE] + [HOLD] * 3, 2),
+], ids=["reads", "two", "mixed", "as-many-as-share", "one-more", "a-report-between", "a-report-first", "a-usage-between", "a-due-between"])
 def test_commits(program, filled, library, kinds, commits):
     none = syncs_of(program, filled, library, [SHOW])
     one = syncs_of(program, filled, library, [HOLD], MESSAGES)

@@ -72,5 +72,6 @@ def test_stopped_calls(failing, store, line, numbers, how, told, again):
     for number in numbers:
         replies, _ = run(failing, store, how, calls + number, [*BEFORE, line, line])
         expect(replies == [QUEUED, QUEUED, told, again], store, how, number, replies)
-        replies, _ = run(failing, store, how, calls + number, [*BEFORE, *[f'{line} {{"from":null}}'] * 2])
+        hundred = line.replace(f" {RELAY}", f'-from {RELAY} {{"from":null}}')
+        replies, _ = run(failing, store, how, calls + number, [*BEFORE, hundred, hundred])
         expect(replies == [QUEUED, QUEUED, with_next(told), with_next(again)], store, how, number, "of a hundred", replies)

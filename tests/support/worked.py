@@ -4,7 +4,7 @@ from pathlib import Path
 EXAMPLES = Path(__file__).resolve().parent.parent / "examples"
 MOST_LINES, MOST_BYTES = 60, 8192
 # calls of all customers, which may be done in part
-PARTED = (b" POST /relay/sweep ", b" POST /relay/usage ", b" POST /relay/due ")
+PARTED = tuple(b" POST /relay/%s " % it for it in (b"sweep", b"usage", b"due", b"sweep-from", b"usage-from", b"due-from"))
 
 
 def lines_of(place):

@@ -9,3 +9,4 @@ pub mod Steps
 pub mod Reader
 pub mod Left
 pub mod Readings
+pub mod Unread

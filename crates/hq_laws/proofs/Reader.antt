@@ -66,6 +66,9 @@ module _ (d : Directory) (key : Option (List ℕ)) (segment body : List ℕ) (h 
   by_role role.RelayForAll asking e =
       let relay = went_on (relay_alone d key) _ asked e in
       refused WrongRole h (sym (relays_own d key segment relay.1) ∙ held)
+  by_role role.RelayFrom asking e =
+      let relay = went_on (relay_alone d key) _ asked e in
+      refused WrongRole h (sym (relays_own d key segment relay.1) ∙ held)
 
 pub reader_reads : (d : Directory) (x : Exchange) (h : Held) (asked : Asked) →
     held_on d role.Customer (key_shown x) (last_segment (string_bytes x.path)) ≡ Ok h →

@@ -1,18 +1,21 @@
 //! Laws over whole runs in one session: nobody else matters, which replies and which keys change
 //! nothing, and one reading of each reply.
 
-ghost use Rattle.std.specs.Prelude.{◌≡◌, ◌≢◌, ℕ, not, true, List, Ok, string_bytes};
+ghost use Rattle.std.specs.Prelude.{◌≡◌, ◌≢◌, ℕ, nat_le, not, true, List, length, Ok};
+ghost use Rattle.std.specs.Prelude.{Option, Some, string_bytes};
+ghost use Rattle.hq_values.specs.Limits.{most_bytes};
 ghost use Rattle.hq_tables.specs.Tables.{Tables, own};
 ghost use Rattle.hq_rules.specs.Desks.{or_memory};
 ghost use Rattle.hq_rules.specs.Unchanged.{only_reads};
 ghost use Rattle.hq_import.specs.declared.keys.Right.TheVariants.{Reading};
 ghost use Rattle.hq_rules.specs.declared.call.Call.{Call};
-ghost use Rattle.hq_requests.specs.Calls.{Asked, asked_of, call_in};
+ghost use Rattle.hq_requests.specs.Calls.{Asked, asked_of, call_from, call_in};
 ghost use Rattle.hq_requests.specs.Directories.{Held, held_on};
 ghost use Rattle.hq_requests.specs.Named.{key_shown};
-ghost use Rattle.hq_requests.specs.Routes.{changes, last_segment};
+ghost use Rattle.hq_requests.specs.Routes.{changes, last_segment, methods_at, role_of};
 ghost use Rattle.hq_requests.specs.declared.exchanges.Exchange.{Exchange};
-ghost use Rattle.hq_requests.specs.declared.table.Role.TheVariants.{Customer};
+ghost use Rattle.hq_requests.specs.declared.table.Methods.{Methods};
+ghost use Rattle.hq_requests.specs.declared.table.Role.TheVariants.{Customer, RelayForAll};
 ghost use Rattle.hq_requests.specs.declared.table.Route.{Route};
 ghost use Rattle.hq_wire.specs.Exchanges.{Ask, MayReply, ask_of};
 ghost use Rattle.hq_wire.specs.Replies.{SeenReply};
@@ -75,4 +78,13 @@ pub fn a_reading_key_changes_nothing<D: Acts, M: Memory>()
 pub fn a_route_reads_as_told()
     ensures { (route : Route) (segment body : List ℕ) (call : Call)
         → asked_of route segment body ≡ Ok call → only_reads call ≡ not (changes route) }
+{}
+
+/// A call of all customers looks at no body: at a path for all of them the same is asked by any two
+/// bodies that are not too long.
+pub fn a_call_of_all_looks_at_no_body()
+    ensures { (d : Directory) (method path : List ℕ) (key : Option (List ℕ)) (methods : Methods)
+        (body other : List ℕ) → methods_at path ≡ Some methods → role_of methods ≡ RelayForAll
+        → nat_le (length body) most_bytes ≡ true → nat_le (length other) most_bytes ≡ true
+        → call_from d method path key body ≡ call_from d method path key other }
 {}

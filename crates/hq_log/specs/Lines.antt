@@ -81,12 +81,13 @@ log_members e = having (
     (codes "status", count e.status) ∷
     [])
 
--- the path of a sweep of all
+-- the path of a sweep of all customers, or of a hundred
 abbrev pub is_sweep_path : Option (List ℕ) → Bool
 is_sweep_path None = false
 is_sweep_path (Some path) = bytes_eq path (codes "/relay/sweep")
+    || bytes_eq path (codes "/relay/sweep-from")
 
--- all customers were swept
+-- all customers were swept, or a hundred
 abbrev pub is_sweep_of_all : LogEntry → Bool
 is_sweep_of_all e = e.status == 200 && is_sweep_path e.path
 

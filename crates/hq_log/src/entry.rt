@@ -125,11 +125,11 @@ fn key_told<'e>(reply: &'e Reply<'_>) -> Option<&'e str>
 }
 
 impl ExchangeEntry<'_> {
-    /// Whether all customers were swept.
+    /// Whether all customers were swept, or a hundred.
     fn is_sweep_of_all(&self) -> bool
         ensures { result ≡ lines.is_sweep_of_all (lines.entry_seen self.now) }
     {
-        self.reply.status == 200 && matches!(self.path, Some("/relay/sweep"))
+        self.reply.status == 200 && matches!(self.path, Some("/relay/sweep" | "/relay/sweep-from"))
     }
 
     /// Whether its method or its path does not stand whole in the line.

@@ -1,11 +1,10 @@
 -- A route that changes nothing asks for what only reads, and any other asks for a change.
-use Rattle.std.proofs.Common.{◌≡◌, ℕ, Bool, not, List, Some, None, Result, Ok, Err, refl}
+use Rattle.std.proofs.Common.{◌≡◌, ℕ, Bool, not, List, Result, Ok, Err, refl}
 use Rattle.std.specs.Prelude.{⊤}
 use Rattle.hq_values.specs.Readers.{◌>>=◌}
 use Rattle.hq_values.specs.declared.failure.Refusal.{Refusal}
 use Rattle.hq_rules.specs.Unchanged.{only_reads}
 use Rattle.hq_rules.specs.declared.call.Call.{Call}
-use Rattle.hq_rules.specs.declared.call.Call.TheVariants as call
 use Rattle.hq_bodies.specs.Outcomes.{read_report}
 use Rattle.hq_bodies.specs.Queries.{read_history_before, read_message_after, read_message_id}
 use Rattle.hq_bodies.specs.Queries.{read_notice_after, read_notice_number}
@@ -33,93 +32,66 @@ pub reads_as_told : (asked : Route) (segment body : List ℕ) →
 unfolding asked_of
 reads_as_told route.Messages segment body = refl
 reads_as_told route.MessagesAfter segment body =
-    behind (not (changes route.MessagesAfter)) (serial_of segment)
-    (λ serial. Ok (call.List (Some serial) None)) (λ serial. refl)
+    behind (not (changes route.MessagesAfter)) (serial_of segment) _ (λ serial. refl)
 reads_as_told route.Show segment body =
-    behind (not (changes route.Show)) (serial_of segment)
-    (λ serial. Ok (call.Show serial)) (λ serial. refl)
+    behind (not (changes route.Show)) (serial_of segment) _ (λ serial. refl)
 reads_as_told route.Hold segment body =
-    behind (not (changes route.Hold)) (serial_of segment)
-    (λ serial. Ok (call.Hold serial)) (λ serial. refl)
+    behind (not (changes route.Hold)) (serial_of segment) _ (λ serial. refl)
 reads_as_told route.Release segment body =
-    behind (not (changes route.Release)) (serial_of segment)
-    (λ serial. Ok (call.Release serial)) (λ serial. refl)
+    behind (not (changes route.Release)) (serial_of segment) _ (λ serial. refl)
 reads_as_told route.Requeue segment body =
-    behind (not (changes route.Requeue)) (serial_of segment)
-    (λ serial. Ok (call.Requeue serial)) (λ serial. refl)
+    behind (not (changes route.Requeue)) (serial_of segment) _ (λ serial. refl)
 reads_as_told route.Delete segment body =
-    behind (not (changes route.Delete)) (serial_of segment)
-    (λ serial. Ok (call.Delete serial)) (λ serial. refl)
+    behind (not (changes route.Delete)) (serial_of segment) _ (λ serial. refl)
 reads_as_told route.HoldAll segment body = refl
 reads_as_told route.ReleaseAll segment body = refl
 reads_as_told route.DeleteAll segment body = refl
 reads_as_told route.Find segment body =
-    behind (not (changes route.Find)) (read_find body)
-    (λ asked. Ok (call.List asked.0 (Some asked.1))) (λ asked. refl)
+    behind (not (changes route.Find)) (read_find body) _ (λ asked. refl)
 reads_as_told route.HoldMatching segment body =
-    behind (not (changes route.HoldMatching)) (read_pattern body)
-    (λ pattern. Ok (call.HoldAll (Some pattern))) (λ pattern. refl)
+    behind (not (changes route.HoldMatching)) (read_pattern body) _ (λ pattern. refl)
 reads_as_told route.ReleaseMatching segment body =
-    behind (not (changes route.ReleaseMatching)) (read_pattern body)
-    (λ pattern. Ok (call.ReleaseAll (Some pattern))) (λ pattern. refl)
+    behind (not (changes route.ReleaseMatching)) (read_pattern body) _ (λ pattern. refl)
 reads_as_told route.DeleteMatching segment body =
-    behind (not (changes route.DeleteMatching)) (read_pattern body)
-    (λ pattern. Ok (call.DeleteAll (Some pattern))) (λ pattern. refl)
+    behind (not (changes route.DeleteMatching)) (read_pattern body) _ (λ pattern. refl)
 reads_as_told route.Lines segment body = refl
 reads_as_told route.LinesAfter segment body =
-    behind (not (changes route.LinesAfter)) (read_pattern body)
-    (λ pattern. Ok (call.Lines (Some pattern))) (λ pattern. refl)
+    behind (not (changes route.LinesAfter)) (read_pattern body) _ (λ pattern. refl)
 reads_as_told route.PutLine segment body =
-    behind (not (changes route.PutLine)) (read_line body)
-    (λ line. Ok (call.PutLine line)) (λ line. refl)
+    behind (not (changes route.PutLine)) (read_line body) _ (λ line. refl)
 reads_as_told route.DropLine segment body =
-    behind (not (changes route.DropLine)) (read_pattern body)
-    (λ pattern. Ok (call.DropLine pattern)) (λ pattern. refl)
+    behind (not (changes route.DropLine)) (read_pattern body) _ (λ pattern. refl)
 reads_as_told route.Check segment body =
-    behind (not (changes route.Check)) (read_check body)
-    (λ asked. Ok (call.Check asked.0 asked.1)) (λ asked. refl)
+    behind (not (changes route.Check)) (read_check body) _ (λ asked. refl)
 reads_as_told route.Import segment body =
-    behind (not (changes route.Import)) (read_import body)
-    (λ asked. Ok (call.Import asked.0 asked.1)) (λ asked. refl)
+    behind (not (changes route.Import)) (read_import body) _ (λ asked. refl)
 reads_as_told route.Notices segment body = refl
 reads_as_told route.NoticesAfter segment body =
-    behind (not (changes route.NoticesAfter)) (number_of segment)
-    (λ number. Ok (call.Notices (Some number))) (λ number. refl)
+    behind (not (changes route.NoticesAfter)) (number_of segment) _ (λ number. refl)
 reads_as_told route.Notice segment body =
-    behind (not (changes route.Notice)) (number_of segment)
-    (λ number. Ok (call.Notice number)) (λ number. refl)
+    behind (not (changes route.Notice)) (number_of segment) _ (λ number. refl)
 reads_as_told route.History segment body = refl
 reads_as_told route.HistoryBefore segment body =
-    behind (not (changes route.HistoryBefore)) (number_of segment)
-    (λ number. Ok (call.History (Some number))) (λ number. refl)
+    behind (not (changes route.HistoryBefore)) (number_of segment) _ (λ number. refl)
 reads_as_told route.FindHistory segment body =
-    behind (not (changes route.FindHistory)) (read_search body)
-    (λ asked. Ok (call.FindHistory asked.0 asked.1)) (λ asked. refl)
+    behind (not (changes route.FindHistory)) (read_search body) _ (λ asked. refl)
 reads_as_told route.Usage segment body = refl
 reads_as_told route.Limits segment body = refl
 reads_as_told route.Report segment body = refl
 reads_as_told route.Submit segment body =
-    behind (not (changes route.Submit)) (read_submission body)
-    (λ submission. Ok (call.Submit submission)) (λ submission. refl)
+    behind (not (changes route.Submit)) (read_submission body) _ (λ submission. refl)
 reads_as_told route.Outcome segment body =
-    behind (not (changes route.Outcome)) (read_report body)
-    (λ report. Ok (call.Outcome report)) (λ report. refl)
+    behind (not (changes route.Outcome)) (read_report body) _ (λ report. refl)
 reads_as_told route.Due segment body =
-    behind (not (changes route.Due)) (read_message_after body)
-    (λ after. Ok (call.Due after)) (λ after. refl)
+    behind (not (changes route.Due)) (read_message_after body) _ (λ after. refl)
 reads_as_told route.Sweep segment body = refl
 reads_as_told route.MessagesByBody segment body =
-    behind (not (changes route.MessagesByBody)) (read_message_after body)
-    (λ after. Ok (call.List after None)) (λ after. refl)
+    behind (not (changes route.MessagesByBody)) (read_message_after body) _ (λ after. refl)
 reads_as_told route.ShowByBody segment body =
-    behind (not (changes route.ShowByBody)) (read_message_id body)
-    (λ serial. Ok (call.Show serial)) (λ serial. refl)
+    behind (not (changes route.ShowByBody)) (read_message_id body) _ (λ serial. refl)
 reads_as_told route.NoticesByBody segment body =
-    behind (not (changes route.NoticesByBody)) (read_notice_after body)
-    (λ after. Ok (call.Notices after)) (λ after. refl)
+    behind (not (changes route.NoticesByBody)) (read_notice_after body) _ (λ after. refl)
 reads_as_told route.NoticeByBody segment body =
-    behind (not (changes route.NoticeByBody)) (read_notice_number body)
-    (λ number. Ok (call.Notice number)) (λ number. refl)
+    behind (not (changes route.NoticeByBody)) (read_notice_number body) _ (λ number. refl)
 reads_as_told route.HistoryByBody segment body =
-    behind (not (changes route.HistoryByBody)) (read_history_before body)
-    (λ before. Ok (call.History before)) (λ before. refl)
+    behind (not (changes route.HistoryByBody)) (read_history_before body) _ (λ before. refl)

@@ -1,4 +1,4 @@
--- A call of a customer is of whom its exchange is of; a call of all is of none.
+-- A call of a customer is of whom its exchange is of; a call of all, or of a hundred, is of none.
 use Rattle.std.proofs.Common.{◌≡◌, ℕ, Bool, true, false, cond, List, Option, Some, None, Result, Ok}
 use Rattle.std.proofs.Common.{Err, refl, sym, ap, ◌∙◌, inl, inr}
 use Rattle.std.specs.Prelude.{⊤, ◌⊎◌, codes, bytes_eq, string_bytes, IfOk}
@@ -45,7 +45,7 @@ unfolding role_in
 of_method true role route others asked other h = ap (role_in role) h
 of_method false role route others asked other h = other h
 
-role_kept : (methods : Methods) (method : List ℕ) (asked : Role × Route) →
+pub role_kept : (methods : Methods) (method : List ℕ) (asked : Role × Route) →
     or_refuse WrongMethod (route_of methods method) ≡ Ok asked → role_of methods ≡ asked.0
 unfolding route_of
 role_kept (Get role route) method asked h =
@@ -121,10 +121,15 @@ module _ (d : Directory) (key : Option (List ℕ)) (path method : List ℕ) (met
       (λ i. first_ok (not_its_own d key segment h found i)
       ((named_as ∙ ap (named_by_relay d key path) is ∙ found) i))
 
-  -- a call of all is of none
-  pub whose_all : r ≡ role.RelayForAll → relay_alone d key ≡ Ok tt → whose_at d key path ≡ None
-  whose_all is e = λ i. first_ok (relays_own d key segment e i)
-      ((named_as ∙ ap (named_by_relay d key path) is) i)
+  names_none : (r ≡ role.RelayForAll) ⊎ (r ≡ role.RelayFrom) →
+      named_by_relay d key path r ≡ Err NoRoute
+  names_none (inl is) = ap (named_by_relay d key path) is
+  names_none (inr is) = ap (named_by_relay d key path) is
+
+  -- a call of all, or of a hundred, is of none
+  pub whose_all : (r ≡ role.RelayForAll) ⊎ (r ≡ role.RelayFrom) → relay_alone d key ≡ Ok tt
+      → whose_at d key path ≡ None
+  whose_all is e = λ i. first_ok (relays_own d key segment e i) ((named_as ∙ names_none is) i)
 
 -- ---- of what is asked
 
@@ -143,8 +148,9 @@ module _ (d : Directory) (x : Exchange) (method : List ℕ) (methods : Methods)
   asked_by_one is (Ok (asking.CallOfAll span each)) held = absurd held
   asked_by_one is (Err why) held = tt
 
-  pub asked_of_many : r ≡ role.RelayForAll → (found : Result Asking Fail) →
-      IfOk found (IsOfAll d (key_shown x)) → IfOk found (IsAskedBy d x)
+  pub asked_of_many : (r ≡ role.RelayForAll) ⊎ (r ≡ role.RelayFrom) →
+      (found : Result Asking Fail) → IfOk found (IsOfAll d (key_shown x)) →
+      IfOk found (IsAskedBy d x)
   asked_of_many is (Ok (asking.CallOf caller call)) held = absurd held
   asked_of_many is (Ok (asking.CallOfAll span each)) held =
       whose_all d (key_shown x) (string_bytes x.path) method methods at r route asked is held

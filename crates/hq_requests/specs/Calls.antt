@@ -1,5 +1,5 @@
 -- From an exchange to a call: the refusals in the order of the steps here.
-use Rattle.std.specs.Prelude.{ℕ, ⊤, ◌≡◌, ◌∷◌, [], nat_le, List, length}
+use Rattle.std.specs.Prelude.{ℕ, ⊤, ◌≡◌, nat_le, List, length}
 use Rattle.std.specs.Prelude.{string_bytes, Option, None, Some, option_map, Result, Ok, Err}
 use Rattle.std.specs.List.{find}
 use Rattle.hq_values.specs.Limits.{most_bytes}
@@ -184,26 +184,27 @@ start_in d None = Ok None
 start_in d (Some name) = seen_by Some (or_refuse NoCustomer
     (option_map name_of (find (has_name name) d.customers)))
 
--- whom a body asks: every customer where it is empty
-abbrev pub whom_in : Directory → List ℕ → Result Whom Refusal
-whom_in d [] = Ok Everyone
-whom_in d (b ∷ body) = do
-  name ← read_from (b ∷ body)
+-- whom a route asks: a hundred, by the body; or every customer, whatever the body is
+abbrev pub whom_in : Directory → Role → List ℕ → Result Whom Refusal
+whom_in d role.RelayFrom body = do
+  name ← read_from body
   start ← start_in d name
   Ok (From start)
+whom_in d _ body = Ok Everyone
 
--- the call of all customers: the relay's key, a route for all, and whom the body asks
-abbrev pub asked_of_all : Directory → Route → Option (List ℕ) → List ℕ → Result Asked Refusal
-asked_of_all d route key body = do
+-- the call of all customers: the relay's key, a route for all, and whom it asks
+abbrev pub asked_of_all : Directory → Role → Route → Option (List ℕ) → List ℕ → Result Asked Refusal
+asked_of_all d role route key body = do
   relay ← relay_alone d key
   call ← asked_of_each route
-  whom ← whom_in d body
+  whom ← whom_in d role body
   Ok (CallOfAll whom call)
 
 -- what a route of a role asks
 abbrev pub asked_as : Directory → Role → Route → Option (List ℕ) → (segment body : List ℕ) →
     Result Asked Refusal
-asked_as d role.RelayForAll route key segment body = asked_of_all d route key body
+asked_as d role.RelayForAll route key segment body = asked_of_all d role.RelayForAll route key body
+asked_as d role.RelayFrom route key segment body = asked_of_all d role.RelayFrom route key body
 asked_as d role route key segment body = asked_of_one d role route key segment body
 
 -- what is asked, or the refusal: the body's length, the path, the method, and then those of the

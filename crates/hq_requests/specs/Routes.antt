@@ -7,6 +7,7 @@ use Rattle.hq_requests.specs.declared.table.Methods.{Methods}
 use Rattle.hq_requests.specs.declared.table.Methods.TheVariants.{Get, Post, GetOrDelete}
 use Rattle.hq_requests.specs.declared.table.Role.{Role}
 use Rattle.hq_requests.specs.declared.table.Role.TheVariants.{Customer, Relay, RelayForAll}
+use Rattle.hq_requests.specs.declared.table.Role.TheVariants.{RelayFrom}
 use Rattle.hq_requests.specs.declared.table.Route.{Route}
 use Rattle.hq_requests.specs.declared.table.Route.TheVariants.{Messages, MessagesAfter, Show, Hold}
 use Rattle.hq_requests.specs.declared.table.Route.TheVariants.{Release, Requeue, Delete, HoldAll}
@@ -65,6 +66,7 @@ with_parameter text = text ++ parameter ∷ []
 unfoldable pub routes : RowsOf Methods
 routes =
     (with_parameter (codes "/relay/delete-matching/"), Post Relay DeleteMatching)
+    ∷ (codes "/relay/due-from", Post RelayFrom Due)
     ∷ (with_parameter (codes "/relay/due/"), Post Relay Due)
     ∷ (codes "/relay/due", Post RelayForAll Due)
     ∷ (with_parameter (codes "/relay/find/"), Post Relay Find)
@@ -78,8 +80,10 @@ routes =
     ∷ (with_parameter (codes "/relay/outcome/"), Post Relay Outcome)
     ∷ (with_parameter (codes "/relay/release-matching/"), Post Relay ReleaseMatching)
     ∷ (with_parameter (codes "/relay/submit/"), Post Relay Submit)
+    ∷ (codes "/relay/sweep-from", Post RelayFrom Sweep)
     ∷ (with_parameter (codes "/relay/sweep/"), Post Relay Sweep)
     ∷ (codes "/relay/sweep", Post RelayForAll Sweep)
+    ∷ (codes "/relay/usage-from", Post RelayFrom Usage)
     ∷ (codes "/relay/usage", Post RelayForAll Usage)
     ∷ (codes "/v1/check", Post Customer Check)
     ∷ (codes "/v1/delete-all", Post Customer DeleteAll)

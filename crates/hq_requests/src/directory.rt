@@ -165,7 +165,7 @@ impl Directory {
             None => Err(Refusal::NoKey),
             Some(held) => match role {
                 Role::Customer => Ok(held),
-                Role::Relay | Role::RelayForAll => Err(Refusal::WrongRole),
+                Role::Relay | Role::RelayForAll | Role::RelayFrom => Err(Refusal::WrongRole),
             },
         }
     }

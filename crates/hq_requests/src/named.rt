@@ -23,7 +23,7 @@ fn named_at<'d>(
     let methods = directory.methods(path).ok_or(Refusal::NoRoute)?;
     match methods.role() {
         Role::Relay => directory.holder(Role::Relay, key, last_segment(path)),
-        Role::Customer | Role::RelayForAll => Err(Refusal::NoRoute),
+        Role::Customer | Role::RelayForAll | Role::RelayFrom => Err(Refusal::NoRoute),
     }
 }
 

@@ -161,19 +161,20 @@ fn asked_of_each(route: Route) -> Result<EachCall, Refusal>
     }
 }
 
-/// Whom a body asks: every customer where it is empty; else refused as 7 `BadJson` or 8 `BadField`,
-/// and then as 13 `NoCustomer`.
+/// Whom a route asks: every customer, whatever the body is; or a hundred, by the body, which is
+/// else refused as 7 `BadJson` or 8 `BadField`, and then as 13 `NoCustomer`.
 fn whom_in<'d, M: JsonMemory>(
     memory: M,
     directory: &'d Directory,
+    role: Role,
     body: &[u8],
 ) -> Result<Span<'d>, Fail>
     ensures { ReadsIn M.refused (seen_by whom_seen result)
-        (calls.whom_in directory.now body.now) }
+        (calls.whom_in directory.now role body.now) }
 {
-    let [_, ..] = body else {
+    if !matches!(role, Role::RelayFrom) {
         return Ok(Span::Everyone);
-    };
+    }
     match read_from(memory, body)? {
         None => Ok(Span::From(None)),
         Some(name) => Ok(Span::From(Some(directory.named(name.as_str())?))),
@@ -185,11 +186,12 @@ fn whom_in<'d, M: JsonMemory>(
 fn asked_of_all<'d, M: JsonMemory>(
     memory: M,
     directory: &'d Directory,
+    role: Role,
     route: Route,
     exchange: &Exchange,
 ) -> Result<Asking<'d>, Fail>
     ensures call { ReadsIn M.refused (seen_by calls.asked_seen result)
-        (calls.asked_of_all directory.now route (option_map string_bytes exchange.now.key)
+        (calls.asked_of_all directory.now role route (option_map string_bytes exchange.now.key)
         exchange.now.body.items) }
     ensures known { IfOk result (calls.IsKnown directory.now) }
     ensures caller { IfOk result (IsOfAll directory.now
@@ -197,7 +199,7 @@ fn asked_of_all<'d, M: JsonMemory>(
 {
     directory.relay_alone(key_of(exchange))?;
     let each = asked_of_each(route)?;
-    let span = whom_in(memory, directory, exchange.body.as_slice())?;
+    let span = whom_in(memory, directory, role, exchange.body.as_slice())?;
     Ok(Asking::CallOfAll(span, each))
 }
 
@@ -207,7 +209,7 @@ fn asked_of_all<'d, M: JsonMemory>(
 /// - 2 `NoKey`, and 3 `WrongRole` where the route takes the key of another;
 /// - for one customer 13 `NoCustomer`; 3 where the key may only read and the route changes
 ///   something; then those of the parameter and the body;
-/// - for all of them those of the body, of which 13 is the last.
+/// - for a hundred of them those of the body, of which 13 is the last.
 ///
 /// The caller of a call of one customer is whom the exchange is of.
 #[tactic(auto, unfolding(crate::specs::Calls::call_from))]
@@ -231,7 +233,9 @@ pub fn call_of<'d, M: JsonMemory>(
         .route(exchange.method.as_str())
         .ok_or(Refusal::WrongMethod)?;
     match role {
-        Role::RelayForAll => asked_of_all(memory, directory, route, exchange),
+        Role::RelayForAll | Role::RelayFrom => {
+            asked_of_all(memory, directory, role, route, exchange)
+        }
         Role::Customer | Role::Relay => asked_of_one(memory, directory, role, route, exchange),
     }
 }

@@ -5,7 +5,7 @@ ghost use Rattle.std.specs.Prelude.{◌≡◌};
 ghost use Rattle.hq_requests.specs.Routes.{changes, role_of, route_of};
 
 use Methods::{Get, GetOrDelete, Post};
-use Role::{Customer, Relay, RelayForAll};
+use Role::{Customer, Relay, RelayForAll, RelayFrom};
 use Route::{
     Check, Delete, DeleteAll, DeleteMatching, DropLine, Due, Find, FindHistory, History,
     HistoryBefore, HistoryByBody, Hold, HoldAll, HoldMatching, Import, Limits, Lines, LinesAfter,
@@ -59,8 +59,10 @@ pub enum Role {
     Customer,
     /// The relay's, for the customer that the path names.
     Relay,
-    /// The relay's, for all customers together.
+    /// The relay's, for all customers together. The body is not looked at.
     RelayForAll,
+    /// The relay's, for at most 100 customers from the one that the body names.
+    RelayFrom,
 }
 
 /// What a route asks for.
@@ -179,7 +181,7 @@ impl Route {
 }
 
 /// Every path of the desk, as the router spells it, with its methods.
-pub(crate) const TABLE: [(&str, Methods); 45] = [
+pub(crate) const TABLE: [(&str, Methods); 48] = [
     ("/v1/messages", Get(Customer, Messages)),
     ("/v1/messages-after/{id}", Get(Customer, MessagesAfter)),
     ("/v1/message/{id}", GetOrDelete(Customer, Show, Delete)),
@@ -231,4 +233,7 @@ pub(crate) const TABLE: [(&str, Methods); 45] = [
     ("/relay/sweep", Post(RelayForAll, Sweep)),
     ("/relay/usage", Post(RelayForAll, Usage)),
     ("/relay/due", Post(RelayForAll, Due)),
+    ("/relay/sweep-from", Post(RelayFrom, Sweep)),
+    ("/relay/usage-from", Post(RelayFrom, Usage)),
+    ("/relay/due-from", Post(RelayFrom, Due)),
 ];

@@ -9,6 +9,9 @@ pub fn takes_long(path: &str) -> bool {
         || matches!(
             word,
             "sweep"
+                | "sweep-from"
+                | "usage-from"
+                | "due-from"
                 | "report"
                 | "import"
                 | "hold-all"

@@ -1,0 +1,88 @@
+"""Postfix's policy protocol (SMTPD_POLICY_README): whose mail comes, before its content does.
+
+Mail of nobody is refused in the client's session, and so Postfix has nothing to bounce. Mail of a customer goes to the worker by a
+way of the customer's own: Postfix serves its destinations in turn, each by so many processes at most, so that the mail of one waits
+for nobody else's.
+"""
+import asyncio
+import hashlib
+import socket
+from typing import Dict, List, Optional
+
+import log
+from intake import NOBODY, Intake
+from settings import Address
+
+# The bytes of a request, and how many seconds a client may say nothing.
+LARGEST, IDLE = 65_536, 3_600
+REQUEST = "smtpd_access_policy"
+# How many values the second and the third byte of an address of loopback have that is nobody's.
+NETWORK, SIZE = 64, 64
+
+
+def attributes(request: bytes) -> Dict[str, str]:
+    """What a request says, each line a name and a value."""
+    lines = request.decode("utf-8", "replace").split("\n")
+    return {name: value for name, equals, value in (it.partition("=") for it in lines) if equals}
+
+
+def way_of(customer: str, intake: Address) -> str:
+    """The worker's address, as a destination of this customer alone.
+
+    Postfix tells destinations apart by their text. The second address makes it another one for each: nobody listens there, and so it
+    is asked for in vain while nobody listens at the first.
+    """
+    host, port = intake
+    one, two, three = hashlib.sha256(customer.encode()).digest()[:3]
+    return f"[{host}]:{port},[127.{NETWORK + one % SIZE}.{two}.{three}]:{port}"
+
+
+def action_of(intake: Intake, told: Dict[str, str]) -> str:
+    """What Postfix is to do with a recipient."""
+    if told.get("request") != REQUEST:
+        return "DUNNO"
+    login = told.get("sasl_username") or None
+    customer = intake.owner(login, told.get("sender", ""))
+    if not customer:
+        log.warning("no customer", sender=told.get("sender", ""), login=login)
+        return NOBODY
+    return f"FILTER desk:{way_of(customer, intake.settings.listen)}"
+
+
+class Policy:
+    """Answers what Postfix asks at these sockets, in the loop of the process."""
+
+    def __init__(self, intake: Intake, listening: List[socket.socket]):
+        self.intake, self.listening = intake, listening
+        self.servers: List[asyncio.AbstractServer] = []
+
+    async def start(self) -> None:
+        self.servers = [await asyncio.start_server(self.serve, sock=it, limit=LARGEST) for it in self.listening]
+
+    def close(self) -> None:
+        for it in self.servers:
+            it.close()
+
+    async def serve(self, reader: asyncio.StreamReader, writer: asyncio.StreamWriter) -> None:
+        """Answers one request after the other, until its client goes."""
+        try:
+            while True:
+                request = await self.request(reader)
+                if request is None:
+                    break
+                writer.write(f"action={action_of(self.intake, attributes(request))}\n\n".encode())
+                await writer.drain()
+        except (ConnectionError, asyncio.TimeoutError):
+            pass  # (a client that goes away is no fault)
+        except Exception as error:
+            log.error("session failed", why=repr(error))
+        finally:
+            writer.close()
+
+    @staticmethod
+    async def request(reader: asyncio.StreamReader) -> Optional[bytes]:
+        """The next request; None where there is none, or one that is too long."""
+        try:
+            return await asyncio.wait_for(reader.readuntil(b"\n\n"), IDLE)
+        except (asyncio.IncompleteReadError, asyncio.LimitOverrunError):
+            return None

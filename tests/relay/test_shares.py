@@ -1,0 +1,242 @@
+"""What one customer, or one desk, takes of what all share, and what it leaves: processes, threads, places of calls, rests."""
+import threading
+import time
+from types import SimpleNamespace
+
+import pytest
+from calls import Calls
+from desk import Away
+from destinations import AT_ONCE, BETWEEN_TURNS, CUSTOMER_ALONE, DOMAIN, PROVEN, SLOW, UNPROVEN, Capacity, Destinations
+from handed import Attempt
+from serving import expect, until
+from turns import Turns
+
+SOON, WHILE = 10, 0.3
+CAPACITY = Capacity(100, 5)
+
+
+class Clock:
+    """The moments that the code under test sees."""
+
+    def __init__(self, monkeypatch):
+        self.now = 1000.0
+        monkeypatch.setattr(time, "monotonic", lambda: self.now)
+
+
+@pytest.fixture
+def clock(monkeypatch):
+    return Clock(monkeypatch)
+
+
+class Mail:
+    """What is handed over to these destinations."""
+
+    def __init__(self, capacity=CAPACITY):
+        self.to, self.count = Destinations(60.0, capacity), 0
+
+    def attempt(self, customer, domain):
+        self.count += 1
+        return Attempt(f"{customer}.{self.count}", customer, f"s{self.count}", "1", 1, [f"p@{domain}"], "ann@a.example", 0.0)
+
+    def begun(self, customer, domains, each):
+        """The messages that may go of so many to each of these domains."""
+        tried = [self.attempt(customer, it) for it in domains for _ in range(each)]
+        return [it for it in tried if self.to.begin(it)]
+
+    def may(self, customer, domain):
+        """Whether a message may go; then it is delivered at once."""
+        attempt = self.attempt(customer, domain)
+        may = self.to.begin(attempt)
+        self.to.end(attempt)
+        return may
+
+    def told(self, customer, domain, unreached="", count=1):
+        for _ in range(count):
+            self.to.answered(customer, [{"recipient": f"p@{domain}", "unreached": unreached}])
+
+
+def domains(kind, count):
+    return [f"{kind}{it}.example" for it in range(count)]
+
+
+def test_silent_hosts(clock):
+    """Messages to many new domains take a part of the processes that are for such, and each further customer who sends so a
+    smaller one. Others' mail goes, to domains that have answered and to new ones."""
+    mail = Mail()
+    mail.told("birch", "good.example")
+    for number, noisy in enumerate(("acme", "cedar", "dale"), 1):
+        taken = len(mail.begun(noisy, domains(noisy, 60), 2))
+        expect(1 <= taken <= 50 // (number + 1) + 1, noisy, "has", taken, "under way")
+        clock.now += SLOW + 1
+        expect(mail.may("birch", "good.example") and mail.may("birch", f"new{number}.example"), "with", noisy, "the mail of another waits")
+
+
+def test_proven_hosts_that_hang(clock):
+    """So it is where hosts of many domains have answered before, and then hang all at once."""
+    mail = Mail()
+    for it in [*domains("evil", 60), "good.example"]:
+        mail.told("acme", it)
+    taken = mail.begun("acme", domains("evil", 60), 60)
+    held = {it: sum(one.recipients == [f"p@{it}"] for one in taken) for it in domains("evil", 60)}
+    processes = sum(min(it, CAPACITY.at_a_domain) for it in held.values())
+    expect(45 <= processes <= 55 and max(held.values()) <= PROVEN // 2, "it holds", processes, held)
+    expect(mail.may("birch", "good.example"), "the mail of another waits")
+    clock.now += SLOW + 1
+    expect(mail.may("birch", "good.example"), "the mail of another waits")
+
+
+def test_a_slow_domain(clock):
+    """Of a domain that has become slow few messages lie in the instance at once, so that another customer's next one waits for few."""
+    mail = Mail()
+    mail.told("acme", "slow.example")
+    taken = mail.begun("acme", ["slow.example"], 200)
+    expect(len(taken) == PROVEN // 2, "under way are", len(taken))
+    for it in taken[:-2]:
+        mail.to.end(it)
+    clock.now += SLOW + 1
+    expect(len(mail.begun("acme", ["slow.example"], 200)) == CAPACITY.at_a_domain - 2, "more go to a slow domain")
+    expect(mail.may("birch", "slow.example"), "the mail of another waits")
+
+
+def test_cuts_rest_for_their_customer(clock):
+    """A host that answers cuts the sessions of one customer: its mail to that domain rests, and nobody else's."""
+    mail = Mail()
+    mail.told("birch", "good.example")
+    mail.told("acme", "good.example", CUSTOMER_ALONE, 12)
+    expect(not mail.may("acme", "good.example") and mail.may("acme", "other.example"), "its mail does not rest there alone")
+    expect(mail.may("birch", "good.example"), "the mail of another rests")
+    clock.now += 61
+    expect(mail.may("acme", "good.example"), "it rests for ever")
+
+
+@pytest.mark.parametrize("is_proven, failures", [(False, 1), (True, 10)])
+def test_domains_rest(clock, is_proven, failures):
+    """A domain whose hosts cannot be reached rests for all: behind the first failure, or the tenth where it has answered."""
+    mail = Mail()
+    if is_proven:
+        mail.told("birch", "away.example")
+    for length in (60, 120, 240):
+        mail.told("acme", "away.example", DOMAIN, failures - 1)
+        expect(mail.may("birch", "away.example"), "it rests too soon")
+        mail.told("acme", "away.example", DOMAIN)
+        clock.now += length - 1
+        expect(not mail.may("acme", "away.example") and not mail.may("birch", "away.example"), "it does not rest for", length)
+        clock.now += 2
+        failures = 1
+
+
+def test_who_goes_on(clock):
+    """The end of a message has those go on who wait for its domain, and no other; and those who wait for processes, now and then."""
+    mail = Mail()
+    first = mail.begun("acme", ["one.example"], UNPROVEN)
+    expect(not mail.to.begin(mail.attempt("acme", "one.example")), "a new domain has no bound")
+    other = mail.begun("birch", ["two.example"], 1)
+    expect(mail.to.end(other[0]) == set(), "who waits for another domain goes on")
+    expect(mail.to.end(first[0]) == {"acme"} and mail.to.end(first[1]) == set(), "who waits does not go on")
+    many = mail.begun("cedar", domains("many", 60), 1)
+    expect(len(many) < 60, "there is no bound")
+    expect(mail.to.end(many[0]) == {"cedar"}, "who waits for processes does not go on")
+    mail.to.begin(mail.attempt("cedar", "next.example"))
+    mail.begun("cedar", domains("more", 60), 1)
+    expect(mail.to.end(many[1]) == set(), "it goes on without a pause")
+    clock.now += BETWEEN_TURNS
+    expect(mail.to.end(many[2]) == {"cedar"}, "it does not go on later")
+
+
+def test_few_turns_for_many_ends(clock):
+    """Who waits for a domain with much under way has one turn for several ends."""
+    mail = Mail()
+    mail.told("acme", "good.example")
+    taken = mail.begun("acme", ["good.example"], 200)
+    turns = 0
+    for it in taken:
+        if mail.to.end(it):
+            turns += 1
+            mail.begun("acme", ["good.example"], 200)
+    expect(1 <= turns <= len(taken) / AT_ONCE + AT_ONCE, "for", len(taken), "ends there were", turns, "turns")
+
+
+def test_what_was_under_way(clock):
+    """What was handed over before a new start counts, with its age."""
+    mail = Mail()
+    mail.told("acme", "good.example")
+    old = [mail.attempt("acme", "good.example") for _ in range(20)]
+    mail.to.resume(old)
+    expect(not mail.to.begin(mail.attempt("acme", "good.example")), "old messages to a slow domain do not count")
+    for it in old:
+        mail.to.end(it)
+    expect(mail.to.begin(mail.attempt("acme", "good.example")), "it waits for ever")
+
+
+# ---- threads and calls, by desk
+
+def test_turns_of_several_desks():
+    """Customers of a desk that hangs take a part of the threads; those of others have their turns."""
+    gate, done = threading.Event(), []
+
+    def work(customer):
+        if customer.startswith("n"):
+            gate.wait(SOON)
+        done.append(customer)
+
+    names = [f"{desk}{it}" for it in range(30) for desk in "ns"]
+    turns = Turns(4, 1.0, work, {it: it[0] for it in names})
+    turns.start()
+    for it in sorted(names):
+        turns.add(it)
+    until(lambda: len(done) == 30, f"done are {done}", SOON)
+    expect(all(it.startswith("s") for it in done), "a desk that hangs did", done)
+    gate.set()
+    turns.wait()
+    turns.end()
+    expect(sorted(done) == sorted(names), "some had no turn:", set(names) - set(done))
+
+
+def test_turns_of_one_desk():
+    """Where there is one desk, or nobody tells which, its customers take all threads."""
+    gate, begun = threading.Event(), []
+    turns = Turns(4, 1.0, lambda customer: begun.append(customer) or not gate.wait(SOON))
+    turns.start()
+    for it in "abcdef":
+        turns.add(it)
+    until(lambda: len(begun) == 4, f"begun are {begun}", SOON)
+    gate.set()
+    turns.wait()
+    turns.end()
+    expect(sorted(begun) == [*"abcdef"], begun)
+
+
+def test_calls_of_a_desk_that_hangs(clock):
+    """So many calls of a desk are under way; once they take too long, further ones fail at once, and those of other desks go on."""
+    calls = Calls(2)
+    with calls.one_of("north"), calls.one_of("north"):
+        clock.now += 3
+        with pytest.raises(Away):
+            with calls.one_of("north"):
+                pass
+        with calls.one_of("south"):
+            pass
+    with calls.one_of("north"):
+        pass
+
+
+def test_calls_wait_for_their_turn():
+    """A call waits while those before it are as quick as they should be."""
+    calls, entered = Calls(1), threading.Event()
+
+    def call():
+        with calls.one_of("north"):
+            entered.set()
+
+    with calls.one_of("north"):
+        threading.Thread(target=call, daemon=True).start()
+        expect(not entered.wait(WHILE), "two calls are under way")
+    expect(entered.wait(SOON), "a call waits for ever")
+
+
+def test_desks_of_customers():
+    """Of a table the desks; customers of whom it tells nothing stand together."""
+    from settings import Settings
+    names = dict.fromkeys(("acme", "birch", "cedar", "dale"))
+    told = SimpleNamespace(customers=names, desks={"acme": "north", "birch": "south", "cedar": "north"})
+    expect(Settings.of_desks(told) == [["acme", "cedar"], ["birch"], ["dale"]], Settings.of_desks(told))
