@@ -11,7 +11,7 @@ from pathlib import Path
 
 import pytest
 from customers_place import Place
-from deploying import DEPLOY
+from deploying import DEPLOY, all_settings_of
 from serving import HEADER, LONGEST, RELAY, batch_line, expect, submission
 
 DAY = 86_400
@@ -296,6 +296,20 @@ def test_retained_by_portions(place):
     found = [subprocess.run([place.bin / "bounded", *words[1:]], capture_output=True, text=True, timeout=LONGEST) for _ in range(4)]
     expect([(it.returncode, it.stdout) for it in found] == [(4, "25 notices, 0 of the history\n"), (4, "13 notices, 12 of the history\n"),
                                                            (4, "0 notices, 25 of the history\n"), (0, "0 notices, 2 of the history\n")], "portions are", found)
+
+
+def test_retained_for_seconds(place):
+    """A command that has much to erase ends when its time is up, with what it has done by then, and the next one goes on."""
+    place.filled("acme", int(time.time()) - 100 * DAY, 40)
+    words = [DEPLOY / "desk-store", "retain", place.stores / "north.db", "90"]
+    script = (DEPLOY / "desk-store").read_text().replace("MOST_SECONDS = 5", "MOST_SECONDS = 0")
+    (place.bin / "timed").write_text(script.replace("Path(__file__).resolve().parent", f"Path({str(DEPLOY)!r})"))
+    (place.bin / "timed").chmod(0o755)
+    found = [subprocess.run([place.bin / "timed", *words[1:]], capture_output=True, text=True, timeout=LONGEST) for _ in range(3)]
+    expect([(it.returncode, it.stdout) for it in found] == [(4, "38 notices, 0 of the history\n"), (4, "0 notices, 39 of the history\n"),
+                                                           (0, "0 notices, 0 of the history\n")], "portions are", found)
+    # (the unit has time to write what was erased)
+    expect(all_settings_of(DEPLOY / "hq-desk-retain@.service")["TimeoutStartSec"] == ["5min"], "it is killed")
 
 
 @pytest.mark.parametrize("days", ["6", "0", "-1", "36501", "9x", "", "1e3"])
