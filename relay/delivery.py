@@ -1,8 +1,8 @@
 """Delivery: what is due is handed over, what became of it is told, and customers are swept.
 
 Customers have turns at the sessions with the instance that delivers, at the desk, and at the next
-hop of notices, in some threads each. One thread reads the reports of the instance, and one sweeps
-and cleans. What hangs or fails for one customer holds up no other.
+hop of notices, in some threads each. One thread reads the reports of the instance, one hears whose mail
+was queued, and one for each desk sweeps and cleans. What hangs or fails for one customer holds up no other.
 """
 import threading
 import time
@@ -10,6 +10,7 @@ from contextlib import ExitStack, contextmanager
 from typing import Callable, Dict, Iterator, List, Set
 
 import log
+from bell import Listener
 from book import Book
 from cleaning import Cleaning
 from desk import Away, Desk
@@ -61,7 +62,8 @@ class Delivery:
                                self.ended, self.catching_up.add)
         houses = [threading.Thread(target=self.keep_house, args=[it], daemon=True)
                   for it in settings.of_desks()]
-        self.threads = [*houses, threading.Thread(target=self.watch, daemon=True)]
+        self.listener = Listener(spool.locks, self.give_turn)
+        self.threads = [*houses, *(threading.Thread(target=it, daemon=True) for it in (self.watch, self.listen))]
 
     def turns_of(self, count: int, work: Callable[[str], bool]) -> Turns:
         return Turns(threads_for(self.settings, count), self.settings.pause, work, self.settings.desks)
@@ -156,6 +158,14 @@ class Delivery:
                 to_clean.update(customers)
             self.chores(customers, to_sweep, to_clean, waits=False)
             self.ending.wait(self.settings.pause)
+
+    def listen(self) -> None:
+        """Hears whose mail was queued, until `end`."""
+        self.listener.listen(self.ending)
+
+    def give_turn(self, customer: str) -> None:
+        if customer in self.locks:
+            self.handover.turns.add(customer)
 
     def watch(self) -> None:
         """Reads reports as they come, and looks after what is missing, until `end`."""

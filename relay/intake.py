@@ -15,6 +15,7 @@ from typing import ContextManager, Optional, Set, Tuple
 
 import desk as desks
 import log
+from bell import Bell
 from book import Book
 from calls import Calls
 from desk import Away, Desk, Refused
@@ -178,6 +179,7 @@ class Intake:
                  unsettled: Set[str]):
         self.settings, self.desk, self.spool, self.book = settings, desk, spool, book
         self.names, self.guard, self.unsettled = Names(desk, spool, book), threading.Lock(), unsettled
+        self.bell = Bell(spool.locks)
         # (each process has its part of those that bring mail)
         self.calls = Calls(max(1, most_to_the_worker(settings) // 2 // settings.processes))
 
@@ -307,6 +309,7 @@ class Intake:
         else:
             answer = f"250 2.0.0 queued as {reply['id']}"
             self.book.taken(envelope.customer, envelope.spool, reply["id"], answer, size)
+            self.bell.ring(envelope.customer)
         log.info(verdict, customer=envelope.customer, spool=envelope.spool, answer=answer)
         return answer
 

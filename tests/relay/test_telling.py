@@ -35,7 +35,7 @@ class Told(Desk):
         self.is_listing = threading.Event()
 
     def ask(self, path, body=None, timeout=None):
-        return getattr(self, path.split("/")[2] + "_asked")(body)
+        return getattr(self, path.split("/")[2].replace("-", "_") + "_asked")(body)
 
     def outcome_asked(self, body):
         self.told.append(body["id"])
@@ -58,7 +58,10 @@ class Told(Desk):
         return {"messages": []}
 
     def due_asked(self, body):
-        return {"due": []} if "after" in body else {"done": [], "next": None, "stopped": None}
+        return {"due": []}
+
+    def due_from_asked(self, body):
+        return {"done": [], "next": None, "stopped": None}
 
     def sweep_asked(self, body):
         return {"expired": 0, "notices": 0, "warned": 0}
