@@ -28,8 +28,8 @@ from turns import Turns, threads_for
 
 # How many seconds lie between two looks at the reports.
 BETWEEN_LOOKS = 0.1
-# At this age, in seconds, a sweep gives a message up.
-GIVEN_UP = 432_000
+# At this age, in seconds, a sweep gives a message up. So many that it does not are named in a line.
+GIVEN_UP, MOST_TOLD = 432_000, 20
 # Threads that mail notices, and that ask desks of what is under way.
 MAILING, CATCHING_UP = 2, 2
 
@@ -296,16 +296,29 @@ class Delivery:
         except Exception as error:
             log.error("not cleaned", why=repr(error))
 
+    def are_unknown(self, name: str, late: List[dict]) -> bool:
+        """Whether the content of some late message is missing, which is told: nobody knows whether it was
+        delivered, so a sweep must not have its sender told that it was not."""
+        spools = {it["id"]: self.names.known(name, it) or (self.names.shown(name, it["id"]) or {}).get("spool")
+                  for it in late}
+        missing = [id for id, spool in spools.items() if not (spool and self.cleaning.spool.has(spool))]
+        if missing:
+            log.error("not given up: content is missing", customer=name, ids=",".join(missing[:MOST_TOLD]), count=len(missing),
+                      help="were they delivered? hold or delete them, and the sweep goes on")
+        return bool(missing)
+
     def sweep(self, name: str) -> None:
         """Sweeps a customer, unless that might push out notices that were not mailed, or give up
         what was handed over, or delivered and is still to be told."""
         now = time.time()
         with self.handover.listing[name]:
             entries = list(self.desk.messages(name))
+            late = [it for it in entries if it["arrival"] <= now - GIVEN_UP and it["state"] != "hold"]
+            if self.are_unknown(name, late):
+                return
             busy = self.handed.spools_under_way(name)
-            is_late = any(it["arrival"] <= now - GIVEN_UP and self.names.known(name, it) in busy
-                          for it in entries)
-            if (is_late or self.book.untold(name)
+            is_busy = any(self.names.known(name, it) in busy for it in late)
+            if (is_busy or self.book.untold(name)
                     or not self.notices.has_room_for(name, len(entries))):
                 log.error("not swept: notices or outcomes wait", customer=name)
                 return
