@@ -182,6 +182,7 @@ class Delivery:
                 looked = time.monotonic()
                 self.missing.look(self.handover.is_busy)
                 self.outcomes.ask_for_late()
+                self.destinations.keep({it.envelope for it in self.handed.under_way()})
             if not count:
                 self.ending.wait(BETWEEN_LOOKS)
         except Exception as error:

@@ -7,7 +7,7 @@ import pytest
 from bell import Bell, Listener
 from calls import Calls
 from desk import Away
-from destinations import AT_ONCE, BETWEEN_TURNS, CUSTOMER_ALONE, DOMAIN, PROVEN, SLOW, UNPROVEN, Capacity, Destinations
+from destinations import AT_ONCE, BETWEEN_TURNS, CUSTOMER_ALONE, DOMAIN, PROVEN, SLOW, UNPROVEN, WRITTEN_BY, Capacity, Destinations
 from handed import Attempt
 from serving import expect, until
 from turns import Turns
@@ -167,6 +167,17 @@ def test_what_was_under_way(clock):
     for it in old:
         mail.to.end(it)
     expect(mail.to.begin(mail.attempt("acme", "good.example")), "it waits for ever")
+
+
+def test_what_was_erased(clock):
+    """What a customer had under way who was erased takes no share for ever; what was begun just now stays."""
+    mail = Mail()
+    old = mail.begun("acme", domains("old", 60), 2)
+    clock.now += WRITTEN_BY + 1
+    new = mail.begun("birch", ["new.example"], 2)
+    mail.to.keep({old[0].envelope})
+    left = {it for one in mail.to.domains.values() for it in one.under_way}
+    expect(left == {old[0].envelope, *(it.envelope for it in new)}, "left are", left)
 
 
 # ---- threads and calls, by desk
