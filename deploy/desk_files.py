@@ -1,9 +1,10 @@
 """The files of /etc/hq that say who is a customer, for the scripts beside it: read, tried, and written all or none.
 
 `NAME.csv` of each desk is the directory that it serves, `NAME.keys.csv` its named keys, where it has any,
-`senders.csv` has the logins and domains of the worker, and `dropped.csv` the customers that were dropped, whose
-records are still there. Made of these are the worker's copy of the directories,
-which has no key (`relay.csv`), its table of the desk of each customer (`desks.csv`), the maps of nginx, and the line of `NAME.env` by which a desk gets its named keys.
+`senders.csv` has the logins and domains of the worker, `dropped.csv` the customers that were dropped, whose
+records are still there, and `erased.csv` since when those of a name are gone. Made of these are the worker's copy of the
+directories, which has no key (`relay.csv`), its table of the desk of each customer (`desks.csv`), the maps of nginx, and the
+line of `NAME.env` by which a desk gets its named keys.
 What is to be written stands beside each file first, synced; a file `.customers.whole` then says that all of it
 is there, and each takes its place. Whoever comes next ends what was stopped between.
 """
@@ -30,19 +31,17 @@ FURTHER = "history"
 KEYS, SETTING = ".keys.csv", "KEYS"
 NAMED = ["customer", "name", "key", "right"]
 SENDERS = ["kind", "name", "customer"]
+# Since when a login or domain is the customer's: the worker takes no mail of it that came before.
+SINCE = "since"
 DROPPED = ["name", "desk", "day"]
+ERASED = ["name", "moment"]
+MOMENT = "%Y-%m-%dT%H:%M:%SZ"
 DESKS = ["customer", "desk"]
 LOCK, WHOLE, BESIDE, GONE, TRIAL = ".customers.lock", ".customers.whole", ".customers-new", ".customers-gone", ".customers-trial-"
 # Tables of this folder that are no directory.
-OTHERS = ("relay", "senders", "dropped", "desks", "events", "up")
+OTHERS = ("relay", "senders", "dropped", "erased", "desks", "events", "up")
 # In seconds: how long another one may have the lock, and what a command may take.
 PATIENCE, LONGEST = 60, 120
-# And the worker, which waits until nobody works by earlier settings.
-LONGEST_ERASING = 300
-# What `desk-store` ends with where it did its work: wholly, where it knows no such customer, and where more is left.
-DONE, UNKNOWN, MORE = 0, 3, 4
-# So many seconds a `deliver` that has little under way takes to go by other tables.
-SETTLES = 2
 
 
 class Refused(Exception):
@@ -116,12 +115,16 @@ def rows_of(path: Path) -> List[List[str]]:
         return [it for it in csv.reader(file) if it]
 
 
-def table_of(path: Path, header: List[str]) -> List[List[str]]:
-    """The rows of a table under its header; none where there is no such file."""
+def table_of(path: Path, header: List[str], *further: str) -> List[List[str]]:
+    """The rows of a table under its header, which may have further columns; none where there is no such file."""
     first, *rows = (rows_of(path) or [[]]) if path.exists() else [header]
-    if first != header or any(len(it) != len(header) for it in rows):
+    if first not in (header, [*header, *further]) or any(len(it) != len(first) for it in rows):
         raise Refused(f"{path} has not the header {','.join(header)}")
     return rows
+
+
+def now() -> str:
+    return datetime.now(timezone.utc).strftime(MOMENT)
 
 
 def text_of(rows: List[List[str]]) -> str:
@@ -223,18 +226,25 @@ class Folder:
         self.desks = [Desk(it) for it in sorted(path.glob("*.env"))]
         for it in self.desks:
             it.read_keys()
-        self.senders: Dict[Tuple[str, str], str] = {}
         # what is printed once all is written: a key, and why something is left to do; and whether it is tried again
         self.told: Optional[str] = None
         self.left: Optional[str] = None
         self.is_again = False
-        self.senders = {(kind, name): customer for kind, name, customer in table_of(path / "senders.csv", SENDERS)}
+        # (a row that an administrator or an earlier release wrote has always been there)
+        self.senders_before = {(row[0], row[1]): (row[2], *row[3:]) for row in table_of(path / "senders.csv", SENDERS, SINCE)}
+        self.senders: Dict[Tuple[str, str], str] = {it: row[0] for it, row in self.senders_before.items()}
         self.dropped = {name: (desk, day) for name, desk, day in table_of(path / "dropped.csv", DROPPED)}
+        self.erased = {name: moment for name, moment in table_of(path / "erased.csv", ERASED)}
         # (a row that was taken out by hand is that of a customer who was dropped)
         before = [it[0] for it in rows_of(path / "relay.csv")[1:]] if (path / "relay.csv").exists() else []
         known = {it["name"] for desk in self.desks for it in desk.rows}
         for name in (it for it in before if it not in known):
             self.dropped.setdefault(name, ("by hand", datetime.now(timezone.utc).strftime("%Y-%m-%d")))
+
+    def since(self, sender: Tuple[str, str]) -> str:
+        """Since when a login or domain is its customer's; nothing where nobody knows."""
+        customer, *moment = self.senders_before.get(sender, ("", now()))
+        return (moment or [""])[0] if customer in (self.senders[sender], "") else now()
 
     def of_worker(self) -> str:
         """The directories of all desks, without a key."""
@@ -261,10 +271,12 @@ class Folder:
             put_beside(it.path, it.text(), 0o640, desks)
             self.put_keys(it, desks)
             self.check(it)
-        senders = [SENDERS, *([*it, name] for it, name in sorted(self.senders.items()))]
+        senders = [[*SENDERS, SINCE], *([*it, name, self.since(it)] for it, name in sorted(self.senders.items()))]
         put_beside(self.path / "senders.csv", text_of(senders), 0o640, workers)
         gone = [DROPPED, *([name, *row] for name, row in sorted(self.dropped.items()))]
         put_beside(self.path / "dropped.csv", text_of(gone), 0o640, desks)
+        erased = [ERASED, *([*it] for it in sorted(self.erased.items()))]
+        put_beside(self.path / "erased.csv", text_of(erased), 0o640, desks)
         put_beside(self.path / "relay.csv", self.of_worker(), 0o640, workers)
         desks_of = [DESKS, *([row["name"], desk.name] for desk in self.desks for row in desk.rows)]
         put_beside(self.path / "desks.csv", text_of(desks_of), 0o640, workers)
@@ -313,85 +325,3 @@ def tried(words: list) -> None:
     if ended.returncode:
         told = " / ".join(ended.stderr.strip().splitlines()) or f"status {ended.returncode}"
         raise Refused(f"{Path(words[0]).name} refuses it, and nothing was changed: {told}")
-
-
-# ---- the programs
-
-def is_active(unit: str) -> bool:
-    return not subprocess.run(["systemctl", "is-active", "--quiet", unit], stdin=subprocess.DEVNULL).returncode
-
-
-def take_up(scripts: Path, desks: List[Desk], is_gone: bool) -> None:
-    """Has what runs go by the files: desks first, so that nobody speaks to them of a customer whom they do not know; and last
-    where a customer is gone."""
-    def restart() -> None:
-        for it in desks:
-            if is_active(f"hq-desk@{it.name}"):
-                done([scripts / "desk-restart", it.name])
-
-    if not is_gone:
-        restart()
-    running = [it for it in ("nginx", "hq-desk-workers", "hq-relay-intake", "hq-relay-deliver") if is_active(it)]
-    for it in running:
-        done(["systemctl", "reload", it])
-    if is_gone:
-        time.sleep(SETTLES if "hq-relay-deliver" in running else 0)
-        restart()
-
-
-def done(words: list) -> None:
-    ended = subprocess.run(words, stdin=subprocess.DEVNULL, stderr=subprocess.PIPE, text=True, timeout=LONGEST)
-    if ended.returncode:
-        raise Refused(f"the files are written, and not taken up: {' '.join(map(str, words))}: {ended.stderr.strip()}")
-
-
-def of_worker(folder: Path, name: str) -> str:
-    """What the worker erases of a customer, as its user, in its own words."""
-    if not (folder / "relay.ini").exists():
-        return "it is not set up"
-    ended = as_worker(folder, "erase", name)
-    if ended.returncode:
-        told = " / ".join(ended.stderr.strip().splitlines())
-        raise Refused(f"the worker erases nothing: {told or f'status {ended.returncode}'}")
-    return ended.stdout.strip()
-
-
-def is_known_to_worker(folder: Path, name: str) -> bool:
-    """Whether the worker has anything of a customer."""
-    if not (folder / "relay.ini").exists():
-        return False
-    ended = as_worker(folder, "knows", name)
-    if ended.returncode not in (DONE, UNKNOWN):
-        told = " / ".join(ended.stderr.strip().splitlines())
-        raise Refused(f"the worker does not tell what it has: {told or f'status {ended.returncode}'}")
-    return ended.returncode == DONE
-
-
-def as_worker(folder: Path, command: str, name: str) -> "subprocess.CompletedProcess[str]":
-    words = ["hq-relay", folder / "relay.ini", command, name]
-    if os.geteuid() == 0:
-        words = [Path(__file__).resolve().parent / "hq-as", "hqrelay", *words]
-    return subprocess.run(words, stdin=subprocess.DEVNULL, capture_output=True, text=True, timeout=LONGEST_ERASING)
-
-
-def count_again() -> None:
-    """Has the counts for Prometheus made anew, without waiting, where they are made at all."""
-    if shutil.which("systemctl") and is_active("hq-desk-metrics.timer"):
-        subprocess.run(["systemctl", "start", "--no-block", "hq-desk-metrics.service"], stdin=subprocess.DEVNULL, check=False)
-
-
-def of_store(scripts: Path, desk: Desk, stores: Path, command: str, what: str) -> Optional[Tuple[int, str]]:
-    """What `desk-store` does with the store of a desk, as the user of the desks, while the desk is away for that moment: its
-    status, and what it prints. None where there is no store."""
-    store = stores / f"{desk.name}.db"
-    if not os.path.lexists(store):
-        return None
-    words = [scripts / "desk-store", command, store, what]
-    if os.geteuid() == 0 and shutil.which("systemctl"):
-        words = [scripts / "desk-restart", desk.name, "--stopped", *words]
-    # (it takes as long as it takes: who ends it would leave the desk stopped)
-    ended = subprocess.run(words, stdin=subprocess.DEVNULL, capture_output=True, text=True)
-    if ended.returncode not in (DONE, UNKNOWN, MORE):
-        told = " / ".join(ended.stderr.strip().splitlines())
-        raise Refused(f"the store of {desk.name}: {told or f'status {ended.returncode}'}")
-    return ended.returncode, ended.stdout.strip()

@@ -2,10 +2,14 @@
 import contextlib
 import os
 import sqlite3
-from typing import Dict, Iterator, List
+import time
+from typing import Dict, Iterator, List, Tuple
 
 VERSION = 3
 TABLES = ("heads", "messages", "recipients", "lines", "marks", "notices", "holds", "ends")
+
+# The tables whose rows have a moment, and where.
+MOMENTS = {"messages": "arrival", "notices": "moment", "ends": "moment"}
 
 
 class Refused(Exception):
@@ -38,6 +42,12 @@ def has_any(store: sqlite3.Connection, name: str) -> bool:
     return any(store.execute(f"SELECT 1 FROM {it} WHERE customer = ? LIMIT 1", (name,)).fetchone() for it in TABLES)
 
 
+def has_older(store: sqlite3.Connection, name: str, moment: int) -> bool:
+    """Whether a store has a row of a customer from before a moment."""
+    asked = "SELECT 1 FROM {} WHERE customer = ? AND {} < ? LIMIT 1"
+    return any(store.execute(asked.format(table, column), (name, moment)).fetchone() for table, column in MOMENTS.items())
+
+
 @contextlib.contextmanager
 def changing(store: sqlite3.Connection) -> Iterator[None]:
     """A transaction, undone where it is not whole."""
@@ -55,6 +65,8 @@ def dropped(store: sqlite3.Connection, name: str) -> int:
     return sum(store.execute(f"DELETE FROM {it} WHERE customer = ?", (name,)).rowcount for it in TABLES)
 
 
+# So many rows are deleted between two looks at the clock.
+PIECE = 1_000
 # What retention deletes: whatever is older, up to the last row in the order of the numbers that is. Of notices the newest stays: by
 # it the worker knows whether the desk is the one that it mailed for.
 OLD = {
@@ -64,15 +76,21 @@ OLD = {
 }
 
 
-def aged(store: sqlite3.Connection, before: int, most: int) -> Dict[str, int]:
-    """Deletes notices and history from before a moment, the oldest first, so many at most; how many of each there were."""
-    found = {}
+def aged(store: sqlite3.Connection, before: int, most: int, longest: float) -> Tuple[Dict[str, int], bool]:
+    """Deletes notices and history from before a moment, the oldest first: so many at most, and for so many seconds. How many of
+    each there were, and whether more may be left."""
+    found, end = dict.fromkeys(OLD, 0), time.monotonic() + longest
     with changing(store):
         for table, asked in OLD.items():
-            found[table] = 0
             for customer, last in store.execute(asked, {"before": before}).fetchall():
-                found[table] += store.execute(
-                    f"DELETE FROM {table} WHERE customer = ? AND number IN"
-                    f" (SELECT number FROM {table} WHERE customer = ? AND number <= ? ORDER BY number LIMIT ?)",
-                    (customer, customer, last, most - sum(found.values()))).rowcount
-    return found
+                count = size = PIECE
+                while count == size:
+                    size = min(PIECE, most - sum(found.values()))
+                    count = store.execute(
+                        f"DELETE FROM {table} WHERE customer = ? AND number IN"
+                        f" (SELECT number FROM {table} WHERE customer = ? AND number <= ? ORDER BY number LIMIT ?)",
+                        (customer, customer, last, size)).rowcount
+                    found[table] += count
+                    if sum(found.values()) == most or time.monotonic() > end:
+                        return found, True
+    return found, False

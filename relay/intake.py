@@ -32,6 +32,8 @@ MOST_KEPT = 2
 FULL_FOR = 1.0
 # Postfix's long queue IDs; short ones are used again, so no name can be made of them.
 CONSONANTS = "0-9B-DF-HJ-NP-TV-Zb-df-hj-np-tv-y"
+# They begin with the second in which the message came, in these digits, and four more for a part of it.
+DIGITS = "0123456789BCDFGHJKLMNPQRSTVWXYZbcdfghjklmnpqrstvwxyz"
 LONG_ID = re.compile(f"[{CONSONANTS}z]{{10,24}}z[{CONSONANTS}]{{1,16}}")
 # The first field of a message that Postfix hands over is its own. Nobody else's is read.
 FIRST_FIELD = re.compile(rb"[!-9;-~]+:[^\n]*\n(?:[ \t][^\n]*\n)*(?=[^ \t])")
@@ -91,6 +93,14 @@ def login_of(field: bytes, ident: str) -> Tuple[bool, Optional[str]]:
             return is_ours, login if is_ours else None
         login = found[1].decode("utf-8", "replace") if found else login
     return False, None
+
+
+def came(ident: str) -> int:
+    """When Postfix took in the message of a long queue ID."""
+    found = 0
+    for it in ident.rpartition("z")[0][:-4]:
+        found = found * len(DIGITS) + DIGITS.index(it)
+    return found
 
 
 class Incoming:
@@ -199,7 +209,7 @@ class Intake:
     def take_up(self, settings: Settings) -> Settings:
         """From now on mail is of these customers, by these logins and domains; all else stays."""
         self.settings = replace(self.settings, customers=settings.customers, desks=settings.desks,
-                                logins=settings.logins, domains=settings.domains)
+                                logins=settings.logins, domains=settings.domains, since=settings.since)
         return self.settings
 
     def answered(self, name: str) -> Optional[str]:
@@ -212,7 +222,8 @@ class Intake:
     def customer(self, ident: str, name: str, sender: str, field: bytes) -> str:
         """Whose message it is: as at an earlier try, by the login, or by the sender's domain.
 
-        A login that stands in no table is nobody's: its sender could name any domain.
+        A login that stands in no table is nobody's: its sender could name any domain. And mail that waited in Postfix since
+        before a login or domain was the customer's is an earlier one's.
         """
         before = self.spool.envelope(name)
         if before:
@@ -223,7 +234,7 @@ class Intake:
                       help="the first field has to be Postfix's own")
             raise NotTaken("451 4.3.5 the first field does not tell the login")
         found = self.owner(login, sender)
-        if not found:
+        if not found or came(ident) < self.since(login, sender):
             log.warning("no customer", spool=name, sender=sender, login=login)
             raise NotTaken(NOBODY)
         return found
@@ -233,6 +244,13 @@ class Intake:
         if login is not None:
             return self.settings.logins.get(login)
         return self.settings.domains.get(sender.rpartition("@")[2].lower())
+
+    def since(self, login: Optional[str], sender: str) -> float:
+        """Since when that is the customer's; 0 where no table tells, or what it tells is still to come, as behind a clock that was
+        set back."""
+        name = ("domain", sender.rpartition("@")[2].lower()) if login is None else ("login", login)
+        found = self.settings.since.get(name, 0.0)
+        return found if found <= time.time() else 0.0
 
     def expect_room(self, customer: str, size: int) -> None:
         """Refuses mail of a customer whose quota was full just now, before its content is written; and of one of whom the

@@ -5,6 +5,7 @@ import re
 import shlex
 import sys
 from dataclasses import dataclass
+from datetime import datetime, timezone
 from pathlib import Path
 from typing import Callable, Dict, List, Optional, Tuple
 
@@ -20,6 +21,8 @@ COLUMNS = ["name", "key", "messages", "bytes", "lines", "notices", "delay"]
 # (a directory may have one column more)
 FURTHER = "history"
 SENDERS = ["kind", "name", "customer"]
+# (it may have one column more: since when a login or domain is the customer's)
+SINCE, MOMENT = "since", "%Y-%m-%dT%H:%M:%SZ"
 # And that of the table of desks.
 DESKS = ["customer", "desk"]
 # What stands before the path of a socket in the place of a command.
@@ -68,6 +71,7 @@ class Settings:
     customers_at: Optional[Address]
     logins: Dict[str, str]
     domains: Dict[str, str]
+    since: Dict[Tuple[str, str], float]
     host: str
     instance: Address
     delivering: Path
@@ -146,6 +150,10 @@ def seconds(text: str) -> float:
     return float(text)
 
 
+def moment(text: str) -> float:
+    return datetime.strptime(text, MOMENT).replace(tzinfo=timezone.utc).timestamp()
+
+
 def wait(text: str) -> float:
     if not seconds(text):
         raise ValueError("is 0")
@@ -193,28 +201,31 @@ def desks_of(path: Path) -> Dict[str, str]:
     return dict(rows)
 
 
-def table_of(path: Path, header: List[str]) -> List[List[str]]:
-    """The rows of a table behind its header."""
+def table_of(path: Path, header: List[str], *further: str) -> List[List[str]]:
+    """The rows of a table behind its header, which may have further columns."""
     try:
         with open(path, newline="", encoding="utf-8") as file:
             rows = list(csv.reader(file))
     except (OSError, ValueError, csv.Error) as error:
         raise ValueError(f"cannot be read: {error}") from None
-    if not rows or rows[0] != header:
+    if not rows or rows[0] not in (header, [*header, *further]):
         raise ValueError(f"has not the header {','.join(header)}")
     return rows[1:]
 
 
-def senders_of(path: Path, customer: Callable[[str], str]) -> Dict[str, Dict[str, str]]:
-    """By `login` and `domain` the customers of a table, as `hq-customers` writes it."""
+def senders_of(path: Path, customer: Callable[[str], str]) -> Tuple[Dict[str, Dict[str, str]], Dict[Tuple[str, str], float]]:
+    """By `login` and `domain` the customers of a table, as `hq-customers` writes it; and since when, where it says so."""
     found: Dict[str, Dict[str, str]] = {"login": {}, "domain": {}}
-    for number, row in enumerate(table_of(path, SENDERS), 1):
-        kind, name, its_customer = row if len(row) == len(SENDERS) else ("", "", "")
+    begun: Dict[Tuple[str, str], float] = {}
+    for number, row in enumerate(table_of(path, SENDERS, SINCE), 1):
+        kind, name, its_customer, since = [*row, ""][:4] if len(row) in (3, 4) else ("", "", "", "")
         name = name.lower() if kind == "domain" else name
         if kind not in found or not name or name in found[kind]:
             raise ValueError(f"row {number} is not one of a login or a domain")
         found[kind][name] = customer(its_customer)
-    return found
+        if since:
+            begun[kind, name] = moment(since)
+    return found, begun
 
 
 # ---- the file
@@ -281,7 +292,7 @@ def load(name: str) -> Settings:
             raise ValueError(f"{text} is not in the directory")
         return text
 
-    senders = reader.read("intake", "senders", lambda it: senders_of(reader.path(it), customer), {}) or {}
+    senders, since = reader.read("intake", "senders", lambda it: senders_of(reader.path(it), customer), None) or ({}, {})
     folder = reader.read("spool", "folder", reader.path)
     found = Settings(
         file=Path(name).absolute(),
@@ -302,6 +313,7 @@ def load(name: str) -> Settings:
         customers_at=reader.read("intake", "customers", address, None),
         logins=reader.joined("logins", reader.table("logins", customer), senders.get("login", {})),
         domains=reader.joined("domains", reader.table("domains", customer, str.lower), senders.get("domain", {})),
+        since=since,
         host=reader.read("delivery", "host", domain),
         instance=reader.read("delivery", "instance", address, ("127.0.0.1", 10026)),
         delivering=reader.read("delivery", "postfix", reader.path, Path("/etc/postfix-desk")),

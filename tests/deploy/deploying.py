@@ -262,8 +262,7 @@ class Proxy:
             "/run/nginx.pid": f"{folder}/nginx.pid", "/var/log/nginx": folder,
             "  include /etc/nginx/conf.d/*.conf;\n": f"{temporary}  include {folder}/hq-desk.conf;\n"})
         self.put("nginx.conf", "hq-desk.conf", {
-            "listen 80;": f"listen {self.plain};", "listen [::]:80;": f"{self.of_ipv6(self.plain)};", "/etc/hq": folder,
-            "/var/log/hq-nginx": folder, "/usr/share/hq-desk/web": f"{folder}/web"})
+            "/etc/hq": folder, "/var/log/hq-nginx": folder, "/usr/share/hq-desk/web": f"{folder}/web"})
         self.put("nginx-workers.conf", "nginx-workers.conf", {
             # (its unit has another user)
             "worker_processes 1;\n": f"{as_user}worker_processes 1;\n", "127.0.0.1:824": self.inner, "/etc/hq": folder,
@@ -285,6 +284,8 @@ class Proxy:
         kind = "1.25" if release >= (1, 25, 1) else "1.22"
         self.put(f"nginx-listen-{kind}.conf", "nginx-listen.conf", {
             "listen 443": f"listen {self.public}", "listen [::]:443": self.of_ipv6(self.public)})
+        self.put("nginx-listen-80.conf", "nginx-plain.conf", {
+            "listen 80;": f"listen {self.plain};", "listen [::]:80;": f"{self.of_ipv6(self.plain)};"})
 
     def maps(self):
         """Writes which desk has whom, by the script."""

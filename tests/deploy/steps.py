@@ -47,7 +47,12 @@ class Place:
         self.of_worker = []
         # (the program is called `hq`, as the package has it, and an upgrade writes over it)
         there = {"/etc/hq": folder, "/var/lib/hqdesk": folder, "/usr/libexec/hq-desk": DEPLOY, "/usr/bin/hq": program,
-                 "apt-get install -y \"$NEW\"": f"install -m 755 \"$NEW\" {program}", "hq-as hqdesk ": "", " -g hqdesk": ""}
+                 "apt-get install -y \"$NEW\"": f"install -m 755 \"$NEW\" {program}", "hq-as hqdesk ": "", " -g hqdesk": "",
+                 "hq-customers ": f"{DEPLOY}/hq-customers --folder {folder} --store {folder} "}
+        # (what another user is to do is done by this one, and no unit runs)
+        for name, script in (("runuser", 'shift 3\nexec "$@"'), ("systemctl", "exit 3")):
+            (Path(program).parent / name).write_text(f"#!/bin/sh\n{script}\n")
+            (Path(program).parent / name).chmod(0o755)
         self.path = f"{Path(program).parent}:/usr/bin:/bin:/usr/sbin"
         shown = {f"127.0.0.1:{825 + it}": desk.address for it, desk in enumerate(desks)}
         self.here = {**there, **shown}

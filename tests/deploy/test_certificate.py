@@ -1,36 +1,57 @@
 """The hook for renewed certificates of docs/PROCEDURES.md, by the lines that the page shows."""
+import os
 import re
+import shutil
 import subprocess
 
+import needs
 import pytest
 from deploying import DEPLOY
 from serving import LONGEST, expect
 
 PAGE = DEPLOY.parent / "docs/PROCEDURES.md"
+PAIR = {"privkey.pem": "tls.key", "fullchain.pem": "tls.crt"}
+# What changes a folder; each may be the last that is done.
+STEPS = "mktemp", "install", "rm", "ln", "mv", "cp", "sync", "nginx", "systemctl"
 
 
 @pytest.fixture
 def hook(folder):
-    """The program that the lines write, beside stand-ins for nginx and systemctl."""
+    """The program that the lines write, beside stand-ins for nginx and systemctl. Any command may be the last one."""
+    needs.command("openssl")
     lines = re.search(r"(?ms)^## A new certificate\n.*?^```\n(.*?)^```$", PAGE.read_text())[1]
-    for name in ("bin", "etc", "hooks"):
+    for name in ("bin", "etc", "hooks", "steps", "live"):
         (folder / name).mkdir()
     for name in ("nginx", "systemctl"):
         (folder / "bin" / name).write_text(f'#!/bin/sh\necho "{name} $*" >>{folder}/called\n[ ! -e {folder}/bad ] || exit 1\n')
-        (folder / "bin" / name).chmod(0o755)
-    lines = lines.replace("/etc/letsencrypt/renewal-hooks/deploy", str(folder / "hooks")).replace("/etc/hq", str(folder / "etc"))
+    for name in STEPS:
+        there = folder / "bin" / name if (folder / "bin" / name).exists() else shutil.which(name)
+        (folder / "steps" / name).write_text(f'#!/bin/sh\necho step >>{folder}/done\n[ "$(wc -l <{folder}/done)" -ne "$LAST" ] || kill -9 $PPID\n'
+                                             f'exec {there} "$@"\n')
+    script = (DEPLOY / "desk-certificate").read_text()
+    expect("cd /etc/hq\n" in script, "the script works elsewhere")
+    (folder / "bin/desk-certificate").write_text(script.replace("/etc/hq", str(folder / "etc")))
+    for it in [*(folder / "bin").iterdir(), *(folder / "steps").iterdir()]:
+        it.chmod(0o755)
+    for old, new in (("/etc/letsencrypt/renewal-hooks/deploy", "hooks"), ("/usr/libexec/hq-desk", "bin"), ("/etc/hq", "etc")):
+        lines = lines.replace(old, str(folder / new))
     ended = subprocess.run(["bash", "-euc", lines], capture_output=True, text=True, timeout=LONGEST)
     expect(ended.returncode == 0, "the lines end with", ended)
+    for name in ("first", "second"):
+        subprocess.run(["openssl", "req", "-x509", "-newkey", "ec", "-pkeyopt", "ec_paramgen_curve:P-256", "-nodes", "-days", "2", "-subj",
+                        f"/CN={name}", "-keyout", folder / f"{name}.privkey.pem", "-out", folder / f"{name}.fullchain.pem"],
+                       check=True, capture_output=True, timeout=LONGEST)
     return folder
 
 
-def renewed(folder, name):
-    """Runs the hook as certbot does, behind a renewal of this certificate."""
+def renewed(folder, name, key="first", certificate=None, last=0):
+    """Runs the hook as certbot does, behind a renewal of this certificate; its `last` step is the last that is done."""
     lineage = folder / "live" / name
-    lineage.mkdir(parents=True, exist_ok=True)
-    for it in ("privkey.pem", "fullchain.pem"):
-        (lineage / it).write_text(f"{it} of {name}\n")
-    env = {"PATH": f"{folder}/bin:/usr/bin:/bin", "RENEWED_LINEAGE": str(lineage)}
+    lineage.mkdir(exist_ok=True)
+    for it, pair in (("privkey.pem", key), ("fullchain.pem", certificate or key)):
+        shutil.copy(folder / f"{pair}.{it}", lineage / it)
+    (folder / "done").write_text("")
+    env = {"PATH": f"{folder}/steps:/usr/bin:/bin", "RENEWED_LINEAGE": str(lineage), "LAST": str(last)}
     return subprocess.run([folder / "hooks/hq-desk"], capture_output=True, text=True, timeout=LONGEST, env=env).returncode
 
 
@@ -39,16 +60,54 @@ def called(folder):
     return path.read_text().splitlines() if path.exists() else []
 
 
+def there(folder):
+    """Which pair is there; None where the two do not fit, or one is missing."""
+    texts = [(folder / "etc" / it).read_text() if (folder / "etc" / it).exists() else "" for it in PAIR.values()]
+    return next((name for name in ("first", "second") if texts == [(folder / f"{name}.{it}").read_text() for it in PAIR]), None)
+
+
 def test_renewed(hook):
     """The desk's certificate is put in its place, with its modes, and nginx goes by it; another site's is none of its business."""
     expect(renewed(hook, "blog.example") == 0 and not called(hook) and not [*(hook / "etc").iterdir()], "another site's is taken")
-    expect(renewed(hook, "desk.example") == 0 and called(hook) == ["nginx -t", "systemctl reload nginx"], "called was", called(hook))
-    for name, text, mode in (("tls.key", "privkey.pem", 0o600), ("tls.crt", "fullchain.pem", 0o644)):
-        path = hook / "etc" / name
-        expect((path.read_text(), path.stat().st_mode & 0o777) == (f"{text} of desk.example\n", mode), name, "is", path.read_text())
+    for name in ("first", "second", "first"):
+        (hook / "called").unlink(missing_ok=True)
+        expect(renewed(hook, "desk.example", name) == 0 and called(hook) == ["nginx -t", "systemctl reload nginx"], "called was", called(hook))
+        expect(there(hook) == name, "there is", there(hook))
+        for it, mode in (("tls.key", 0o600), ("tls.crt", 0o644)):
+            expect((hook / "etc" / it).stat().st_mode & 0o777 == mode, it, "has another mode")
+    left = sorted(it.name for it in (hook / "etc").iterdir() if not it.is_symlink())
+    expect(len(left) == 1 and (hook / "etc" / left[0]).stat().st_mode & 0o777 == 0o700, "left are", left)
 
 
 def test_bad_files(hook):
-    """Where nginx does not take its files it is not reloaded, and certbot is told."""
+    """A key of another certificate changes nothing, and certbot is told; so is it where nginx does not take its files."""
+    expect(renewed(hook, "desk.example", "first") == 0, "no pair is taken")
+    before = sorted(os.listdir(hook / "etc"))
+    (hook / "called").unlink()
+    expect(renewed(hook, "desk.example", "second", "first") != 0 and not called(hook), "called was", called(hook))
+    expect(there(hook) == "first" and sorted(os.listdir(hook / "etc")) == before, "there is", there(hook), os.listdir(hook / "etc"))
     (hook / "bad").touch()
-    expect(renewed(hook, "desk.example") != 0 and called(hook) == ["nginx -t"], "called was", called(hook))
+    expect(renewed(hook, "desk.example", "second") != 0 and called(hook) == ["nginx -t"], "called was", called(hook))
+    expect(there(hook) == "second", "there is", there(hook))
+
+
+@pytest.mark.parametrize("are_files", [True, False])
+def test_stopped(hook, are_files):
+    """Killed at each of its steps it leaves a pair that fits, also the first time, where both stand there as files; the next run ends it."""
+    etc, left = hook / "etc", set()
+    for last in range(1, 100):
+        for it in etc.iterdir():
+            shutil.rmtree(it) if it.is_dir() and not it.is_symlink() else it.unlink()
+        if are_files:
+            for it, to in PAIR.items():
+                shutil.copy(hook / f"first.{it}", etc / to)
+        else:
+            expect(renewed(hook, "desk.example", "first") == 0, "no pair is taken")
+        ended = renewed(hook, "desk.example", "second", last=last)
+        expect(there(hook), "behind the step", last, "the two do not fit:", os.listdir(etc))
+        left.add(there(hook))
+        if ended == 0:
+            break
+        expect(renewed(hook, "desk.example", "second") == 0 and there(hook) == "second", "behind the step", last, "it is not ended")
+        expect(len([it for it in etc.iterdir() if not it.is_symlink()]) == 1, "left are", os.listdir(etc))
+    expect(10 < last < 100 and left == {"first", "second"}, "it was stopped", last, "times, and left", left)

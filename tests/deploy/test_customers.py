@@ -5,14 +5,18 @@ written is tried in tests/release. `test_named_keys.py` has named keys.
 """
 import fcntl
 import os
+import subprocess
 import sys
 import threading
 import time
 
 import pytest
 from customers_place import ACME, RELAY_INI, STOPPED, Place, mode
+from deploying import DEPLOY
 from serving import HEADER, LONGEST, RELAY, expect
 from small_disk import fill, small_disk
+
+RELOADS = [f"reload {it}" for it in ("hq-desk-workers", "hq-relay-intake", "hq-relay-deliver", "nginx")]
 
 
 @pytest.fixture
@@ -28,7 +32,9 @@ def test_added(place):
     expect((row["key"], row["messages"], row["delay"]) == (key, "50", "14400"), "the row is", row)
     expect(place.rows("relay.csv")["birch"] == {**row, "key": ""}, "the worker's row is", place.rows("relay.csv"))
     texts = {name: text.decode() for name, text in place.files().items()}
-    expect(texts["senders.csv"] == "kind,name,customer\ndomain,b.example,birch\nlogin,birch@b.example,birch\n", texts["senders.csv"])
+    header, *rows = (it.rpartition(",") for it in texts["senders.csv"].splitlines())
+    expect(header == ("kind,name,customer", ",", "since") and [it[0] for it in rows] == ["domain,b.example,birch", "login,birch@b.example,birch"]
+           and all(it[2].startswith("20") for it in rows), texts["senders.csv"])
     expect(f"{key} birch;\n" in texts["keys.map"] and "birch 127.0.0.1:825;\n" in texts["names.map"], "the maps lack it")
     expect([it for it, text in texts.items() if key in text] == [it for it in texts if it in ("north.csv", "keys.map")], "its key")
     for name, wanted in (("north.csv", 0o640), ("relay.csv", 0o640), ("senders.csv", 0o640), ("keys.map", 0o600), ("names.map", 0o640)):
@@ -47,8 +53,24 @@ def test_changed(place):
     key = place.done("key", "acme").strip()
     expect(place.rows()["acme"]["key"] == key != "acmekey000000001", "the key is", key)
     place.done("set", "acme", "--no-domain", "a.example")
-    expect(place.files()["senders.csv"] == b"kind,name,customer\n", "the domain is there")
+    expect(place.files()["senders.csv"] == b"kind,name,customer,since\n", "the domain is there")
     expect(place.rows()["acme"]["history"] == "9" and place.rows()["acme"]["key"] == key, "a later change loses something")
+
+
+def test_since(place):
+    """A domain is a customer's from the call on that gives it, and no longer when it has gone; what stood there before stays."""
+    def since(domain):
+        return [it.split(",")[3] for it in (place.folder / "senders.csv").read_text().splitlines() if it.startswith(f"domain,{domain},")]
+    (place.folder / "senders.csv").write_text("kind,name,customer\ndomain,a.example,acme\n")
+    place.done("set", "acme", "--domain", "c.example", "--domain", "a.example")
+    first, = since("c.example")
+    expect(since("a.example") == [""] and first.endswith("Z"), "it is its since", since("a.example"), first)
+    time.sleep(1.1)
+    place.done("set", "acme", "--messages", "9", "--domain", "c.example")
+    expect(since("c.example") == [first], "it is its since", since("c.example"), "and not", first)
+    place.done("set", "acme", "--no-domain", "c.example")
+    place.done("set", "acme", "--domain", "c.example")
+    expect(since("c.example")[0] > first and since("a.example") == [""], "again it is its since", since("c.example"))
 
 
 def test_dropped(place):
@@ -169,13 +191,36 @@ def test_stopped(place):
 
 
 def test_taken_up(place):
-    """What runs is told, the desk before nginx and the worker, and nothing where no file is for it."""
+    """What runs is told, the nginx of workers before the worker, and nothing where no file is for it."""
     place.systemctl("exit 0")
-    (place.bin / "nft").write_text("#!/bin/sh\nexit 1\n")
-    (place.bin / "nft").chmod(0o755)
     place.done("--files", "set", "acme", "--domain", "a.example")
     expect(not (place.bin / "called").exists(), "with --files systemctl was called")
     place.done("set", "acme", "--domain", "c.example")
     called = (place.bin / "called").read_text().splitlines()
-    wanted = [f"reload {it}" for it in ("nginx", "hq-desk-workers", "hq-relay-intake", "hq-relay-deliver")]
-    expect([it for it in called if "is-active" not in it] == wanted, "a domain has", called)
+    expect([it for it in called if "is-active" not in it] == RELOADS, "a domain has", called)
+
+
+@pytest.mark.parametrize("faulty", [["reload nginx"], ["reload hq-desk-workers", "reload hq-relay-deliver"], ["restart hq-desk@north"]])
+def test_not_taken_up(place, faulty):
+    """A fault of one, as of another site of nginx, keeps nothing else from the files; all faults are told, and how to go on."""
+    place.desk("north", 825, ACME + ACME.replace("acme", "birch"))
+    # (the desk is a stand-in that starts at once)
+    for it in DEPLOY.iterdir():
+        if it.is_file():
+            (place.bin / it.name).write_text(it.read_text())
+            (place.bin / it.name).chmod(0o755)
+    (place.bin / "desk-restart").write_text(f'#!/bin/sh\nexec {place.bin}/systemctl restart "hq-desk@$1"\n')
+    place.systemctl(f'case " {" ".join(it.replace(" ", "=") for it in faulty)} " in *" $1=$2 "*) echo "no $2" >&2; exit 1;; esac')
+    for words in (("set", "acme", "--messages", "7", "--domain", "a.example"), ("drop", "acme", "--queued")):
+        (place.bin / "called").unlink(missing_ok=True)
+        ended = subprocess.run([place.bin / "hq-customers", "--folder", place.folder, "--store", place.folder, *words], capture_output=True,
+                               text=True, timeout=LONGEST, stdin=subprocess.DEVNULL,
+                               env={**os.environ, "PATH": f"{place.bin}:{os.environ['PATH']}"})
+        expect((place.bin / "called").exists(), words, "called nothing:", ended)
+        called = [it for it in (place.bin / "called").read_text().splitlines() if "is-active" not in it]
+        wanted = ["restart hq-desk@north", *RELOADS] if words[0] == "set" else [*RELOADS, "restart hq-desk@north"]
+        expect(called == wanted, words, "called", called, ended)
+        expect(ended.returncode == 1 and ended.stderr.startswith("hq-customers: the files are written, and not taken up by all"), words, "got", ended)
+        for it in faulty:
+            expect(f": no {it.split()[1]}" in ended.stderr, it, "is not told:", ended.stderr)
+        expect(ended.stderr.count(": no ") == len(faulty) and ended.stderr.count("\n") == 1, "told is", ended.stderr)

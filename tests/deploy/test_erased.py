@@ -2,32 +2,34 @@
 
 The stores are those of the program. A stand-in of systemctl says that no desk runs; tests/release has desks that do.
 """
+import os
+import shutil
 import sqlite3
 import subprocess
 import time
+from pathlib import Path
 
 import pytest
 from customers_place import Place
-from deploying import DEPLOY
+from deploying import DEPLOY, all_settings_of
 from serving import HEADER, LONGEST, RELAY, batch_line, expect, submission
 
 DAY = 86_400
+# What a customer is told who has nothing, behind its usage.
+EMPTY = [f"200 {it}" for it in ('{"messages":[],"more":false}', '{"lines":[],"more":false}', '{"more":false,"notices":[]}', '{"history":[],"more":false}')]
 BOTH = "acme,acmekey000000001,1000,500000000,1000,100,14400,1000\nbirch,birchkey00000001,1000,500000000,1000,100,14400,1000\n"
 WITH_HISTORY = HEADER.strip() + ",history\n"
 SENDER = "someone@a.example"
 
 
 class Stores(Place):
-    """A folder of settings whose stores stand beside it, and what runs as another user as this one."""
+    """A folder of settings whose stores stand beside it."""
 
     def __init__(self, folder, program):
         super().__init__(folder, program)
         self.stores = folder / "stores"
         self.stores.mkdir()
         self.directory(BOTH)
-        for name in ("north", "south"):
-            (self.bin / "runuser").write_text('#!/bin/sh\nshift 3\nexec "$@"\n')
-        (self.bin / "runuser").chmod(0o755)
         self.worker("echo nothing")
 
     def directory(self, rows):
@@ -54,13 +56,29 @@ class Stores(Place):
 
     def filled(self, name, at, many=3):
         """Has a customer be what one can be: mail, a notice, an end of the history, a line and a label."""
-        key = f"{name}key000000001" if name == "acme" else f"{name}key00000001"
+        return self.filled_as(name, f"{name}key000000001" if name == "acme" else f"{name}key00000001", at, many)
+
+    def filled_as(self, name, key, at, many=3):
         lines = [(at, "POST", f"/relay/submit/{name}", RELAY, {**submission(f"{name}-{at}-{it}"), "sender": SENDER}) for it in range(many)]
         ids = [it.split('"id":"')[1][:10] for it in self.batch(*lines)]
         outcome = {"attempt": 1, "outcomes": [{"recipient": "bob@far.example", "result": "failed", "status": "5.1.1", "text": "no"}]}
         self.batch(*((at, "POST", f"/relay/outcome/{name}", RELAY, {"id": it, **outcome}) for it in ids[:-1]))
         self.batch((at, "POST", "/v1/line-put", key, {"class": "sender", "pattern": f"p{at}.example", "action": "HOLD"}))
         return key
+
+    def table(self, name):
+        return [it.split(",") for it in (self.folder / name).read_text().splitlines()[1:]]
+
+    def copy(self, name):
+        """A copy of the stores, as `tar` keeps it."""
+        return Path(shutil.copytree(self.stores, self.stores.parent / name))
+
+    def put_back(self, copied, at=None):
+        """The stores as they were, written when they were, or at this moment."""
+        shutil.rmtree(self.stores)
+        shutil.copytree(copied, self.stores)
+        for it in self.stores.iterdir():
+            os.utime(it, (at, at)) if at else None
 
     def told(self, key, at):
         """All that the desk replies of a customer."""
@@ -90,8 +108,7 @@ def test_a_name_again(place):
     expect("the store of north: " in told and "0 rows" not in told and "backups" in told, "erased is told as", told)
     key = place.done("add", "birch").strip()
     found = place.told(key, now)
-    expect(found[1:] == ['200 {"messages":[],"more":false}', '200 {"lines":[],"more":false}', '200 {"more":false,"notices":[]}',
-                         '200 {"history":[],"more":false}'], "the new one is told", found)
+    expect(found[1:] == EMPTY, "the new one is told", found)
 
 
 def test_a_name_that_a_store_knows(place):
@@ -205,6 +222,46 @@ def test_erased_in_part(place):
     place.done("add", "birch")
 
 
+def test_restored(place):
+    """In a store of before, whoever was erased since is erased again, and nobody else; what a new firm of the name has stays."""
+    now = int(time.time())
+    wanted = place.told(place.filled("acme", now - DAY), now)
+    place.filled("birch", now - DAY)
+    before = place.copy("before")
+    place.done("drop", "birch", "--queued")
+    place.done("erase", "birch")
+    moment, = [it[1] for it in place.table("erased.csv") if it[0] == "birch"]
+    expect(moment.startswith("20") and moment.endswith("Z"), "erased was at", moment)
+    key = place.done("add", "birch", "--history", "1000", "--notices", "100").strip()
+    place.put_back(before)
+    expect('"history":[{' in place.told(key, now)[4], "the copy has nothing of the earlier one")
+    place.put_back(before)
+    expect(" rows of birch\n" in place.done("erase-again", "north"), "nothing is erased again")
+    expect(place.told(key, now)[1:] == EMPTY, "the new one is told", place.told(key, now))
+    expect(place.told("acmekey000000001", now) == wanted, "another customer is told", place.told("acmekey000000001", now))
+    # (a backup from behind the erase has the new firm's own)
+    place.filled_as("birch", key, int(time.time()) + 1)
+    its, behind = place.told(key, now), place.copy("behind")
+    place.put_back(behind)
+    expect(place.done("erase-again", "north") == "the store of north: nothing of whoever was erased\n", "something of the new one is erased")
+    expect(place.told(key, now) == its, "the new one is told", place.told(key, now))
+
+
+def test_restored_without_rows_of_a_day(place):
+    """So is one of whom a store of before has rows without a moment alone; a copy that is said to be newer goes by its rows."""
+    now = int(time.time())
+    place.batch((now, "POST", "/v1/line-put", "birchkey00000001", {"class": "sender", "pattern": "p.example", "action": "HOLD"}))
+    lines = place.copy("lines")
+    place.filled("birch", now - DAY)
+    rows = place.copy("rows")
+    place.done("drop", "birch", "--queued")
+    place.done("erase", "birch")
+    for copied, at in ((lines, now - DAY), (rows, now + DAY)):
+        place.put_back(copied, at)
+        expect(" rows of birch\n" in place.done("erase-again", "north"), copied, "stays")
+    expect(place.run("erase-again", "south").returncode == 1, "there is a desk south")
+
+
 def test_retained(place):
     """What is older goes, the oldest first; the newest notice, all mail, lines and counts stay, and the desk goes on from there."""
     now = int(time.time())
@@ -239,6 +296,20 @@ def test_retained_by_portions(place):
     found = [subprocess.run([place.bin / "bounded", *words[1:]], capture_output=True, text=True, timeout=LONGEST) for _ in range(4)]
     expect([(it.returncode, it.stdout) for it in found] == [(4, "25 notices, 0 of the history\n"), (4, "13 notices, 12 of the history\n"),
                                                            (4, "0 notices, 25 of the history\n"), (0, "0 notices, 2 of the history\n")], "portions are", found)
+
+
+def test_retained_for_seconds(place):
+    """A command that has much to erase ends when its time is up, with what it has done by then, and the next one goes on."""
+    place.filled("acme", int(time.time()) - 100 * DAY, 40)
+    words = [DEPLOY / "desk-store", "retain", place.stores / "north.db", "90"]
+    script = (DEPLOY / "desk-store").read_text().replace("MOST_SECONDS = 5", "MOST_SECONDS = 0")
+    (place.bin / "timed").write_text(script.replace("Path(__file__).resolve().parent", f"Path({str(DEPLOY)!r})"))
+    (place.bin / "timed").chmod(0o755)
+    found = [subprocess.run([place.bin / "timed", *words[1:]], capture_output=True, text=True, timeout=LONGEST) for _ in range(3)]
+    expect([(it.returncode, it.stdout) for it in found] == [(4, "38 notices, 0 of the history\n"), (4, "0 notices, 39 of the history\n"),
+                                                           (0, "0 notices, 0 of the history\n")], "portions are", found)
+    # (the unit has time to write what was erased)
+    expect(all_settings_of(DEPLOY / "hq-desk-retain@.service")["TimeoutStartSec"] == ["5min"], "it is killed")
 
 
 @pytest.mark.parametrize("days", ["6", "0", "-1", "36501", "9x", "", "1e3"])

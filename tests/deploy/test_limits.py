@@ -16,7 +16,7 @@ from deploying import DEPLOY, OTHERS, ROWS, Desk, Proxy, done
 from serving import ACME, BIRCH, LONGEST, RELAY, asked, expect, until
 
 USAGE = "GET", "/v1/usage"
-READING = "acmereading00001"
+READING, NAMED_READ = "acmereading00001", "acmenamedread001"
 OFTEN = 429, {"name": "TooOften", "proxy": 429}
 # What comes to a port of TLS and is none, or is one that breaks off.
 RUBBISH = [bytes.fromhex(it) for it in ("160301ffff", "16030100050100000100", "1603010000", "80030000", "ff", "0000", "16030100", "1503010002022a",
@@ -26,8 +26,8 @@ SENT = 300
 
 @pytest.fixture(scope="module")
 def keyed(program, place):
-    """acme has a key beside its own that may only read."""
-    with Desk(place, program, "north", ROWS, keys=[f"acme,reading,{READING},read"]) as it:
+    """acme has a key beside its own that may only read, and one of all rights that is called `read`."""
+    with Desk(place, program, "north", ROWS, keys=[f"acme,reading,{READING},read", f"acme,read,{NAMED_READ},all"]) as it:
         yield it
 
 
@@ -163,6 +163,17 @@ def test_long_calls_of_a_reading_key(front):
         for method, path in (("GET", "/v1/report"), ("POST", "/v1/hold-all"), ("GET", "/v1/messages")):
             done(front.ask(method, path, ACME), path, "of the customer's own key")
             time.sleep(0.5)
+
+
+def test_a_key_called_read(front):
+    """A key of all rights counts with its customer's own, whatever its name is: a long call of the one keeps out one of the other."""
+    host, _, port = front.public.rpartition(":")
+    until(lambda: front.ask("GET", "/v1/report", ACME)[0] == 200, "a report of the customer's own key is refused")
+    with front.context.wrap_socket(socket.create_connection((host, int(port)), LONGEST), server_hostname=host) as client:
+        client.sendall(f"POST /v1/import HTTP/1.1\r\nHost: desk.example\r\nX-Desk-Key: {NAMED_READ}\r\nContent-Length: 200000\r\n\r\n{{".encode())
+        until(lambda: front.ask("GET", "/v1/report", ACME) == OFTEN, "a second long call of the customer is taken", 5)
+        time.sleep(0.5)
+        done(front.ask("GET", "/v1/report", READING), "a long call of the key that may only read")
 
 
 def test_lists(front):

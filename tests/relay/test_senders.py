@@ -34,9 +34,13 @@ host = relay.example
 from = MAILER-DAEMON@relay.example
 """
 HEADER = "kind,name,customer\n"
+WITH_SINCE = "kind,name,customer,since\n"
+# (when Postfix took in what has the identity LONG)
+CAME, LATER = "2026-11-26T08:01:25Z", "2026-11-26T08:01:26Z"
 BAD = [("", "has not the header"), ("name,kind,customer\n", "has not the header"), (HEADER + "user,ann,acme\n", "row 1"),
        (HEADER + "login,b,acme\nlogin,ann\n", "row 2"), (HEADER + "domain,b.example,gone\n", "gone is not in the directory"),
        (HEADER + "domain,b.example,acme\ndomain,B.example,birch\n", "row 2"), (HEADER + "login,,acme\n", "row 1"),
+       (WITH_SINCE + "domain,b.example,acme,yesterday\n", "yesterday"), (WITH_SINCE + "domain,b.example\n", "row 1"),
        (HEADER + "domain,A.example,birch\n", "stands in the file of `senders` too"),
        (HEADER + "login,ann,birch\n", "stands in the file of `senders` too"), ("\udcff", "cannot be read"), (None, "cannot be read")]
 
@@ -70,7 +74,7 @@ def test_bad_tables(place, text, told):
 def answer(place, sender):
     """What mail of this sender is answered; 451 where a customer was found, since the desk is away."""
     place.count = getattr(place, "count", 0) + 1
-    ident = f"{LONG[:-1]}{'BCDFGHJKLM'[place.count]}"
+    ident = f"{LONG[:-1]}{'BCDFGHJKLMNPQRSTVWXY'[place.count]}"
     return answer_to(place, ident, "p@good.example", received(ident) + b"Subject: x\r\n\r\nHello.\r\n", sender)
 
 
@@ -86,6 +90,10 @@ def test_read_again(place):
         expect(answer(place, "ann@b.example").startswith("550"), "mail of nobody is taken")
         for text, event, wanted in ((HEADER + "domain,b.example,birch\n", "settings taken", "451 4.3.0"),
                                     (HEADER + "domain,b.example,gone\n", "settings not taken", "451 4.3.0"),
+                                    # (mail from before is an earlier customer's of this domain)
+                                    (WITH_SINCE + f"domain,b.example,birch,{LATER}\n", "settings taken", "550 5.7.1"),
+                                    (WITH_SINCE + f"domain,b.example,birch,{CAME}\n", "settings taken", "451 4.3.0"),
+                                    (WITH_SINCE + "domain,b.example,birch,\n", "settings taken", "451 4.3.0"),
                                     (HEADER, "settings taken", "550 5.7.1")):
             (place.folder / "senders.csv").write_text(text)
             before = told.read_text().count(f'"{event}"')

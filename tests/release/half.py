@@ -4,7 +4,8 @@ import smtplib
 import time
 from pathlib import Path
 
-IDENT = "4jZpsK03Zxz1c38d"
+# (of a time to come, since mail is nobody's that came before its domain was a customer's)
+IDENT = "yjZpsK03Zxz1c38d"
 HEAD = (f"Received: from client.example (client.example [192.0.2.1])\r\n\tby mta.relay.example (Postfix) with ESMTPA id {IDENT}\r\n"
         "\tfor <bob@far.example>; Thu, 01 Jan 2026 00:00:00 +0000 (UTC)\r\nSubject: half\r\n\r\n")
 

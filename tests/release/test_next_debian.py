@@ -33,6 +33,7 @@ def tried(debian, kind):
     for it in DEPLOY.glob("nginx*.conf"):
         shutil.copy(it, own)
     shutil.copy(DEPLOY / f"nginx-listen-{kind}.conf", own / "nginx-listen.conf")
+    shutil.copy(DEPLOY / "nginx-listen-80.conf", own / "nginx-plain.conf")
     for name, text in (("nginx-name.conf", "server_name desk.example;\n"), ("names.map", "default 127.0.0.1:825;\n"), ("keys.map", ""),
                        ("sessions.map", "")):
         (own / name).write_text(text)

@@ -7,15 +7,28 @@ import subprocess
 import time
 from pathlib import Path
 
+import needs
 import pytest
 from booted import Booted
-from releasing import package_in
+from releasing import ROOT, package_in
 from rooted import Root, fetched, place
 from serving import LONGEST, expect, until
 from test_installed import BESIDE, NAMES, PROCEDURES, PRODUCTION, RELAY, blocks
 
 OURS = ("hq-desk@north", "hq-desk-workers", "nginx", "hq-desk-firewall", "fail2ban", "hq-relay-intake", "hq-relay-deliver", "hq-relay-postsuper.socket")
 MORE = f"systemd systemd-sysv dbus curl iproute2 {BESIDE}"
+# Prints at which of these ports it may listen, or might where nobody else did.
+BINDS = """\
+import errno, socket
+def may(port):
+    with socket.socket() as it:
+        try:
+            it.bind(("127.0.0.1", port))
+        except OSError as fault:
+            return fault.errno == errno.EADDRINUSE
+    return True
+print("may listen at", *filter(may, (820, 821, 822, 823, 824, 825, 826, 849, 850, 1025)))
+"""
 STRANGER = "runuser -u stranger -- curl -sS http://127.0.0.1:{}/v1/usage 2>&1 || true"
 
 
@@ -125,6 +138,27 @@ def test_stopped(machine):
                           "[\"b@far.example\"],\"size\":900}' http://127.0.0.1:824/relay/submit/acme")
     expect("QuotaBytes" in refused, "its new mail gets", refused)
     machine.run("hq-customers set acme --bytes 500000000")
+
+
+def tries(machine, unit, *lines):
+    """At which ports something within the restrictions of a unit may listen."""
+    text = (ROOT / "deploy" / unit).read_text().replace("\\\n", " ").split("[Install]")[0]
+    others = r"Exec|Environment|Restart|StateDirectory|LogsDirectory|CacheDirectory|Condition|Wants|After"
+    kept = [it for it in text.replace("%i", "north").splitlines() if not re.match(others, it)]
+    (machine.folder / "etc/systemd/system/thief.service").write_text(
+        "\n".join([*kept, "Type=oneshot", "ExecStart=/usr/bin/python3 /usr/local/bin/binds", *lines, ""]))
+    (machine.folder / "usr/local/bin/binds").write_text(BINDS)
+    told = machine.run("chmod 755 /usr/local/bin/binds; systemctl daemon-reload; systemctl start thief; journalctl --sync; "
+                       "journalctl -u thief -o cat --no-pager | grep '^may listen at' | tail -n 1")
+    return {*map(int, re.findall(r"[0-9]+", told))}
+
+
+def test_other_ports(machine):
+    """A service that was taken over listens at no port of another one."""
+    needs.that(not tries(machine, "hq-relay-intake.service", "SocketBindAllow="), "systemd that keeps a unit from ports")
+    for unit, ports in (("hq-desk@.service", {825, 826, 849, 1025}), ("hq-desk-workers.service", {824}), ("hq-relay-intake.service", {820, 823, 1025})):
+        found = tries(machine, unit)
+        expect(found == ports, unit, "may listen at", found)
 
 
 def test_names(machine):

@@ -1,0 +1,107 @@
+"""What runs by the files of /etc/hq, for hq-customers: it is told of other files, and does what it does for a customer that is gone."""
+import os
+import shutil
+import subprocess
+import time
+from pathlib import Path
+from typing import List, Optional, Tuple
+
+from desk_files import LONGEST, Desk, Refused
+
+# In seconds: what the worker may take, which waits until nobody works by earlier settings.
+LONGEST_ERASING = 300
+# What `desk-store` ends with where it did its work: wholly, where it knows no such customer, and where more is left.
+DONE, UNKNOWN, MORE = 0, 3, 4
+# So many seconds a `deliver` that has little under way takes to go by other tables.
+SETTLES = 2
+# In this order, so that nobody brings mail of a customer to the nginx of workers before that knows its desk. nginx for customers
+# comes last, since it serves other sites too, each of which may have a fault.
+PROGRAMS = "hq-desk-workers", "hq-relay-intake", "hq-relay-deliver", "nginx"
+
+
+def is_active(unit: str) -> bool:
+    return not subprocess.run(["systemctl", "is-active", "--quiet", unit], stdin=subprocess.DEVNULL).returncode
+
+
+def take_up(scripts: Path, desks: List[Desk], is_gone: bool) -> None:
+    """Has what runs go by the files: desks first, so that nobody speaks to them of a customer whom they do not know; and last
+    where a customer is gone. A fault of one keeps none of the others from it; all are told in the end."""
+    faults: List[str] = []
+
+    def restart() -> None:
+        for it in desks:
+            if is_active(f"hq-desk@{it.name}"):
+                faults.extend(fault_of([scripts / "desk-restart", it.name]))
+
+    if not is_gone:
+        restart()
+    running = [it for it in PROGRAMS if is_active(it)]
+    for it in running:
+        faults.extend(fault_of(["systemctl", "reload", it]))
+    if is_gone:
+        time.sleep(SETTLES if "hq-relay-deliver" in running else 0)
+        restart()
+    if faults:
+        raise Refused(f"the files are written, and not taken up by all; mend this, and run these again: {' / '.join(faults)}")
+
+
+def fault_of(words: list) -> List[str]:
+    """Runs a command; what is to be told where it fails."""
+    told = " ".join(map(str, words))
+    try:
+        ended = subprocess.run(words, stdin=subprocess.DEVNULL, stderr=subprocess.PIPE, text=True, timeout=LONGEST)
+    except (OSError, subprocess.SubprocessError) as fault:
+        return [f"{told}: {fault}"]
+    return [f"{told}: {' / '.join(ended.stderr.strip().splitlines()) or f'status {ended.returncode}'}"] if ended.returncode else []
+
+
+def of_worker(folder: Path, name: str) -> str:
+    """What the worker erases of a customer, as its user, in its own words."""
+    if not (folder / "relay.ini").exists():
+        return "it is not set up"
+    ended = as_worker(folder, "erase", name)
+    if ended.returncode:
+        told = " / ".join(ended.stderr.strip().splitlines())
+        raise Refused(f"the worker erases nothing: {told or f'status {ended.returncode}'}")
+    return ended.stdout.strip()
+
+
+def is_known_to_worker(folder: Path, name: str) -> bool:
+    """Whether the worker has anything of a customer. (Before the first call of hq-customers it has no table, and nobody's mail.)"""
+    if not all((folder / it).exists() for it in ("relay.ini", "relay.csv")):
+        return False
+    ended = as_worker(folder, "knows", name)
+    if ended.returncode not in (DONE, UNKNOWN):
+        told = " / ".join(ended.stderr.strip().splitlines())
+        raise Refused(f"the worker does not tell what it has: {told or f'status {ended.returncode}'}")
+    return ended.returncode == DONE
+
+
+def as_worker(folder: Path, command: str, name: str) -> "subprocess.CompletedProcess[str]":
+    words = ["hq-relay", folder / "relay.ini", command, name]
+    if os.geteuid() == 0:
+        words = [Path(__file__).resolve().parent / "hq-as", "hqrelay", *words]
+    return subprocess.run(words, stdin=subprocess.DEVNULL, capture_output=True, text=True, timeout=LONGEST_ERASING)
+
+
+def count_again() -> None:
+    """Has the counts for Prometheus made anew, without waiting, where they are made at all."""
+    if shutil.which("systemctl") and is_active("hq-desk-metrics.timer"):
+        subprocess.run(["systemctl", "start", "--no-block", "hq-desk-metrics.service"], stdin=subprocess.DEVNULL, check=False)
+
+
+def of_store(scripts: Path, desk: Desk, stores: Path, command: str, what: str, read: str = "") -> Optional[Tuple[int, str]]:
+    """What `desk-store` does with the store of a desk, as the user of the desks, while the desk is away for that moment: its
+    status, and what it prints. `read` is what it reads. None where there is no store."""
+    store = stores / f"{desk.name}.db"
+    if not os.path.lexists(store):
+        return None
+    words = [scripts / "desk-store", command, store, what]
+    if os.geteuid() == 0 and shutil.which("systemctl"):
+        words = [scripts / "desk-restart", desk.name, "--stopped", *words]
+    # (it takes as long as it takes: who ends it would leave the desk stopped)
+    ended = subprocess.run(words, input=read, capture_output=True, text=True)
+    if ended.returncode not in (DONE, UNKNOWN, MORE):
+        told = " / ".join(ended.stderr.strip().splitlines())
+        raise Refused(f"the store of {desk.name}: {told or f'status {ended.returncode}'}")
+    return ended.returncode, ended.stdout.strip()
