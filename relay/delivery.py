@@ -1,8 +1,8 @@
 """Delivery: what is due is handed over, what became of it is told, and customers are swept.
 
 Customers have turns at the sessions with the instance that delivers, at the desk, and at the next
-hop of notices, in some threads each. One thread reads the reports of the instance, and one sweeps
-and cleans. What hangs or fails for one customer holds up no other.
+hop of notices, in some threads each. One thread reads the reports of the instance, one hears whose mail
+was queued, and one for each desk sweeps and cleans. What hangs or fails for one customer holds up no other.
 """
 import threading
 import time
@@ -10,6 +10,7 @@ from contextlib import ExitStack, contextmanager
 from typing import Callable, Dict, Iterator, List, Set
 
 import log
+from bell import Listener
 from book import Book
 from cleaning import Cleaning
 from desk import Away, Desk
@@ -27,8 +28,8 @@ from turns import Turns, threads_for
 
 # How many seconds lie between two looks at the reports.
 BETWEEN_LOOKS = 0.1
-# At this age, in seconds, a sweep gives a message up.
-GIVEN_UP = 432_000
+# At this age, in seconds, a sweep gives a message up. So many that it does not are named in a line.
+GIVEN_UP, MOST_TOLD = 432_000, 20
 # Threads that mail notices, and that ask desks of what is under way.
 MAILING, CATCHING_UP = 2, 2
 
@@ -61,7 +62,8 @@ class Delivery:
                                self.ended, self.catching_up.add)
         houses = [threading.Thread(target=self.keep_house, args=[it], daemon=True)
                   for it in settings.of_desks()]
-        self.threads = [*houses, threading.Thread(target=self.watch, daemon=True)]
+        self.listener = Listener(spool.locks, self.give_turn)
+        self.threads = [*houses, *(threading.Thread(target=it, daemon=True) for it in (self.watch, self.listen))]
 
     def turns_of(self, count: int, work: Callable[[str], bool]) -> Turns:
         return Turns(threads_for(self.settings, count), self.settings.pause, work, self.settings.desks)
@@ -157,6 +159,14 @@ class Delivery:
             self.chores(customers, to_sweep, to_clean, waits=False)
             self.ending.wait(self.settings.pause)
 
+    def listen(self) -> None:
+        """Hears whose mail was queued, until `end`."""
+        self.listener.listen(self.ending)
+
+    def give_turn(self, customer: str) -> None:
+        if customer in self.locks:
+            self.handover.turns.add(customer)
+
     def watch(self) -> None:
         """Reads reports as they come, and looks after what is missing, until `end`."""
         looked = time.monotonic()
@@ -172,6 +182,7 @@ class Delivery:
                 looked = time.monotonic()
                 self.missing.look(self.handover.is_busy)
                 self.outcomes.ask_for_late()
+                self.destinations.keep({it.envelope for it in self.handed.under_way()})
             if not count:
                 self.ending.wait(BETWEEN_LOOKS)
         except Exception as error:
@@ -286,16 +297,29 @@ class Delivery:
         except Exception as error:
             log.error("not cleaned", why=repr(error))
 
+    def are_unknown(self, name: str, late: List[dict]) -> bool:
+        """Whether the content of some late message is missing, which is told: nobody knows whether it was
+        delivered, so a sweep must not have its sender told that it was not."""
+        spools = {it["id"]: self.names.known(name, it) or (self.names.shown(name, it["id"]) or {}).get("spool")
+                  for it in late}
+        missing = [id for id, spool in spools.items() if not (spool and self.cleaning.spool.has(spool))]
+        if missing:
+            log.error("not given up: content is missing", customer=name, ids=",".join(missing[:MOST_TOLD]), count=len(missing),
+                      help="were they delivered? hold or delete them, and the sweep goes on")
+        return bool(missing)
+
     def sweep(self, name: str) -> None:
         """Sweeps a customer, unless that might push out notices that were not mailed, or give up
         what was handed over, or delivered and is still to be told."""
         now = time.time()
         with self.handover.listing[name]:
             entries = list(self.desk.messages(name))
+            late = [it for it in entries if it["arrival"] <= now - GIVEN_UP and it["state"] != "hold"]
+            if self.are_unknown(name, late):
+                return
             busy = self.handed.spools_under_way(name)
-            is_late = any(it["arrival"] <= now - GIVEN_UP and self.names.known(name, it) in busy
-                          for it in entries)
-            if (is_late or self.book.untold(name)
+            is_busy = any(self.names.known(name, it) in busy for it in late)
+            if (is_busy or self.book.untold(name)
                     or not self.notices.has_room_for(name, len(entries))):
                 log.error("not swept: notices or outcomes wait", customer=name)
                 return

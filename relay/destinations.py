@@ -27,6 +27,8 @@ LONGEST = 4000.0
 MOST = 10_000
 # Whoever waits for a domain goes on behind so many ends, or where no more are under way: a turn reads the list anew.
 AT_ONCE = 10
+# A message is written down as under way by so many seconds behind its beginning.
+WRITTEN_BY = 60.0
 # Whoever waits for processes goes on no sooner than behind so many seconds.
 BETWEEN_TURNS = 1.0
 # Whom an attempt did not reach: the domain, or it alone (`outcomes.py`).
@@ -151,6 +153,15 @@ class Destinations:
                 if domain.is_idle(now) and not (domain.is_proven or domain.rest.seconds or domain.cut):
                     del self.domains[name]
         return found
+
+    def keep(self, known: Set[str]) -> None:
+        """Of messages that are under way for long these alone still are: a customer's were erased meanwhile."""
+        now = time.monotonic()
+        with self.guard:
+            for domain in self.domains.values():
+                gone = [it for it, (_, at) in domain.under_way.items() if it not in known and now - at > WRITTEN_BY]
+                for it in gone:
+                    del domain.under_way[it]
 
     def free(self, now: float) -> Set[str]:
         """Some processes are free; who goes on by that."""

@@ -8,13 +8,15 @@ import hashlib
 import re
 import sqlite3
 import threading
+import time
 from contextlib import nullcontext
 from dataclasses import dataclass, replace
 from email.utils import formatdate
-from typing import ContextManager, Optional, Set, Tuple
+from typing import ContextManager, Dict, NamedTuple, Optional, Set, Tuple
 
 import desk as desks
 import log
+from bell import Bell
 from book import Book
 from calls import Calls
 from desk import Away, Desk, Refused
@@ -26,6 +28,8 @@ from spool import Draft, Envelope, Spool
 # The spool keeps so many times the bytes of a customer's quota: what is queued, and what is gone and may be wanted
 # behind a restore (`cleaning.py`).
 MOST_KEPT = 2
+# For so many seconds a quota that was full is held for full, so that what has no room is not written first.
+FULL_FOR = 1.0
 # Postfix's long queue IDs; short ones are used again, so no name can be made of them.
 CONSONANTS = "0-9B-DF-HJ-NP-TV-Zb-df-hj-np-tv-y"
 # They begin with the second in which the message came, in these digits, and four more for a part of it.
@@ -50,7 +54,7 @@ class NotTaken(Exception):
 @dataclass(frozen=True)
 class Asked:
     """What the MTA says of a message before its data: who hands it over, its queue ID there, its
-    sender and recipient, and the parameters of DSN."""
+    sender and recipient, the parameters of DSN, and its bytes, where it tells them."""
     client: str
     ident: Optional[str]
     sender: str
@@ -60,6 +64,7 @@ class Asked:
     envelope_id: str = ""
     returned: str = ""
     is_utf8: bool = False
+    size: int = 0
 
     def envelope(self, customer: str, spool: str) -> Envelope:
         return Envelope(customer, spool, self.sender, self.recipient, self.notify, self.original,
@@ -172,13 +177,20 @@ class Incoming:
         if before:
             raise NotTaken(before)
         customer = self.intake.customer(ident, self.name, self.asked.sender, first_field(self.head))
-        self.intake.expect_room(customer)
+        self.intake.expect_room(customer, self.asked.size)
         self.envelope = self.asked.envelope(customer, self.name)
         self.draft = self.intake.spool.draft(self.envelope)
         self.draft.write(self.intake.received(self.asked.client, self.envelope))
         field = first_field(self.head)
         self.draft.write(LINE_OF_LOGIN.sub(b"", field) + self.head[len(field):])
         self.head = b""
+
+
+class Full(NamedTuple):
+    """Up to when mail of a customer gets this answer at once: of so many bytes or more, which had no room in its quota."""
+    until: float
+    size: int
+    answer: str
 
 
 class Intake:
@@ -188,6 +200,9 @@ class Intake:
                  unsettled: Set[str]):
         self.settings, self.desk, self.spool, self.book = settings, desk, spool, book
         self.names, self.guard, self.unsettled = Names(desk, spool, book), threading.Lock(), unsettled
+        self.bell = Bell(spool.locks)
+        # whose quota was full just now
+        self.full: Dict[str, Full] = {}
         # (each process has its part of those that bring mail)
         self.calls = Calls(max(1, most_to_the_worker(settings) // 2 // settings.processes))
 
@@ -231,12 +246,18 @@ class Intake:
         return self.settings.domains.get(sender.rpartition("@")[2].lower())
 
     def since(self, login: Optional[str], sender: str) -> float:
-        """Since when that is the customer's; 0 where no table tells."""
-        return self.settings.since.get(("domain", sender.rpartition("@")[2].lower()) if login is None else ("login", login), 0)
+        """Since when that is the customer's; 0 where no table tells, or what it tells is still to come, as behind a clock that was
+        set back."""
+        name = ("domain", sender.rpartition("@")[2].lower()) if login is None else ("login", login)
+        found = self.settings.since.get(name, 0.0)
+        return found if found <= time.time() else 0.0
 
-    def expect_room(self, customer: str) -> None:
-        """Refuses mail of a customer of whom the spool keeps too much: what it deletes stays for a while, and counts in no
-        quota of the desk."""
+    def expect_room(self, customer: str, size: int) -> None:
+        """Refuses mail of a customer whose quota was full just now, before its content is written; and of one of whom the
+        spool keeps too much: what it deletes stays for a while, and counts in no quota of the desk."""
+        full = self.full.get(customer)
+        if full and time.monotonic() < full.until and size >= full.size:
+            raise NotTaken(full.answer)
         found = self.settings.customers.get(customer)
         if found and self.book.kept_bytes(customer) > MOST_KEPT * found.bytes:
             log.warning("too much is kept", customer=customer)
@@ -261,7 +282,7 @@ class Intake:
                     reply = self.desk.submit(envelope.customer, envelope.spool, envelope.sender,
                                              envelope.recipient, draft.size)
             except Refused as refusal:
-                return self.refused(envelope, refusal)
+                return self.refused(envelope, refusal, draft.size)
             except Away as error:
                 log.warning("desk away", spool=envelope.spool, why=error)
                 with self.guard:
@@ -322,10 +343,11 @@ class Intake:
         else:
             answer = f"250 2.0.0 queued as {reply['id']}"
             self.book.taken(envelope.customer, envelope.spool, reply["id"], answer, size)
+            self.bell.ring(envelope.customer)
         log.info(verdict, customer=envelope.customer, spool=envelope.spool, answer=answer)
         return answer
 
-    def refused(self, envelope: Envelope, refusal: Refused) -> str:
+    def refused(self, envelope: Envelope, refusal: Refused, size: int) -> str:
         """Where a refusal tells that the name is not queued, the content goes. Else it stays."""
         code = REFUSALS.get(refusal.number)
         if not code:
@@ -334,4 +356,8 @@ class Intake:
             return "451 4.3.5 the relay is not set up for this"
         self.spool.remove(envelope.spool)
         log.info("refused", customer=envelope.customer, spool=envelope.spool, why=refusal)
-        return f"{code} {refusal.body['name']}"
+        answer = f"{code} {refusal.body['name']}"
+        if refusal.number in (desks.QUOTA_MESSAGES, desks.QUOTA_BYTES):
+            least = size if refusal.number == desks.QUOTA_BYTES else 0
+            self.full[envelope.customer] = Full(time.monotonic() + FULL_FOR, least, answer)
+        return answer

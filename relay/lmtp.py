@@ -28,6 +28,7 @@ IDLE, LONGEST_LINE, LARGEST_PIECE, END = 300, 4096, 65536, b"\r\n.\r\n"
 # An address with its brackets, and what stands behind it.
 ADDRESS = re.compile(r'(?s)(.*?<(?:"(?:[^"\\]|\\.)*"|[^">])*>)(.*)')
 CLIENT = re.compile(r"[A-Za-z0-9.:_\[\]-]{1,255}")
+SIZE = re.compile(r"(?i)SIZE=([0-9]{1,15})")
 # So many sessions may wait to be taken.
 BACKLOG = 128
 # How many seconds pass before a session is taken again where the system had no room for one.
@@ -50,6 +51,12 @@ def parted(argument: Optional[str], names) -> Tuple[Optional[str], Dict[str, str
         else:
             kept.append(word)
     return " ".join(kept), values
+
+
+def size_of(options: List[str]) -> int:
+    """The bytes that a message is told to have; 0 where that is not told."""
+    told = (SIZE.fullmatch(it) for it in options)
+    return next((int(it[1]) for it in told if it), 0)
 
 
 class Session(LMTP):
@@ -132,7 +139,7 @@ class Session(LMTP):
                      original=self.parameters.get("ORCPT", ""),
                      envelope_id=self.parameters.get("ENVID", ""),
                      returned=self.parameters.get("RET", ""),
-                     is_utf8=bool(self.envelope.smtp_utf8))
+                     is_utf8=bool(self.envelope.smtp_utf8), size=size_of(self.envelope.mail_options))
 
     async def receive(self, incoming: Incoming) -> None:
         """Writes the data to a file as they come, and answers them."""

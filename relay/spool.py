@@ -133,6 +133,9 @@ class Spool:
     def names(self) -> List[str]:
         return sorted(os.listdir(self.content))
 
+    def has(self, spool: str) -> bool:
+        return (self.content / spool).exists()
+
     def size(self, spool: str) -> int:
         """How many bytes the file of a name has; 0 where there is none."""
         try:

@@ -7,6 +7,7 @@ import notices
 import pytest
 from book import MOST_WAITING, OLD_NAMES, Book, Notice, Report
 from cleaning import Cleaning
+from desk import QUOTA_BYTES, QUOTA_MESSAGES, Refused
 from handed import Attempt, Handed
 from intake import MOST_KEPT, Intake, NotTaken
 from mailing import ASIDE, DONE
@@ -277,11 +278,32 @@ def test_what_is_deleted_and_kept(folder, customer_bytes, left):
 def test_too_much_is_kept(folder):
     """The intake takes no more of a customer of whom more than twice its quota is kept; others' mail comes in."""
     settings, book, spool = kept(folder, 100, a=1, b=2)
-    intake = Intake.__new__(Intake)
-    intake.settings, intake.book = settings, book
-    intake.expect_room("acme")
+    settings.processes, settings.connections, settings.policy = 1, 50, None
+    intake = Intake(settings, None, spool, book, set())
+    intake.expect_room("acme", 100)
     book.taken("acme", "c", "3", "250", 100 * MOST_KEPT)
     with pytest.raises(NotTaken, match="^452 4.2.2 "):
-        intake.expect_room("acme")
+        intake.expect_room("acme", 100)
     settings.customers["birch"] = Customer("birch", 10, 1, 10)
-    intake.expect_room("birch")
+    intake.expect_room("birch", 100)
+
+
+@pytest.mark.parametrize("number, name, sizes", [(QUOTA_MESSAGES, "QuotaMessages", {0: False, 10: False, 500: False}),
+                                                 (QUOTA_BYTES, "QuotaBytes", {0: True, 10: True, 99: True, 100: False, 500: False})])
+def test_a_full_quota(folder, number, name, sizes):
+    """For a moment what has no room in a quota is refused before it is written: all, or what is as large as that which had none.
+    Others' mail comes in, and behind that moment its own."""
+    settings, book, spool = kept(folder, 1000)
+    settings.processes, settings.connections, settings.policy = 1, 50, None
+    settings.customers["birch"] = settings.customers["acme"]
+    intake = Intake(settings, None, spool, book, set())
+    answer = intake.refused(Envelope("acme", "s", "ann@a.example", "p@far.example"), Refused({"error": number, "name": name}), 100)
+    for size, may in sizes.items():
+        intake.expect_room("birch", size)
+        if may:
+            intake.expect_room("acme", size)
+        else:
+            with pytest.raises(NotTaken, match=f"^{answer}$"):
+                intake.expect_room("acme", size)
+    intake.full["acme"] = intake.full["acme"]._replace(until=time.monotonic())
+    intake.expect_room("acme", 500)

@@ -159,7 +159,7 @@ def test_large_and_many(program, shared):
         until(lambda: len(shared.good.mail) == count, "the large messages do not come", 4 * LONGEST)
         most, threads = memory_of(running), threads_of(running)
         # (four that list what is due, four for sessions, four that tell, and five more)
-        expect(most < 120 and threads <= 19, "the delivery took", most, "megabytes,", threads, "threads")
+        expect(most < 120 and threads <= 20, "the delivery took", most, "megabytes,", threads, "threads")
 
 
 def test_killed_process(program, shared):

@@ -28,6 +28,15 @@ def request(**told):
     return "".join(f"{name}={value}\n" for name, value in lines.items()).encode() + b"\n"
 
 
+async def ended(policy):
+    """Waits until no client is served any more."""
+    policy.close()
+    others = asyncio.all_tasks() - {asyncio.current_task()}
+    for it in others:
+        it.cancel()
+    await asyncio.gather(*others, return_exceptions=True)
+
+
 @pytest.fixture
 def answered():
     """Sends bytes to a policy service, over one connection, and returns what it answers until it closes, or nothing comes."""
@@ -51,9 +60,10 @@ def answered():
         return told.decode().split("\n\n")[:-1]
 
     yield ask
-    loop.call_soon_threadsafe(policy.close)
+    asyncio.run_coroutine_threadsafe(ended(policy), loop).result(5)
     loop.call_soon_threadsafe(loop.stop)
     thread.join(5)
+    loop.close()
 
 
 @pytest.mark.parametrize("told, wanted", [

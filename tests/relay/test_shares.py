@@ -4,9 +4,10 @@ import time
 from types import SimpleNamespace
 
 import pytest
+from bell import Bell, Listener
 from calls import Calls
 from desk import Away
-from destinations import AT_ONCE, BETWEEN_TURNS, CUSTOMER_ALONE, DOMAIN, PROVEN, SLOW, UNPROVEN, Capacity, Destinations
+from destinations import AT_ONCE, BETWEEN_TURNS, CUSTOMER_ALONE, DOMAIN, PROVEN, SLOW, UNPROVEN, WRITTEN_BY, Capacity, Destinations
 from handed import Attempt
 from serving import expect, until
 from turns import Turns
@@ -168,6 +169,17 @@ def test_what_was_under_way(clock):
     expect(mail.to.begin(mail.attempt("acme", "good.example")), "it waits for ever")
 
 
+def test_what_was_erased(clock):
+    """What a customer had under way who was erased takes no share for ever; what was begun just now stays."""
+    mail = Mail()
+    old = mail.begun("acme", domains("old", 60), 2)
+    clock.now += WRITTEN_BY + 1
+    new = mail.begun("birch", ["new.example"], 2)
+    mail.to.keep({old[0].envelope})
+    left = {it for one in mail.to.domains.values() for it in one.under_way}
+    expect(left == {old[0].envelope, *(it.envelope for it in new)}, "left are", left)
+
+
 # ---- threads and calls, by desk
 
 def test_turns_of_several_desks():
@@ -240,3 +252,49 @@ def test_desks_of_customers():
     names = dict.fromkeys(("acme", "birch", "cedar", "dale"))
     told = SimpleNamespace(customers=names, desks={"acme": "north", "birch": "south", "cedar": "north"})
     expect(Settings.of_desks(told) == [["acme", "cedar"], ["birch"], ["dale"]], Settings.of_desks(told))
+
+
+# ---- who rings, and who hears
+
+@pytest.fixture
+def heard(folder):
+    """What a listener hears, in a folder whose path is longer than the address of a socket may be."""
+    place = folder / ("long" * 40)
+    place.mkdir()
+    found, ending = [], threading.Event()
+    thread = threading.Thread(target=lambda: Listener(place, found.append).listen(ending), daemon=True)
+    thread.start()
+    until((place / "queued").is_socket, "nobody listens", SOON)
+    yield place, found
+    ending.set()
+    thread.join(SOON)
+
+
+def test_rings(heard):
+    """Each customer for whom mail was queued has a turn soon, and few for many rings."""
+    place, found = heard
+    bell = Bell(place)
+    for _ in range(200):
+        bell.ring("acme")
+    bell.ring("birch")
+    until(lambda: {*found} >= {"acme", "birch"}, f"heard is {found}", SOON)
+    expect(found.count("acme") <= 10, "for many rings it has many turns", found)
+
+
+def test_rings_that_nobody_hears(folder, heard):
+    """They are no fault; a listener that begins anew hears those of later."""
+    bell = Bell(folder)
+    for _ in range(3):
+        bell.ring("acme")
+    found, ending = [], threading.Event()
+    for _ in range(2):
+        thread = threading.Thread(target=lambda: Listener(folder, found.append).listen(ending), daemon=True)
+        thread.start()
+        until(lambda: bell.ring("birch") or "birch" in found, "a new one does not hear", SOON)
+        ending.set()
+        thread.join(SOON)
+        found.clear()
+        ending.clear()
+    full = Bell(heard[0])
+    for _ in range(20_000):
+        full.ring("x" * 60)

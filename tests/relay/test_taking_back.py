@@ -161,7 +161,7 @@ def test_system_calls(program, shared):
             shared.slow.gate.clear()
             deliver = it.run("deliver", under=traced("deliver.calls"))
             shared.slow.until_waiting()
-            until(lambda: it.desk.usage("acme")["failed"] == 1, "nothing fails")
+            until(lambda: it.desk.usage("acme")["failed"] == 1 and len(it.desk.messages("acme")) == 1, "nothing fails")
             it.desk.own("acme", "DELETE", f"/v1/message/{it.desk.only('acme')}")
             until(lambda: "taken back" in deliver.log.read_text(), "nothing is taken back")
             until(it.notices, "nobody is told")

@@ -8,122 +8,12 @@ import time
 from types import SimpleNamespace
 
 import instance
-import log
 import pytest
-from book import Book, Report
-from delivery import Delivery
-from desk import Away, Desk, Refused
+from book import Report
 from handed import Attempt
-from mailing import DONE, LATER, Hop
+from house import BAD, GOOD, SOON, WHILE, House, Told
+from mailing import DONE, LATER
 from serving import expect, until
-from settings import Customer
-from spool import Envelope, Spool
-
-# In seconds: the longest that is waited for what comes at once, how long it is seen that nothing comes, and the worker's pause.
-SOON, WHILE, PAUSE = 10, 0.5, 0.05
-REFUSED = {"error": 44, "name": "NoticesSpent"}
-GOOD, BAD = "p@far.example", "x@hard.example"
-
-
-class Told(Desk):
-    """A desk of one customer, with notices of these numbers. It makes one of each failure that it is told, or refuses all outcomes.
-    The list of messages, with which a sweep begins, waits at `gate`."""
-
-    def __init__(self, *notices):
-        self.notices_of, self.refuses, self.told, self.gate = [*notices], False, [], threading.Event()
-        self.gate.set()
-        self.is_listing = threading.Event()
-
-    def ask(self, path, body=None, timeout=None):
-        return getattr(self, path.split("/")[2] + "_asked")(body)
-
-    def outcome_asked(self, body):
-        self.told.append(body["id"])
-        if self.refuses:
-            raise Refused(REFUSED)
-        failures = [it for it in body["outcomes"] if it["result"] == "failed"]
-        self.notices_of += [len(self.notices_of) + 1] * len(failures)
-        return {"result": "done", "left": 0}
-
-    def notices_asked(self, body):
-        return {"notices": [{"number": it} for it in self.notices_of if it > int(body["after"] or 0)]}
-
-    def notice_asked(self, body):
-        return {"kind": "failure", "to": "ann@a.example", "id": "0000000001", "at": 0, "subject": "s", "human": "h",
-                "status": f"Reporting-MTA: dns; h\r\n\r\nFinal-Recipient: rfc822; {BAD}\r\nAction: failed\r\nStatus: 5.1.1\r\n\r\n"}
-
-    def messages_asked(self, body):
-        self.is_listing.set()
-        expect(self.gate.wait(SOON), "nobody opens the gate")
-        return {"messages": []}
-
-    def due_asked(self, body):
-        return {"due": []} if "after" in body else {"done": [], "next": None, "stopped": None}
-
-    def sweep_asked(self, body):
-        return {"expired": 0, "notices": 0, "warned": 0}
-
-
-class House(Told):
-    """A desk of several customers, of whom acme has the notices. It knows whom it was to sweep. As it sweeps acme, it makes so many
-    more notices, or is away."""
-
-    def __init__(self, *notices, makes=0, is_away=False):
-        super().__init__(*notices)
-        self.makes, self.is_away, self.swept = makes, is_away, []
-
-    def ask(self, path, body=None, timeout=None):
-        kind, customer = path.split("/")[2], path.rpartition("/")[2]
-        if kind == "notices" and customer != "acme":
-            return {"notices": []}
-        if kind == "sweep":
-            self.swept.append(customer)
-            self.notices_of += range(1, self.makes + 1) if customer == "acme" else []
-            if self.is_away and customer == "acme":
-                raise Away(path)
-        return super().ask(path, body, timeout)
-
-
-class Hops:
-    """All sessions with the next hop: a mail waits at the gate, and is answered so."""
-
-    def __init__(self, answer):
-        self.answer, self.gate, self.is_asked = answer, threading.Event(), threading.Event()
-
-    def mail(self, recipient, content):
-        self.is_asked.set()
-        expect(self.gate.wait(SOON), "nobody opens the gate")
-        if isinstance(self.answer, Exception):
-            raise self.answer
-        return self.answer
-
-
-@pytest.fixture
-def hops(monkeypatch):
-    found = Hops(DONE)
-    monkeypatch.setattr(Hop, "mail", lambda _, recipient, content: found.mail(recipient, content))
-    return found
-
-
-@pytest.fixture
-def delivering(folder, hops):
-    """Makes a delivery for a desk whose customers keep one notice each. It has not begun, and is ended behind the test."""
-    made = []
-
-    def make(desk, *customers):
-        names = customers or ("acme",)
-        settings = SimpleNamespace(
-            customers={it: Customer(it, 10, 1000, 1) for it in names}, desks={}, has_several_desks=False,
-            of_desks=lambda: [[*names]], sessions=1, pause=PAUSE, rest=1.0,
-            keep_days=7, lost_after=0.0, settle_after=0.0, sweep_every=3600.0, clean_every=3600.0, reports=folder / "reports",
-            host="relay.example", notices_from="MAILER-DAEMON@relay.example")
-        made.append(Delivery(settings, desk, Spool(folder), Book(folder)))
-        return made[-1]
-    yield make
-    hops.gate.set()
-    for it in made:
-        it.desk.gate.set()
-        it.end()
 
 
 @pytest.fixture
@@ -138,14 +28,6 @@ def keeping(delivering, monkeypatch):
         monkeypatch.setattr(found.cleaning, "clean_unknown", lambda customers: found.nobodys.append(left(found)))
         return found
     return make
-
-
-@pytest.fixture
-def logged(monkeypatch):
-    """The events of the level error, as they are logged."""
-    lines = []
-    monkeypatch.setattr(log, "error", lambda event, **words: lines.append(event))
-    return lines
 
 
 def outcome(recipient, result):
@@ -266,56 +148,6 @@ def test_a_round_with_an_attempt_that_is_lost(delivering, hops, monkeypatch):
     found.handed.over({"acme.A.1.e": "F00D"}, [])
     found.handed.reported({"acme.A.1.e": [outcome(GOOD, "delivered")]})
     expect(found.once() and found.desk.told == ["A"] and not found.book.untold("acme"), found.desk.told)
-
-
-def test_reports_while_a_desk_hangs(delivering, monkeypatch):
-    """What lies in the queue is compared with the desk's list in a turn of its own: reports are read meanwhile."""
-    found = delivering(Told())
-    found.desk.gate.clear()
-    monkeypatch.setattr(instance, "queue", lambda _: SimpleNamespace(has=lambda *_: True, ids={"F00D": "active"}, oldest_report=0.0))
-    found.handed.about([Attempt("acme.A.1.e", "acme", "sA", "A", 1, [GOOD], "ann@a.example", time.time())])
-    found.handed.over({"acme.A.1.e": "F00D"}, [])
-    found.begin_turns()
-    begun = time.monotonic()
-    found.see_after(0.0)
-    expect(found.desk.is_listing.wait(SOON) and time.monotonic() - begun < SOON / 2, "reports wait for a desk")
-    expect(found.catching_up.waiting == {"acme"}, found.catching_up.waiting)
-
-
-class Sessions:
-    """A session with the delivering instance, which takes all that is sent."""
-
-    def __init__(self):
-        self.sent = []
-
-    def send(self, attempt, kept):
-        self.sent.append(attempt.id)
-        return f"4F{attempt.id}"
-
-    def is_alive(self):
-        return True
-
-
-def test_a_content_that_cannot_be_read(delivering, logged, monkeypatch):
-    """Its message alone is deferred; those beside it are handed over."""
-    found, session = delivering(Told()), Sessions()
-    monkeypatch.setattr(found.handover, "session", lambda: session)
-    due = [Attempt(f"acme.{it}.1.e", "acme", f"s{it}", it, 1, [GOOD], "ann@a.example", time.time()) for it in "ABC"]
-    for it in due:
-        draft = found.handover.spool.draft(Envelope("acme", it.spool, "ann@a.example", GOOD))
-        found.handover.spool.keep(draft, it.spool)
-    opened = found.handover.spool.opened
-
-    def broken(spool):
-        if spool == "sB":
-            raise OSError(5, "Input/output error")
-        return opened(spool)
-
-    monkeypatch.setattr(found.handover.spool, "opened", broken)
-    found.handed.about(due)
-    found.handover.hand_over(due)
-    expect(session.sent == ["A", "C"] and logged == ["content missing"], session.sent, logged)
-    expect(found.book.untold("acme") == ["sB"] and [it.id for it in found.handed.under_way()] == ["A", "C"], found.book.untold("acme"))
 
 
 @pytest.mark.parametrize("answer, uncleaned", [(DONE, []), (LATER, ["acme"])])
