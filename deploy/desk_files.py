@@ -236,7 +236,8 @@ class Folder:
         self.dropped = {name: (desk, day) for name, desk, day in table_of(path / "dropped.csv", DROPPED)}
         self.erased = {name: moment for name, moment in table_of(path / "erased.csv", ERASED)}
         # (a row that was taken out by hand is that of a customer who was dropped)
-        before = [it[0] for it in rows_of(path / "relay.csv")[1:]] if (path / "relay.csv").exists() else []
+        self.is_first = not (path / "relay.csv").exists()
+        before = [] if self.is_first else [it[0] for it in rows_of(path / "relay.csv")[1:]]
         known = {it["name"] for desk in self.desks for it in desk.rows}
         for name in (it for it in before if it not in known):
             self.dropped.setdefault(name, ("by hand", datetime.now(timezone.utc).strftime("%Y-%m-%d")))
