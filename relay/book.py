@@ -114,7 +114,7 @@ class Book:
             columns = [it[1] for it in database.execute("PRAGMA table_info (names)")]
             if "size" not in columns:
                 database.execute("ALTER TABLE names ADD COLUMN size INTEGER NOT NULL DEFAULT 0")
-            database.execute("CREATE INDEX IF NOT EXISTS kept ON names (customer, size) WHERE NOT cleaned")
+            database.execute("CREATE INDEX IF NOT EXISTS kept ON names (customer, finished, size) WHERE NOT cleaned")
 
     def database(self) -> sqlite3.Connection:
         """The connection of this thread."""
@@ -200,8 +200,9 @@ class Book:
         return bool(self.one("SELECT finished = 1 OR cleaned FROM names WHERE spool = ?", spool))
 
     def kept_bytes(self, customer: str) -> int:
-        """The bytes of the customer's contents that were not cleaned away."""
-        return self.one("SELECT TOTAL(size) FROM names WHERE customer = ? AND NOT cleaned", customer) or 0
+        """The bytes of the customer's contents that are queued, or gone without a last outcome."""
+        asked = "SELECT TOTAL(size) FROM names WHERE customer = ? AND finished = 0 AND NOT cleaned"
+        return self.one(asked, customer) or 0
 
     def uncleaned(self, customer: str) -> Dict[str, Uncleaned]:
         """The customer's names whose content was not cleaned away."""

@@ -21,11 +21,12 @@ class Calls:
 
     @contextmanager
     def one_of(self, desk: str) -> Iterator[None]:
-        """A call of a desk is under way, once there is room for it. Raises Away where those before it take too long."""
+        """A call of a desk is under way, once there is room for it. Raises Away where that takes too long."""
+        end = time.monotonic() + LONGEST
         with self.guard:
             own = self.begun[desk]
             while len(own) >= self.most:
-                left = min(own) + LONGEST - time.monotonic()
+                left = min(min(own) + LONGEST, end) - time.monotonic()
                 if left <= 0:
                     raise Away(f"desk {desk} hangs")
                 self.guard.wait(left)

@@ -59,7 +59,7 @@ class Delivery:
         self.outcomes = Outcomes(settings, self.handed, self.names, self.telling.add, self.ended,
                                  self.catching_up.add)
         self.missing = Missing(settings, desk, self.handed, self.names, self.outcomes.read,
-                               self.ended, self.catching_up.add)
+                               self.ended, self.catching_up.add, self.destinations.keep)
         houses = [threading.Thread(target=self.keep_house, args=[it], daemon=True)
                   for it in settings.of_desks()]
         self.listener = Listener(spool.locks, self.give_turn)
@@ -182,7 +182,6 @@ class Delivery:
                 looked = time.monotonic()
                 self.missing.look(self.handover.is_busy)
                 self.outcomes.ask_for_late()
-                self.destinations.keep({it.envelope for it in self.handed.under_way()})
             if not count:
                 self.ending.wait(BETWEEN_LOOKS)
         except Exception as error:
@@ -243,7 +242,7 @@ class Delivery:
 
     def ended(self, attempt: Attempt, outcomes: List[Dict[str, str]]) -> None:
         """Nothing more is awaited of an attempt. Without an outcome its message may be due again."""
-        self.destinations.answered(attempt.customer, outcomes)
+        self.destinations.answered(attempt.customer, outcomes, attempt.envelope)
         self.handover.end_attempt(attempt)
         if not outcomes and attempt.customer in self.locks:
             self.handover.turns.add(attempt.customer)

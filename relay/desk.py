@@ -8,6 +8,8 @@ from settings import Address, Settings
 # Numbers of refusals that the worker tells apart.
 NO_ROUTE, NO_MESSAGE, BAD_ADDRESS, ATTEMPT_AHEAD, UNKNOWN_RECIPIENT = 4, 10, 20, 30, 31
 QUOTA_MESSAGES, QUOTA_BYTES, SERIALS_SPENT = 40, 41, 43
+# How many seconds a step of a call takes at most where there are several desks.
+LONGEST_OF_SEVERAL = 10.0
 
 
 class Refused(Exception):
@@ -129,4 +131,6 @@ class Desk:
 
 
 def desk_of(settings: Settings) -> Desk:
-    return Desk(settings.desk, settings.key, settings.desk_timeout)
+    # (one that hangs must not hold up a new start, which waits for the calls that are under way)
+    longest = LONGEST_OF_SEVERAL if settings.has_several_desks else settings.desk_timeout
+    return Desk(settings.desk, settings.key, min(longest, settings.desk_timeout))

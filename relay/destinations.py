@@ -15,8 +15,9 @@ from typing import Dict, Iterable, List, Set
 
 from handed import Attempt
 
-# So many messages may be under way to a domain: as long as none was answered, and after that.
-UNPROVEN, PROVEN = 2, 100
+# So many messages may be under way to a domain: as long as none was answered; once one was; and at most, where each answer
+# that came soon has let so many more in.
+UNPROVEN, FIRST, PROVEN, MORE = 2, 10, 100, 2
 # A domain is slow whose oldest message is under way for so many seconds.
 SLOW = 5.0
 # A domain that has answered rests behind so many failures in a row, any other one behind the first.
@@ -28,7 +29,7 @@ MOST = 10_000
 # Whoever waits for a domain goes on behind so many ends, or where no more are under way: a turn reads the list anew.
 AT_ONCE = 10
 # A message is written down as under way by so many seconds behind its beginning.
-WRITTEN_BY = 60.0
+WRITTEN_BY = 10.0
 # Whoever waits for processes goes on no sooner than behind so many seconds.
 BETWEEN_TURNS = 1.0
 # Whom an attempt did not reach: the domain, or it alone (`outcomes.py`).
@@ -61,9 +62,10 @@ class Rest:
 
 @dataclass
 class Domain:
-    """`under_way` has by envelope ID the customer of each message and since when it is, the oldest first; `cut` the rest of
+    """`window` is how many messages may be under way to it, once it has answered; `under_way` has by envelope ID the customer of each message and since when it is, the oldest first; `cut` the rest of
     each customer whose sessions the host cuts; `waiting` who waits for its end, of which there were `ends` since."""
     is_proven: bool = False
+    window: int = FIRST
     rest: Rest = field(default_factory=Rest)
     cut: Dict[str, Rest] = field(default_factory=dict)
     under_way: Dict[str, tuple] = field(default_factory=dict)
@@ -155,7 +157,7 @@ class Destinations:
         return found
 
     def keep(self, known: Set[str]) -> None:
-        """Of messages that are under way for long these alone still are: a customer's were erased meanwhile."""
+        """Of messages that were begun before now these alone are still under way: others were lost, or erased meanwhile."""
         now = time.monotonic()
         with self.guard:
             for domain in self.domains.values():
@@ -171,8 +173,8 @@ class Destinations:
         self.went_on.update(dict.fromkeys(found, now))
         return found
 
-    def answered(self, customer: str, outcomes: List[Dict[str, str]]) -> None:
-        """Learns from the outcomes of a customer's message which domains answer. One that does not rests for longer each time,
+    def answered(self, customer: str, outcomes: List[Dict[str, str]], envelope: str = "") -> None:
+        """Learns from the outcomes of a customer's message which domains answer, and how soon. One that does not rests for longer each time,
         for all or, where it cut the session, for this customer."""
         now = time.monotonic()
         with self.guard:
@@ -187,6 +189,9 @@ class Destinations:
                 else:
                     domain.is_proven, domain.rest = True, Rest()
                     domain.cut.pop(customer, None)
+                    _, since = domain.under_way.get(envelope, (customer, now))
+                    if now - since <= SLOW:
+                        domain.window = min(PROVEN, domain.window + MORE)
             self.forget(now)
 
     # ---- what there is room for
@@ -196,11 +201,10 @@ class Destinations:
 
     def has_room(self, domain: Domain, customer: str, now: float) -> bool:
         """Whether one more message of a customer may be under way to a domain."""
-        count = len(domain.under_way)
-        if not domain.is_proven:
-            return count < UNPROVEN
-        most = 2 * self.capacity.at_a_domain if domain.is_slow(now) else PROVEN
-        return domain.count_of(customer) < most - count
+        if domain.is_proven and domain.is_slow(now):
+            domain.window = min(domain.window, 2 * self.capacity.at_a_domain)
+        most = domain.window if domain.is_proven else UNPROVEN
+        return domain.count_of(customer) < most - len(domain.under_way)
 
     def has_processes(self, domains: List[Domain], customer: str, now: float) -> bool:
         """Whether a customer leaves as many processes free as it has: of all, and of the half for those that are slow."""

@@ -65,7 +65,8 @@ class Handover:
         self.listing = {it: threading.Lock() for it in settings.customers}
 
     def start(self) -> None:
-        self.destinations.resume(self.handed.under_way())
+        # (of what has no queue ID nobody knows whether it lies there)
+        self.destinations.resume(it for it in self.handed.under_way() if it.queue_id and it.customer in self.listing)
         for it in self.threads:
             it.start()
         self.turns.start()

@@ -1,7 +1,7 @@
 """Looking after what was handed over: what is lost, what was never taken, and what is not wanted any
 more by its customer."""
 import time
-from typing import Callable, Dict, List, Tuple
+from typing import Callable, Dict, List, Set, Tuple
 
 import instance
 import log
@@ -22,9 +22,9 @@ class Missing:
 
     def __init__(self, settings: Settings, desk: Desk, handed: Handed, names: Names,
                  read: Callable[[], int], ended: Callable[[Attempt, list], None],
-                 lies: Callable[[str], None]):
+                 lies: Callable[[str], None], keep: Callable[[Set[str]], None]):
         self.settings, self.desk, self.handed, self.names = settings, desk, handed, names
-        self.read, self.ended, self.lies = read, ended, lies
+        self.read, self.ended, self.lies, self.keep = read, ended, lies, keep
         # what lies in the queue, by customer, with the queue that it lies in
         self.lying: Dict[str, List[Tuple[Attempt, str]]] = {}
         # since when an attempt is neither in the queue nor reported, by its envelope ID
@@ -41,6 +41,8 @@ class Missing:
         left = {it.envelope: it for it in self.handed.under_way()}
         self.since = {it: at for it, at in self.since.items() if it in left}
         known = {it.queue_id for it in left.values() if it.queue_id}
+        # (what is lost, or was deleted there by hand, takes no share of what may be under way)
+        self.keep({*left} - {it.envelope for it in old if not queue.has(it, known)})
         lying: Dict[str, List[Tuple[Attempt, str]]] = {}
         for attempt in (left[it.envelope] for it in old if it.envelope in left):
             if not queue.has(attempt, known):
@@ -84,11 +86,16 @@ class Missing:
         for attempt, queue in lying:
             state = states.get(attempt.id)
             if state == "hold":
-                if queue == TAKEN_BACK_ON_HOLD:
+                # (it may be sent by now, so the queue is asked once more)
+                if queue == TAKEN_BACK_ON_HOLD and self.still_lies(attempt):
                     self.take_one_back(attempt)
             elif not state and not self.names.anywhere(customer, attempt.spool, attempt.id):
                 self.take_one_back(attempt)
         return False
+
+    def still_lies(self, attempt: Attempt) -> bool:
+        """Whether nobody sends it just now either."""
+        return instance.queue(self.settings).ids.get(attempt.queue_id) == TAKEN_BACK_ON_HOLD
 
     def take_one_back(self, attempt: Attempt) -> None:
         words = dict(customer=attempt.customer, id=attempt.id, queue_id=attempt.queue_id)

@@ -165,7 +165,12 @@ class Notices:
         if not (envelope and envelope.sender and is_wanted("SUCCESS", envelope)):
             return None
         notice = success(self.settings.host, report.id, envelope.sender, delivered)
-        content = self.written(notice, self.original(report.customer, report.spool, attempt))
+        try:
+            original = self.original(report.customer, report.spool, attempt)
+        except OSError as error:
+            log.error("message not quoted", id=report.id, why=error)
+            original = Original()
+        content = self.written(notice, original)
         return Notice(f"{report.customer}/{report.spool}/{report.attempt}", envelope.sender, content)
 
 

@@ -7,6 +7,7 @@ import email
 import email.policy
 import mailbox
 import re
+import threading
 from dataclasses import replace
 from email.message import Message
 from typing import Callable, Dict, List, Optional, Tuple
@@ -100,6 +101,7 @@ class Outcomes:
         # by customer what came of attempts that were given up, and the files that say so
         self.late: Dict[str, Dict[str, List[Outcome]]] = {}
         self.late_keys: Dict[str, List[str]] = {}
+        self.guard = threading.Lock()  # of both
 
     def box(self) -> mailbox.Maildir:
         # (a new one each time: one that is kept may miss a file of the same moment)
@@ -111,7 +113,8 @@ class Outcomes:
         if not all((self.settings.reports / it).is_dir() for it in ("new", "cur", "tmp")):
             return 0
         box, reports, keys = self.box(), {}, {}
-        set_apart = {it for some in self.late_keys.values() for it in some}
+        with self.guard:
+            set_apart = {it for some in self.late_keys.values() for it in some}
         for key in [it for it in box.keys() if it not in set_apart][:BATCH]:
             envelope, told = self.read_one(box, key)
             if envelope and self.handed.of(envelope):
@@ -133,18 +136,25 @@ class Outcomes:
         """These reports are of attempts that were given up: each is fitted in a turn of its customer."""
         for envelope, told in late.items():
             customer = self.handed.of(envelope).customer
-            self.late.setdefault(customer, {}).setdefault(envelope, []).extend(told)
-            self.late_keys.setdefault(envelope, []).extend(keys[envelope])
-        self.ask_for_late()
+            with self.guard:
+                self.late.setdefault(customer, {}).setdefault(envelope, []).extend(told)
+                self.late_keys.setdefault(envelope, []).extend(keys[envelope])
+        if late:
+            self.ask_for_late()
 
     def ask_for_late(self) -> None:
         """Gives those a turn of whom late reports wait."""
-        for customer in [*self.late]:
+        with self.guard:
+            customers = [it for it, some in self.late.items() if some]
+        for customer in customers:
             self.comes_late(customer)
 
     def take_late(self, customer: str) -> bool:
         """Fits the late reports of a customer. A turn: nothing is left to do."""
-        for envelope, told in [*self.late.get(customer, {}).items()]:
+        with self.guard:
+            waiting = {envelope: [*told] for envelope, told in self.late.get(customer, {}).items()}
+            files = {it: [*self.late_keys[it]] for it in waiting}
+        for envelope, told in waiting.items():
             reports, attempt = {envelope: told}, self.handed.of(envelope)
             if customer not in self.settings.customers:
                 log.warning("report of a dropped customer", envelope=envelope)
@@ -152,11 +162,18 @@ class Outcomes:
                 self.move(attempt, reports)
                 self.take(reports)
                 self.journaled(customer)
-            self.late[customer].pop(envelope)
-            for key in self.late_keys.pop(envelope):
+            for key in files[envelope]:
                 self.box().discard(key)
-        self.late.pop(customer, None)
+            self.took(customer, envelope, len(told), len(files[envelope]))
         return False
+
+    def took(self, customer: str, envelope: str, outcomes: int, files: int) -> None:
+        """So much of the late reports of an attempt is done with; what came meanwhile waits."""
+        with self.guard:
+            del self.late[customer][envelope][:outcomes]
+            del self.late_keys[envelope][:files]
+            if not self.late_keys[envelope]:
+                del self.late[customer][envelope], self.late_keys[envelope]
 
     def is_of_dropped(self, envelope: Optional[str]) -> bool:
         """Whether an envelope ID is of a customer who is in the settings no more."""

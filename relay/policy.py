@@ -13,8 +13,9 @@ import log
 from intake import NOBODY, Intake
 from settings import Address
 
-# The bytes of a request, and how many seconds a client may say nothing.
-LARGEST, IDLE = 65_536, 3_600
+# The bytes of a request, how many seconds a client may say nothing, and for how many a request may come; and how many clients
+# there may be, which are processes of Postfix.
+LARGEST, IDLE, LONGEST, MOST = 65_536, 3_600, 30, 400
 REQUEST = "smtpd_access_policy"
 # How many values the second and the third byte of an address of loopback have that is nobody's.
 NETWORK, SIZE = 64, 64
@@ -29,12 +30,12 @@ def attributes(request: bytes) -> Dict[str, str]:
 def way_of(customer: str, intake: Address) -> str:
     """The worker's address, as a destination of this customer alone.
 
-    Postfix tells destinations apart by their text. The second address makes it another one for each: nobody listens there, and so it
-    is asked for in vain while nobody listens at the first.
+    Postfix tells destinations apart by their text. The first address makes it another one for each: nobody listens there, so that
+    the second one, the worker's, is asked at once. (In the other order its reason for a later try would be that nobody listens.)
     """
     host, port = intake
     one, two, three = hashlib.sha256(customer.encode()).digest()[:3]
-    return f"[{host}]:{port},[127.{NETWORK + one % SIZE}.{two}.{three}]:{port}"
+    return f"[127.{NETWORK + one % SIZE}.{two}.{three}]:{port},[{host}]:{port}"
 
 
 def action_of(intake: Intake, told: Dict[str, str]) -> str:
@@ -55,6 +56,7 @@ class Policy:
     def __init__(self, intake: Intake, listening: List[socket.socket]):
         self.intake, self.listening = intake, listening
         self.servers: List[asyncio.AbstractServer] = []
+        self.clients = 0
 
     async def start(self) -> None:
         self.servers = [await asyncio.start_server(self.serve, sock=it, limit=LARGEST) for it in self.listening]
@@ -65,8 +67,9 @@ class Policy:
 
     async def serve(self, reader: asyncio.StreamReader, writer: asyncio.StreamWriter) -> None:
         """Answers one request after the other, until its client goes."""
+        self.clients += 1
         try:
-            while True:
+            while self.clients <= MOST:
                 request = await self.request(reader)
                 if request is None:
                     break
@@ -77,12 +80,14 @@ class Policy:
         except Exception as error:
             log.error("session failed", why=repr(error))
         finally:
+            self.clients -= 1
             writer.close()
 
     @staticmethod
     async def request(reader: asyncio.StreamReader) -> Optional[bytes]:
         """The next request; None where there is none, or one that is too long."""
         try:
-            return await asyncio.wait_for(reader.readuntil(b"\n\n"), IDLE)
+            first = await asyncio.wait_for(reader.readexactly(1), IDLE)
+            return first + await asyncio.wait_for(reader.readuntil(b"\n\n"), LONGEST)
         except (asyncio.IncompleteReadError, asyncio.LimitOverrunError):
             return None

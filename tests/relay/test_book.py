@@ -196,7 +196,8 @@ class Names:
 def looking(handed, states, taken_back, queue):
     desk = SimpleNamespace(messages=lambda customer: [{"id": id, "state": state} for id, state in states.items()])
     settings = SimpleNamespace(customers={"acme": None}, lost_after=60.0, settle_after=60.0, pause=1.0)
-    found = Missing(settings, desk, handed, Names(), lambda: 0, lambda attempt, outcomes: None, lambda customer: None)
+    found = Missing(settings, desk, handed, Names(), lambda: 0, lambda attempt, outcomes: None, lambda customer: None, lambda known: None)
+    found.still_lies = lambda attempt: queue == "deferred"
     found.take_one_back = lambda it: taken_back.append((it.id, queue))
     return found
 
@@ -214,6 +215,15 @@ def test_what_is_taken_back(folder, queue, state, is_taken):
     expect(taken == ([("1", queue)] if is_taken else []), "taken back was", taken)
     found.take_back("acme")
     expect(len(taken) == is_taken, "it is taken back twice")
+
+
+def test_a_hold_behind_an_old_look(folder):
+    """What was deferred as the queue was looked at, and is being sent as its customer's list is there, stays."""
+    taken = []
+    found = looking(Handed(Book(folder)), {"1": "hold"}, taken, "deferred")
+    found.lying, found.still_lies = {"acme": [(attempt(queue_id="4F"), "deferred")]}, lambda attempt: False
+    found.take_back("acme")
+    expect(not taken, "taken back was", taken)
 
 
 def group(status, text="host mx.far.example[192.0.2.1] said: no", kind="smtp", action="failed"):

@@ -102,4 +102,4 @@ def test_ways():
     expect(way_of("acme", AT) == way_of("acme", AT), "a way changes")
     for it in ways:
         first, second = it.split(",")
-        expect(first == "[127.0.0.1]:823" and second.startswith("[127.") and second.endswith("]:823") and second != first, it)
+        expect(second == "[127.0.0.1]:823" and first.startswith("[127.") and first.endswith("]:823") and second != first, it)

@@ -5,9 +5,10 @@ from types import SimpleNamespace
 
 import pytest
 from bell import Bell, Listener
+import calls
 from calls import Calls
 from desk import Away
-from destinations import AT_ONCE, BETWEEN_TURNS, CUSTOMER_ALONE, DOMAIN, PROVEN, SLOW, UNPROVEN, WRITTEN_BY, Capacity, Destinations
+from destinations import AT_ONCE, BETWEEN_TURNS, CUSTOMER_ALONE, DOMAIN, FIRST, PROVEN, SLOW, UNPROVEN, WRITTEN_BY, Capacity, Destinations
 from handed import Attempt
 from serving import expect, until
 from turns import Turns
@@ -76,7 +77,7 @@ def test_proven_hosts_that_hang(clock):
     """So it is where hosts of many domains have answered before, and then hang all at once."""
     mail = Mail()
     for it in [*domains("evil", 60), "good.example"]:
-        mail.told("acme", it)
+        mail.told("acme", it, count=PROVEN)
     taken = mail.begun("acme", domains("evil", 60), 60)
     held = {it: sum(one.recipients == [f"p@{it}"] for one in taken) for it in domains("evil", 60)}
     processes = sum(min(it, CAPACITY.at_a_domain) for it in held.values())
@@ -90,6 +91,11 @@ def test_a_slow_domain(clock):
     """Of a domain that has become slow few messages lie in the instance at once, so that another customer's next one waits for few."""
     mail = Mail()
     mail.told("acme", "slow.example")
+    few = mail.begun("acme", ["slow.example"], 200)
+    expect(len(few) <= FIRST // 2 + 1, "to a domain that has answered once go", len(few))
+    for it in few:
+        mail.to.end(it)
+    mail.told("acme", "slow.example", count=PROVEN)
     taken = mail.begun("acme", ["slow.example"], 200)
     expect(len(taken) == PROVEN // 2, "under way are", len(taken))
     for it in taken[:-2]:
@@ -129,8 +135,8 @@ def test_domains_rest(clock, is_proven, failures):
 def test_who_goes_on(clock):
     """The end of a message has those go on who wait for its domain, and no other; and those who wait for processes, now and then."""
     mail = Mail()
-    first = mail.begun("acme", ["one.example"], UNPROVEN)
-    expect(not mail.to.begin(mail.attempt("acme", "one.example")), "a new domain has no bound")
+    first = [*mail.begun("acme", ["one.example"], 1), *mail.begun("birch", ["one.example"], 1)]
+    expect(len(first) == UNPROVEN and not mail.to.begin(mail.attempt("acme", "one.example")), "a new domain has no bound")
     other = mail.begun("birch", ["two.example"], 1)
     expect(mail.to.end(other[0]) == set(), "who waits for another domain goes on")
     expect(mail.to.end(first[0]) == {"acme"} and mail.to.end(first[1]) == set(), "who waits does not go on")
@@ -147,7 +153,7 @@ def test_who_goes_on(clock):
 def test_few_turns_for_many_ends(clock):
     """Who waits for a domain with much under way has one turn for several ends."""
     mail = Mail()
-    mail.told("acme", "good.example")
+    mail.told("acme", "good.example", count=PROVEN)
     taken = mail.begun("acme", ["good.example"], 200)
     turns = 0
     for it in taken:
@@ -220,27 +226,39 @@ def test_turns_of_one_desk():
 
 def test_calls_of_a_desk_that_hangs(clock):
     """So many calls of a desk are under way; once they take too long, further ones fail at once, and those of other desks go on."""
-    calls = Calls(2)
-    with calls.one_of("north"), calls.one_of("north"):
+    found = Calls(2)
+    with found.one_of("north"), found.one_of("north"):
         clock.now += 3
         with pytest.raises(Away):
-            with calls.one_of("north"):
+            with found.one_of("north"):
                 pass
-        with calls.one_of("south"):
+        with found.one_of("south"):
             pass
-    with calls.one_of("north"):
+    with found.one_of("north"):
         pass
+
+
+def test_calls_wait_no_longer(monkeypatch):
+    """Nor does a call wait for long where each of those before it is quick, but too many are."""
+    monkeypatch.setattr(calls, "LONGEST", WHILE)
+    found = calls.Calls(1)
+    with found.one_of("north"):
+        begun = time.monotonic()
+        with pytest.raises(Away):
+            with found.one_of("north"):
+                pass
+        expect(time.monotonic() - begun < 3 * WHILE, "it waits for", time.monotonic() - begun)
 
 
 def test_calls_wait_for_their_turn():
     """A call waits while those before it are as quick as they should be."""
-    calls, entered = Calls(1), threading.Event()
+    found, entered = Calls(1), threading.Event()
 
     def call():
-        with calls.one_of("north"):
+        with found.one_of("north"):
             entered.set()
 
-    with calls.one_of("north"):
+    with found.one_of("north"):
         threading.Thread(target=call, daemon=True).start()
         expect(not entered.wait(WHILE), "two calls are under way")
     expect(entered.wait(SOON), "a call waits for ever")
