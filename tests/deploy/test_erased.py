@@ -132,6 +132,8 @@ def test_a_name_that_another_desk_knows(place):
     place.desk("south", 826, "")
     ended = place.run("add", "birch", "--desk", "south")
     expect(ended.returncode == 1 and "the desk north has records of an earlier birch" in ended.stderr, "it is given again:", ended)
+    place.directory(BOTH)
+    place.done("set", "acme", "--messages", "999")
     place.worker("echo nothing", knows="exit 0")
     ended = place.run("add", "cedar", "--desk", "south")
     expect(ended.returncode == 1 and "the worker has records of an earlier cedar" in ended.stderr, "it is given again:", ended)

@@ -22,6 +22,10 @@ def debian():
         folder = Path(made) / "debian"
         fetched(lambda: subprocess.run(["debootstrap", "--variant=minbase", "--include=nginx", NEXT[name], folder, address],
                                        capture_output=True, text=True, check=True, timeout=TO_MAKE))
+        # (the package makes this user)
+        for name, line in (("passwd", "hqproxy:x:990:990::/nonexistent:/usr/sbin/nologin\n"), ("group", "hqproxy:x:990:\n")):
+            with open(folder / "etc" / name, "a") as file:
+                file.write(line)
         yield folder
 
 
