@@ -129,7 +129,7 @@ def test_a_name_that_another_desk_knows(place):
     """So is one that a store of another desk has, and one of which the worker has something: both know customers by names alone."""
     place.filled("birch", int(time.time()))
     place.directory(BOTH.splitlines(True)[0])
-    place.desk("south", 826, "")
+    place.desk("south", 826, "dogwood,dogwoodkey000001,1000,500000000,1000,100,14400\n")
     ended = place.run("add", "birch", "--desk", "south")
     expect(ended.returncode == 1 and "the desk north has records of an earlier birch" in ended.stderr, "it is given again:", ended)
     place.directory(BOTH)
