@@ -1,4 +1,4 @@
-"""The mail of a calm customer is delivered within three seconds, whatever another customer or another desk does.
+"""The mail of a calm customer is delivered soon, whatever another customer or another desk does.
 
 Each takes the program of the desk and two instances of Postfix, of which the first asks the worker whose mail comes.
 """

@@ -38,6 +38,30 @@ def test_late_mail_without_its_content(delivering, logged, state, is_kept, swept
     expect(found.desk.swept == swept and logged == ["not given up: content is missing"] * (not swept), found.desk.swept, logged)
 
 
+def test_a_late_report_behind_another(delivering, monkeypatch):
+    """One that comes while another one of its customer is fitted is fitted too, and its file goes."""
+    found = delivering(Told())
+    discarded, moved = [], []
+    monkeypatch.setattr(found.outcomes, "box", lambda: SimpleNamespace(discard=discarded.append))
+    for it in "AB":
+        found.handed.about([Attempt(f"acme.{it}.1.e", "acme", f"s{it}", it, 1, [GOOD], "ann@a.example", time.time())])
+        found.handed.resolved(found.handed.of(f"acme.{it}.1.e"), [], is_lost=True)
+
+    def move(lost, reports):
+        moved.append(lost.id)
+        if lost.id == "A":
+            found.outcomes.set_apart({"acme.B.1.e": [], "acme.A.1.e": []}, {"acme.B.1.e": ["fileB"], "acme.A.1.e": ["fileC"]})
+
+    monkeypatch.setattr(found.outcomes, "move", move)
+    found.outcomes.set_apart({"acme.A.1.e": []}, {"acme.A.1.e": ["fileA"]})
+    found.outcomes.take_late("acme")
+    expect((moved, discarded, found.catching_up.waiting) == (["A"], ["fileA"], {"acme"}), moved, discarded)
+    monkeypatch.setattr(found.outcomes, "move", lambda lost, reports: moved.append(lost.id))
+    found.outcomes.take_late("acme")
+    expect(sorted(moved) == ["A", "A", "B"] and sorted(discarded) == ["fileA", "fileB", "fileC"], moved, discarded)
+    expect(not found.outcomes.late_keys and not found.outcomes.late["acme"], found.outcomes.late)
+
+
 def test_reports_while_a_desk_hangs(delivering, monkeypatch):
     """What lies in the queue is compared with the desk's list in a turn of its own: reports are read meanwhile."""
     found = delivering(Told())
