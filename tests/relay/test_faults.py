@@ -253,23 +253,25 @@ def test_what_senders_ask_for(program, shared):
 def test_taken_back(program, shared):
     """Mail lies in the delivering instance when its customer deletes one message and holds another:
     both are taken back, the one that was held goes when it is released."""
+    # (to a domain that has not answered yet one message of a customer goes at a time)
+    held = "held@slow.example"
     with Relay(program, shared, settings={"delivery": {"settle-after": "1"}}) as it:
         shared.delivering.set(defer_transports="smtp")
         try:
             it.intake()
-            it.take("acme", f"gone@{FAR}", f"held@{FAR}")
+            it.take("acme", f"gone@{FAR}", held)
             it.postfix.empty()
             running = it.run("deliver")
             until(lambda: len(shared.delivering.queue()) == 2, "the mail is not handed over")
             ids = {it.desk.own("acme", "GET", f"/v1/message/{row['id']}")["pending"][0]["address"]:
                    row["id"] for row in it.desk.messages("acme")}
             it.desk.own("acme", "DELETE", f"/v1/message/{ids[f'gone@{FAR}']}")
-            it.desk.own("acme", "POST", f"/v1/hold/{ids[f'held@{FAR}']}")
+            it.desk.own("acme", "POST", f"/v1/hold/{ids[held]}")
             until(lambda: not shared.delivering.queue(), "the mail is not taken back")
             until(lambda: running.log.read_text().count("taken back") == 2, "that is not told")
         finally:
             shared.delivering.set(defer_transports="")
-        it.desk.own("acme", "POST", f"/v1/release/{ids[f'held@{FAR}']}")
+        it.desk.own("acme", "POST", f"/v1/release/{ids[held]}")
         until(lambda: it.desk.usage("acme")["delivered"] == 1, "what was released does not come")
-        it.expect_delivered(f"held@{FAR}")
+        it.expect_delivered(held)
         it.desk.expect_usage("acme", delivered=1, deleted=1)

@@ -75,7 +75,7 @@ def test_reports_closed(program, shared):
         os.chown(shared.delivering.reports / "tmp", 0, 0)
         try:
             begun(it)
-            until(lambda: len(it.delivered()) >= 2, "nothing is delivered")
+            until(it.delivered, "nothing is delivered")
             time.sleep(8)
             expect(it.desk.usage("acme")["delivered"] == 0, "an outcome is told without a report")
             expect("no report" not in it.told(), "a report that waits is given up")
@@ -93,7 +93,7 @@ def test_desk_away(program, shared):
         shared.good.until_waiting()
         it.desk.kill()
         shared.good.gate.set()
-        until(lambda: len(it.delivered()) >= 2, "nothing is delivered")
+        until(it.delivered, "nothing is delivered")
         time.sleep(5)
         it.desk.start()
         all_came(it)
