@@ -19,6 +19,11 @@ class Calls:
         # since when the calls of each desk are under way
         self.begun: Dict[str, List[float]] = collections.defaultdict(list)
 
+    def has_room(self, desk: str) -> bool:
+        """Whether a call of the desk would begin at once."""
+        with self.guard:
+            return len(self.begun[desk]) < self.most
+
     @contextmanager
     def one_of(self, desk: str) -> Iterator[None]:
         """A call of a desk is under way, once there is room for it. Raises Away where that takes too long."""

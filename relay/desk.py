@@ -55,6 +55,11 @@ class Desk:
         body = {"spool": spool, "sender": sender, "recipients": [recipient], "size": size}
         return self.ask(f"/relay/submit/{customer}", body)
 
+    def admit(self, customer: str, sender: str, recipient: str, size: int, timeout: float) -> dict:
+        """What a submission would be answered."""
+        body = {"sender": sender, "recipients": [recipient], "size": size}
+        return self.ask(f"/relay/admit/{customer}", body, min(timeout, self.timeout))
+
     def outcome(self, customer: str, id: str, attempt: int, outcomes: List[Dict[str, str]]) -> dict:
         body = {"id": id, "attempt": attempt, "outcomes": outcomes}
         return self.ask(f"/relay/outcome/{customer}", body)

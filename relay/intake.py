@@ -78,6 +78,12 @@ def spool_name(ident: str, recipient: str) -> str:
     return f"{ident}-{digest[:16]}"
 
 
+def rejection(reply: dict) -> str:
+    """The answer where access tables refuse the sender, or the one recipient."""
+    refused = reply["refused"][0]
+    return f"{refused['code']} {refused['code'] // 100}.7.1 {refused['text']}"
+
+
 def first_field(content: bytes) -> bytes:
     found = FIRST_FIELD.match(content)
     return found[0] if found else b""
@@ -334,8 +340,7 @@ class Intake:
         verdict = reply["verdict"]
         if verdict == "rejected":
             self.spool.remove(envelope.spool)
-            refused = reply["refused"][0]
-            answer = f"{refused['code']} {refused['code'] // 100}.7.1 {refused['text']}"
+            answer = rejection(reply)
         elif verdict == "discarded":
             answer = "250 2.0.0 discarded"
             self.book.taken(envelope.customer, envelope.spool, None, answer)
@@ -349,15 +354,22 @@ class Intake:
 
     def refused(self, envelope: Envelope, refusal: Refused, size: int) -> str:
         """Where a refusal tells that the name is not queued, the content goes. Else it stays."""
-        code = REFUSALS.get(refusal.number)
-        if not code:
+        answer = self.refusal(envelope.customer, refusal, size)
+        if not answer:
             log.error("submit refused", customer=envelope.customer, spool=envelope.spool,
                       why=refusal)
             return "451 4.3.5 the relay is not set up for this"
         self.spool.remove(envelope.spool)
         log.info("refused", customer=envelope.customer, spool=envelope.spool, why=refusal)
+        return answer
+
+    def refusal(self, customer: str, refusal: Refused, size: int) -> Optional[str]:
+        """The answer by a refusal of the desk; None by one that no mail of a customer has."""
+        code = REFUSALS.get(refusal.number)
+        if not code:
+            return None
         answer = f"{code} {refusal.body['name']}"
         if refusal.number in (desks.QUOTA_MESSAGES, desks.QUOTA_BYTES):
             least = size if refusal.number == desks.QUOTA_BYTES else 0
-            self.full[envelope.customer] = Full(time.monotonic() + FULL_FOR, least, answer)
+            self.full[customer] = Full(time.monotonic() + FULL_FOR, least, answer)
         return answer

@@ -1,8 +1,8 @@
 """Postfix's policy protocol (SMTPD_POLICY_README): whose mail comes, before its content does.
 
-Mail of nobody is refused in the client's session, and so Postfix has nothing to bounce. Mail of a customer goes to the worker by a
-way of the customer's own: Postfix serves its destinations in turn, each by so many processes at most, so that the mail of one waits
-for nobody else's.
+Mail of nobody, and mail that the desk would not take, is refused in the client's session, and so Postfix has nothing to bounce.
+Other mail of a customer goes to the worker by a way of the customer's own: Postfix serves its destinations in turn, each by so many
+processes at most, so that the mail of one waits for nobody else's.
 """
 import asyncio
 import hashlib
@@ -10,6 +10,7 @@ import socket
 from typing import Dict, List, Optional
 
 import log
+from admission import Admission, Transaction
 from intake import NOBODY, Intake
 from settings import Address
 
@@ -38,23 +39,20 @@ def way_of(customer: str, intake: Address) -> str:
     return f"[127.{NETWORK + one % SIZE}.{two}.{three}]:{port},[{host}]:{port}"
 
 
-def action_of(intake: Intake, told: Dict[str, str]) -> str:
-    """What Postfix is to do with a recipient."""
-    if told.get("request") != REQUEST:
-        return "DUNNO"
+def customer_of(intake: Intake, told: Dict[str, str]) -> Optional[str]:
+    """Whose mail it is."""
     login = told.get("sasl_username") or None
     customer = intake.owner(login, told.get("sender", ""))
     if not customer:
         log.warning("no customer", sender=told.get("sender", ""), login=login)
-        return NOBODY
-    return f"FILTER desk:{way_of(customer, intake.settings.listen)}"
+    return customer
 
 
 class Policy:
     """Answers what Postfix asks at these sockets, in the loop of the process."""
 
     def __init__(self, intake: Intake, listening: List[socket.socket]):
-        self.intake, self.listening = intake, listening
+        self.intake, self.listening, self.admission = intake, listening, Admission(intake)
         self.servers: List[asyncio.AbstractServer] = []
         self.clients = 0
 
@@ -68,12 +66,14 @@ class Policy:
     async def serve(self, reader: asyncio.StreamReader, writer: asyncio.StreamWriter) -> None:
         """Answers one request after the other, until its client goes."""
         self.clients += 1
+        transaction = Transaction()
         try:
             while self.clients <= MOST:
                 request = await self.request(reader)
                 if request is None:
                     break
-                writer.write(f"action={action_of(self.intake, attributes(request))}\n\n".encode())
+                action = await self.action_of(attributes(request), transaction)
+                writer.write(f"action={action}\n\n".encode())
                 await writer.drain()
         except (ConnectionError, asyncio.TimeoutError):
             pass  # (a client that goes away is no fault)
@@ -82,6 +82,23 @@ class Policy:
         finally:
             self.clients -= 1
             writer.close()
+
+    async def action_of(self, told: Dict[str, str], transaction: Transaction) -> str:
+        """What Postfix is to do with a recipient."""
+        if told.get("request") != REQUEST:
+            return "DUNNO"
+        customer = customer_of(self.intake, told)
+        if not customer:
+            return NOBODY
+        if told.get("recipient") and self.admission.is_asked(customer):
+            before = transaction.at(told.get("instance", ""))
+            loop = asyncio.get_running_loop()
+            refusal = await loop.run_in_executor(self.admission.pool, self.admission.refusal, customer, told, before.let_in)
+            if refusal:
+                log.info("refused before its content", customer=customer, answer=refusal)
+                return " ".join(refusal.split())
+            before.let_in += 1
+        return f"FILTER desk:{way_of(customer, self.intake.settings.listen)}"
 
     @staticmethod
     async def request(reader: asyncio.StreamReader) -> Optional[bytes]:

@@ -1,4 +1,4 @@
--- The values of a submission's members.
+-- The values of the members of an envelope and of a submission.
 use Rattle.std.proofs.Common.{◌≡◌, ℕ, Bool, true, false, List, [], ◌∷◌, length, IsTrue, codes}
 use Rattle.std.proofs.Common.{Result, Ok, Err, refl, sym, ap, ◌∙◌, subst}
 use Rattle.serde_json.specs.Data.{Data}
@@ -11,10 +11,11 @@ use Rattle.hq_values.specs.Senders.{sender_in}
 use Rattle.hq_values.specs.Words.{spool_in}
 use Rattle.hq_values.specs.declared.address.Sender.{Sender}
 use Rattle.hq_rules.specs.Limits.{is_recipient_count, is_size}
+use Rattle.hq_rules.specs.declared.call.Envelope.{Envelope}
 use Rattle.hq_rules.specs.declared.call.Submission.{Submission}
 use Rattle.hq_bodies.specs.Reading.{texts_at}
-use Rattle.hq_bodies.specs.Submissions.{Fields, addresses_in, bytes_at, recipients_in, size_of}
-use Rattle.hq_bodies.specs.Submissions.{submission_of}
+use Rattle.hq_bodies.specs.Submissions.{EnvelopeFields, Fields, addresses_in, bytes_at}
+use Rattle.hq_bodies.specs.Submissions.{envelope_in, recipients_in, size_of, submission_of}
 
 err_ok : {A : Type 0} (r : Refusal) (a : A) → ◌≡◌ {A = Result A Refusal} (Err r) (Ok a) → ⊥
 err_ok r a e = cc
@@ -93,36 +94,32 @@ size_refused d n h read =
     ∙ ap (λ r. r >>= (λ limit. Ok (record { bytes = n; limit = limit })))
     (failed (is_size n) BadField h)
 
--- submissions are the same where their recipients are
-pub same_submission : (spool : List ℕ) (sender : Sender) (size : ℕ) (xs ys : List (List ℕ))
+-- envelopes are the same where their recipients are
+pub same_envelope : (sender : Sender) (size : ℕ) (xs ys : List (List ℕ))
     (h : IsTrue (is_recipient_count (length xs))) (k : IsTrue (is_recipient_count (length ys)))
     (limit : IsTrue (is_size size)) → xs ≡ ys
-    → ◌≡◌ {A = Submission} (record {
-      spool = spool;
+    → ◌≡◌ {A = Envelope} (record {
       sender = sender;
       recipients = xs;
       size = size;
       number = h;
       limit = limit;
     }) (record {
-      spool = spool;
       sender = sender;
       recipients = ys;
       size = size;
       number = k;
       limit = limit;
     })
-same_submission spool sender size xs ys h k limit same =
+same_envelope sender size xs ys h k limit same =
     subst (λ zs. (l : IsTrue (is_recipient_count (length zs))) →
-    ◌≡◌ {A = Submission} (record {
-      spool = spool;
+    ◌≡◌ {A = Envelope} (record {
       sender = sender;
       recipients = xs;
       size = size;
       number = h;
       limit = limit;
     }) (record {
-      spool = spool;
       sender = sender;
       recipients = zs;
       size = size;
@@ -130,7 +127,6 @@ same_submission spool sender size xs ys h k limit same =
       limit = limit;
     }))
     same (λ l. ap (λ (n : IsTrue (is_recipient_count (length xs))). record {
-      spool = spool;
       sender = sender;
       recipients = xs;
       size = size;
@@ -139,42 +135,78 @@ same_submission spool sender size xs ys h k limit same =
     })
     (one_proof (is_recipient_count (length xs)) h l)) k
 
--- a submission is made of members whose values are read
-pub submission_taken : (f : Fields) (spool : List ℕ) (sender : Sender) (found xs : List (List ℕ))
+-- an envelope is made of members whose values are read
+pub envelope_taken : (f : EnvelopeFields) (sender : Sender) (found xs : List (List ℕ))
     (k : IsTrue (is_recipient_count (length xs))) (l : IsTrue (is_size f.size.bytes)) →
-    spool_in f.spool ≡ Ok spool → sender_in f.sender ≡ Ok sender →
-    addresses_in f.recipients.texts ≡ Ok found → xs ≡ found
-    → submission_of f ≡ Ok (record {
-      spool = spool;
+    sender_in f.sender ≡ Ok sender → addresses_in f.recipients.texts ≡ Ok found → xs ≡ found
+    → envelope_in f ≡ Ok (record {
       sender = sender;
       recipients = xs;
       size = f.size.bytes;
       number = k;
       limit = l;
     })
-unfolding submission_of
-submission_taken f spool sender found xs k l one two three same =
-    let made : List ℕ → Sender → Result Submission Refusal =
-    λ a b. Ok (record {
-      spool = a;
-      sender = b;
+unfolding envelope_in
+envelope_taken f sender found xs k l one two same =
+    let made : Sender → Result Envelope Refusal =
+    λ a. Ok (record {
+      sender = a;
       recipients = f.recipients.texts;
       size = f.size.bytes;
       number = f.recipients.number;
       limit = f.size.limit;
     }) in
-    ap (λ r. r >>= (λ a. sender_in f.sender >>=
-    (λ b. addresses_in f.recipients.texts >>= (λ _. made a b)))) one
-    ∙ ap (λ r. r >>= (λ b. addresses_in f.recipients.texts >>= (λ _. made spool b))) two
-    ∙ ap (λ r. r >>= (λ (_ : List (List ℕ)). made spool sender)) three
-    ∙ ap Ok (same_submission spool sender f.size.bytes f.recipients.texts xs f.recipients.number k
-    f.size.limit (sym (same ∙ texts_read f.recipients.texts found three)))
+    ap (λ r. r >>= (λ a. addresses_in f.recipients.texts >>= (λ _. made a))) one
+    ∙ ap (λ r. r >>= (λ (_ : List (List ℕ)). made sender)) two
+    ∙ ap Ok (same_envelope sender f.size.bytes f.recipients.texts xs f.recipients.number k
+    f.size.limit (sym (same ∙ texts_read f.recipients.texts found two)))
     ∙ ap (λ (m : IsTrue (is_size f.size.bytes)). Ok
     (record {
-      spool = spool;
       sender = sender;
       recipients = xs;
       size = f.size.bytes;
       number = k;
       limit = m;
     })) (one_proof (is_size f.size.bytes) f.size.limit l)
+
+-- a submission is made of its spool name and its envelope
+pub submission_taken : (f : Fields) (spool : List ℕ) (e : Envelope)
+    (k : IsTrue (is_recipient_count (length e.recipients))) (l : IsTrue (is_size e.size)) →
+    spool_in f.spool ≡ Ok spool → envelope_in f.envelope ≡ Ok e
+    → submission_of f ≡ Ok (record {
+      spool = spool;
+      sender = e.sender;
+      recipients = e.recipients;
+      size = e.size;
+      number = k;
+      limit = l;
+    })
+unfolding submission_of
+submission_taken f spool e k l one two =
+    let made : List ℕ → Envelope → Result Submission Refusal =
+    λ a b. Ok (record {
+      spool = a;
+      sender = b.sender;
+      recipients = b.recipients;
+      size = b.size;
+      number = b.number;
+      limit = b.limit;
+    }) in
+    ap (λ r. r >>= (λ a. envelope_in f.envelope >>= (λ b. made a b))) one
+    ∙ ap (λ r. r >>= (λ b. made spool b)) two
+    ∙ ap (λ (n : IsTrue (is_recipient_count (length e.recipients))). Ok (record {
+      spool = spool;
+      sender = e.sender;
+      recipients = e.recipients;
+      size = e.size;
+      number = n;
+      limit = e.limit;
+    })) (one_proof (is_recipient_count (length e.recipients)) e.number k)
+    ∙ ap (λ (m : IsTrue (is_size e.size)). Ok (record {
+      spool = spool;
+      sender = e.sender;
+      recipients = e.recipients;
+      size = e.size;
+      number = k;
+      limit = m;
+    })) (one_proof (is_size e.size) e.limit l)

@@ -17,5 +17,5 @@ pub use queries::{
     read_from, read_history_before, read_message_after, read_message_id, read_notice_after,
     read_notice_number,
 };
-pub use submission::read_submission;
+pub use submission::{read_envelope, read_submission};
 pub use tables::{read_check, read_find, read_import, read_line, read_pattern, read_search};

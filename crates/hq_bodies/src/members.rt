@@ -1,4 +1,4 @@
-//! The members of a submission as they stand in its body, before their values are read.
+//! The members of a submission, or of its envelope, as they stand in a body, before their values are read.
 
 ghost use Rattle.std.specs.Prelude.{IsTrue, length, map};
 ghost use Rattle.hq_rules.specs.Limits.{is_recipient_count, is_size};
@@ -18,11 +18,17 @@ pub(crate) struct MessageSize {
     pub(crate) ghost limit: { IsTrue (is_size bytes) },
 }
 
+/// The members of an envelope.
+#[derive(Drop)]
+pub(crate) struct EnvelopeTexts<'v> {
+    pub(crate) sender: &'v str,
+    pub(crate) recipients: RecipientTexts<'v>,
+    pub(crate) size: MessageSize,
+}
+
 /// The members of a submission.
 #[derive(Drop)]
 pub(crate) struct SubmissionTexts<'v> {
     pub(crate) spool: &'v str,
-    pub(crate) sender: &'v str,
-    pub(crate) recipients: RecipientTexts<'v>,
-    pub(crate) size: MessageSize,
+    pub(crate) envelope: EnvelopeTexts<'v>,
 }

@@ -1,17 +1,18 @@
-//! The body of a submission.
+//! The body of a submission, and of its envelope alone.
 
 ghost use Rattle.std.specs.Prelude.{◌≡◌, map as map_list};
 ghost use Rattle.serde_json.specs.View.{view};
 ghost use Rattle.hq_values.specs.Readers.{ReadsIn, seen_by};
 ghost use Rattle.hq_bodies.specs.Submissions.{recipients_in, size_of, fields_of, addresses_in};
 ghost use Rattle.hq_bodies.specs.Submissions.{submission_of, read_submission, shown_recipients};
-ghost use Rattle.hq_bodies.specs.Submissions.{shown_size, texts_shown};
+ghost use Rattle.hq_bodies.specs.Submissions.{shown_size, texts_shown, envelope_shown};
+ghost use Rattle.hq_bodies.specs.Submissions.{envelope_fields_of, envelope_in, read_envelope};
 
 use crate::json_memory::JsonMemory;
-use crate::members::{MessageSize, RecipientTexts, SubmissionTexts};
+use crate::members::{EnvelopeTexts, MessageSize, RecipientTexts, SubmissionTexts};
 use crate::reading::{has_only, json_value, number_member, text_member, texts_member};
 use hq_memory::Memory;
-use hq_rules::Submission;
+use hq_rules::{Envelope, Submission};
 use hq_values::{Address, Fail, Items, Refusal, Sender, Spool};
 use serde_json::Value;
 
@@ -47,6 +48,22 @@ fn size_in(value: &Value) -> Result<MessageSize, Refusal>
     })
 }
 
+/// The members of an envelope, or 8 `BadField`.
+#[tactic(auto, unfolding(crate::specs::Submissions::envelope_fields_of))]
+fn envelope_fields<M: Memory>(memory: M, value: &Value) -> Result<EnvelopeTexts<'_>, Fail>
+    ensures { ReadsIn M.refused (seen_by envelope_shown result)
+        (envelope_fields_of (view value.now)) }
+{
+    let sender = text_member(value, "sender").ok_or(Refusal::BadField)?;
+    let recipients = recipients_in(memory, value)?;
+    let size = size_in(value)?;
+    Ok(EnvelopeTexts {
+        sender,
+        recipients,
+        size,
+    })
+}
+
 /// The members of a submission, or 8 `BadField`.
 #[tactic(auto, unfolding(crate::specs::Submissions::fields_of))]
 fn fields_in<M: Memory>(memory: M, value: &Value) -> Result<SubmissionTexts<'_>, Fail>
@@ -60,15 +77,8 @@ fn fields_in<M: Memory>(memory: M, value: &Value) -> Result<SubmissionTexts<'_>,
         return Err(Fail::Refused(Refusal::BadField));
     }
     let spool = text_member(value, "spool").ok_or(Refusal::BadField)?;
-    let sender = text_member(value, "sender").ok_or(Refusal::BadField)?;
-    let recipients = recipients_in(memory, value)?;
-    let size = size_in(value)?;
-    Ok(SubmissionTexts {
-        spool,
-        sender,
-        recipients,
-        size,
-    })
+    let envelope = envelope_fields(memory, value)?;
+    Ok(SubmissionTexts { spool, envelope })
 }
 
 /// The addresses of texts, or 20 `BadAddress`.
@@ -83,20 +93,55 @@ fn read_addresses<M: Memory>(memory: M, texts: &[&str]) -> Result<Vec<Address>, 
     Ok(addresses)
 }
 
+/// The values of an envelope's members.
+#[tactic(auto, unfolding(crate::specs::Submissions::envelope_in))]
+fn envelope_from<M: Memory>(memory: M, fields: &EnvelopeTexts<'_>) -> Result<Envelope, Fail>
+    ensures { ReadsIn M.refused result (envelope_in (envelope_shown fields.now)) }
+{
+    let sender = Sender::parse(memory, fields.sender)?;
+    let recipients = read_addresses(memory, fields.recipients.texts.as_slice())?;
+    Ok(Envelope {
+        sender,
+        recipients: Items::from_vec(recipients),
+        size: fields.size.bytes,
+    })
+}
+
 /// The values of a submission's members.
 #[tactic(auto, unfolding(crate::specs::Submissions::submission_of))]
 fn submission_from<M: Memory>(memory: M, fields: &SubmissionTexts<'_>) -> Result<Submission, Fail>
     ensures { ReadsIn M.refused result (submission_of (texts_shown fields.now)) }
 {
     let spool = Spool::parse(memory, fields.spool)?;
-    let sender = Sender::parse(memory, fields.sender)?;
-    let recipients = read_addresses(memory, fields.recipients.texts.as_slice())?;
+    let Envelope {
+        sender,
+        recipients,
+        size,
+    } = envelope_from(memory, &fields.envelope)?;
     Ok(Submission {
         spool,
         sender,
-        recipients: Items::from_vec(recipients),
-        size: fields.size.bytes,
+        recipients,
+        size,
     })
+}
+
+/// Reads an envelope: 7 `BadJson` where the body is not JSON, 8 `BadField` where a member is
+/// missing, unknown, of the wrong kind or out of range, then 20 for the sender and each recipient.
+#[tactic(auto, unfolding(crate::specs::Submissions::read_envelope))]
+pub fn read_envelope<M: JsonMemory>(memory: M, body: &[u8]) -> Result<Envelope, Fail>
+    ensures { ReadsIn M.refused result (read_envelope body.now) }
+{
+    let value = json_value(memory, body)?;
+    let known = match value.as_object() {
+        Some(map) => has_only(map, &["sender", "recipients", "size"]),
+        None => false,
+    };
+    if !known {
+        return Err(Fail::Refused(Refusal::BadField));
+    }
+    let fields = envelope_fields(memory, &value)?;
+    envelope_from(memory, &fields)
 }
 
 /// Reads the body of a submission: 7 `BadJson` where it is not JSON, 8 `BadField` where a member is

@@ -1,4 +1,5 @@
-//! What is answered and changed by a submission, by what was read. Nothing is read or written here.
+//! What is answered and changed by a submission, and what is answered before one, by what was read.
+//! Nothing is read or written here.
 
 ghost use Rattle.std.specs.Prelude.{◌≡◌, IfOk, None, map, option_map};
 ghost use Rattle.hq_memory.specs.Making.{MadeIn};
@@ -185,5 +186,33 @@ pub fn settle<M: Memory>(
             };
             admit(memory, head, at, origin, serial, intake)
         }
+    }
+}
+
+/// What a submission would be answered by its verdict, without the queue ID: the serial or the
+/// refusal of its admission counts only where it would be queued.
+pub fn would_answer<M: Memory>(
+    memory: M,
+    serial: Result<Serial, Refusal>,
+    verdict: Verdict,
+) -> Result<Answer, AllocError>
+    ensures { MadeIn M.refused result (λ answer. answer ≡ rules.would_answer serial verdict) }
+{
+    match verdict {
+        Verdict::Rejected { refused } => Ok(Answer::Rejected(refused)),
+        Verdict::Discarded { refused } => Ok(Answer::Discarded(refused)),
+        Verdict::Queue {
+            kept,
+            refused,
+            redirect,
+            held,
+        } => match serial {
+            Err(refusal) => Ok(Answer::Refused(refusal)),
+            Ok(_) => {
+                let recipients = receivers(memory, kept, redirect)?;
+                let state = first_state(held.as_ref());
+                Ok(Answer::Admissible(recipients, refused, state))
+            }
+        },
     }
 }

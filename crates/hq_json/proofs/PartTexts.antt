@@ -29,8 +29,8 @@ use Rattle.hq_json.specs.AttemptReplies.{due_listed}
 use Rattle.hq_json.specs.HistoryReplies.{history_listed, history_found}
 use Rattle.hq_json.specs.NoticeReplies.{notices_listed, notice_json}
 use Rattle.hq_json.specs.Objects.{count}
-use Rattle.hq_json.specs.Replies.{answer_data, answer_text, listed, message_json, queued}
-use Rattle.hq_json.specs.Replies.{refusal_data}
+use Rattle.hq_json.specs.Replies.{admissible, answer_data, answer_text, listed, message_json}
+use Rattle.hq_json.specs.Replies.{queued, refusal_data}
 use Rattle.hq_json.specs.TableReplies.{check_json, lines_listed}
 use Rattle.hq_json.specs.PartRoom.{TellsNumbers, HasRoom, is_for}
 use Rattle.hq_json.specs.Parts.{IsObject, for_customer, part_text}
@@ -128,7 +128,7 @@ refusal_object (DoubledKey row) = refl
 refusal_object r = refl
 
 data_object : (a : Answer) → answer_data a ≡ object (members_of (answer_data a))
-unfolding listed queued message_json due_listed notices_listed notice_json history_listed
+unfolding admissible listed queued message_json due_listed notices_listed notice_json history_listed
     history_found lines_listed check_json
 data_object (answer.Refused r) = refusal_object r
 data_object a = refl

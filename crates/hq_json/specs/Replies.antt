@@ -21,7 +21,7 @@ use Rattle.hq_rules.specs.declared.answer.Answer.TheVariants as answer
 use Rattle.hq_json.specs.AttemptReplies.{attempt_json, attempt_repeated, due_listed, sweep_json}
 use Rattle.hq_json.specs.HistoryReplies.{history_listed, history_found}
 use Rattle.hq_json.specs.NoticeReplies.{notices_listed, notice_json}
-use Rattle.hq_json.specs.Objects.{having, count, id, addresses}
+use Rattle.hq_json.specs.Objects.{having, count, id, addresses, texts}
 use Rattle.hq_json.specs.QueueReplies.{used, allowed, report_json}
 use Rattle.hq_json.specs.TableReplies.{refused_list, lines_listed, line_put, line_dropped}
 use Rattle.hq_json.specs.TableReplies.{check_json, import_json}
@@ -127,6 +127,15 @@ queued m refused = having (
     (codes "verdict", string (codes "queued")) ∷
     [])
 
+-- as a submission would be answered, without the queue ID
+unfoldable pub admissible : List (List ℕ) → List Refused → QueueState → Data
+admissible receivers refused state = having (
+    (codes "recipients", texts receivers) ∷
+    (codes "refused", refused_list refused) ∷
+    (codes "state", string (state_name state)) ∷
+    (codes "verdict", string (codes "queued")) ∷
+    [])
+
 -- queued anew, under this queue ID
 abbrev pub requeue_json : ℕ → Data
 requeue_json serial = having ((codes "id", id serial) ∷ [])
@@ -151,6 +160,7 @@ changed n = having ((codes "changed", count n) ∷ [])
 abbrev pub answer_data : Answer → Data
 answer_data (answer.Refused r) = refusal_data r
 answer_data (answer.Queued m refused) = queued m refused
+answer_data (answer.Admissible receivers refused state) = admissible receivers refused state
 answer_data (answer.Repeated serial) = repeat_json serial
 answer_data (answer.Requeued serial) = requeue_json serial
 answer_data (answer.Listed ms more) = listed ms more

@@ -20,7 +20,7 @@ use Rattle.hq_json.specs.Replies.{entry, pending_list}
 use Rattle.hq_json.specs.TableReplies.{refused_list, line_entry}
 use Rattle.hq_json.specs.declared.values.Plain.{Plain}
 use Rattle.hq_json.specs.declared.values.Plain.TheVariants.{Count, Text, Flag, Null, Id, Addresses}
-use Rattle.hq_json.specs.declared.values.Plain.TheVariants.{Keys}
+use Rattle.hq_json.specs.declared.values.Plain.TheVariants.{Keys, Receivers}
 use Rattle.hq_json.specs.declared.values.Part.{Part}
 use Rattle.hq_json.specs.declared.values.Part.TheVariants as part
 
@@ -38,6 +38,7 @@ plain_data Null = null
 plain_data (Id serial) = id serial
 plain_data (Addresses ps) = addresses ps.now
 plain_data (Keys keys) = texts keys.now
+plain_data (Receivers receivers) = texts receivers.now
 
 abbrev pub part_data : Part → Data
 part_data (part.One value) = plain_data value

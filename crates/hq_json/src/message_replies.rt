@@ -9,7 +9,7 @@ use crate::values::{Part, Plain};
 use hq_kept::{Message, Pending, QueueState, Status};
 use hq_memory::Memory;
 use hq_rules::Refused;
-use hq_values::Serial;
+use hq_values::{Address, Serial};
 use std::alloc::AllocError;
 
 fn state_name(state: QueueState) -> &'static str
@@ -151,6 +151,30 @@ pub(crate) fn put_queued<'a, M: Memory>(
             ),
             ("refused", Part::Refused(refused)),
             ("state", Part::One(Plain::Text(state_name(message.state)))),
+            ("verdict", Part::One(Plain::Text("queued"))),
+        ],
+    )
+}
+
+/// That a submission would be queued, for whom and in which state, and who would be refused.
+pub(crate) fn put_admissible<'a, M: Memory>(
+    memory: M,
+    body: &mut Vec<u8>,
+    receivers: &'a [Address],
+    refused: &'a [Refused],
+    state: QueueState,
+) -> Result<(), AllocError>
+    ensures bytes { body.new.items ≡ after result body.old.items body.new.items
+        (replies.admissible receivers.now refused.now state) }
+    ensures cause { OnErr result M.refused }
+{
+    put_object(
+        memory,
+        body,
+        &[
+            ("recipients", Part::One(Plain::Receivers(receivers))),
+            ("refused", Part::Refused(refused)),
+            ("state", Part::One(Plain::Text(state_name(state)))),
             ("verdict", Part::One(Plain::Text("queued"))),
         ],
     )

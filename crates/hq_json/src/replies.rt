@@ -9,8 +9,8 @@ ghost use Rattle.hq_json.specs.Writing.{after, AnswerReads};
 use crate::attempt_replies::{put_attempted, put_due, put_repeated_attempt, put_swept};
 use crate::history_replies::{put_found, put_history};
 use crate::message_replies::{
-    put_changed, put_discarded, put_message, put_messages, put_queued, put_rejected, put_repeated,
-    put_requeued,
+    put_admissible, put_changed, put_discarded, put_message, put_messages, put_queued,
+    put_rejected, put_repeated, put_requeued,
 };
 use crate::notice_replies::{put_notice, put_notices};
 use crate::queue_replies::{put_allowed, put_report, put_used};
@@ -33,6 +33,13 @@ fn put_answer<M: Memory>(memory: M, body: &mut Vec<u8>, answer: &Answer) -> Resu
     match answer {
         Answer::Refused(refusal) => put_refusal(memory, body, refusal),
         Answer::Queued(message, refused) => put_queued(memory, body, message, refused.as_slice()),
+        Answer::Admissible(receivers, refused, state) => put_admissible(
+            memory,
+            body,
+            receivers.as_slice(),
+            refused.as_slice(),
+            *state,
+        ),
         Answer::Repeated(serial) => put_repeated(memory, body, *serial),
         Answer::Requeued(serial) => put_requeued(memory, body, *serial),
         Answer::Listed(messages, more) => put_messages(memory, body, messages.as_slice(), *more),

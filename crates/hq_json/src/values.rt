@@ -6,7 +6,7 @@ use crate::writing::{put_count, put_flag, put_text};
 use hq_kept::{End, Line, LookupKey, Message, Notice, Pending};
 use hq_memory::Memory;
 use hq_rules::Refused;
-use hq_values::Serial;
+use hq_values::{Address, Serial};
 use std::alloc::AllocError;
 
 /// A value with no object in it.
@@ -21,6 +21,8 @@ pub(crate) enum Plain<'a> {
     /// The addresses of recipients.
     Addresses(&'a [Pending]),
     Keys(&'a [LookupKey]),
+    /// To whom a message would go.
+    Receivers(&'a [Address]),
 }
 
 /// A value that may be a list of objects.
@@ -52,7 +54,7 @@ impl Form<Pending> for ByAddress {
     }
 }
 
-/// A key as its text.
+/// A key or an address as its text.
 struct ByText;
 
 impl Form<LookupKey> for ByText {
@@ -62,6 +64,17 @@ impl Form<LookupKey> for ByText {
 
     #[tactic(auto, unfolding(crate::specs::Writing::after))]
     fn put<M: Memory>(memory: M, body: &mut Vec<u8>, one: &LookupKey) -> Result<(), AllocError> {
+        put_text(memory, body, one.as_str().as_bytes())
+    }
+}
+
+impl Form<Address> for ByText {
+    ghost use Rattle.serde_json.specs.Data.{string};
+
+    ghost told = { λ address. string address };
+
+    #[tactic(auto, unfolding(crate::specs::Writing::after))]
+    fn put<M: Memory>(memory: M, body: &mut Vec<u8>, one: &Address) -> Result<(), AllocError> {
         put_text(memory, body, one.as_str().as_bytes())
     }
 }
@@ -81,6 +94,7 @@ impl<'a> Value for Plain<'a> {
             Plain::Id(serial) => put_text(memory, body, &serial.text()),
             Plain::Addresses(list) => put_list::<Pending, ByAddress, M>(memory, body, list),
             Plain::Keys(keys) => put_list::<LookupKey, ByText, M>(memory, body, keys),
+            Plain::Receivers(list) => put_list::<Address, ByText, M>(memory, body, list),
         }
     }
 }

@@ -1,6 +1,7 @@
 pub mod Marks
 pub mod Repeats
 pub mod Beside
+pub mod Foreseen
 pub mod Kept
 pub mod Leaving
 pub mod Past

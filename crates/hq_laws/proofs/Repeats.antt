@@ -146,6 +146,7 @@ step_has host entry s label mark at (call.PutLine line) has =
 step_has host entry s label mark at (call.DropLine pattern) has =
     ap (λ marks. get marks label) (drop_leaves s pattern (get s.lines pattern)) ∙ has
 step_has host entry s label mark at (call.Check class who) has = has
+step_has host entry s label mark at (call.Admit envelope) has = has
 step_has host entry s label mark at (call.Import other file) has =
     import_has s label mark entry.quota.lines other file has
 step_has host entry s label mark at (call.Outcome report) has =

@@ -71,6 +71,7 @@ remembers host entry s at (call.PutLine line) sound h = nobody entry.history at 
 remembers host entry s at (call.DropLine pattern) sound h = nobody entry.history at s _
     (drop_leaves s pattern (get s.lines pattern))
 remembers host entry s at (call.Check class who) sound h = nobody entry.history at s s (itself s)
+remembers host entry s at (call.Admit envelope) sound h = nobody entry.history at s s (itself s)
 remembers host entry s at (call.Import label file) sound h = nobody entry.history at s _
     (import_leaves s entry.quota.lines label file (get s.marks label))
 remembers host entry s at (call.Outcome report) sound h =

@@ -18,7 +18,7 @@ use crate::lists::decide_list;
 use crate::queues::{decide_delete_all, decide_limits, decide_move_all, decide_usage};
 use crate::relay::{decide_due, decide_outcome, decide_sweep};
 use crate::report::decide_report;
-use crate::submit::decide_submit;
+use crate::submit::{decide_admit, decide_submit};
 use hq_access::keys_of;
 use hq_decisions::lines::{drop_line, line_page, put_new, put_over};
 use hq_decisions::messages::{delete, hold_found, release_found, requeue_with, show};
@@ -179,6 +179,7 @@ pub fn decide<S: Shelf, M: CsvMemory>(
 {
     match call {
         Call::Submit(submission) => decide_submit(shelf, memory, at, entry, submission),
+        Call::Admit(envelope) => decide_admit(shelf, memory, entry, envelope),
         Call::List(after, which) => decide_list(shelf, memory, entry, after, which.as_ref()),
         Call::Show(serial) => {
             let found = shelf.message(&entry.name, serial)?;

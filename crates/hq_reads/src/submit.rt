@@ -3,21 +3,22 @@
 ghost use Rattle.std.specs.Prelude.{◌≡◌, None, map};
 ghost use Rattle.hq_memory.specs.Making.{MadeIn};
 ghost use Rattle.hq_rules.specs.Verdicts.{verdict};
-ghost use Rattle.hq_tables.specs.Shelves.{FindsSound, Keeps};
+ghost use Rattle.hq_tables.specs.Readings.{account_read};
+ghost use Rattle.hq_tables.specs.Shelves.{Finds, FindsSound, Keeps};
 ghost use Rattle.hq_reads.specs.Memory.{with_memory};
 ghost use Rattle.hq_reads.specs.ShelfLines.{FindsOpen, KeepsOpen};
 ghost use Rattle.hq_rules.specs.Submissions as rules;
 
 use crate::customer_lines::{action_for, with_actions};
 use hq_access::decide as decide_verdict;
-use hq_decisions::submissions::settle;
+use hq_decisions::submissions::{settle, would_answer};
 use hq_kept::{Action, Class, Entry};
 use hq_memory::Memory;
 use hq_queue::{admit as admitted, distinct};
 use hq_rules::decision::{Decision, tell};
-use hq_rules::{Answer, Origin, Submission, Verdict};
-use hq_tables::Shelf;
-use hq_values::{Address, Fault, Moment, Name, Sender};
+use hq_rules::{Answer, Envelope, Origin, Submission, Verdict};
+use hq_tables::{Account, Shelf};
+use hq_values::{Address, Fault, Items, Moment, Name, Sender};
 use std::alloc::AllocError;
 
 /// Recipients of a customer that has no line: nothing is found for them.
@@ -67,6 +68,50 @@ fn judge<S: Shelf, M: Memory>(
     Ok(verdict)
 }
 
+/// What the customer keeps, and the verdict on a submission.
+fn weigh<S: Shelf, M: Memory>(
+    shelf: &mut S,
+    memory: M,
+    customer: &Name,
+    sender: &Sender,
+    recipients: Items<Address>,
+) -> Result<(Account, Verdict), Fault>
+    ensures found { Finds S.sight shelf.old shelf.new result customer.now (λ rows.
+        (account_read rows, rules.judged rows sender.now (rules.distinct recipients))) }
+    ensures kept { Keeps (with_memory M.refused S.sight) shelf.old shelf.new result }
+{
+    let account = shelf.account(customer)?;
+    let recipients = distinct(memory, recipients.into_vec())?;
+    let verdict = if account.counts.lines == 0 {
+        judge_without_lines(memory, sender, recipients)?
+    } else {
+        judge(shelf, memory, customer, sender, recipients)?
+    };
+    Ok((account, verdict))
+}
+
+/// What a submission of this envelope would be answered.
+pub(crate) fn decide_admit<S: Shelf, M: Memory>(
+    shelf: &mut S,
+    memory: M,
+    entry: &Entry,
+    envelope: Envelope,
+) -> Result<Decision, Fault>
+    ensures found { FindsSound S.sight shelf.old shelf.new result entry.now.name
+        (λ rows. rules.dry_run entry.now rows envelope) }
+    ensures kept { Keeps (with_memory M.refused S.sight) shelf.old shelf.new result }
+{
+    let Envelope {
+        sender,
+        recipients,
+        size,
+    } = envelope;
+    let (account, verdict) = weigh(shelf, memory, &entry.name, &sender, recipients)?;
+    let serial = admitted(&account.head, &entry.quota, &account.counts, size);
+    let answer = would_answer(memory, serial, verdict)?;
+    Ok(tell(memory, answer))
+}
+
 /// The answer to a submission of a new spool name, and its changes.
 fn decide_new<S: Shelf, M: Memory>(
     shelf: &mut S,
@@ -79,19 +124,13 @@ fn decide_new<S: Shelf, M: Memory>(
         (λ rows. rules.submit entry.now rows at submission None) }
     ensures kept { Keeps (with_memory M.refused S.sight) shelf.old shelf.new result }
 {
-    let account = shelf.account(&entry.name)?;
     let Submission {
         spool,
         sender,
         recipients,
         size,
     } = submission;
-    let recipients = distinct(memory, recipients.into_vec())?;
-    let verdict = if account.counts.lines == 0 {
-        judge_without_lines(memory, &sender, recipients)?
-    } else {
-        judge(shelf, memory, &entry.name, &sender, recipients)?
-    };
+    let (account, verdict) = weigh(shelf, memory, &entry.name, &sender, recipients)?;
     let serial = admitted(&account.head, &entry.quota, &account.counts, size);
     let origin = Origin {
         spool,

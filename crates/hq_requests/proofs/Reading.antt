@@ -8,7 +8,7 @@ use Rattle.hq_rules.specs.declared.call.Call.{Call}
 use Rattle.hq_bodies.specs.Outcomes.{read_report}
 use Rattle.hq_bodies.specs.Queries.{read_history_before, read_message_after, read_message_id}
 use Rattle.hq_bodies.specs.Queries.{read_notice_after, read_notice_number}
-use Rattle.hq_bodies.specs.Submissions.{read_submission}
+use Rattle.hq_bodies.specs.Submissions.{read_envelope, read_submission}
 use Rattle.hq_bodies.specs.Tables.{read_check, read_find, read_import, read_line, read_pattern}
 use Rattle.hq_bodies.specs.Tables.{read_search}
 use Rattle.hq_requests.specs.Calls.{asked_of, number_of, serial_of}
@@ -80,6 +80,8 @@ reads_as_told route.Limits segment body = refl
 reads_as_told route.Report segment body = refl
 reads_as_told route.Submit segment body =
     behind (not (changes route.Submit)) (read_submission body) _ (λ submission. refl)
+reads_as_told route.Admit segment body =
+    behind (not (changes route.Admit)) (read_envelope body) _ (λ envelope. refl)
 reads_as_told route.Outcome segment body =
     behind (not (changes route.Outcome)) (read_report body) _ (λ report. refl)
 reads_as_told route.Due segment body =

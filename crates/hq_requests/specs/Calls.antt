@@ -17,7 +17,7 @@ use Rattle.hq_bodies.specs.Queries.{read_from, read_message_after, read_message_
 use Rattle.hq_bodies.specs.Queries.{read_history_before, read_notice_after, read_notice_number}
 use Rattle.hq_bodies.specs.Tables.{read_pattern, read_find, read_search, read_line, read_check}
 use Rattle.hq_bodies.specs.Tables.{read_import}
-use Rattle.hq_bodies.specs.Submissions.{read_submission}
+use Rattle.hq_bodies.specs.Submissions.{read_envelope, read_submission}
 use Rattle.hq_requests.specs.Routes.{methods_at, route_of, last_segment}
 use Rattle.hq_requests.specs.declared.table.Role.{Role}
 use Rattle.hq_requests.specs.declared.table.Role.TheVariants as role
@@ -139,6 +139,9 @@ asked_of route.Report segment body = Ok (call.Report None)
 asked_of route.Submit segment body = do
   submission ← read_submission body
   Ok (call.Submit submission)
+asked_of route.Admit segment body = do
+  envelope ← read_envelope body
+  Ok (call.Admit envelope)
 asked_of route.Outcome segment body = do
   report ← read_report body
   Ok (call.Outcome report)

@@ -20,7 +20,7 @@ use Rattle.hq_requests.specs.declared.table.Route.TheVariants.{MessagesByBody, S
 use Rattle.hq_requests.specs.declared.table.Route.TheVariants.{NoticesByBody, NoticeByBody, Find}
 use Rattle.hq_requests.specs.declared.table.Route.TheVariants.{HoldMatching, ReleaseMatching}
 use Rattle.hq_requests.specs.declared.table.Route.TheVariants.{DeleteMatching, Limits}
-use Rattle.hq_requests.specs.declared.table.Route.TheVariants.{HistoryByBody}
+use Rattle.hq_requests.specs.declared.table.Route.TheVariants.{HistoryByBody, Admit}
 
 -- whose key the path of these methods takes
 abbrev pub role_of : Methods → Role
@@ -38,6 +38,7 @@ changes ShowByBody = false
 changes Find = false
 changes Lines = false
 changes LinesAfter = false
+changes Admit = false
 changes Check = false
 changes Notices = false
 changes NoticesAfter = false
@@ -65,7 +66,8 @@ with_parameter text = text ++ parameter ∷ []
 -- order of the patterns
 unfoldable pub routes : RowsOf Methods
 routes =
-    (with_parameter (codes "/relay/delete-matching/"), Post Relay DeleteMatching)
+    (with_parameter (codes "/relay/admit/"), Post Relay Admit)
+    ∷ (with_parameter (codes "/relay/delete-matching/"), Post Relay DeleteMatching)
     ∷ (codes "/relay/due-from", Post RelayFrom Due)
     ∷ (with_parameter (codes "/relay/due/"), Post Relay Due)
     ∷ (codes "/relay/due", Post RelayForAll Due)

@@ -15,9 +15,9 @@ use crate::keys::allows;
 use crate::number::notice_number;
 use crate::{Caller, Role, Route, Span, last_segment};
 use hq_bodies::{
-    JsonMemory, read_check, read_find, read_from, read_history_before, read_import, read_line,
-    read_message_after, read_message_id, read_notice_after, read_notice_number, read_pattern,
-    read_report, read_search, read_submission,
+    JsonMemory, read_check, read_envelope, read_find, read_from, read_history_before, read_import,
+    read_line, read_message_after, read_message_id, read_notice_after, read_notice_number,
+    read_pattern, read_report, read_search, read_submission,
 };
 use hq_rules::{Call, EachCall};
 use hq_values::{Fail, Refusal, Serial};
@@ -101,6 +101,7 @@ fn asked_of<M: JsonMemory>(
         Route::Limits => Ok(Call::Limits),
         Route::Report => Ok(Call::Report(None)),
         Route::Submit => Ok(Call::Submit(read_submission(memory, body)?)),
+        Route::Admit => Ok(Call::Admit(read_envelope(memory, body)?)),
         Route::Outcome => Ok(Call::Outcome(read_report(memory, body)?)),
         Route::Due => Ok(Call::Due(read_message_after(memory, body)?)),
         Route::Sweep => Ok(Call::Sweep),

@@ -7,7 +7,7 @@ ghost use Rattle.hq_requests.specs.Routes.{changes, role_of, route_of};
 use Methods::{Get, GetOrDelete, Post};
 use Role::{Customer, Relay, RelayForAll, RelayFrom};
 use Route::{
-    Check, Delete, DeleteAll, DeleteMatching, DropLine, Due, Find, FindHistory, History,
+    Admit, Check, Delete, DeleteAll, DeleteMatching, DropLine, Due, Find, FindHistory, History,
     HistoryBefore, HistoryByBody, Hold, HoldAll, HoldMatching, Import, Limits, Lines, LinesAfter,
     Messages, MessagesAfter, MessagesByBody, Notice, NoticeByBody, Notices, NoticesAfter,
     NoticesByBody, Outcome, PutLine, Release, ReleaseAll, ReleaseMatching, Report, Requeue, Show,
@@ -129,6 +129,8 @@ pub enum Route {
     Report,
     /// A message for the queue.
     Submit,
+    /// What a message would be answered, by its envelope.
+    Admit,
     /// The report of an attempt.
     Outcome,
     /// The messages that may be tried now.
@@ -154,7 +156,8 @@ impl Route {
     {
         !matches!(
             self,
-            Messages
+            Admit
+                | Messages
                 | MessagesAfter
                 | MessagesByBody
                 | Show
@@ -181,7 +184,7 @@ impl Route {
 }
 
 /// Every path of the desk, as the router spells it, with its methods.
-pub(crate) const TABLE: [(&str, Methods); 48] = [
+pub(crate) const TABLE: [(&str, Methods); 49] = [
     ("/v1/messages", Get(Customer, Messages)),
     ("/v1/messages-after/{id}", Get(Customer, MessagesAfter)),
     ("/v1/message/{id}", GetOrDelete(Customer, Show, Delete)),
@@ -211,6 +214,7 @@ pub(crate) const TABLE: [(&str, Methods); 48] = [
     ("/v1/limits", Get(Customer, Limits)),
     ("/v1/report", Get(Customer, Report)),
     ("/relay/submit/{customer}", Post(Relay, Submit)),
+    ("/relay/admit/{customer}", Post(Relay, Admit)),
     ("/relay/outcome/{customer}", Post(Relay, Outcome)),
     ("/relay/due/{customer}", Post(Relay, Due)),
     ("/relay/sweep/{customer}", Post(Relay, Sweep)),

@@ -245,6 +245,7 @@ pub no_changes : (host : List ℕ) (entry : Entry) (readings : Readings) (at : �
 unfolding decide
 no_changes host entry readings at (call.Submit sub) =
     submit_honest entry readings at sub (readings.by_spool sub.spool)
+no_changes host entry readings at (call.Admit envelope) = λ h. refl
 no_changes host entry readings at (call.List after which) = λ h. refl
 no_changes host entry readings at (call.Show serial) = λ h. show_reads (readings.message serial)
 no_changes host entry readings at (call.Hold serial) = hold_honest (readings.message serial)
@@ -286,6 +287,7 @@ no_changes host entry readings at (call.Report which) = λ h. refl
 pub reading_has_none : (host : List ℕ) (entry : Entry) (readings : Readings) (at : ℕ) (asked : Call)
     → only_reads asked ≡ true → (decide host entry readings at asked).changes ≡ []
 unfolding decide
+reading_has_none host entry readings at (call.Admit envelope) h = refl
 reading_has_none host entry readings at (call.List after which) h = refl
 reading_has_none host entry readings at (call.Show serial) h = show_reads (readings.message serial)
 reading_has_none host entry readings at (call.Lines after) h = refl

@@ -14,7 +14,7 @@ use Rattle.hq_rules.specs.Notices.{show_notice, notice_page}
 use Rattle.hq_rules.specs.Outcomes.{outcome, due_page}
 use Rattle.hq_rules.specs.Queues.{move_all, delete_all, usage, limits, report}
 use Rattle.hq_rules.specs.Selections.{is_selected}
-use Rattle.hq_rules.specs.Submissions.{submit}
+use Rattle.hq_rules.specs.Submissions.{dry_run, submit}
 use Rattle.hq_rules.specs.Sweeps.{sweep}
 use Rattle.hq_rules.specs.declared.call.Call.{Call}
 use Rattle.hq_rules.specs.declared.call.Call.TheVariants as call
@@ -24,6 +24,7 @@ use Rattle.hq_rules.specs.declared.call.Move.TheVariants as move
 unfoldable pub decide : List ℕ → Entry → Readings → ℕ → Call → Decision
 decide host entry readings at (call.Submit sub) =
     submit entry readings at sub (readings.by_spool sub.spool)
+decide host entry readings at (call.Admit envelope) = dry_run entry readings envelope
 decide host entry readings at (call.List after which) =
     page (filter (is_selected which) (after_serial after readings.messages))
 decide host entry readings at (call.Show serial) = show (readings.message serial)

@@ -1,4 +1,4 @@
--- What the desk answers and changes on a submission.
+-- What the desk answers and changes on a submission, and what it answers before one.
 use Rattle.std.specs.Prelude.{ℕ, ◌+◌, false, not, List, [], ◌∷◌, length, map, filter, Option, None}
 use Rattle.std.specs.Prelude.{Some, Result, Ok, Err}
 use Rattle.hq_values.specs.declared.failure.Refusal.{Refusal}
@@ -23,6 +23,8 @@ use Rattle.hq_tables.specs.declared.change.Change.TheVariants.{PutHead, PutMessa
 use Rattle.hq_rules.specs.AccessLines.{action_for}
 use Rattle.hq_rules.specs.Answering.{tell, refuse}
 use Rattle.hq_rules.specs.declared.answer.Answer.TheVariants as answer
+use Rattle.hq_rules.specs.declared.answer.Answer.{Answer}
+use Rattle.hq_rules.specs.declared.call.Envelope.{Envelope}
 use Rattle.hq_rules.specs.declared.call.Origin.{Origin}
 use Rattle.hq_rules.specs.declared.call.Submission.{Submission}
 use Rattle.hq_rules.specs.declared.decision.Decision.{Decision}
@@ -117,3 +119,34 @@ submit entry readings at sub None =
     settled readings.head at (origin_of sub)
     (admitted readings.head entry.quota readings.counts sub.size)
     (judged readings sub.sender (distinct sub.recipients))
+
+-- ---- what a submission would be answered
+
+-- the reply to a submission, without the queue ID
+abbrev pub without_id : Answer → Answer
+without_id (answer.Queued m refused) =
+    answer.Admissible (map (λ (p : Pending). p.address) m.pending) refused m.state
+without_id told = told
+
+-- what a submission is judged by
+abbrev pub envelope_of : Submission → Envelope
+envelope_of sub = record {
+  sender = sub.sender;
+  recipients = sub.recipients;
+  size = sub.size;
+  number = sub.number;
+  limit = sub.limit;
+}
+
+-- only where it would be queued the quota counts
+abbrev pub would_answer : Result ℕ Refusal → Verdict → Answer
+would_answer serial (verdict.Rejected refused) = answer.Rejected refused
+would_answer serial (verdict.Discarded refused) = answer.Discarded refused
+would_answer (Err refusal) (verdict.Queue kept refused redirect held) = answer.Refused refusal
+would_answer (Ok serial) (verdict.Queue kept refused redirect held) =
+    answer.Admissible (receivers kept redirect) refused (first_state held)
+
+abbrev pub dry_run : Entry → Readings → Envelope → Decision
+dry_run entry readings envelope = tell (would_answer
+    (admitted readings.head entry.quota readings.counts envelope.size)
+    (judged readings envelope.sender (distinct envelope.recipients)))

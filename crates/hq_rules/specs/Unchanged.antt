@@ -8,6 +8,7 @@ use Rattle.hq_rules.specs.declared.call.Call.TheVariants as call
 
 -- asks for what is kept
 abbrev pub only_reads : Call → Bool
+only_reads (call.Admit envelope) = true
 only_reads (call.List after which) = true
 only_reads (call.Show serial) = true
 only_reads (call.Lines after) = true

@@ -4,8 +4,8 @@ ghost use Rattle.std.specs.Prelude.{◌≡◌};
 ghost use Rattle.hq_rules.specs.Answers.{answer_number};
 
 use crate::verdict::Refused;
-use hq_kept::{Action, Counts, End, Line, LookupKey, Message, Notice, Tally};
-use hq_values::{Items, Refusal, Serial, WrittenText};
+use hq_kept::{Action, Counts, End, Line, LookupKey, Message, Notice, QueueState, Tally};
+use hq_values::{Address, Items, Refusal, Serial, WrittenText};
 
 /// What putting a line did.
 #[derive(Clone, Copy, Debug, PartialEq, Eq, Drop)]
@@ -88,6 +88,9 @@ pub enum Answer {
     Refused(Refusal),
     /// The message is in the queue, without the recipients that are refused.
     Queued(Message, Items<Refused>),
+    /// A submission would be queued: for these recipients, without those that are refused, and in
+    /// this state.
+    Admissible(Items<Address>, Items<Refused>, QueueState),
     /// A message of that spool name is queued already, under this serial.
     Repeated(Serial),
     /// The access tables refuse the submission: its sender alone, or all its recipients.

@@ -22,6 +22,19 @@ pub struct Submission {
     pub ghost limit: { IsTrue (is_size size) },
 }
 
+/// What a message is judged by before its content comes: its sender, its recipients and its size.
+#[derive(Drop)]
+pub struct Envelope {
+    /// Who is told of failures.
+    pub sender: Sender,
+    /// To whom it goes: 1 to 100 addresses, of which the first of those that are the same counts.
+    pub recipients: Items<Address>,
+    /// Its size in bytes, at most 2,147,483,647.
+    pub size: u32,
+    pub ghost number: { IsTrue (is_recipient_count (length recipients)) },
+    pub ghost limit: { IsTrue (is_size size) },
+}
+
 /// What a submission says beside its recipients.
 #[derive(Drop)]
 pub struct Origin {
@@ -49,6 +62,9 @@ pub struct AttemptReport {
 pub enum Call {
     /// Takes a message into the queue, as the customer's access tables judge it.
     Submit(Submission),
+    /// Tells what a submission of this envelope, under a new spool name, would be answered. Takes
+    /// nothing in.
+    Admit(Envelope),
     /// Lists the first 100 messages after a serial, or from the start: of those that a pattern is
     /// for, or of all.
     List(Option<Serial>, Option<Pattern>),

@@ -19,7 +19,7 @@ mod verdict;
 
 pub use acts::Acts;
 pub use answer::{Allowance, Answer, AttemptCounts, ImportCounts, LinePut, SweepCounts, Usage};
-pub use call::{AttemptReport, Call, Move, Origin, Submission};
+pub use call::{AttemptReport, Call, Envelope, Move, Origin, Submission};
 pub use csv_memory::{CsvMemory, MOST_ROWS};
 pub use decision::Decision;
 pub use each::EachCall;

@@ -227,6 +227,7 @@ step_sound host entry s at (call.Lines after) h = h
 step_sound host entry s at (call.PutLine line) h = put_kept s entry line h
 step_sound host entry s at (call.DropLine pattern) h = drop_kept s pattern (get s.lines pattern) h
 step_sound host entry s at (call.Check class who) h = h
+step_sound host entry s at (call.Admit envelope) h = h
 step_sound host entry s at (call.Import label file) h = import_kept s entry label file h
 step_sound host entry s at (call.Outcome report) h =
     on_found s report.serial (outcome host entry at s.head report) h

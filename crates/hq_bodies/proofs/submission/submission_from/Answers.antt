@@ -1,29 +1,7 @@
-use Rattle.std.proofs.Common.{◌≡◌, Ok, List, ℕ, IsTrue, length, map, sym, ap, subst}
-use Rattle.std.proofs.Common.{◌∙◌}
-use Rattle.hq_rules.specs.Limits.{is_recipient_count}
-use Rattle.hq_bodies.specs.Submissions.{addresses_in, texts_shown}
-use Rattle.hq_bodies.proofs.Submitted.{texts_read, submission_taken}
+use Rattle.hq_bodies.specs.Submissions.{texts_shown}
+use Rattle.hq_bodies.proofs.Submitted.{submission_taken}
 use Rattle.hq_bodies.proofs.submission.submission_from.Goals as goal
 
-pub invariant_of-result : goal.invariant_of-result
-invariant_of-result g c =
-    let fields = texts_shown c.args.fields.now in
-    let read : addresses_in fields.recipients.texts ≡ Ok c.in_ok-recipients.recipients.items =
-    ap (λ texts. addresses_in (map (λ text. text.now) texts))
-    (sym c.as_slice.ensures.value) ∙ c.in_ok-recipients.ensures in
-    record {
-      number = subst (λ (xs : List (List ℕ)). IsTrue (is_recipient_count (length xs)))
-          (sym (c.from_vec.ensures
-          ∙ texts_read fields.recipients.texts c.in_ok-recipients.recipients.items read))
-          fields.recipients.number;
-      limit = fields.size.limit;
-    }
-
 pub returns : goal.returns
-returns g c =
-    let fields = texts_shown c.args.fields.now in
-    let read : addresses_in fields.recipients.texts ≡ Ok c.in_ok-recipients.recipients.items =
-    ap (λ texts. addresses_in (map (λ text. text.now) texts))
-    (sym c.as_slice.ensures.value) ∙ c.in_ok-recipients.ensures in
-    submission_taken fields _ _ _ _ _ _ c.in_ok-spool.ensures c.in_ok-sender.ensures read
-    c.from_vec.ensures
+returns g c = submission_taken (texts_shown c.args.fields.now) _ _ _ _ c.in_ok-spool.ensures
+    c.in_ok-sender.ensures

@@ -1,9 +1,7 @@
-use Rattle.std.proofs.Common.{◌≡◌, ℕ, ◌<◌, ◌≤◌, ◌^◌, List, Ok, sym, subst, ap, ◌∙◌}
+use Rattle.std.proofs.Common.{◌≡◌, ℕ, List, Ok, sym, subst, ap, ◌∙◌}
 use Rattle.std.specs.Prelude.{option_map}
 use Rattle.hq_rules.specs.Verdicts.{verdict}
 use Rattle.hq_kept.specs.declared.pattern.Class.TheVariants.{SenderSide}
-use Rattle.hq_rules.specs.Admission.{admitted}
-use Rattle.hq_kept.specs.declared.account.Head.{Head}
 use Rattle.hq_tables.specs.Readings.{account_read, read_tables}
 use Rattle.hq_tables.specs.Shelves.{Keeps}
 use Rattle.hq_tables.specs.declared.account.Account.{Account}
@@ -12,21 +10,21 @@ use Rattle.hq_reads.specs.Memory.{with_memory}
 use Rattle.hq_rules.specs.Submissions as rules
 use Rattle.hq_reads.proofs.NoLines.{nobody_found, no_actions}
 use Rattle.hq_reads.proofs.Reading.{keeps_more, keeps_ok, keeps_on}
-use Rattle.hq_reads.proofs.submit.decide_new.Goals as goal
-use Rattle.hq_reads.proofs.submit.decide_new.Goals.{then-account-eq0+in_ok-verdict}
-use Rattle.hq_reads.proofs.submit.decide_new.Goals.{else-account-eq0+in_ok-verdict-2}
+use Rattle.hq_reads.proofs.submit.weigh.Goals as goal
+use Rattle.hq_reads.proofs.submit.weigh.Goals.{then-account-eq0+in_ok-verdict}
+use Rattle.hq_reads.proofs.submit.weigh.Goals.{else-account-eq0+in_ok-verdict-2}
 
 pub returns-clause-found : goal.returns-clause-found
-returns-clause-found g c = λ clean ours sound.
-    let name = c.args.entry.now.name in
-    let sub = c.args.submission in
+returns-clause-found g c = λ clean ours.
+    let name = c.args.customer.now in
+    let sender = c.args.sender.now in
     let recipients : List (List ℕ) = c.in_ok-recipients.recipients.items in
     let sight = g.S.Shelf.sight in
     let t = sight.tables c.args.shelf.now in
     let first = c.in_ok-account.ensures in
     let kept = keeps_more g.M.Memory.refused sight _ _ _ first.kept in
     let judged : (sight.is_clean c.account.new.self)
-    × (c.if-account-eq0.verdict ≡ rules.judged (read_tables name t) sub.sender recipients) =
+    × (c.if-account-eq0.verdict ≡ rules.judged (read_tables name t) sender recipients) =
     elim c.if-account-eq0.branch [
       | then-account-eq0+in_ok-verdict w ↦
           let quiet = subst sight.is_clean w.shelf-is clean in
@@ -36,7 +34,7 @@ returns-clause-found g c = λ clean ours sound.
             quiet,
             w.verdict-is ∙ w.in_ok-verdict.ensures ∙ sym
                 (λ i. verdict (option_map (λ found. found.1)
-                (nobody_found name t SenderSide sub.sender none i)) sub.sender
+                (nobody_found name t SenderSide sender none i)) sender
                 (no_actions name t recipients none i)),
           )
       | else-account-eq0+in_ok-verdict-2 w ↦
@@ -45,25 +43,15 @@ returns-clause-found g c = λ clean ours sound.
           let found = w.in_ok-verdict-2.ensures.found first.kept.tally.1 in (
             later.quiet loud,
             w.verdict-is ∙ finds_on (with_memory g.M.Memory.refused sight) _ _ _ _ _ name
-                (λ rows. rules.judged rows sub.sender recipients) kept later found loud ours,
+                (λ rows. rules.judged rows sender recipients) kept later found loud ours,
           )
     ] in
     let account : c.in_ok-account.account ≡ account_read (read_tables name t) =
     first.found judged.0 ours in
-    let head : c.in_ok-account.account.head ≡ (read_tables name t).head =
-    ap (λ (a : Account). a.head) account in
-    let next = (sound.states name).shaped.next_serial in
-    let serial = c.admit-serial.ensures.rule (subst (λ (h : Head). 0 < h.next_serial) (sym head)
-    next.0) (subst (λ (h : Head). h.next_serial ≤ 2 ^ 40) (sym head) next.1) in
-    let distinct : recipients ≡ rules.distinct sub.recipients = c.in_ok-recipients.ensures
+    let distinct : recipients ≡ rules.distinct c.args.recipients = c.in_ok-recipients.ensures
     ∙ ap rules.distinct c.into_vec.ensures in
-    let whole = judged.1 ∙ ap (rules.judged (read_tables name t) sub.sender) distinct in
-    let origin = rules.origin_of sub in
-    c.in_ok-decision.ensures
-    ∙ ap (λ s. rules.settled c.in_ok-account.account.head c.args.at origin s
-    c.if-account-eq0.verdict) serial
-    ∙ (λ i. rules.settled (account i).head c.args.at origin
-    (admitted (account i).head c.args.entry.now.quota (account i).counts sub.size) (whole i))
+    let whole = judged.1 ∙ ap (rules.judged (read_tables name t) sender) distinct in
+    (λ i. (account i, whole i))
 
 pub returns-clause-kept : goal.returns-clause-kept
 returns-clause-kept g c =
@@ -71,7 +59,7 @@ returns-clause-kept g c =
     let old = c.args.shelf.now in
     let first = c.in_ok-account.ensures in
     let kept = keeps_more g.M.Memory.refused g.S.Shelf.sight _ _ _ first.kept in
-    let told = Ok c.in_ok-decision.decision in
+    let told = Ok (c.in_ok-account.account, c.if-account-eq0.verdict) in
     elim c.if-account-eq0.branch [
       | then-account-eq0+in_ok-verdict w ↦
           subst (λ new. Keeps sight old new told) (sym w.shelf-is) (keeps_ok sight _ _ _ _ kept)
