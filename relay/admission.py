@@ -64,7 +64,7 @@ class Admission:
         sender, recipient = told.get("sender", ""), told.get("recipient", "")
         size = min(size_of(told) * (before + 1), MOST_BYTES)
         try:
-            self.intake.expect_room(customer, size)
+            self.intake.expect_little_kept(customer)
             with self.intake.call_for(customer):
                 reply = self.intake.desk.admit(customer, sender, recipient, size, LONGEST)
         except NotTaken as error:

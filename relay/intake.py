@@ -259,11 +259,15 @@ class Intake:
         return found if found <= time.time() else 0.0
 
     def expect_room(self, customer: str, size: int) -> None:
-        """Refuses mail of a customer whose quota was full just now, before its content is written; and of one of whom the
-        spool keeps too much: what it deletes stays for a while, and counts in no quota of the desk."""
+        """Refuses mail of a customer whose quota was full just now, before its content is written."""
         full = self.full.get(customer)
         if full and time.monotonic() < full.until and size >= full.size:
             raise NotTaken(full.answer)
+        self.expect_little_kept(customer)
+
+    def expect_little_kept(self, customer: str) -> None:
+        """Refuses mail of a customer of whom the spool keeps too much: what it deletes stays for a while, and counts in no
+        quota of the desk."""
         found = self.settings.customers.get(customer)
         if found and self.book.kept_bytes(customer) > MOST_KEPT * found.bytes:
             log.warning("too much is kept", customer=customer)

@@ -9,7 +9,7 @@ import threading
 import time
 from concurrent.futures import ThreadPoolExecutor
 
-from machine import WIDE, Relay
+from machine import DOMAINS, WIDE, Relay
 from serving import LONGEST, Wrong, expect, free_address, named, until
 from sinks import ACCEPTS, Lossy, Sink
 
@@ -22,11 +22,11 @@ SETTINGS = {"delivery": {"pause": "1", "rest": "3600"}}
 
 
 def send_many(it, count, domain_of, customer="acme", each=100):
-    """A customer sends so many mails, over several sessions, a hundred recipients a message."""
+    """A customer sends so many mails, over several sessions, a hundred recipients a message. What is refused is not sent."""
     names = [f"m{number}@{domain_of(number)}" for number in range(count)]
     parts = [names[at:at + each] for at in range(0, count, each)]
     with ThreadPoolExecutor(SESSIONS) as pool:
-        list(pool.map(lambda part: it.take(customer, *part), parts))
+        list(pool.map(lambda part: it.postfix.offer(f"ann@{DOMAINS[customer]}", part), parts))
 
 
 def wait_of_one(it, number):

@@ -263,10 +263,17 @@ class Postfix(Instance):
             client.ehlo("client.example")
             yield client
 
+    def offer(self, sender, recipients, subject="tried", login=None):
+        """A client brings one message; the recipients that are refused in its session, and how."""
+        with self.session(login) as client:
+            try:
+                return client.sendmail(sender, recipients, text_of(sender, recipients, subject))
+            except smtplib.SMTPRecipientsRefused as error:
+                return error.recipients
+
     def take(self, sender, recipients, subject="tried", login=None):
         """Takes one message in."""
-        with self.session(login) as client:
-            refused = client.sendmail(sender, recipients, text_of(sender, recipients, subject))
+        refused = self.offer(sender, recipients, subject, login)
         expect(not refused, "Postfix refused", refused)
 
 

@@ -1,4 +1,5 @@
-//! The members of a submission, or of its envelope, as they stand in a body, before their values are read.
+//! The members of a submission, or of its envelope, as they stand in a body, before their values
+//! are read.
 
 ghost use Rattle.std.specs.Prelude.{IsTrue, length, map};
 ghost use Rattle.hq_rules.specs.Limits.{is_recipient_count, is_size};

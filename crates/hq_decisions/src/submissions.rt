@@ -1,5 +1,4 @@
-//! What is answered and changed by a submission, and what is answered before one, by what was read.
-//! Nothing is read or written here.
+//! What a submission is answered and changes, and what it would be answered, by what was read.
 
 ghost use Rattle.std.specs.Prelude.{◌≡◌, IfOk, None, map, option_map};
 ghost use Rattle.hq_memory.specs.Making.{MadeIn};
@@ -65,14 +64,12 @@ fn not_tried<M: Memory>(memory: M, addresses: Vec<Address>) -> Result<Vec<Pendin
 {
     let mut pending = memory.room(addresses.len())?;
     for address in addresses {
-        memory.push(
-            &mut pending,
-            Pending {
-                address,
-                status: None,
-                text: Text::empty(memory),
-            },
-        )?;
+        let untried = Pending {
+            address,
+            status: None,
+            text: Text::empty(memory),
+        };
+        memory.push(&mut pending, untried)?;
     }
     Ok(pending)
 }
@@ -145,13 +142,8 @@ fn admit<M: Memory>(
     match serial {
         Err(refusal) => Ok(refuse(memory, refusal)),
         Ok(serial) => {
-            let Intake {
-                receivers,
-                held,
-                refused,
-            } = intake;
-            let message = new_message(memory, serial, at, origin, receivers, held)?;
-            enqueue(memory, head, message, refused)
+            let message = new_message(memory, serial, at, origin, intake.receivers, intake.held)?;
+            enqueue(memory, head, message, intake.refused)
         }
     }
 }
@@ -189,8 +181,7 @@ pub fn settle<M: Memory>(
     }
 }
 
-/// What a submission would be answered by its verdict, without the queue ID: the serial or the
-/// refusal of its admission counts only where it would be queued.
+/// What a submission would be answered, without the queue ID.
 pub fn would_answer<M: Memory>(
     memory: M,
     serial: Result<Serial, Refusal>,
@@ -198,21 +189,21 @@ pub fn would_answer<M: Memory>(
 ) -> Result<Answer, AllocError>
     ensures { MadeIn M.refused result (λ answer. answer ≡ rules.would_answer serial verdict) }
 {
-    match verdict {
-        Verdict::Rejected { refused } => Ok(Answer::Rejected(refused)),
-        Verdict::Discarded { refused } => Ok(Answer::Discarded(refused)),
-        Verdict::Queue {
-            kept,
-            refused,
-            redirect,
-            held,
-        } => match serial {
-            Err(refusal) => Ok(Answer::Refused(refusal)),
-            Ok(_) => {
-                let recipients = receivers(memory, kept, redirect)?;
-                let state = first_state(held.as_ref());
-                Ok(Answer::Admissible(recipients, refused, state))
-            }
-        },
+    match (verdict, serial) {
+        (Verdict::Rejected { refused }, _) => Ok(Answer::Rejected(refused)),
+        (Verdict::Discarded { refused }, _) => Ok(Answer::Discarded(refused)),
+        (Verdict::Queue { .. }, Err(refusal)) => Ok(Answer::Refused(refusal)),
+        (
+            Verdict::Queue {
+                kept,
+                refused,
+                redirect,
+                held,
+            },
+            Ok(_),
+        ) => {
+            let recipients = receivers(memory, kept, redirect)?;
+            Ok(Answer::Admissible(recipients, refused, first_state(held.as_ref())))
+        }
     }
 }
