@@ -18,6 +18,8 @@ from settings import Address
 # there may be, which are processes of Postfix.
 LARGEST, IDLE, LONGEST, MOST = 65_536, 3_600, 30, 400
 REQUEST = "smtpd_access_policy"
+# A port at which no service listens, below those that any user may take.
+NOBODYS_PORT = 1
 # How many values the second and the third byte of an address of loopback have that is nobody's.
 NETWORK, SIZE = 64, 64
 
@@ -33,10 +35,11 @@ def way_of(customer: str, intake: Address) -> str:
 
     Postfix tells destinations apart by their text. The first address makes it another one for each: nobody listens there, so that
     the second one, the worker's, is asked at once. (In the other order its reason for a later try would be that nobody listens.)
+    Its port is one that root alone may listen at, since who listens there gets the mail.
     """
     host, port = intake
     one, two, three = hashlib.sha256(customer.encode()).digest()[:3]
-    return f"[127.{NETWORK + one % SIZE}.{two}.{three}]:{port},[{host}]:{port}"
+    return f"[127.{NETWORK + one % SIZE}.{two}.{three}]:{NOBODYS_PORT},[{host}]:{port}"
 
 
 def customer_of(intake: Intake, told: Dict[str, str]) -> Optional[str]:

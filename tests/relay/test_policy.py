@@ -14,6 +14,8 @@ from policy import LARGEST, Policy, way_of
 from serving import expect
 
 AT = ("127.0.0.1", 823)
+# The first port that any user may listen at.
+FIRST_OF_ALL = 1024
 NOBODY = "action=550 5.7.1 no customer sends as this"
 
 
@@ -196,11 +198,14 @@ def test_too_long(answered, text):
 
 
 def test_ways():
-    """Each customer has a destination of its own, the same at all times, whose first address is the intake's."""
+    """Each customer has a destination of its own, the same at all times. At its first address nobody but root may listen."""
     names = [f"customer-{it}" for it in range(3000)]
     ways = {way_of(it, AT) for it in names}
     expect(len(ways) >= len(names) - 5, "ways are", len(ways))
     expect(way_of("acme", AT) == way_of("acme", AT), "a way changes")
     for it in ways:
         first, second = it.split(",")
-        expect(second == "[127.0.0.1]:823" and first.startswith("[127.") and first.endswith("]:823") and second != first, it)
+        port = int(first.rpartition(":")[2])
+        expect(second == "[127.0.0.1]:823" and first.startswith("[127.") and port < FIRST_OF_ALL and second != first, it)
+    port = int(way_of("acme", ("127.0.0.1", 10024)).partition(",")[0].rpartition(":")[2])
+    expect(port < FIRST_OF_ALL, "any user may listen at port", port)
