@@ -157,6 +157,10 @@ class Book:
         row = self.database().execute(asked, values).fetchone()
         return row and row[0]
 
+    def firsts(self, asked: str, *values) -> list:
+        """The first value of each row."""
+        return [row[0] for row in self.database().execute(asked, values).fetchall()]
+
     # ---- names and messages
 
     def answer(self, spool: str) -> Optional[str]:
@@ -179,9 +183,8 @@ class Book:
 
     @staticmethod
     def name(database, customer: str, id: str, spool: str) -> None:
-        database.execute(
-            "INSERT OR REPLACE INTO messages (customer, id, spool, at) VALUES (?, ?, ?, ?)",
-            (customer, id, spool, int(time.time())))
+        database.execute("INSERT OR REPLACE INTO messages (customer, id, spool, at) VALUES (?, ?, ?, ?)",
+                         (customer, id, spool, int(time.time())))
 
     def spool_of(self, customer: str, id: str, since: int = 0) -> Optional[str]:
         """The name that an ID stands for, if that was written down at this moment or later."""
@@ -193,8 +196,7 @@ class Book:
         asked = "SELECT 1 FROM names WHERE customer = ? AND finished = 2 LIMIT 1"
         if self.one(asked, customer):
             with self.writing() as database:
-                database.execute(
-                    "UPDATE names SET finished = 1 WHERE customer = ? AND finished = 2", (customer,))
+                database.execute("UPDATE names SET finished = 1 WHERE customer = ? AND finished = 2", (customer,))
 
     def is_finished(self, spool: str) -> bool:
         return bool(self.one("SELECT finished = 1 OR cleaned FROM names WHERE spool = ?", spool))
@@ -210,16 +212,18 @@ class Book:
         rows = self.database().execute(asked, (customer,))
         return {spool: Uncleaned(bool(finished), gone, size) for spool, finished, gone, size in rows}
 
+    def has_uncleaned(self, customer: str) -> bool:
+        """Whether there is content of a customer that was not cleaned away."""
+        return bool(self.one("SELECT 1 FROM names WHERE customer = ? AND NOT cleaned LIMIT 1", customer))
+
     def gone(self, spools: List[str], since: Optional[int]) -> None:
         """These are in no list of the desk since a moment; None for those that are again."""
         with self.writing() as database:
-            database.executemany("UPDATE names SET gone = ? WHERE spool = ?",
-                                 [(since, it) for it in spools])
+            database.executemany("UPDATE names SET gone = ? WHERE spool = ?", [(since, it) for it in spools])
 
     def cleaned(self, spools: List[str]) -> None:
         with self.writing() as database:
-            database.executemany(
-                "UPDATE names SET cleaned = 1 WHERE spool = ?", [(it,) for it in spools])
+            database.executemany("UPDATE names SET cleaned = 1 WHERE spool = ?", [(it,) for it in spools])
 
     def forget(self, customer: str, ids: Set[str], before: float) -> None:
         """Drops records older than a moment, but those of messages queued under these IDs."""
@@ -287,21 +291,18 @@ class Book:
         is told once."""
         database.execute(
             "INSERT INTO journal (customer, spool, id, attempt, outcomes) VALUES (?, ?, ?, ?, ?)",
-            (report.customer, report.spool, report.id, report.attempt,
-             json.dumps(report.outcomes)))
+            (report.customer, report.spool, report.id, report.attempt, json.dumps(report.outcomes)))
         if success:
             cls.wait_with(database, report.customer, success)
 
     @staticmethod
     def forget_report(database, report: Report) -> None:
-        database.execute("DELETE FROM journal WHERE customer = ? AND spool = ?",
-                         (report.customer, report.spool))
+        database.execute("DELETE FROM journal WHERE customer = ? AND spool = ?", (report.customer, report.spool))
 
     def report(self, customer: str, spool: str) -> Optional[Report]:
         """What the desk is to be told of a name."""
-        rows = self.database().execute(
-            "SELECT id, attempt, outcomes FROM journal WHERE customer = ? AND spool = ? "
-            "ORDER BY number", (customer, spool)).fetchall()
+        asked = "SELECT id, attempt, outcomes FROM journal WHERE customer = ? AND spool = ? ORDER BY number"
+        rows = self.database().execute(asked, (customer, spool)).fetchall()
         if not rows:
             return None
         id, attempt, _ = rows[0]
@@ -312,13 +313,11 @@ class Book:
 
     def untold(self, customer: str) -> List[str]:
         """The names whose outcomes the desk was not told."""
-        asked = "SELECT DISTINCT spool FROM journal WHERE customer = ?"
-        return [spool for spool, in self.database().execute(asked, (customer,)).fetchall()]
+        return self.firsts("SELECT DISTINCT spool FROM journal WHERE customer = ?", customer)
 
     def all_untold(self) -> List[str]:
         """The customers of whom outcomes are untold."""
-        rows = self.database().execute("SELECT DISTINCT customer FROM journal")
-        return [customer for customer, in rows.fetchall()]
+        return self.firsts("SELECT DISTINCT customer FROM journal")
 
     # ---- notices
 
@@ -378,9 +377,12 @@ class Book:
 
     def waiting(self, customer: str) -> List[Waiting]:
         """The customer's notices that were set aside, the oldest first."""
-        asked = ("SELECT name, recipient, since, tried FROM waiting WHERE customer = ? "
-                 "ORDER BY since, name")
+        asked = "SELECT name, recipient, since, tried FROM waiting WHERE customer = ? ORDER BY since, name"
         return [Waiting(*it) for it in self.database().execute(asked, (customer,)).fetchall()]
+
+    def all_waiting(self) -> List[str]:
+        """The customers of whom notices were set aside."""
+        return self.firsts("SELECT DISTINCT customer FROM waiting")
 
     def content_of(self, name: str) -> bytes:
         """A notice that was set aside, as a mail."""

@@ -33,7 +33,7 @@ class Cleaning:
         left = [it for it in names if it not in kept and it not in busy]
         done = [it for it in left
                 if names[it].is_finished or (names[it].gone or now) <= now - KEPT_GONE]
-        done += self.beyond({it: names[it] for it in left if it not in done}, customer)
+        done += self.beyond({it: names[it] for it in {*left}.difference(done)}, customer)
         for spool in done:
             self.spool.remove(spool)
             log.info("cleaned", customer=customer, spool=spool)

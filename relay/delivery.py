@@ -7,7 +7,7 @@ was queued, and one for each desk sweeps and cleans. What hangs or fails for one
 import threading
 import time
 from contextlib import ExitStack, contextmanager
-from typing import Callable, Dict, Iterator, List, Set
+from typing import Callable, Dict, Iterator, List, Optional, Set
 
 import log
 from bell import Listener
@@ -21,6 +21,7 @@ from missing import Missing
 from names import Names
 from notices import Notices
 from outcomes import Outcomes
+from quiet import Quiet
 from reports import Reports
 from settings import Settings
 from spool import Spool
@@ -39,6 +40,7 @@ class Delivery:
                  capacity: Capacity = Capacity()):
         self.settings, self.desk, self.book = settings, desk, book
         self.handed = Handed(book)
+        self.quiet = Quiet(desk, settings.customers)
         self.destinations = Destinations(settings.rest, capacity)
         self.names = Names(desk, spool, book)
         self.notices = Notices(settings, desk, spool, self.handed, self.names)
@@ -102,7 +104,7 @@ class Delivery:
         begun, looked = -1, time.monotonic()
         while self.handover.begun != begun and self.is_there():
             begun = self.handover.begun
-            self.look()
+            self.tell_and_hand_over(None)
             self.wait()
             while self.handed.under_way():
                 looked = self.see_after(looked)
@@ -113,6 +115,8 @@ class Delivery:
         self.wait()
         everyone = self.settings.customers
         is_there = self.chores([*everyone], {*everyone}, {*everyone}, waits=True)
+        if is_there:
+            self.clean_up([*everyone])
         self.wait()
         self.end()
         return is_there and self.is_there()
@@ -137,27 +141,44 @@ class Delivery:
         return not any(it.rests for it in (self.handover.turns, *self.turns))
 
     def look(self) -> None:
-        """Has what is in the journal told, and what is due handed over."""
+        """Has what is in the journal told, and what is due of those who may have mail handed over."""
+        self.quiet.count()
+        self.tell_and_hand_over(self.quiet.may_have_mail())
+
+    def tell_and_hand_over(self, customers: Optional[Set[str]]) -> None:
+        """Has what is in the journal told, and what is due of these handed over, or of everyone."""
         for customer in self.book.all_untold():
             self.telling.add(customer)
-        self.handover.look()
+        self.handover.look(customers)
 
     def keep_house(self, customers: List[str]) -> None:
         """Sweeps and cleans those of a desk by the timers, until `end`. Who was passed over has its turn at
         each `pause`."""
         swept = cleaned = float("-inf")
+        is_cleaning = False
         to_sweep: Set[str] = set()
         to_clean: Set[str] = set()
         while not self.ending.is_set():
             now = time.monotonic()
             if now >= swept + self.settings.sweep_every:
                 swept = now
-                to_sweep.update(customers)
+                to_sweep.update(self.quiet.may_have_mail().intersection(customers))
             if now >= cleaned + self.settings.clean_every:
-                cleaned = now
-                to_clean.update(customers)
-            self.chores(customers, to_sweep, to_clean, waits=False)
+                cleaned, is_cleaning = now, True
+                to_clean.update(self.with_content(customers))
+            is_there = self.chores(customers, to_sweep, to_clean, waits=False)
+            if is_cleaning and is_there and not to_clean:
+                is_cleaning = False
+                self.clean_up(customers)
             self.ending.wait(self.settings.pause)
+
+    def with_content(self, customers: List[str]) -> Set[str]:
+        """Those of whom there may be mail, or content that is to be cleaned away. The old records of others go."""
+        found = {it for it in customers if self.book.has_uncleaned(it)} | self.quiet.may_have_mail().intersection(customers)
+        for it in customers:
+            if it not in found:
+                self.book.forget(it, set(), time.time() - self.settings.keep_days * 86400)
+        return found
 
     def listen(self) -> None:
         """Hears whose mail was queued, until `end`."""
@@ -165,6 +186,7 @@ class Delivery:
 
     def give_turn(self, customer: str) -> None:
         if customer in self.locks:
+            self.quiet.stir(customer)
             self.handover.turns.add(customer)
 
     def watch(self) -> None:
@@ -205,13 +227,21 @@ class Delivery:
                 self.want_room.add(customer)
         finally:
             self.locks[customer].release()
+            self.quiet.notice(customer)
         self.mailing.add(customer)
         return False
 
     def mail(self, customer: str) -> bool:
         """Mails a customer's notices, and has told what waited for their room."""
         with self.locked(customer):
-            are_mailed = self.notices.send(customer)
+            # (what is made from now on is told of anew)
+            self.quiet.mail(customer)
+            are_mailed = False
+            try:
+                are_mailed = self.notices.send(customer)
+            finally:
+                if not are_mailed:
+                    self.quiet.notice(customer)
             if are_mailed:
                 self.book.all_mailed(customer)
         if are_mailed and customer in self.want_room:
@@ -253,15 +283,15 @@ class Delivery:
                waits: bool) -> bool:
         """Cleans and sweeps some of these customers, and has everybody's notices mailed; whether the desk
         was there. Unless it `waits`, it passes over whose lock something else has: a mailing may hang."""
-        is_cleaning, is_there = bool(to_clean), True
+        is_there = True
+        noticed = self.quiet.may_have_notices().union(self.book.all_waiting())
         for it in customers:
             # (behind a sweep, its notices would hold up the clean-up)
             is_there = (self.do_for(it, to_clean, self.clean, waits)
                         and self.do_for(it, to_sweep, self.sweep, waits) and is_there)
             # (by threads of their own, since the next hop may hang)
-            self.mailing.add(it)
-        if is_cleaning and is_there and not to_clean:
-            self.clean_up(customers)
+            if it in noticed or it in self.quiet.may_have_notices():
+                self.mailing.add(it)
         return is_there
 
     def do_for(self, customer: str, wanted: Set[str], work: Callable[[str], None],
@@ -322,6 +352,7 @@ class Delivery:
                     or not self.notices.has_room_for(name, len(entries))):
                 log.error("not swept: notices or outcomes wait", customer=name)
                 return
+            self.quiet.notice(name)
             reply = self.desk.sweep(name)
         if any(reply.values()):
             log.info("sweep", customer=name, **reply)

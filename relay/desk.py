@@ -1,12 +1,12 @@
 """The desk's calls that a worker makes, each over a connection of its own."""
 import http.client
 import json
-from typing import Dict, Iterator, List, Optional, Set
+from typing import Dict, Iterable, Iterator, List, Optional, Set
 
 from settings import Address, Settings
 
 # Numbers of refusals that the worker tells apart.
-NO_ROUTE, NO_MESSAGE, BAD_ADDRESS, ATTEMPT_AHEAD, UNKNOWN_RECIPIENT = 4, 10, 20, 30, 31
+NO_ROUTE, NO_MESSAGE, NO_CUSTOMER, BAD_ADDRESS, ATTEMPT_AHEAD, UNKNOWN_RECIPIENT = 4, 10, 13, 20, 30, 31
 QUOTA_MESSAGES, QUOTA_BYTES, SERIALS_SPENT = 40, 41, 43
 # How many seconds a step of a call takes at most where there are several desks.
 LONGEST_OF_SEVERAL = 10.0
@@ -27,6 +27,14 @@ class Away(Exception):
     def __init__(self, why: str, status: Optional[int] = None):
         super().__init__(why)
         self.status = status
+
+
+def has_no_call_of_all(error: Exception) -> bool:
+    """Whether the address has no call of all or of a hundred: the proxy of several desks answers 404, and so does a desk of an
+    earlier release."""
+    if isinstance(error, Refused):
+        return error.number == NO_ROUTE
+    return isinstance(error, Away) and error.status == 404
 
 
 class Desk:
@@ -91,6 +99,25 @@ class Desk:
     def due_of_all(self, timeout: float) -> Iterator[dict]:
         """The first page of what is due of each customer, up to the one at whom a fault stopped it."""
         return self.by_hundreds("/relay/due-from", timeout)
+
+    def due_of(self, customers: Iterable[str], timeout: float) -> Iterator[dict]:
+        """The first page of what is due of each of these customers, and of those behind them in the directory, by a hundred a call.
+        The last reply may tell of a fault."""
+        left = dict.fromkeys(customers)
+        while left:
+            first = next(iter(left))
+            del left[first]
+            try:
+                told = self.ask("/relay/due-from", {"from": first}, timeout)
+            except Refused as refusal:
+                if refusal.number != NO_CUSTOMER:
+                    raise
+                continue  # (the desk has other customers than the worker's settings)
+            yield told
+            if told["stopped"]:
+                return
+            for it in told["done"]:
+                left.pop(it["customer"], None)
 
     def due(self, customer: str, after: Optional[str] = None) -> Iterator[dict]:
         return self.pages("due", customer, "due", "id", after)

@@ -12,7 +12,7 @@ from typing import Dict, List, Optional, Set, Tuple
 
 import log
 from book import Book
-from desk import NO_ROUTE, Away, Desk, Refused
+from desk import Away, Desk, Refused, has_no_call_of_all
 from destinations import Destinations
 from dsn import clean
 from handed import Attempt, Handed
@@ -30,14 +30,6 @@ BATCH, BATCH_BYTES, PART = 50, 20_000_000, 10
 LOOK_SECONDS, ROUNDS_ALONE = 5.0, 6
 # The random part of an envelope ID: IDs of the desk repeat after a restore, and nobody may guess one.
 RANDOM_BYTES = 12
-
-
-def has_no_call_of_all(error: Exception) -> bool:
-    """Whether the address has no call of all or of a hundred: the proxy of several desks answers 404, and so does a desk of an
-    earlier release."""
-    if isinstance(error, Refused):
-        return error.number == NO_ROUTE
-    return isinstance(error, Away) and error.status == 404
 
 
 class Handover:
@@ -85,15 +77,16 @@ class Handover:
         with self.guard:
             return bool(self.turns.waiting or self.busy)
 
-    def look(self) -> None:
-        """Gives each customer a turn, but those of whom nothing is due. (A turn asks for its
+    def look(self, may: Optional[Set[str]] = None) -> None:
+        """Gives each of these customers a turn, or everyone, but those of whom nothing is due. (A turn asks for its
         customer's own list: what was told before it may be old by then.)"""
-        idle = self.idle() - set(self.turns.rests)
-        for customer in self.settings.customers:
+        asked = [it for it in self.settings.customers if may is None or it in may]
+        idle = self.idle(asked) - set(self.turns.rests)
+        for customer in asked:
             if customer not in idle:
                 self.turns.add(customer)
 
-    def idle(self) -> Set[str]:
+    def idle(self, asked: List[str]) -> Set[str]:
         """The customers of whom nothing is due, as a call for each hundred of them tells."""
         if self.rounds_alone:
             self.rounds_alone -= 1
@@ -101,7 +94,8 @@ class Handover:
         found: Set[str] = set()
         end = time.monotonic() + LOOK_SECONDS
         try:
-            for told in self.desk.due_of_all(LOOK_SECONDS):
+            is_of_all = len(asked) == len(self.settings.customers)
+            for told in self.desk.due_of_all(LOOK_SECONDS) if is_of_all else self.desk.due_of(asked, LOOK_SECONDS):
                 found.update(it["customer"] for it in told["done"] if not it["due"])
                 if told["stopped"]:
                     log.error("due of all stopped", **told["stopped"])

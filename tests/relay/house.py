@@ -48,6 +48,10 @@ class Told(Desk):
     def due_from_asked(self, body):
         return {"done": [], "next": None, "stopped": None}
 
+    def usage_from_asked(self, body):
+        """(each customer has mail at all times)"""
+        return {"done": [], "next": None, "stopped": None}
+
     def sweep_asked(self, body):
         return {"expired": 0, "notices": 0, "warned": 0}
 
