@@ -11,3 +11,13 @@ pub mod Reader
 pub mod Left
 pub mod Readings
 pub mod Unread
+pub mod Showing
+pub mod Hundreds
+pub mod Standing
+pub mod Moved
+pub mod Searching
+pub mod Among
+pub mod There
+pub mod LeftTold
+pub mod LeftOrPending
+pub mod LeftInCalls

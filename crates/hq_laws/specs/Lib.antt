@@ -1,2 +1,5 @@
 pub mod Queued
 pub mod Entries
+pub mod Searches
+pub mod Whose
+pub mod Leaving

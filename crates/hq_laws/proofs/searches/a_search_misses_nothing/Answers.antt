@@ -1,0 +1,9 @@
+use Rattle.hq_rules.specs.Histories.{is_meant}
+use Rattle.hq_laws.proofs.Searching.{ends, goes}
+use Rattle.hq_laws.proofs.searches.a_search_misses_nothing.Goals as goal
+
+pub returns-clause-last : goal.returns-clause-last
+returns-clause-last c = λ pattern es h. ends (is_meant pattern) es h
+
+pub returns-clause-next : goal.returns-clause-next
+returns-clause-next c = λ pattern es n first h. goes (is_meant pattern) es n first h
