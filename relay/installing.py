@@ -211,8 +211,8 @@ class Installation:
         for made in (self.settings.folder, reports, *(reports / it for it in MAILDIR)):
             is_there, is_of_worker = made.exists(), owner_above(made) == user.pw_uid
             if is_of_worker:
-                run("setsid", "--wait", "runuser", "-u", user.pw_name, "--",
-                    "mkdir", "-p", "-m", "700", made)
+                run("env", "-i", f"PATH={os.environ.get('PATH', os.defpath)}", "setsid", "--wait",
+                    "runuser", "-u", user.pw_name, "--", "mkdir", "-p", "-m", "700", made)
             elif not is_there:
                 made.parent.mkdir(parents=True, exist_ok=True)
                 made.mkdir(0o700)

@@ -166,18 +166,24 @@ def test_asked(service):
 PRINTS_AND_LOOKS = "echo printed; echo told >&2; ls -l /proc/self/fd; ps -o tty= -p $$; exit 7"
 
 
-def test_no_terminal(folder):
-    """What hq-as runs has no way to the terminal of root, who sees what it prints, and its status."""
+def at_terminal(*words):
+    """The status of a command that has a terminal, and what comes there."""
     number, terminal = pty.openpty()
-    command = subprocess.Popen([DEPLOY / "hq-as", USER, "sh", "-c", PRINTS_AND_LOOKS], stdin=terminal, stdout=terminal, stderr=terminal,
-                               start_new_session=True, preexec_fn=lambda: fcntl.ioctl(0, termios.TIOCSCTTY, 0))
+    command = subprocess.Popen(words, stdin=terminal, stdout=terminal, stderr=terminal, start_new_session=True,
+                               preexec_fn=lambda: fcntl.ioctl(0, termios.TIOCSCTTY, 0))
     os.close(terminal)
     told = b""
     with contextlib.suppress(OSError):
         for piece in iter(lambda: os.read(number, 4096), b""):
             told += piece
     os.close(number)
-    expect(command.wait(LONGEST) == 7, "the status is", command.returncode)
+    return command.wait(LONGEST), told
+
+
+def test_no_terminal(folder):
+    """What hq-as runs has no way to the terminal of root, who sees what it prints, and its status."""
+    status, told = at_terminal(DEPLOY / "hq-as", USER, "sh", "-c", PRINTS_AND_LOOKS)
+    expect(status == 7, "the status is", status)
     expect(b"printed" in told and b"told" in told and b"/dev/pts" not in told and b"\n?" in told.replace(b"\r", b""), "it has", told)
     for words, given, wanted in ((("cat",), b"handed on", b"handed on"), (("sh", "-c", "exit 3"), b"", b"")):
         ended = subprocess.run([DEPLOY / "hq-as", USER, *words], input=given, capture_output=True, timeout=LONGEST)
@@ -186,7 +192,7 @@ def test_no_terminal(folder):
 
 def test_asked_without_terminal():
     """hq-ask runs a batch as the user of the desks in a session of its own, and by pipes alone."""
-    found = re.search(r"subprocess\.run\((.*preexec_fn.*)\)", (DEPLOY / "hq-ask").read_text())
+    found = re.search(r"(?s)subprocess\.run\((words.*?preexec_fn.*?)\)", (DEPLOY / "hq-ask").read_text())
     expect(found and "start_new_session=True" in found[1] and "capture_output=True" in found[1] and "input=" in found[1], "it runs", found)
 
 
