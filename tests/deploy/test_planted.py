@@ -45,8 +45,8 @@ class Service:
                               ("env", f"HOST=relay.example\nLISTEN=unix:{folder}/none/{name}.sock\n")):
                 (self.etc / f"{name}.{end}").write_text(text)
         self.as_service("chown", f"{USER}:{GROUP}", self.own, as_root=True)
-        self.scripts = scripts_in(folder / "scripts", {"/run/hq-desk.stopped": folder / "none", "/var/lib/hqdesk": self.own,
-                                                       'hq-as hqdesk ': f"{DEPLOY}/hq-as {USER} "})
+        self.scripts = scripts_in(folder / "scripts", {"/etc/hq": self.etc, "/var/lib/hqdesk": self.own,
+                                                       "hq-as hqdesk ": f"{DEPLOY}/hq-as {USER} "})
         for name, customer in (("north", "acme"), ("south", "birch")):
             line = batch_line(int(time.time()), "POST", f"/relay/submit/{customer}", RELAY, submission("s1"))
             told = self.as_service("hq", "batch", "--directory", self.etc / f"{name}.csv", "--host", "relay.example", "--relay-key", RELAY,
