@@ -1,5 +1,4 @@
 """What the user of a service prints, root's terminal does not obey; and that user reads nothing of root's environment, nor holds root up."""
-import os
 import sqlite3
 import subprocess
 import sys
@@ -112,7 +111,7 @@ def test_left_running():
 def test_all_of_it():
     """All that a command writes comes, also where it is much and is read slowly; and one that nobody reads any more ends."""
     needs.root()
-    much = f"head -c 5000000 /dev/zero | tr '\\0' x; echo end"
+    much = "head -c 5000000 /dev/zero | tr '\\0' x; echo end"
     found = ended("sh", "-c", f'"$0" {USER} sh -c "{much}" | (sleep 1; cat)', DEPLOY / "hq-as")
     expect(len(found.stdout) == 5000004 and found.stdout.endswith(b"xend\n"), "of 5,000,004 bytes there came", len(found.stdout))
     found = ended("sh", "-c", f'"$0" {USER} yes 2>/dev/null | head -c 4', DEPLOY / "hq-as")
