@@ -31,6 +31,8 @@ QUEUE_ID = "[0-9B-DF-HJ-NP-TV-Zb-df-hj-np-tv-z]+"
 LEAST_UID = 100
 MAILDIR = ("new", "cur", "tmp")
 HELP = "apt-get install postfix"
+# The mark that mail waits since the package was removed, in the folder of the front, and the parameter by which it does.
+DEFERRED, DEFERS = "desk-deferred", "defer_transports"
 # The unit of the package that listens at the socket of root's helper.
 HELPER = "hq-relay-postsuper.socket"
 
@@ -182,7 +184,24 @@ class Installation:
         made = [] if user_of(self.settings) else [f"user {self.settings.user}: is made"]
         made += [] if self.settings.reports.exists() else [f"{self.settings.reports}: is made"]
         made += [] if self.is_made else [f"{self.settings.delivering}: is made by postmulti"]
+        made += [self.told_of_waiting()] if self.waits() else []
         return [*made, *self.delivering.lines(), *self.front.lines()]
+
+    def waits(self) -> bool:
+        """Whether mail waits in the front since the package was removed (packaging/debian/hq-desk.prerm)."""
+        return (self.settings.front / DEFERRED).exists()
+
+    def told_of_waiting(self) -> str:
+        return f"{self.settings.front}/main.cf: {DEFERS} = unset, was desk: mail waited for the worker"
+
+    def end_waiting(self) -> None:
+        front = self.settings.front
+        # (what the administrator holds stays held)
+        if run("postconf", "-c", front, "-h", DEFERS).stdout.strip() == "desk":
+            run("postconf", "-c", front, "-X", DEFERS)
+            run("postfix", "-c", front, "reload")
+            print(self.told_of_waiting(), flush=True)
+        (front / DEFERRED).unlink()
 
     def apply(self) -> None:
         self.make_user()
@@ -197,6 +216,8 @@ class Installation:
                 print(line, flush=True)
             plan.apply()
             plan.runs()
+        if self.waits():
+            self.end_waiting()
 
     def make_user(self) -> None:
         if not user_of(self.settings):
