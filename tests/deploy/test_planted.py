@@ -229,6 +229,16 @@ def test_counts_planted(folder):
     expect(ages[0].st_mtime == 1000 and ages[1].st_mtime <= time.time() and ages[0].st_mode & 0o777 == 0o644, "they are of", ages)
     (folder / "to").rename(folder / "none")
     expect(shown(folder).returncode == 0, "where there is no node_exporter it fails")
+    # (the folder above is that of the user who runs node_exporter)
+    (folder / "elsewhere").mkdir()
+    (folder / "to").symlink_to(folder / "elsewhere")
+    told = shown(folder)
+    expect(told.returncode == 1 and not [*(folder / "elsewhere").iterdir()], "by a link it writes elsewhere:", told)
+    (folder / "to").unlink()
+    (folder / "to").mkdir()
+    os.chown(folder / "to", 65534, 65534)
+    told = shown(folder)
+    expect("is not root's" in told.stderr and not [*(folder / "to").iterdir()], "into a folder of another user's it writes", told)
 
 
 def test_events_counted(folder):
