@@ -201,6 +201,8 @@ class Installation:
             run("postconf", "-c", front, "-X", DEFERS)
             run("postfix", "-c", front, "reload")
             print(self.told_of_waiting(), flush=True)
+        else:
+            print(f"take desk out of {DEFERS} of {front}/main.cf where it stands there: mail waited for the worker")
         (front / DEFERRED).unlink()
 
     def apply(self) -> None:

@@ -116,3 +116,4 @@ def test_all_of_it():
     expect(len(found.stdout) == 5000004 and found.stdout.endswith(b"xend\n"), "of 5,000,004 bytes there came", len(found.stdout))
     found = ended("sh", "-c", f'"$0" {USER} yes 2>/dev/null | head -c 4', DEPLOY / "hq-as")
     expect(found.stdout == b"y\ny\n", "of one that is not read to its end comes", found)
+    expect(ended("sh", "-c", f'"$0" {USER} true >&-', DEPLOY / "hq-as").returncode == 0, "with a closed output it fails")
