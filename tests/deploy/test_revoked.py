@@ -33,8 +33,8 @@ def called(place):
 
 def run(place, *words, **more):
     return subprocess.run([place.bin / "hq-customers", "--folder", place.folder, "--store", place.folder, *words], text=True,
-                          stderr=subprocess.PIPE, timeout=LONGEST, stdin=subprocess.DEVNULL,
-                          env={**os.environ, "PATH": f"{place.bin}:{os.environ['PATH']}"}, **more)
+                          timeout=LONGEST, stdin=subprocess.DEVNULL, env={**os.environ, "PATH": f"{place.bin}:{os.environ['PATH']}"},
+                          **{"stderr": subprocess.PIPE, **more})
 
 
 def test_key_that_is_not_printed(place):
@@ -44,8 +44,10 @@ def test_key_that_is_not_printed(place):
             ended = run(place, *words, stdout=full)
         expect(called(place) == ALL, words, "had not all taken up:", ended)
         expect(ended.returncode == 1 and "could not be printed" in ended.stderr and ended.stderr.count("\n") == 1, words, "told", ended)
-    ended = run(place, "drop-key", "acme", "panel", stdout=subprocess.PIPE)
-    expect(ended.returncode == 0 and called(place) == ALL, "a key is not dropped:", ended)
+    os.chmod(place.folder / "north.csv", 0o644)
+    with open("/dev/full", "w") as full:
+        run(place, "drop-key", "acme", "panel", stdout=full, stderr=full)
+    expect(called(place) == ALL and mode(place.folder / "north.csv") == 0o640, "a key is not dropped where nobody can be told of a mode")
 
 
 @pytest.mark.parametrize("sign", ["HUP", "INT", "TERM"])
