@@ -228,11 +228,13 @@ def test_removed(machine):
 
 
 def test_set_up_again(machine, releases):
-    """Behind a purge the package is set up again by the lines of the pages, and mail that waited for the worker goes on."""
+    """Behind a purge the package is set up again by the lines of the pages: the firewall has its rules, and mail that waited for the
+    worker goes on."""
     machine.run(f"apt-get install -y /root/{package_in(releases.now).name}; rm -r /var/lib/hqdesk/*", longest=120)
     expect(machine.run("postconf -h defer_transports") == "desk\n", "mail goes to nobody")
-    for page, title in ((PRODUCTION, "A desk"), (PRODUCTION, "nginx"), (RELAY, "Units")):
+    for page, title in ((PRODUCTION, "A desk"), (PRODUCTION, "nginx"), (PRODUCTION, "Firewall and alerts"), (RELAY, "Units")):
         for it in blocks(page, title):
             machine.run(it, longest=120, **NAMES)
+        expect(title != "Firewall and alerts" or "hq_desk" in machine.run("nft list tables"), "there is no firewall")
     expect(machine.run("postconf -h defer_transports; ls /etc/postfix/desk-deferred 2>/dev/null || true") == "\n", "mail waits for ever")
     machine.until_active("hq-desk@north", "hq-relay-intake", "hq-relay-deliver")
