@@ -73,16 +73,17 @@ class Service:
                         self.own)
 
     def step(self, line, **names):
-        """A line of a page, whatever its status; what calls systemctl or apt is left out."""
+        """The status of a line of a page; what calls systemctl or apt is left out."""
         if "desk-stop" in line or "desk-start" in line:
-            return
+            return 0
         line = line.replace(f"{SCRIPTS}/desk-backup", str(self.scripts / "desk-backup"))
         for it, here in (("hq-as hqdesk", f"{DEPLOY}/hq-as {USER}"), ("-init /dev/null ", ""), ("-g hqdesk", f"-g {GROUP}"), ("/etc/hq", self.etc),
                          ("/var/lib/hqdesk", self.own), ("/usr/libexec/hq-desk", DEPLOY)):
             line = line.replace(it, str(here))
-        if not re.match(r"systemctl|apt-get|nginx", line):
-            subprocess.run(["sh", "-c", line], stdin=subprocess.DEVNULL, capture_output=True, timeout=LONGEST,
-                           env={"PATH": self.path, "EDITOR": "true", **names})
+        if re.match(r"systemctl|apt-get|nginx", line):
+            return 0
+        return subprocess.run(["sh", "-c", line], stdin=subprocess.DEVNULL, capture_output=True, timeout=LONGEST,
+                              env={"PATH": self.path, "EDITOR": "true", **names}).returncode
 
     def unharmed(self, *what):
         """The files of root's are as they were, and nothing that was copied has the secret."""
@@ -129,6 +130,19 @@ def test_backup_is_whole(service):
     expect(found == wanted and len(wanted) >= 2, "behind a restore there are", found.keys(), "and not", wanted.keys())
     owners = {(it.owner(), it.stat().st_mode & 0o777) for it in service.own.iterdir()}
     expect(owners == {(USER, 0o600)}, "they are of", owners)
+
+
+def test_restored_elsewhere(service):
+    """The lines that put a copy back also do so where there is no store, as on another machine."""
+    for it in lines_of("Backup"):
+        service.step(it, BACKUP=str(service.backup))
+    wanted = {it.name: it.read_bytes() for it in service.own.iterdir()}
+    service.as_service("sh", "-c", f"rm {service.own}/north.db*")
+    lines = [it for it in lines_of("Restore") if it.startswith(("tar ", "hq-as hqdesk "))]
+    expect(len(lines) == 3, "the lines are", lines)
+    for it in lines:
+        expect(service.step(it, BACKUP=str(service.backup)) == 0, "it fails:", it)
+    expect({it.name: it.read_bytes() for it in service.own.iterdir()} == wanted, "it is another store")
 
 
 def test_rotation(service):
