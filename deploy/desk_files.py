@@ -19,6 +19,7 @@ import os
 import shutil
 import socket
 import subprocess
+import sys
 import tempfile
 import time
 from datetime import datetime, timezone
@@ -92,16 +93,20 @@ def sync(folder: Path) -> None:
         os.close(opened)
 
 
-def put_beside(path: Path, text: str, mode: int, group: int) -> None:
-    """The text, synced, in a file beside this one, which has the owner and the mode of the one that is there."""
+def put_beside(path: Path, text: str, mode: int, group: int, has_keys: bool = False) -> bool:
+    """The text, synced, in a file beside this one, which has the owner and the mode of the one that is there. But one with keys that
+    others could read is closed, as where somebody has moved a file of an editor into its place; whether it is so."""
     beside = path.with_name(path.name + BESIDE)
     with open(os.open(beside, os.O_WRONLY | os.O_CREAT | os.O_EXCL, 0o600), "w", encoding="utf-8", newline="") as file:
         file.write(text)
         before = path.stat() if path.exists() else None
+        is_open = bool(has_keys and before and before.st_mode & 0o007)
+        before = None if is_open else before
         os.fchown(file.fileno(), before.st_uid if before else -1, before.st_gid if before else group)
         os.fchmod(file.fileno(), before.st_mode & 0o777 if before else mode)
         file.flush()
         os.fsync(file.fileno())
+    return is_open
 
 
 def keys_beside(directory: Path) -> Path:
@@ -230,6 +235,8 @@ class Folder:
         self.told: Optional[str] = None
         self.left: Optional[str] = None
         self.is_again = False
+        # (files with keys that others could read)
+        self.closed: List[Path] = []
         # (a row that an administrator or an earlier release wrote has always been there)
         self.senders_before = {(row[0], row[1]): (row[2], *row[3:]) for row in table_of(path / "senders.csv", SENDERS, SINCE)}
         self.senders: Dict[Tuple[str, str], str] = {it: row[0] for it, row in self.senders_before.items()}
@@ -265,11 +272,15 @@ class Folder:
             finish(self.path)
             raise
         finish(self.path)
+        # (where nobody can be told, it is taken up all the same)
+        with contextlib.suppress(OSError):
+            for it in self.closed:
+                print(f"{it} was open to others, who may know its keys; it is closed now", file=sys.stderr, flush=True)
 
     def put_all(self, scripts: Path) -> None:
         desks, workers = group_of("hqdesk"), group_of("hqrelay")
         for it in self.desks:
-            put_beside(it.path, it.text(), 0o640, desks)
+            self.put_closed(it.path, it.text(), 0o640, desks)
             self.put_keys(it, desks)
             self.check(it)
         senders = [[*SENDERS, SINCE], *([*it, name, self.since(it)] for it, name in sorted(self.senders.items()))]
@@ -284,18 +295,22 @@ class Folder:
         with tempfile.TemporaryDirectory(dir=self.path, prefix=TRIAL) as made:
             given = [f"{it.settings['LISTEN']}={it.path}{BESIDE}" for it in self.desks]
             tried([scripts / "desk-maps", made, *given])
-            for name, mode in (("keys.map", 0o600), ("names.map", 0o640)):
-                put_beside(self.path / name, Path(made, name).read_text(), mode, desks)
+            for name, mode, put in (("keys.map", 0o600, self.put_closed), ("names.map", 0o640, put_beside)):
+                put(self.path / name, Path(made, name).read_text(), mode, desks)
             self.check_worker(Path(made))
+
+    def put_closed(self, path: Path, text: str, mode: int, group: int) -> None:
+        """A file with keys."""
+        self.closed += [path] if put_beside(path, text, mode, group, True) else []
 
     def put_keys(self, desk: Desk, group: int) -> None:
         """Its named keys, and the setting that has it read them. Without any there is no file, and settings stay as they are."""
         if desk.keys:
-            put_beside(desk.keys_path, desk.keys_text(), 0o640, group)
+            self.put_closed(desk.keys_path, desk.keys_text(), 0o640, group)
         elif desk.keys_path.exists():
             desk.keys_path.with_name(desk.keys_path.name + GONE).touch(0o600)
         if desk.settings_text() != desk.written:
-            put_beside(desk.place, desk.settings_text(), 0o640, group)
+            put_beside(desk.place, desk.settings_text(), 0o644, group)
 
     def check(self, desk: Desk) -> None:
         """What a start of the desk would say of its new directory, and of its named keys."""

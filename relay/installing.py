@@ -31,6 +31,8 @@ QUEUE_ID = "[0-9B-DF-HJ-NP-TV-Zb-df-hj-np-tv-z]+"
 LEAST_UID = 100
 MAILDIR = ("new", "cur", "tmp")
 HELP = "apt-get install postfix"
+# The mark that mail waits since the package was removed, in the folder of the front, and the parameter by which it does.
+DEFERRED, DEFERS = "desk-deferred", "defer_transports"
 # The unit of the package that listens at the socket of root's helper.
 HELPER = "hq-relay-postsuper.socket"
 
@@ -182,7 +184,26 @@ class Installation:
         made = [] if user_of(self.settings) else [f"user {self.settings.user}: is made"]
         made += [] if self.settings.reports.exists() else [f"{self.settings.reports}: is made"]
         made += [] if self.is_made else [f"{self.settings.delivering}: is made by postmulti"]
+        made += [self.told_of_waiting()] if self.waits() else []
         return [*made, *self.delivering.lines(), *self.front.lines()]
+
+    def waits(self) -> bool:
+        """Whether mail waits in the front since the package was removed (packaging/debian/hq-desk.prerm)."""
+        return (self.settings.front / DEFERRED).exists()
+
+    def told_of_waiting(self) -> str:
+        return f"{self.settings.front}/main.cf: {DEFERS} = unset, was desk: mail waited for the worker"
+
+    def end_waiting(self) -> None:
+        front = self.settings.front
+        # (what the administrator holds stays held)
+        if run("postconf", "-c", front, "-h", DEFERS).stdout.strip() == "desk":
+            run("postconf", "-c", front, "-X", DEFERS)
+            run("postfix", "-c", front, "reload")
+            print(self.told_of_waiting(), flush=True)
+        else:
+            print(f"take desk out of {DEFERS} of {front}/main.cf where it stands there: mail waited for the worker")
+        (front / DEFERRED).unlink()
 
     def apply(self) -> None:
         self.make_user()
@@ -197,6 +218,8 @@ class Installation:
                 print(line, flush=True)
             plan.apply()
             plan.runs()
+        if self.waits():
+            self.end_waiting()
 
     def make_user(self) -> None:
         if not user_of(self.settings):
@@ -211,8 +234,8 @@ class Installation:
         for made in (self.settings.folder, reports, *(reports / it for it in MAILDIR)):
             is_there, is_of_worker = made.exists(), owner_above(made) == user.pw_uid
             if is_of_worker:
-                run("setsid", "--wait", "runuser", "-u", user.pw_name, "--",
-                    "mkdir", "-p", "-m", "700", made)
+                run("env", "-i", f"PATH={os.environ.get('PATH', os.defpath)}", "setsid", "--wait",
+                    "runuser", "-u", user.pw_name, "--", "mkdir", "-p", "-m", "700", made)
             elif not is_there:
                 made.parent.mkdir(parents=True, exist_ok=True)
                 made.mkdir(0o700)

@@ -26,13 +26,14 @@ def lines_of(title):
 
 
 def scripts_in(folder, here):
-    """A folder with `desk-backup` as it is for the places of a test, beside a `desk-stop` and a `desk-start` that do nothing."""
+    """A folder with `desk-backup` as it is for the places of a test, beside others that do nothing."""
     folder.mkdir()
     text = (DEPLOY / "desk-backup").read_text()
     for it, value in here.items():
         expect(it in text, "desk-backup has no", it)
         text = text.replace(it, str(value))
-    for name, script in (("desk-backup", text), ("desk-stop", "#!/bin/sh\n"), ("desk-start", "#!/bin/sh\n")):
+    text = text.replace("systemctl stop", "true").replace("/run/hq-desk", str(folder / "run"))
+    for name, script in (("desk-backup", text), ("desk-stop", "#!/bin/sh\n"), ("desk-start", "#!/bin/sh\n"), ("desk-restart", "#!/bin/sh\n")):
         (folder / name).write_text(script)
         (folder / name).chmod(0o755)
     return folder
@@ -56,8 +57,7 @@ class Place:
         self.path = f"{Path(program).parent}:/usr/bin:/bin:/usr/sbin"
         shown = {f"127.0.0.1:{825 + it}": desk.address for it, desk in enumerate(desks)}
         self.here = {**there, **shown}
-        self.scripts = scripts_in(folder / "scripts", {"/run/hq-desk.stopped": folder / "none", "/var/lib/hqdesk": folder,
-                                                       'hq-as hqdesk ': ""})
+        self.scripts = scripts_in(folder / "scripts", {"/etc/hq": folder, "/var/lib/hqdesk": folder, "hq-as hqdesk ": ""})
 
     def run(self, title, after_stop=lambda: None, **names):
         """Runs a procedure; when the desks were stopped, and how long they were away."""

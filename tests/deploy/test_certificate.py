@@ -91,6 +91,17 @@ def test_bad_files(hook):
     expect(there(hook) == "second", "there is", there(hook))
 
 
+def test_at_once(hook):
+    """Several at once, as certbot and an administrator, leave a pair that fits, and nothing else; each does its work."""
+    for _ in range(4):
+        begun = [subprocess.Popen([hook / "bin/desk-certificate", hook / f"{name}.privkey.pem", hook / f"{name}.fullchain.pem"],
+                                  stdout=subprocess.PIPE, stderr=subprocess.STDOUT, env={"PATH": f"{hook}/bin:/usr/bin:/bin"})
+                 for name in ("first", "second") * 3]
+        told = [(it.communicate(timeout=LONGEST)[0], it.returncode) for it in begun]
+        expect(all(it == (b"", 0) for it in told), "of six at once it is told", told)
+        expect(there(hook) and len([it for it in (hook / "etc").iterdir() if not it.is_symlink()]) == 1, "there is", os.listdir(hook / "etc"))
+
+
 @pytest.mark.parametrize("are_files", [True, False])
 def test_stopped(hook, are_files):
     """Killed at each of its steps it leaves a pair that fits, also the first time, where both stand there as files; the next run ends it."""

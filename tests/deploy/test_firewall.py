@@ -65,32 +65,57 @@ def network(folder):
     return Network(folder)
 
 
-def test_connections_of_an_address(network):
-    """An address has a hundred connections to nginx, with TLS and without, and another address has its own. Those of loopback are
-    one, of which each user of the machine has all."""
-    network.put += "; ip addr add 198.51.100.2/32 dev lo; ip addr add 198.51.100.3/32 dev lo"
-    for port in (80, 443):
-        expect(network.connected("127.0.0.1", port, 0, 150, "198.51.100.2") == 100, "of 150 connections to", port)
-        told = network.run('"$0" -c "$@"', BOTH, port, "198.51.100.2", "198.51.100.3")
-        expect(told.split() == ["100", "50"], "two addresses have of 150 and 50 connections", told)
-        told = network.run('"$0" -c "$@"', BOTH, port, "127.0.0.2", "127.77.0.3")
-        expect(told.split() == ["100", "0"], "two addresses of loopback have", told)
-
-
+# Another machine with two addresses, at the end of a line: behind it, `there` runs something on it, until `$holder` is killed.
+PEER = """
+ip link add inner type veth peer name outer; unshare -n sleep 60 & holder=$!; sleep 0.3
+ip link set outer netns $holder; ip addr add 198.51.100.1/24 dev inner; ip link set inner up
+there() { nsenter -t $holder -n "$@"; }
+there sh -c 'ip addr add 198.51.100.2/24 dev outer; ip addr add 198.51.100.3/24 dev outer; ip link set outer up'
+"""
+LISTENS = "import socket, sys, time; it = socket.create_server(('', int(sys.argv[1])), backlog=1000); time.sleep(30)"
+# Prints how many connections each of these has, by `ADDRESS` or by the number of a user: the first of 150, the second of 50.
 BOTH = """\
-import socket, sys
-listener = socket.create_server(("", int(sys.argv[1])), backlog=1000)
-kept = []
-for source, count in zip(sys.argv[2:], (150, 50)):
+import os, socket, sys
+host, port, kept = sys.argv[1], int(sys.argv[2]), []
+for who, count in zip(sys.argv[3:], (150, 50)):
+    if who.isdecimal():
+        os.seteuid(0)
+        os.seteuid(int(who))
     got = 0
     for _ in range(count):
         try:
-            kept.append(socket.create_connection(("127.0.0.1", int(sys.argv[1])), 0.3, source_address=(source, 0)))
+            kept.append(socket.create_connection((host, port), 0.3, source_address=None if who.isdecimal() else (who, 0)))
             got += 1
         except OSError:
             pass
     print(got)
 """
+
+
+def test_connections_of_an_address(network):
+    """An address of another machine has a hundred connections to nginx, with TLS and without, and another address has its own."""
+    for port in (80, 443):
+        told = network.run(f'{PEER} "$0" -c "$1" {port} & listener=$!; sleep 0.5; there "$0" -c "$2" 198.51.100.1 {port} 198.51.100.2 198.51.100.3; '
+                           "kill $listener $holder", LISTENS, BOTH)
+        expect(told.split() == ["100", "50"], "two addresses have of 150 and 50 connections to", port, told)
+
+
+def test_connections_of_a_user(network):
+    """A user of the machine has a hundred connections to nginx, by whatever addresses, and takes none of those of another user."""
+    for port in (80, 443):
+        for host in ("127.0.0.1", "::1"):
+            told = network.run(f'"$0" -c "$1" {port} & listener=$!; sleep 0.5; "$0" -c "$2" {host} {port} {STRANGER} {WORKER}; kill $listener',
+                               LISTENS.replace("('', ", f"('{host}', ").replace("backlog", f"family=socket.{'AF_INET6' if ':' in host else 'AF_INET'}, backlog"), BOTH)
+            expect(told.split() == ["100", "50"], "two users have of 150 and 50 connections to", host, port, told)
+
+
+def test_nobody_is_there(network):
+    """Postfix reaches nobody at the addresses by which the worker's policy tells destinations apart, whoever listens there."""
+    named = re.search(r"(?m)^NETWORK, SIZE = (\d+), (\d+)$", (DEPLOY.parent / "relay/policy.py").read_text())
+    expect(named and named.groups() == ("64", "64") and "127.64.0.0/10" in network.rules.read_text(), "the addresses are others:", named)
+    for host, user, wanted in (("127.66.43.51", POSTFIX, 0), ("127.127.255.255", POSTFIX, 0), ("127.66.43.51", 0, 3), ("127.0.0.1", POSTFIX, 3)):
+        for port in (823, 10024, 20024):
+            expect(network.connected(host, port, user, 3) == wanted, "at", host, port, "the user", user)
 
 
 def test_a_session_of_before(network):
@@ -137,27 +162,37 @@ def test_ports_of_other_machines(network):
     expect(not told.startswith("ConnectionRefused") and "counter packets 0 bytes 0" in told, "a port elsewhere:", told)
 
 
-def test_handshakes(network):
-    """An address begins two hundred connections to nginx at once, and twenty a second after that: each costs a handshake."""
-    told = network.run('"$0" -c "$1"; nft list chain inet hq_desk input', """\
-import socket, time
-listener = socket.create_server(("127.0.0.1", 443), backlog=500)
+BEGINS = """\
+import socket, sys, time
 begun, got = time.monotonic(), 0
 while got < 600 and time.monotonic() - begun < 6:
     client = socket.socket()
     client.setsockopt(socket.SOL_TCP, socket.TCP_SYNCNT, 1)
     client.settimeout(0.02)
     try:
-        client.connect(("127.0.0.1", 443))
-        listener.accept()[0].close()
+        client.connect((sys.argv[1], 443))
         got += 1
     except OSError:
         pass
     client.close()
 print(got, time.monotonic() - begun)
-""")
+"""
+TAKES = """\
+import socket
+listener = socket.create_server(("", 443), backlog=500)
+while True:
+    listener.accept()[0].close()
+"""
+
+
+@pytest.mark.parametrize("host, where, chain", [("198.51.100.1", "there", "input"), ("127.0.0.1", "", "output")])
+def test_handshakes(network, host, where, chain):
+    """An address, and a user of the machine, begins two hundred connections to nginx at once, and twenty a second after that: each
+    costs a handshake."""
+    told = network.run(f'{PEER} "$0" -c "$1" & listener=$!; sleep 0.5; {where} "$0" -c "$2" {host}; kill $listener $holder; '
+                       f"nft list chain inet hq_desk {chain}", TAKES, BEGINS)
     got, took = map(float, told.split("\n", 1)[0].split())
-    expect(200 <= got <= 200 + 25 * took + 20, "of one address came", got, "in", took, "seconds")
+    expect(200 <= got <= 200 + 25 * took + 20, "of one came", got, "in", took, "seconds")
     expect(re.search(r"limit rate over 20/second.*counter packets [1-9]\d* .*drop", told), "nothing was dropped:", told)
 
 
@@ -165,14 +200,11 @@ def test_counts(network):
     """Nobody from elsewhere reads the counts of node_exporter but whom a file of the administrator names."""
     (network.rules.parent / "firewall.d/prometheus.nft").write_text("add element inet hq_desk monitors { 198.51.100.3 }\n"
                                                                     "add element inet hq_desk monitors6 { 2001:db8::7 }\n")
-    told = network.run("""
-ip link add inner type veth peer name outer; unshare -n sleep 30 & holder=$!; sleep 0.3
-ip link set outer netns $holder; ip addr add 198.51.100.1/24 dev inner; ip link set inner up
-nsenter -t $holder -n sh -c 'ip addr add 198.51.100.2/24 dev outer; ip addr add 198.51.100.3/24 dev outer; ip link set outer up'
+    told = network.run(PEER + """
 "$0" -m http.server 9100 --bind 0.0.0.0 >/dev/null 2>&1 & server=$!
 sleep 1
 for source in 198.51.100.2 198.51.100.3; do
-  nsenter -t $holder -n curl -s -o /dev/null -w "%{http_code}\\n" --max-time 3 --interface $source http://198.51.100.1:9100/ || true
+  there curl -s -o /dev/null -w "%{http_code}\\n" --max-time 3 --interface $source http://198.51.100.1:9100/ || true
 done
 curl -s -o /dev/null -w "%{http_code}\\n" --max-time 3 http://127.0.0.1:9100/
 kill $server $holder""")

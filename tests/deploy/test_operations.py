@@ -230,6 +230,7 @@ def move(place, north, south, proxy):
     with Load(proxy, customers(*NORTH[1:], *SOUTH), "move") as load:
         _, took = place.run("Moving a customer", meanwhile)
     expect(all_of(south.address, key_of("dale")) == before, "dale is told something else")
+    expect("dale,south\n" in (north.folder / "desks.csv").read_text(), "the worker takes dale for one of north")
     expect(north.ask("GET", "/v1/usage", key_of("dale"))[0] == 401, "north has dale")
     found = done(proxy.relay("/relay/submit/dale", {"spool": "next", "sender": "", "size": 1,
                                                    "recipients": ["p@far.example"]}), "dale")

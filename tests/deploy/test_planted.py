@@ -45,8 +45,8 @@ class Service:
                               ("env", f"HOST=relay.example\nLISTEN=unix:{folder}/none/{name}.sock\n")):
                 (self.etc / f"{name}.{end}").write_text(text)
         self.as_service("chown", f"{USER}:{GROUP}", self.own, as_root=True)
-        self.scripts = scripts_in(folder / "scripts", {"/run/hq-desk.stopped": folder / "none", "/var/lib/hqdesk": self.own,
-                                                       'hq-as hqdesk ': f"{DEPLOY}/hq-as {USER} "})
+        self.scripts = scripts_in(folder / "scripts", {"/etc/hq": self.etc, "/var/lib/hqdesk": self.own,
+                                                       "hq-as hqdesk ": f"{DEPLOY}/hq-as {USER} "})
         for name, customer in (("north", "acme"), ("south", "birch")):
             line = batch_line(int(time.time()), "POST", f"/relay/submit/{customer}", RELAY, submission("s1"))
             told = self.as_service("hq", "batch", "--directory", self.etc / f"{name}.csv", "--host", "relay.example", "--relay-key", RELAY,
@@ -73,16 +73,17 @@ class Service:
                         self.own)
 
     def step(self, line, **names):
-        """A line of a page, whatever its status; what calls systemctl or apt is left out."""
+        """The status of a line of a page; what calls systemctl or apt is left out."""
         if "desk-stop" in line or "desk-start" in line:
-            return
+            return 0
         line = line.replace(f"{SCRIPTS}/desk-backup", str(self.scripts / "desk-backup"))
         for it, here in (("hq-as hqdesk", f"{DEPLOY}/hq-as {USER}"), ("-init /dev/null ", ""), ("-g hqdesk", f"-g {GROUP}"), ("/etc/hq", self.etc),
                          ("/var/lib/hqdesk", self.own), ("/usr/libexec/hq-desk", DEPLOY)):
             line = line.replace(it, str(here))
-        if not re.match(r"systemctl|apt-get|nginx", line):
-            subprocess.run(["sh", "-c", line], stdin=subprocess.DEVNULL, capture_output=True, timeout=LONGEST,
-                           env={"PATH": self.path, "EDITOR": "true", **names})
+        if re.match(r"systemctl|apt-get|nginx", line):
+            return 0
+        return subprocess.run(["sh", "-c", line], stdin=subprocess.DEVNULL, capture_output=True, timeout=LONGEST,
+                              env={"PATH": self.path, "EDITOR": "true", **names}).returncode
 
     def unharmed(self, *what):
         """The files of root's are as they were, and nothing that was copied has the secret."""
@@ -131,6 +132,19 @@ def test_backup_is_whole(service):
     expect(owners == {(USER, 0o600)}, "they are of", owners)
 
 
+def test_restored_elsewhere(service):
+    """The lines that put a copy back also do so where there is no store, as on another machine."""
+    for it in lines_of("Backup"):
+        service.step(it, BACKUP=str(service.backup))
+    wanted = {it.name: it.read_bytes() for it in service.own.iterdir()}
+    service.as_service("sh", "-c", f"rm {service.own}/north.db*")
+    lines = [it for it in lines_of("Restore") if it.startswith(("tar ", "hq-as hqdesk "))]
+    expect(len(lines) == 3, "the lines are", lines)
+    for it in lines:
+        expect(service.step(it, BACKUP=str(service.backup)) == 0, "it fails:", it)
+    expect({it.name: it.read_bytes() for it in service.own.iterdir()} == wanted, "it is another store")
+
+
 def test_rotation(service):
     """The user of the desks moves its logs away by a unit of its own, which has an end: root's logrotate opens none of them."""
     needs.command("logrotate")
@@ -166,18 +180,24 @@ def test_asked(service):
 PRINTS_AND_LOOKS = "echo printed; echo told >&2; ls -l /proc/self/fd; ps -o tty= -p $$; exit 7"
 
 
-def test_no_terminal(folder):
-    """What hq-as runs has no way to the terminal of root, who sees what it prints, and its status."""
+def at_terminal(*words):
+    """The status of a command that has a terminal, and what comes there."""
     number, terminal = pty.openpty()
-    command = subprocess.Popen([DEPLOY / "hq-as", USER, "sh", "-c", PRINTS_AND_LOOKS], stdin=terminal, stdout=terminal, stderr=terminal,
-                               start_new_session=True, preexec_fn=lambda: fcntl.ioctl(0, termios.TIOCSCTTY, 0))
+    command = subprocess.Popen(words, stdin=terminal, stdout=terminal, stderr=terminal, start_new_session=True,
+                               preexec_fn=lambda: fcntl.ioctl(0, termios.TIOCSCTTY, 0))
     os.close(terminal)
     told = b""
     with contextlib.suppress(OSError):
         for piece in iter(lambda: os.read(number, 4096), b""):
             told += piece
     os.close(number)
-    expect(command.wait(LONGEST) == 7, "the status is", command.returncode)
+    return command.wait(LONGEST), told
+
+
+def test_no_terminal(folder):
+    """What hq-as runs has no way to the terminal of root, who sees what it prints, and its status."""
+    status, told = at_terminal(DEPLOY / "hq-as", USER, "sh", "-c", PRINTS_AND_LOOKS)
+    expect(status == 7, "the status is", status)
     expect(b"printed" in told and b"told" in told and b"/dev/pts" not in told and b"\n?" in told.replace(b"\r", b""), "it has", told)
     for words, given, wanted in ((("cat",), b"handed on", b"handed on"), (("sh", "-c", "exit 3"), b"", b"")):
         ended = subprocess.run([DEPLOY / "hq-as", USER, *words], input=given, capture_output=True, timeout=LONGEST)
@@ -186,7 +206,7 @@ def test_no_terminal(folder):
 
 def test_asked_without_terminal():
     """hq-ask runs a batch as the user of the desks in a session of its own, and by pipes alone."""
-    found = re.search(r"subprocess\.run\((.*preexec_fn.*)\)", (DEPLOY / "hq-ask").read_text())
+    found = re.search(r"(?s)subprocess\.run\((words.*?preexec_fn.*?)\)", (DEPLOY / "hq-ask").read_text())
     expect(found and "start_new_session=True" in found[1] and "capture_output=True" in found[1] and "input=" in found[1], "it runs", found)
 
 
@@ -223,13 +243,49 @@ def test_counts_planted(folder):
     expect(ages[0].st_mtime == 1000 and ages[1].st_mtime <= time.time() and ages[0].st_mode & 0o777 == 0o644, "they are of", ages)
     (folder / "to").rename(folder / "none")
     expect(shown(folder).returncode == 0, "where there is no node_exporter it fails")
+    # (the folder above is that of the user who runs node_exporter)
+    (folder / "elsewhere").mkdir()
+    (folder / "to").symlink_to(folder / "elsewhere")
+    told = shown(folder)
+    expect(told.returncode == 1 and not [*(folder / "elsewhere").iterdir()], "by a link it writes elsewhere:", told)
+    (folder / "to").unlink()
+    (folder / "to").mkdir()
+    os.chown(folder / "to", 65534, 65534)
+    told = shown(folder)
+    expect("is not root's" in told.stderr and not [*(folder / "to").iterdir()], "into a folder of another user's it writes", told)
+
+
+def test_events_counted(folder):
+    """Root reads the journal, and the worker's user counts what of it is the worker's; what that one prints is looked at."""
+    needs.root()
+    text = (DEPLOY / "desk-metrics-shown").read_text()
+    for it in ("bin", "from", "to"):
+        (folder / it).mkdir()
+        (folder / it).chmod(0o755)
+    metrics = folder / "bin/metrics"
+    (folder / "bin/shown").write_text(text.replace("/usr/libexec/hq-desk/relay/metrics", str(metrics)))
+    (folder / "bin/journalctl").write_text('#!/bin/sh\necho "$(id -u) $*"\n')
+    (folder / "from/hq-desk-events.prom").write_text("desk_forged 1\n")
+    for prints, status, wanted in (('desk_up{desk="$(id -un) $(id -Gn) $(cat)"} 1', 0, f'desk_up{{desk="{USER} {GROUP} 0 --quiet --output=cat '
+                                    '--since=-1h --unit=hq-relay-*"} 1\n'), ("node_forged 1", 1, None)):
+        metrics.write_text(f"#!/bin/sh\ncat <<END\n{prints}\nEND\n")
+        for it in (folder / "bin").iterdir():
+            it.chmod(0o755)
+        words = [folder / "bin/shown", folder / "from", folder / "to", USER]
+        # (the user that the test takes has a group of another name)
+        (folder / "bin/setpriv").write_text(f'#!/bin/sh\nshift 2\nexec /usr/bin/setpriv --reuid={USER} --regid={GROUP} "$@"\n')
+        (folder / "bin/setpriv").chmod(0o755)
+        told = subprocess.run(words, capture_output=True, text=True, timeout=LONGEST, env={"PATH": f"{folder}/bin:/usr/bin:/bin"})
+        found = (folder / "to/hq-desk-events.prom").read_text()
+        expect(told.returncode == status and (wanted is None or found == wanted) and "forged" not in found, "shown is", found, told)
 
 
 def test_counted():
     """What writes the counts is the worker's user, into a folder of its own; root shows them, also where a desk does not tell."""
     unit = all_settings_of(DEPLOY / "hq-desk-metrics.service")
     expect(unit["User"] == ["hqrelay"] and unit["CapabilityBoundingSet"] == [""] and "ReadWritePaths" not in unit, "counts are written by", unit)
-    expect(unit["SupplementaryGroups"] == ["systemd-journal"], "it may read what customers' keys stand in:", unit["SupplementaryGroups"])
+    # (a process of the worker's may have another one of its user do what it likes, as by /proc/PID/mem)
+    expect("SupplementaryGroups" not in unit, "it may read more than the worker:", unit.get("SupplementaryGroups"))
     place = f"/var/lib/{unit['StateDirectory'][0]}"
     expect(unit["ExecStart"][0].endswith(f"/desk-metrics {place}"), "they are written to", unit["ExecStart"])
-    expect(re.fullmatch(rf"\+\S+/desk-metrics-shown {place} \S+", unit["ExecStopPost"][0]), "they are shown by", unit["ExecStopPost"])
+    expect(re.fullmatch(rf"\+\S+/desk-metrics-shown {place} \S+ hqrelay", unit["ExecStopPost"][0]), "they are shown by", unit["ExecStopPost"])

@@ -1,43 +1,88 @@
-"""What starts desks waits until they listen: whatever is typed behind it reaches them."""
+"""What stops and starts desks, and copies their stores: whatever is typed behind it reaches them, and two who do so at once do no harm."""
 import os
 import subprocess
+import time
 
+import needs
 import pytest
-from deploying import DEPLOY
-from serving import LONGEST, expect, free_address, listens
+from deploying import DEPLOY, all_settings_of
+from serving import LONGEST, expect, free_address, listens, until
 
-# A desk that listens a second after systemctl has come back, unless its name is `bad`.
+# A desk that listens a second after systemctl has come back, unless its name is `bad`, or one of its unit's marks is there.
 SYSTEMCTL = """\
 #!/bin/sh
 echo "$*" >>{folder}/called
 name=${{2#hq-desk@}} name=${{name%.service}}
+case $1 in
+  is-active) [ "$2" = --quiet ] && shift; [ -e "{folder}/runs-${{name#--quiet}}" ]; exit ;;
+  stop) rm -f "{folder}/runs-$name"; pkill -F "{folder}/pid-$name" 2>/dev/null; exit 0 ;;
+esac
 [ "$name" != bad ] || exit 1
+[ ! -e "{folder}/stopped/$name" ] && [ ! -e "{folder}/run.copied/$name" ] || exit 0
+: >"{folder}/runs-$name"
 port=$(sed -n 's/^LISTEN=.*://p' {folder}/$name.env)
-sleep 1 && exec python3 -c "import socket, time; it = socket.create_server(('127.0.0.1', $port)); time.sleep(20)" >/dev/null 2>&1 &
+sleep 1 && exec python3 -c "import socket, sys, time; where = sys.argv[1]
+it = socket.socket(socket.AF_INET if where.isdecimal() else socket.AF_UNIX)
+it.setsockopt(socket.SOL_SOCKET, socket.SO_REUSEADDR, 1)
+it.bind(('127.0.0.1', int(where)) if where.isdecimal() else where)
+it.listen()
+time.sleep(20)" $port >/dev/null 2>&1 &
+echo $! >"{folder}/pid-$name"
+"""
+# What copies a store, and takes as long as the file `slow` is there.
+HQ_AS = """\
+#!/bin/sh
+while [ -e {folder}/slow ]; do sleep 0.05; done
+shift
+exec "$@"
 """
 
 
 @pytest.fixture
 def place(folder):
+    needs.command("flock", "pkill")
     (folder / "bin").mkdir()
-    for name in ("desk-start", "desk-restart"):
-        text = (DEPLOY / name).read_text().replace("/run/hq-desk.stopped", str(folder / "stopped")).replace("/etc/hq", str(folder))
-        (folder / "bin" / name).write_text(text.replace("STAY, DRAIN, START = 10, 3, 30", "STAY, DRAIN, START = 10, 3, 4"))
-    for name, text in (("systemctl", SYSTEMCTL.format(folder=folder)), ("nft", "#!/bin/sh\nexit 1\n")):
-        (folder / "bin" / name).write_text(text)
+    for name in ("desk-start", "desk-stop", "desk-backup", "desk-restart"):
+        text = (DEPLOY / name).read_text()
+        for it, here in (("/var/lib/hq-desk-stopped", "stopped"), ("/etc/hq", ""), ("/var/lib/hqdesk", "stores"), ("/run/hq-desk", "run")):
+            text = text.replace(it, str(folder / here) if here else str(folder))
+        (folder / "bin" / name).write_text(text.replace("STAY, DRAIN, START = 10, 3, 30", "STAY, DRAIN, START = 10, 3, 10"))
+    (folder / "bin/desk_apart.py").write_text((DEPLOY / "desk_apart.py").read_text())
+    for name, text in (("systemctl", SYSTEMCTL), ("nft", "#!/bin/sh\nexit 1\n"), ("hq-as", HQ_AS)):
+        (folder / "bin" / name).write_text(text.format(folder=folder))
     for it in (folder / "bin").iterdir():
         it.chmod(0o755)
-    (folder / "stopped").mkdir()
+    for it in ("stopped", "stores"):
+        (folder / it).mkdir()
     return folder
 
 
+def is_set_up(place, name):
+    """A desk of this name has settings and a store; its address."""
+    host, port = free_address()
+    (place / f"{name}.env").write_text(f"HOST=relay.example\nLISTEN={host}:{port}\n")
+    (place / f"stores/{name}.db").write_text("a store")
+    return host, port
+
+
+def words(place, command, *more):
+    return {"args": [place / "bin" / command, *more], "stdin": subprocess.DEVNULL, "text": True,
+            "env": {**os.environ, "PATH": f"{place}/bin:{os.environ['PATH']}"}}
+
+
+def run(place, command, *more):
+    return subprocess.run(capture_output=True, timeout=LONGEST, **words(place, command, *more))
+
+
+def begin(place, command, *more):
+    return subprocess.Popen(stdout=subprocess.PIPE, stderr=subprocess.STDOUT, **words(place, command, *more))
+
+
 def started(place, *names):
-    addresses = {it: free_address() for it in names}
-    for name, (host, port) in addresses.items():
-        (place / f"{name}.env").write_text(f"HOST=relay.example\nLISTEN={host}:{port}\n")
+    addresses = {it: is_set_up(place, it) for it in names}
+    for name in names:
         (place / "stopped" / name).touch()
-    ended = subprocess.run([place / "bin/desk-start", *names], capture_output=True, text=True, timeout=LONGEST, stdin=subprocess.DEVNULL,
-                           env={**os.environ, "PATH": f"{place}/bin:{os.environ['PATH']}"})
+    ended = run(place, "desk-start", *names)
     expect(not [*(place / "stopped").iterdir()], "some are kept stopped")
     return ended, [it for it, address in addresses.items() if listens(address)]
 
@@ -52,3 +97,102 @@ def test_one_does_not(place):
     """Where one does not come up the status says so, and the next is started all the same."""
     ended, found = started(place, "bad", "south")
     expect(ended.returncode == 1 and found == ["south"] and "bad: nobody listens" in ended.stderr, "there listen", found, ended)
+
+
+def test_listens_at_a_path(place):
+    """A desk at a path is waited for too."""
+    (place / "north.env").write_text(f"HOST=relay.example\nLISTEN=unix:{place}/desk.sock\n")
+    ended = run(place, "desk-start", "north")
+    expect(ended.returncode == 0 and (place / "desk.sock").is_socket(), "it ended with", ended)
+
+
+def slow_copy(place, folder="nightly"):
+    """A copy of north's store that is under way until `slow` goes."""
+    (place / "slow").touch()
+    copying = begin(place, "desk-backup", place / folder, "north")
+    until(lambda: (place / "called").exists() and (place / "run.copied/north").exists(), "nothing is copied")
+    return copying
+
+
+def told(process):
+    text, _ = process.communicate(timeout=LONGEST)
+    return process.returncode, text
+
+
+def test_stopped_while_it_is_copied(place):
+    """The end of a copy starts no desk that somebody has stopped meanwhile, who waits for that end."""
+    address = is_set_up(place, "north")
+    copying = slow_copy(place)
+    stopping = begin(place, "desk-stop", "north")
+    until(lambda: (place / "stopped/north").exists(), "it is not stopped")
+    time.sleep(0.5)
+    expect(stopping.poll() is None, "a stop does not wait for who copies the store")
+    (place / "slow").unlink()
+    expect(told(copying) == (0, "north.db\n"), "the copy ended otherwise")
+    expect(told(stopping) == (0, ""), "the stop ended otherwise")
+    expect((place / "stopped/north").exists() and not listens(address), "the end of the copy has started it")
+    expect(run(place, "desk-start", "north").returncode == 0 and listens(address), "it does not start")
+
+
+def test_started_while_it_is_copied(place):
+    """A desk is not started while its store is copied, but behind that; so nobody writes what is being copied."""
+    address = is_set_up(place, "north")
+    (place / "stopped/north").touch()
+    copying = slow_copy(place)
+    starting = begin(place, "desk-start", "north")
+    until(lambda: not (place / "stopped/north").exists(), "it is not to be started")
+    time.sleep(1.5)
+    expect(not listens(address) and starting.poll() is None, "it was started while its store is copied")
+    (place / "slow").unlink()
+    status, text = told(copying)
+    expect(status == 0 and text.endswith("north.db\n"), "the copy ended with", status, text)
+    expect(told(starting)[0] == 0 and listens(address), "it does not start")
+
+
+def test_worked_at_while_it_is_copied(place):
+    """Nobody works at a store while it is copied, and no second copy is made meanwhile."""
+    is_set_up(place, "north")
+    copying = slow_copy(place)
+    others = [begin(place, "desk-restart", "north", "--stopped", "echo", "worked"), begin(place, "desk-backup", place / "second", "north")]
+    time.sleep(0.5)
+    expect([it.poll() for it in others] == [None, None], "two work at one store")
+    (place / "slow").unlink()
+    expect(told(copying) == (0, "north.db\n"), "the copy ended otherwise")
+    found = [told(it) for it in others]
+    expect([it[0] for it in found] == [0, 0] and "worked\n" in found[0][1] and found[1][1].endswith("north.db\n"), "they ended with", found)
+
+
+def test_killed_copy(place):
+    """A copy that is killed keeps no desk stopped once it is started again."""
+    address = is_set_up(place, "north")
+    copying = slow_copy(place)
+    copying.kill()
+    (place / "slow").unlink()
+    copying.communicate(timeout=LONGEST)
+    expect((place / "run.copied/north").exists(), "a kill leaves no mark")
+    expect(run(place, "desk-start", "north").returncode == 0 and listens(address), "it does not start")
+
+
+def test_nothing_to_copy(place):
+    """A desk that is not there, or has no store, is told, and nothing is stopped; so it is where there is no room."""
+    for name, why in (("south", "there is no desk south"), ("north", "north has no store")):
+        is_set_up(place, "north")
+        (place / "stores/north.db").unlink()
+        ended = run(place, "desk-backup", place / "copy", name)
+        expect(ended.returncode == 1 and why in ended.stderr and not (place / "called").exists(), "it ended with", ended)
+    address = is_set_up(place, "north")
+    (place / "bin/df").write_text("#!/bin/sh\necho ' 1000000 50000'\n")
+    (place / "bin/df").chmod(0o755)
+    ended = run(place, "desk-backup", place / "copy", "north")
+    expect(ended.returncode == 1 and "is there room?" in ended.stderr and listens(address), "without room it ended with", ended)
+    # (a file system may keep less than a store has)
+    (place / "bin/df").write_text("#!/bin/sh\necho ' 1000000 900000'\n")
+    (place / "stores/north.db").write_bytes(bytes(700000))
+    expect(run(place, "desk-backup", place / "again", "north").returncode == 0, "a store is cut")
+
+
+def test_stays_stopped():
+    """A unit whose desk was stopped, or is being copied, starts neither behind a boot nor by retention."""
+    for unit in ("hq-desk@.service", "hq-desk-retain@.service"):
+        found = all_settings_of(DEPLOY / unit)["ConditionPathExists"]
+        expect(found == ["!/var/lib/hq-desk-stopped/%i", "!/run/hq-desk.copied/%i"], unit, "starts where", found)

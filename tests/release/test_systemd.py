@@ -64,7 +64,8 @@ def test_set_up(machine):
     """All lines of the pages work, and what they start runs, within its restrictions."""
     for page, title in ((PRODUCTION, "A desk"), (PRODUCTION, "nginx"), (RELAY, "Units"), (PRODUCTION, "Firewall and alerts")):
         for it in blocks(page, title):
-            machine.run(it, longest=120, **NAMES)
+            # (many administrators have a mask by which others read nothing of what they make)
+            machine.run(f"umask 077; {it}", longest=120, **NAMES)
     machine.until_active(*OURS)
     until(lambda: '"messages":0' in usage(machine), "acme is not answered")
     failed = machine.run("systemctl list-units --failed --no-legend --plain --no-pager 'hq-*' 'nginx*' 'fail2ban*'")
@@ -188,6 +189,25 @@ def test_order(machine):
         expect({"network-online.target", "time-sync.target"} <= set(told.split()), unit, "waits for", told)
 
 
+def test_stopped_over_a_boot(machine):
+    """A desk that was stopped is not started by a boot; it comes up once it is started."""
+    machine.run("/usr/libexec/hq-desk/desk-stop north; systemctl start hq-desk@north multi-user.target")
+    expect(machine.active("hq-desk@north") == ["inactive"], "it was started")
+    machine.run("/usr/libexec/hq-desk/desk-start north", longest=120)
+    machine.until_active("hq-desk@north")
+
+
+def test_installed_again(machine, releases):
+    """Installed behind a removal, all that was set up runs again, and mail waits no more."""
+    package = f"/root/{package_in(releases.now).name}"
+    machine.run("systemctl disable --now hq-desk-retain@north.timer; apt-get remove -y hq-desk", longest=120)
+    expect(machine.run("postconf -h defer_transports") == "desk\n", "mail does not wait")
+    machine.run(f"apt-get install -y {package}", longest=120)
+    machine.until_active(*OURS, "hq-desk-metrics.timer")
+    expect(machine.run("postconf -h defer_transports; ls /run/hq-desk.again /etc/postfix/desk-deferred 2>/dev/null || true") == "\n", "mail waits")
+    until(lambda: '"messages":' in usage(machine), "acme is not answered")
+
+
 def test_removed(machine):
     """Nothing of it runs after a removal, and a purge leaves no unit and no rule."""
     machine.run("apt-get remove -y hq-desk", longest=120)
@@ -200,7 +220,21 @@ def test_removed(machine):
     machine.run("nginx -t; systemctl restart nginx")
     told = machine.run("apt-get purge -y hq-desk", longest=120)
     expect("stays" in told and "hq_desk" not in machine.run("nft list tables"), "a purge tells", told)
+    expect("mail for the worker waits" in told and "systemctl restart nginx" in told, "a purge tells", told)
     left = machine.run("find /etc/systemd/system -name 'hq-*' -o -path '*/nginx.service.d/*' -o -path '*/logrotate.timer.d/*'")
     expect(left == "", "left are", left)
     machine.run("systemctl daemon-reload; nginx -t; systemctl restart nginx fail2ban logrotate.timer")
     expect(re.fullmatch("(active\n?){3}", machine.run("systemctl is-active nginx fail2ban logrotate.timer")), "what was beside it does not run")
+
+
+def test_set_up_again(machine, releases):
+    """Behind a purge the package is set up again by the lines of the pages: the firewall has its rules, and mail that waited for the
+    worker goes on."""
+    machine.run(f"apt-get install -y /root/{package_in(releases.now).name}; rm -r /var/lib/hqdesk/*", longest=120)
+    expect(machine.run("postconf -h defer_transports") == "desk\n", "mail goes to nobody")
+    for page, title in ((PRODUCTION, "A desk"), (PRODUCTION, "nginx"), (PRODUCTION, "Firewall and alerts"), (RELAY, "Units")):
+        for it in blocks(page, title):
+            machine.run(it, longest=120, **NAMES)
+        expect(title != "Firewall and alerts" or "hq_desk" in machine.run("nft list tables"), "there is no firewall")
+    expect(machine.run("postconf -h defer_transports; ls /etc/postfix/desk-deferred 2>/dev/null || true") == "\n", "mail waits for ever")
+    machine.until_active("hq-desk@north", "hq-relay-intake", "hq-relay-deliver")
