@@ -21,3 +21,4 @@ pub mod There
 pub mod LeftTold
 pub mod LeftOrPending
 pub mod LeftInCalls
+pub mod LeftInSweeps
