@@ -16,7 +16,7 @@ import postfix_lines
 
 INTAKE = ["spool.Spool.keep", "desk.Desk.submit", "book.Book.taken", "intake.Incoming.end"]
 DELIVERY = ["handed.Handed.about", "instance.Session.send", "handed.Handed.over",
-            "handed.Handed.reported", "desk.Desk.outcome", "book.Book.all_reported",
+            "handed.Handed.reported", "desk.Desk.outcome", "desk.Call.reply", "book.Book.all_reported",
             "mailing.Hop.mail", "book.Book.told"]
 MOMENTS = ["before", "behind"]
 COUNTS = [1, 2]

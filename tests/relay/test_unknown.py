@@ -42,7 +42,7 @@ def test_a_late_report_behind_another(delivering, monkeypatch):
     """One that comes while another one of its customer is fitted is fitted too, and its file goes."""
     found = delivering(Told())
     discarded, moved = [], []
-    monkeypatch.setattr(found.outcomes, "box", lambda: SimpleNamespace(discard=discarded.append))
+    monkeypatch.setattr(found.outcomes, "discard", discarded.append)
     for it in "AB":
         found.handed.about([Attempt(f"acme.{it}.1.e", "acme", f"s{it}", it, 1, [GOOD], "ann@a.example", time.time())])
         found.handed.resolved(found.handed.of(f"acme.{it}.1.e"), [], is_lost=True)
@@ -59,7 +59,7 @@ def test_a_late_report_behind_another(delivering, monkeypatch):
     monkeypatch.setattr(found.outcomes, "move", lambda lost, reports: moved.append(lost.id))
     found.outcomes.take_late("acme")
     expect(sorted(moved) == ["A", "A", "B"] and sorted(discarded) == ["fileA", "fileB", "fileC"], moved, discarded)
-    expect(not found.outcomes.late_keys and not found.outcomes.late["acme"], found.outcomes.late)
+    expect(not found.outcomes.late_files and not found.outcomes.late["acme"], found.outcomes.late)
 
 
 def test_reports_while_a_desk_hangs(delivering, monkeypatch):
