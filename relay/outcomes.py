@@ -1,18 +1,19 @@
-"""What became of what was handed over: the reports of the instance that delivers (RFC 3464).
+"""What became of what was handed over: the reports of the instance that delivers (RFC 3464), and its log (`sent.py`).
 
-They lie in a Maildir. All that stands in one may be written by a stranger, as the answer of a host
+Reports lie in a Maildir. All that stands in one may be written by a stranger, as the answer of a host
 is: so a report counts only for an attempt whose envelope ID it has, and nobody can guess that.
 """
 import mailbox
 import os
 import threading
 from dataclasses import replace
-from typing import Callable, Dict, List, Optional, Tuple
+from typing import Callable, Container, Dict, List, Optional, Tuple
 
 import log
 from handed import Attempt, Handed, Outcome, told_of
 from names import Names
 from reading import read_text
+from sent import Evidence, Sent
 from settings import CUSTOMER, Settings
 from spool import drop
 
@@ -25,19 +26,20 @@ MAILDIR = ("new", "cur")
 
 
 class Outcomes:
-    """Reads reports, and journals what is to be told. `journaled` hears of whom there is something,
+    """Reads reports and the log, and journals what is to be told. `journaled` hears of whom there is something,
     `ended` of each attempt that has ended so, and `comes_late` of whom a report has to be fitted, for
     which its desk is asked."""
 
-    def __init__(self, settings: Settings, handed: Handed, names: Names,
+    def __init__(self, settings: Settings, handed: Handed, names: Names, sent: Sent,
                  journaled: Callable[[str], None], ended: Callable[[Attempt, list], None],
                  comes_late: Callable[[str], None]):
-        self.settings, self.handed, self.names = settings, handed, names
+        self.settings, self.handed, self.names, self.sent = settings, handed, names, sent
         self.journaled, self.ended, self.comes_late = journaled, ended, comes_late
-        # by customer what came of attempts that were given up, and the files that say so
+        # by customer what came of attempts that were given up; the files that say so, and the lines of the log
         self.late: Dict[str, Dict[str, List[Outcome]]] = {}
         self.late_files: Dict[str, List[str]] = {}
-        self.guard = threading.Lock()  # of both
+        self.late_lines: Dict[str, Evidence] = {}
+        self.guard = threading.Lock()  # of these
 
     def files(self) -> List[str]:
         """The reports that have come, each as its folder and its name there."""
@@ -51,8 +53,10 @@ class Outcomes:
         return found
 
     def read(self) -> int:
-        """Journals the outcomes of reports that have come, and removes the reports. Returns how many
-        there were."""
+        """Journals the outcomes of reports that have come, and removes the reports; and what the log tells. Returns of how many
+        attempts there was something."""
+        # (the log first: of what it tells as gone a report is there by now)
+        evidence = self.sent.take()
         reports: Dict[str, List[Outcome]] = {}
         files: Dict[str, List[str]] = {}
         with self.guard:
@@ -67,23 +71,40 @@ class Outcomes:
                 self.discard(file)
             else:
                 self.put_aside(file)
-        self.set_apart({it: reports.pop(it) for it in [*reports] if self.handed.of(it).is_lost}, files)
+        for envelope in self.of_attempts(evidence):
+            reports.setdefault(envelope, []).extend(evidence[envelope].outcomes)
+        self.set_apart({it: reports.pop(it) for it in [*reports] if self.handed.of(it).is_lost}, files, evidence)
         if reports:
-            self.take(reports)
-        for file in (it for envelope in reports for it in files[envelope]):
+            self.take(reports, {it for it, of in evidence.items() if of.is_gone})
+        for file in (it for envelope in reports for it in files.get(envelope, ())):
             self.discard(file)
+        self.sent.done(evidence[it] for it in reports if it in evidence)
         return len(reports)
+
+    def of_attempts(self, evidence: Dict[str, Evidence]) -> List[str]:
+        """The envelope IDs of attempts that are under way, or were given up and are told as delivered. The rest is done with."""
+        found, rest = [], []
+        for envelope, it in evidence.items():
+            attempt = self.handed.of(envelope)
+            if attempt and (it.outcomes or not attempt.is_lost) and envelope not in self.late_lines:
+                found.append(envelope)
+            elif envelope not in self.late_lines:
+                rest.append(it)
+        self.sent.done(rest)
+        return found
 
     def discard(self, file: str) -> None:
         drop(self.settings.reports / file)
 
-    def set_apart(self, late: Dict[str, List[Outcome]], files: Dict[str, List[str]]) -> None:
-        """These reports are of attempts that were given up: each is fitted in a turn of its customer."""
+    def set_apart(self, late: Dict[str, List[Outcome]], files: Dict[str, List[str]], evidence: Dict[str, Evidence]) -> None:
+        """These reports, and lines, are of attempts that were given up: each is fitted in a turn of its customer."""
         for envelope, told in late.items():
             customer = self.handed.of(envelope).customer
             with self.guard:
                 self.late.setdefault(customer, {}).setdefault(envelope, []).extend(told)
-                self.late_files.setdefault(envelope, []).extend(files[envelope])
+                self.late_files.setdefault(envelope, []).extend(files.get(envelope, ()))
+                if envelope in evidence:
+                    self.late_lines[envelope] = evidence[envelope]
         if late:
             self.ask_for_late()
 
@@ -115,10 +136,12 @@ class Outcomes:
     def took(self, customer: str, envelope: str, outcomes: int, files: int) -> None:
         """So much of the late reports of an attempt is done with; what came meanwhile waits."""
         with self.guard:
+            lines = self.late_lines.pop(envelope, None)
             del self.late[customer][envelope][:outcomes]
             del self.late_files[envelope][:files]
             if not self.late_files[envelope]:
                 del self.late[customer][envelope], self.late_files[envelope]
+        self.sent.done([lines] if lines else [])
 
     def is_of_dropped(self, envelope: Optional[str]) -> bool:
         """Whether an envelope ID is of a customer who is in the settings no more."""
@@ -132,18 +155,22 @@ class Outcomes:
         with open(self.settings.reports / file, "rb") as opened:
             return read_text(opened.read(LARGEST), file)
 
-    def take(self, reports: Dict[str, List[Outcome]]) -> None:
-        """Journals what reports say."""
+    def take(self, reports: Dict[str, List[Outcome]], gone: Container[str] = ()) -> None:
+        """Journals what reports and the log say; some are gone from the queue."""
         for envelope, told in reports.items():
             attempt = self.handed.of(envelope)
             if attempt and told and not attempt.with_more(told):
                 log.error("report of nobody", customer=attempt.customer, id=attempt.id,
                           envelope=envelope, recipients=",".join(it["recipient"] for it in told))
-        done = self.handed.reported(reports)
+        done = self.handed.reported(reports, gone)
         for attempt in done:
             self.ended(attempt, attempt.with_more(reports[attempt.envelope]))
         for customer in sorted({it.customer for it in done}):
             self.journaled(customer)
+
+    def left(self, attempt: Attempt) -> None:
+        """An attempt of which all is told has left the queue."""
+        self.take({attempt.envelope: []}, {attempt.envelope})
 
     def move(self, lost: Attempt, reports: Dict[str, List[Outcome]]) -> None:
         """A report came of an attempt that was given up as lost. Where its message was delivered, or

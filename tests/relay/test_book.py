@@ -197,7 +197,8 @@ class Names:
 def looking(handed, states, taken_back, queue):
     desk = SimpleNamespace(messages=lambda customer: [{"id": id, "state": state} for id, state in states.items()])
     settings = SimpleNamespace(customers={"acme": None}, lost_after=60.0, settle_after=60.0, pause=1.0)
-    found = Missing(settings, desk, handed, Names(), lambda: 0, lambda attempt, outcomes: None, lambda customer: None, lambda known: None)
+    found = Missing(settings, desk, handed, Names(), lambda: 0, lambda attempt: None, lambda attempt, outcomes: None,
+                    lambda customer: None, lambda known: None)
     found.still_lies = lambda attempt: queue == "deferred"
     found.take_one_back = lambda it: taken_back.append((it.id, queue))
     return found

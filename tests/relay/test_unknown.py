@@ -50,10 +50,10 @@ def test_a_late_report_behind_another(delivering, monkeypatch):
     def move(lost, reports):
         moved.append(lost.id)
         if lost.id == "A":
-            found.outcomes.set_apart({"acme.B.1.e": [], "acme.A.1.e": []}, {"acme.B.1.e": ["fileB"], "acme.A.1.e": ["fileC"]})
+            found.outcomes.set_apart({"acme.B.1.e": [], "acme.A.1.e": []}, {"acme.B.1.e": ["fileB"], "acme.A.1.e": ["fileC"]}, {})
 
     monkeypatch.setattr(found.outcomes, "move", move)
-    found.outcomes.set_apart({"acme.A.1.e": []}, {"acme.A.1.e": ["fileA"]})
+    found.outcomes.set_apart({"acme.A.1.e": []}, {"acme.A.1.e": ["fileA"]}, {})
     found.outcomes.take_late("acme")
     expect((moved, discarded, found.catching_up.waiting) == (["A"], ["fileA"], {"acme"}), moved, discarded)
     monkeypatch.setattr(found.outcomes, "move", lambda lost, reports: moved.append(lost.id))
@@ -80,9 +80,9 @@ class Sessions:
     """A session with the delivering instance, which takes all that is sent."""
 
     def __init__(self):
-        self.sent = []
+        self.sent, self.has_ident = [], False
 
-    def send(self, attempt, kept):
+    def send(self, attempt, kept, is_by_log):
         self.sent.append(attempt.id)
         return f"4F{attempt.id}"
 
