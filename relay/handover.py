@@ -13,7 +13,7 @@ from typing import Dict, List, Optional, Set, Tuple
 import log
 from book import Book
 from desk import NO_ROUTE, Away, Desk, Refused
-from destinations import Destinations
+from destinations import Destinations, domains_of
 from dsn import clean
 from handed import Attempt, Handed
 from instance import BROKEN, NotTaken, Session
@@ -154,13 +154,17 @@ class Handover:
         """The customer's next messages that may be handed over now, and behind which queue ID the
         rest of its list begins."""
         found, size = [], 0
+        # (what goes where one message may not go now may not either: so a long list takes little)
+        closed: Set[Tuple[str, ...]] = set()
         not_free = self.handed.spools_under_way(customer) | set(self.book.untold(customer))
         try:
             for it in self.desk.due(customer, after):
-                if it["spool"] in not_free:
+                domains = tuple(domains_of(it["recipients"]))
+                if it["spool"] in not_free or domains in closed:
                     continue
                 attempt = self.attempt(customer, it)
                 if not self.destinations.begin(attempt):
+                    closed.add(domains)
                     continue
                 found.append(attempt)
                 not_free.add(it["spool"])  # (requeued meanwhile, it is met again under another ID)

@@ -61,9 +61,12 @@ class Outcomes:
         files: Dict[str, List[str]] = {}
         with self.guard:
             set_apart = {it for some in self.late_files.values() for it in some}
+        attempts = self.handed.all_of(evidence)
         for file in [it for it in self.files() if it not in set_apart][:BATCH]:
             envelope, told = self.read_one(file)
-            if envelope and self.handed.of(envelope):
+            if envelope and envelope not in attempts:
+                attempts.update(self.handed.all_of([envelope]))
+            if envelope in attempts:
                 reports.setdefault(envelope, []).extend(told)
                 files.setdefault(envelope, []).append(file)
             elif self.is_of_dropped(envelope):
@@ -71,9 +74,9 @@ class Outcomes:
                 self.discard(file)
             else:
                 self.put_aside(file)
-        for envelope in self.of_attempts(evidence):
+        for envelope in self.of_attempts(evidence, attempts):
             reports.setdefault(envelope, []).extend(evidence[envelope].outcomes)
-        self.set_apart({it: reports.pop(it) for it in [*reports] if self.handed.of(it).is_lost}, files, evidence)
+        self.set_apart({it: reports.pop(it) for it in [*reports] if attempts[it].is_lost}, files, evidence)
         if reports:
             self.take(reports, {it for it, of in evidence.items() if of.is_gone})
         for file in (it for envelope in reports for it in files.get(envelope, ())):
@@ -81,11 +84,11 @@ class Outcomes:
         self.sent.done(evidence[it] for it in reports if it in evidence)
         return len(reports)
 
-    def of_attempts(self, evidence: Dict[str, Evidence]) -> List[str]:
+    def of_attempts(self, evidence: Dict[str, Evidence], attempts: Dict[str, Attempt]) -> List[str]:
         """The envelope IDs of attempts that are under way, or were given up and are told as delivered. The rest is done with."""
         found, rest = [], []
         for envelope, it in evidence.items():
-            attempt = self.handed.of(envelope)
+            attempt = attempts.get(envelope)
             if attempt and (it.outcomes or not attempt.is_lost) and envelope not in self.late_lines:
                 found.append(envelope)
             elif envelope not in self.late_lines:
@@ -157,12 +160,13 @@ class Outcomes:
 
     def take(self, reports: Dict[str, List[Outcome]], gone: Container[str] = ()) -> None:
         """Journals what reports and the log say; some are gone from the queue."""
-        for envelope, told in reports.items():
-            attempt = self.handed.of(envelope)
-            if attempt and told and not attempt.with_more(told):
+        attempts = self.handed.all_of(reports)
+        for envelope, attempt in attempts.items():
+            told = reports[envelope]
+            if told and not attempt.with_more(told):
                 log.error("report of nobody", customer=attempt.customer, id=attempt.id,
                           envelope=envelope, recipients=",".join(it["recipient"] for it in told))
-        done = self.handed.reported(reports, gone)
+        done = self.handed.reported(reports, gone, attempts)
         for attempt in done:
             self.ended(attempt, attempt.with_more(reports[attempt.envelope]))
         for customer in sorted({it.customer for it in done}):
