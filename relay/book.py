@@ -48,6 +48,7 @@ CREATE TABLE IF NOT EXISTS handed (
 CREATE UNIQUE INDEX IF NOT EXISTS under_way ON handed (customer, spool) WHERE done IS NULL;
 CREATE INDEX IF NOT EXISTS handed_done ON handed (done) WHERE done IS NOT NULL;
 CREATE INDEX IF NOT EXISTS handed_spool ON handed (spool);
+CREATE INDEX IF NOT EXISTS handed_queue ON handed (queue_id) WHERE queue_id IS NOT NULL;
 CREATE INDEX IF NOT EXISTS handed_of ON handed (customer) WHERE done IS NOT NULL;
 CREATE TABLE IF NOT EXISTS notices (customer TEXT PRIMARY KEY, number INTEGER NOT NULL);
 CREATE TABLE IF NOT EXISTS mailing (customer TEXT PRIMARY KEY, number INTEGER NOT NULL);

@@ -1,7 +1,7 @@
 """Delivery: what is due is handed over, what became of it is told, and customers are swept.
 
 Customers have turns at the sessions with the instance that delivers, at the desk, and at the next
-hop of notices, in some threads each. One thread reads the reports of the instance, one hears whose mail
+hop of notices, in some threads each. One thread reads the reports and the log of the instance, one hears whose mail
 was queued, and one for each desk sweeps and cleans. What hangs or fails for one customer holds up no other.
 """
 import threading
@@ -23,6 +23,7 @@ from notices import Notices
 from outcomes import Outcomes
 from quiet import Quiet
 from reports import Reports
+from sent import Sent
 from settings import Settings
 from spool import Spool
 from turns import Turns, threads_for
@@ -41,6 +42,7 @@ class Delivery:
         self.settings, self.desk, self.book = settings, desk, book
         self.handed = Handed(book)
         self.quiet = Quiet(desk, settings.customers)
+        self.sent = Sent(settings, self.handed)
         self.destinations = Destinations(settings.rest, capacity)
         self.names = Names(desk, spool, book)
         self.notices = Notices(settings, desk, spool, self.handed, self.names)
@@ -53,14 +55,14 @@ class Delivery:
         self.want_room: Set[str] = set()
         self.ending = threading.Event()
         self.handover = Handover(settings, desk, spool, self.handed, self.names,
-                                 self.destinations)
+                                 self.destinations, self.sent)
         self.telling = self.turns_of(settings.sessions, self.tell)
         self.mailing = self.turns_of(MAILING, self.mail)
         self.catching_up = self.turns_of(CATCHING_UP, self.catch_up)
         self.turns = [self.telling, self.mailing, self.catching_up]
-        self.outcomes = Outcomes(settings, self.handed, self.names, self.telling.add, self.ended,
+        self.outcomes = Outcomes(settings, self.handed, self.names, self.sent, self.telling.add, self.ended,
                                  self.catching_up.add)
-        self.missing = Missing(settings, desk, self.handed, self.names, self.outcomes.read,
+        self.missing = Missing(settings, desk, self.handed, self.names, self.outcomes.read, self.outcomes.left,
                                self.ended, self.catching_up.add, self.destinations.keep)
         houses = [threading.Thread(target=self.keep_house, args=[it], daemon=True)
                   for it in settings.of_desks()]
@@ -95,6 +97,7 @@ class Delivery:
         for it in self.threads:
             if it.is_alive():
                 it.join()
+        self.sent.end()
 
     # ---- rounds
 
@@ -167,9 +170,10 @@ class Delivery:
                 cleaned, is_cleaning = now, True
                 to_clean.update(self.with_content(customers))
             is_there = self.chores(customers, to_sweep, to_clean, waits=False)
-            if is_cleaning and is_there and not to_clean:
+            if is_cleaning and not to_clean:
                 is_cleaning = False
-                self.clean_up(customers)
+                if is_there:
+                    self.clean_up(customers)
             self.ending.wait(self.settings.pause)
 
     def with_content(self, customers: List[str]) -> Set[str]:

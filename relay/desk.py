@@ -1,7 +1,8 @@
 """The desk's calls that a worker makes, each over a connection of its own."""
-import http.client
 import json
-from typing import Dict, Iterable, Iterator, List, Optional, Set
+import re
+import socket
+from typing import Dict, Iterable, Iterator, List, Optional, Set, Tuple
 
 from settings import Address, Settings
 
@@ -10,6 +11,9 @@ NO_ROUTE, NO_MESSAGE, NO_CUSTOMER, BAD_ADDRESS, ATTEMPT_AHEAD, UNKNOWN_RECIPIENT
 QUOTA_MESSAGES, QUOTA_BYTES, SERIALS_SPENT = 40, 41, 43
 # How many seconds a step of a call takes at most where there are several desks.
 LONGEST_OF_SEVERAL = 10.0
+# The most bytes of a reply, and of what is read at once.
+LARGEST_REPLY, PIECE = 256_000_000, 262_144
+STATUS_LINE, LENGTH = re.compile(rb"HTTP/1\.[01] ([0-9]{3})[ \r]"), re.compile(rb"(?i)\r\ncontent-length:[ \t]*([0-9]{1,12})[ \t]*\r\n")
 
 
 class Refused(Exception):
@@ -37,27 +41,79 @@ def has_no_call_of_all(error: Exception) -> bool:
     return isinstance(error, Away) and error.status == 404
 
 
+class Call:
+    """A call that was sent, so that others may be before its reply is waited for."""
+
+    def __init__(self, desk: "Desk", path: str, body: Optional[dict], timeout: Optional[float]):
+        self.path = path
+        host, port = desk.address
+        host = f"[{host}]" if ":" in host else host
+        sent = json.dumps(body).encode() if body is not None else b""
+        head = (f"POST {path} HTTP/1.1\r\nHost: {host}:{port}\r\nX-Desk-Key: {desk.key}\r\n"
+                f"Content-Length: {len(sent)}\r\nConnection: close\r\n\r\n")
+        # (`http.client` takes three times as long)
+        try:
+            self.socket = socket.create_connection(desk.address, timeout or desk.timeout)
+        except OSError as error:
+            raise Away(f"{path}: {error!r}") from error
+        try:
+            self.socket.sendall(head.encode() + sent)
+        except OSError as error:
+            self.close()
+            raise Away(f"{path}: {error!r}") from error
+
+    def close(self) -> None:
+        self.socket.close()
+
+    def reply(self) -> dict:
+        """The body of the reply."""
+        try:
+            status, text = self.parted()
+            told = json.loads(text)
+        except (OSError, ValueError) as error:
+            raise Away(f"{self.path}: {error!r}") from error
+        finally:
+            self.close()
+        if status == 200:
+            return told
+        if status == 503 or not isinstance(told, dict) or "error" not in told:
+            raise Away(f"{self.path}: {status} {told}", status)
+        raise Refused(told)
+
+    def parted(self) -> Tuple[int, bytes]:
+        """The status of the reply, and its body, which ends where the connection does. ValueError is raised where it is none, or was
+        cut."""
+        text = self.read()
+        head, end, body = text.partition(b"\r\n\r\n")
+        found, length = STATUS_LINE.match(head), LENGTH.search(head + b"\r\n")
+        if not (found and end):
+            raise ValueError(f"no reply: {text[:100]!r}")
+        if length and len(body) != int(length[1]):
+            raise ValueError(f"{len(body)} bytes of {int(length[1])}")
+        return int(found[1]), body
+
+    def read(self) -> bytes:
+        found = [self.socket.recv(PIECE)]
+        size = len(found[0])
+        while found[-1]:
+            if size > LARGEST_REPLY:
+                raise ValueError("the reply does not end")
+            found.append(self.socket.recv(PIECE))
+            size += len(found[-1])
+        return b"".join(found)
+
+
 class Desk:
     def __init__(self, address: Address, key: str, timeout: float):
         self.address, self.key, self.timeout = address, key, timeout
 
+    def begin(self, path: str, body: Optional[dict] = None, timeout: Optional[float] = None) -> Call:
+        """Sends one call."""
+        return Call(self, path, body, timeout)
+
     def ask(self, path: str, body: Optional[dict] = None, timeout: Optional[float] = None) -> dict:
         """The body of the reply to one call."""
-        connection = http.client.HTTPConnection(*self.address, timeout=timeout or self.timeout)
-        try:
-            sent = json.dumps(body).encode() if body is not None else b""
-            connection.request("POST", path, sent, {"X-Desk-Key": self.key})
-            response = connection.getresponse()
-            told = json.loads(response.read())
-        except (OSError, http.client.HTTPException, ValueError) as error:
-            raise Away(f"{path}: {error!r}") from error
-        finally:
-            connection.close()
-        if response.status == 200:
-            return told
-        if response.status == 503 or not isinstance(told, dict) or "error" not in told:
-            raise Away(f"{path}: {response.status} {told}", response.status)
-        raise Refused(told)
+        return self.begin(path, body, timeout).reply()
 
     def submit(self, customer: str, spool: str, sender: str, recipient: str, size: int) -> dict:
         body = {"spool": spool, "sender": sender, "recipients": [recipient], "size": size}
@@ -68,9 +124,10 @@ class Desk:
         body = {"sender": sender, "recipients": [recipient], "size": size}
         return self.ask(f"/relay/admit/{customer}", body, min(timeout, self.timeout))
 
-    def outcome(self, customer: str, id: str, attempt: int, outcomes: List[Dict[str, str]]) -> dict:
+    def outcome(self, customer: str, id: str, attempt: int, outcomes: List[Dict[str, str]]) -> Call:
+        """Sends what became of an attempt."""
         body = {"id": id, "attempt": attempt, "outcomes": outcomes}
-        return self.ask(f"/relay/outcome/{customer}", body)
+        return self.begin(f"/relay/outcome/{customer}", body)
 
     def sweep(self, customer: str) -> dict:
         return self.ask(f"/relay/sweep/{customer}")

@@ -62,18 +62,34 @@ class Rest:
 
 @dataclass
 class Domain:
-    """`window` is how many messages may be under way to it, once it has answered; `under_way` has by envelope ID the customer of each message and since when it is, the oldest first; `cut` the rest of
-    each customer whose sessions the host cuts; `waiting` who waits for its end, of which there were `ends` since."""
+    """`window` is how many messages may be under way to it, once it has answered; `under_way` has by envelope ID the customer of
+    each message and since when it is, the oldest first, and `counts` how many each customer has; `cut` the rest of each customer
+    whose sessions the host cuts; `waiting` who waits for its end, of which there were `ends` since."""
     is_proven: bool = False
     window: int = FIRST
     rest: Rest = field(default_factory=Rest)
     cut: Dict[str, Rest] = field(default_factory=dict)
     under_way: Dict[str, tuple] = field(default_factory=dict)
+    counts: Dict[str, int] = field(default_factory=dict)
     waiting: Set[str] = field(default_factory=set)
     ends: int = 0
 
     def count_of(self, customer: str) -> int:
-        return sum(it == customer for it, _ in self.under_way.values())
+        return self.counts.get(customer, 0)
+
+    def add(self, envelope: str, customer: str, since: float) -> None:
+        if envelope not in self.under_way:
+            self.counts[customer] = self.count_of(customer) + 1
+        self.under_way[envelope] = customer, since
+
+    def remove(self, envelope: str) -> bool:
+        """A message is not under way any more; whether it was."""
+        found = self.under_way.pop(envelope, None)
+        if found:
+            self.counts[found[0]] -= 1
+            if not self.counts[found[0]]:
+                del self.counts[found[0]]
+        return bool(found)
 
     def is_slow(self, now: float) -> bool:
         """Whether each of its messages may hold a process for long, for all that is known."""
@@ -131,7 +147,7 @@ class Destinations:
                 self.waiting.add(attempt.customer)
                 return False
             for it in found if not full else ():
-                it.under_way[attempt.envelope] = attempt.customer, now
+                it.add(attempt.envelope, attempt.customer, now)
             return not full
 
     def resume(self, attempts: Iterable[Attempt]) -> None:
@@ -140,7 +156,7 @@ class Destinations:
         with self.guard:
             for it in sorted(attempts, key=lambda it: it.at):
                 for name in domains_of(it.recipients):
-                    self.domain(name).under_way[it.envelope] = it.customer, now - max(0.0, moment - it.at)
+                    self.domain(name).add(it.envelope, it.customer, now - max(0.0, moment - it.at))
 
     def end(self, attempt: Attempt) -> Set[str]:
         """A message is not under way any more. Returns the customers who waited for that."""
@@ -149,7 +165,7 @@ class Destinations:
             for name in domains_of(attempt.recipients):
                 domain = self.domain(name)
                 # (it may have been new, or slow, until now)
-                if domain.under_way.pop(attempt.envelope, None):
+                if domain.remove(attempt.envelope):
                     found |= self.free(now)
                 found |= domain.go_on()
                 if domain.is_idle(now) and not (domain.is_proven or domain.rest.seconds or domain.cut):
@@ -163,7 +179,7 @@ class Destinations:
             for domain in self.domains.values():
                 gone = [it for it, (_, at) in domain.under_way.items() if it not in known and now - at > WRITTEN_BY]
                 for it in gone:
-                    del domain.under_way[it]
+                    domain.remove(it)
 
     def free(self, now: float) -> Set[str]:
         """Some processes are free; who goes on by that."""

@@ -7,7 +7,7 @@ It stays for a while, so that a late report finds it.
 import json
 import time
 from dataclasses import dataclass, replace
-from typing import Callable, Dict, List, Optional, Set, Tuple
+from typing import Callable, Container, Dict, Iterable, List, Optional, Set, Tuple
 
 from book import Book, Notice, Report
 
@@ -41,9 +41,15 @@ class Attempt:
         known = {it["recipient"].lower(): it for it in self.outcomes}
         for it in told:
             name = it["recipient"].lower()
-            if name in wanted:
-                known.setdefault(name, {**it, "recipient": wanted[name]})
+            # (a report goes before a line of the log)
+            if name in wanted and (name not in known or ("by" in known[name] and "by" not in it)):
+                known[name] = {**it, "recipient": wanted[name]}
         return list(known.values())
+
+    def is_known(self, outcomes: List[Outcome], is_gone: bool) -> bool:
+        """Whether these are its last outcomes. What the log tells counts when the message has left the queue."""
+        is_whole = len(outcomes) == len({it.lower() for it in self.recipients})
+        return is_whole and (is_gone or not any("by" in it for it in outcomes))
 
 
 def attempt_of(row: tuple) -> Attempt:
@@ -64,6 +70,14 @@ class Handed:
 
     def of(self, envelope: str) -> Optional[Attempt]:
         return next(iter(self.find("envelope = ?", envelope)), None)
+
+    def all_of(self, envelopes: Iterable[str]) -> Dict[str, Attempt]:
+        """The attempts of those envelope IDs that are of one."""
+        return {it: attempt for it in envelopes for attempt in [self.of(it)] if attempt}
+
+    def of_queue_id(self, id: str) -> Optional[Attempt]:
+        """The attempt that is under way under a queue ID, or was given up as lost."""
+        return next(iter(self.find("queue_id = ? AND (done IS NULL OR is_lost)", id)), None)
 
     def last_of(self, spool: str) -> Optional[Attempt]:
         """The last attempt of a name."""
@@ -119,12 +133,13 @@ class Handed:
             database.execute("UPDATE handed SET id = ?, attempt = ? WHERE envelope = ?",
                              (id, number, attempt.envelope))
 
-    def reported(self, reports: Dict[str, List[Outcome]]) -> List[Attempt]:
-        """Adds what reports say to the attempts under way. Those of which all recipients are known
-        by now are journaled, and returned."""
+    def reported(self, reports: Dict[str, List[Outcome]], gone: Container[str] = (),
+                 known: Optional[Dict[str, Attempt]] = None) -> List[Attempt]:
+        """Adds what reports and the log say to the attempts under way; some are gone from the queue. Those of which
+        all recipients are known by now are journaled, and returned. `known` are the attempts, as they were just now."""
         found = []
         # (a notice is written before the lock is taken, for which others wait)
-        attempts = [it for it in map(self.of, reports) if it and not it.done]
+        attempts = [it for it in (self.all_of(reports) if known is None else known).values() if not it.done]
         notices = {it.envelope: self.success_of(it.report(told_of(list(it.outcomes))), it) for it in
                    (replace(it, outcomes=tuple(it.with_more(reports[it.envelope])), done=time.time()) for it in attempts)}
         with self.book.writing() as database:
@@ -133,7 +148,7 @@ class Handed:
                 outcomes = attempt.with_more(reports[envelope]) if attempt else []
                 if not attempt or attempt.done:
                     continue  # (meanwhile)
-                if len(outcomes) < len({it.lower() for it in attempt.recipients}):
+                if not attempt.is_known(outcomes, envelope in gone):
                     database.execute("UPDATE handed SET outcomes = ? WHERE envelope = ?",
                                      (json.dumps(outcomes), envelope))
                     continue

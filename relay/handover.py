@@ -13,13 +13,14 @@ from typing import Dict, List, Optional, Set, Tuple
 import log
 from book import Book
 from desk import Away, Desk, Refused, has_no_call_of_all
-from destinations import Destinations
+from destinations import Destinations, domains_of
 from dsn import clean
 from handed import Attempt, Handed
 from instance import BROKEN, NotTaken, Session
 from names import Names
+from sent import Sent
 from settings import Settings
-from spool import Spool
+from spool import Kept, Spool
 from turns import Turns, threads_for
 
 # So many messages, and bytes, are handed over behind one look at the desk's list; and so many of them
@@ -37,9 +38,9 @@ class Handover:
     be, each of which has a thread."""
 
     def __init__(self, settings: Settings, desk: Desk, spool: Spool, handed: Handed, names: Names,
-                 destinations: Destinations):
+                 destinations: Destinations, sent: Sent):
         self.settings, self.desk, self.spool, self.handed = settings, desk, spool, handed
-        self.names, self.destinations = names, destinations
+        self.names, self.destinations, self.sent = names, destinations, sent
         self.book: Book = handed.book
         self.turns = Turns(threads_for(settings, settings.sessions), settings.pause, self.turn, settings.desks)
         self.own = threading.local()  # each thread's session
@@ -147,13 +148,17 @@ class Handover:
         """The customer's next messages that may be handed over now, and behind which queue ID the
         rest of its list begins."""
         found, size = [], 0
+        # (what goes where one message may not go now may not either: so a long list takes little)
+        closed: Set[Tuple[str, ...]] = set()
         not_free = self.handed.spools_under_way(customer) | set(self.book.untold(customer))
         try:
             for it in self.desk.due(customer, after):
-                if it["spool"] in not_free:
+                domains = tuple(domains_of(it["recipients"]))
+                if it["spool"] in not_free or domains in closed:
                     continue
                 attempt = self.attempt(customer, it)
                 if not self.destinations.begin(attempt):
+                    closed.add(domains)
                     continue
                 found.append(attempt)
                 not_free.add(it["spool"])  # (requeued meanwhile, it is met again under another ID)
@@ -216,7 +221,16 @@ class Handover:
         if not (session and session.is_alive()):
             self.own.session = None
             session = self.own.session = Session(self.settings)
+        self.prove(session)
         return session
+
+    def prove(self, session: Session) -> None:
+        """Finds out whether the log of the instance tells what is handed over, by a transaction that is not ended."""
+        if session.has_ident and not self.sent.is_trusted():
+            probe = self.sent.probe()
+            self.sent.expect(probe)
+            session.probe(probe)
+            self.sent.shows(probe)
 
     def break_off(self) -> bool:
         """Gives this thread's session up; whether the content of a message was begun in it."""
@@ -238,13 +252,24 @@ class Handover:
             if not kept or kept.envelope.customer != attempt.customer:
                 return self.defer_without_content(attempt, "there is no such file")
             try:
-                return session.send(attempt, kept)
+                return self.send(attempt, kept, session)
             except NotTaken as error:
                 if error.is_of_all:
                     raise
                 log.error("refused by the delivering instance", customer=attempt.customer,
                           id=attempt.id, why=error)
                 return self.refuse(attempt, error.result, error.status, clean(error))
+
+    def send(self, attempt: Attempt, kept: Kept, session: Session) -> str:
+        """The queue ID under which a message was taken. Success is reported by a mail where the log is not to be trusted."""
+        is_by_log = session.has_ident and self.sent.is_trusted(attempt)
+        try:
+            if session.has_ident:
+                self.sent.expect(attempt.envelope)
+            return session.send(attempt, kept, is_by_log)
+        except BaseException:
+            self.sent.forget(attempt.envelope)
+            raise
 
     def defer_without_content(self, attempt: Attempt, why) -> None:
         log.error("content missing", customer=attempt.customer, id=attempt.id, spool=attempt.spool, why=why)

@@ -4,12 +4,14 @@ user, its spool, and its right to take deleted mail back.
 It changes nothing unless it may change all: what stands there and is in no record of its own is
 somebody else's. A run that was cut can be run again, since each record is written first.
 """
+import grp
 import os
 import pwd
 import re
 import shutil
 import signal
 import socket
+import stat
 import sys
 import tempfile
 from pathlib import Path
@@ -21,7 +23,7 @@ from places import Files, Main, Master, NotInstalled, Record, run
 from postfix_lines import Instance, Line
 from settings import Address, Settings, address
 
-SUDOERS = Path("/etc/sudoers.d")
+SUDOERS, LOGROTATE = Path("/etc/sudoers.d"), Path("/etc/logrotate.d")
 # Since this version a rule may have a regular expression.
 OLDEST_SUDO = (1, 9, 10)
 SUDO = re.compile(r"Sudo version ([0-9]+)\.([0-9]+)\.([0-9]+)")
@@ -67,6 +69,17 @@ def lacks_sudo() -> str:
     if not found or tuple(map(int, found.groups())) < OLDEST_SUDO:
         return "sudo is older than 1.9.10"
     return ""
+
+
+# ---- the log by which the worker knows what was delivered
+
+def rotation_of(settings: Settings) -> str:
+    """The rule of logrotate. (postlogd opens its log anew behind a hundred lines at most, so that no reload is wanted.)"""
+    user = user_of(settings)
+    group = grp.getgrgid(user.pw_gid).gr_name if user else settings.user
+    return (f"# The worker reads there what was delivered. (Written by relay/worker install.)\n{settings.log} {{\n"
+            "\tdaily\n\tmaxsize 500M\n\trotate 14\n\tmissingok\n\tnotifempty\n"
+            f"\tcreate 0640 root {group}\n\tcompress\n\tdelaycompress\n}}\n")
 
 
 # ---- what is there
@@ -116,6 +129,9 @@ class Installation:
         lines = postfix_lines.delivering(self.settings, *numbers)
         if not self.why_no_rule:
             more = [(SUDOERS, self.rules(), 0o440, check_rule)]
+        if LOGROTATE.is_dir():
+            rule = Line(rotation_of(self.settings), "bounds the log")
+            more.append((LOGROTATE, {self.settings.delivering.name: rule}, 0o644, None))
         return self.plan_of(self.settings.delivering, lines, more, self.is_made)
 
     def rules(self) -> Dict[str, Line]:
@@ -147,6 +163,9 @@ class Installation:
         for it in (self.settings.folder, self.settings.reports):
             if it.exists() and (not user or it.stat().st_uid != user.pw_uid):
                 yield f"{it} is not of the user {self.settings.user}"
+        folder = self.settings.log.parent
+        if folder.exists() and folder.stat().st_uid != 0:
+            yield f"[delivery] log: {folder} is not of root, who writes there"
         if not (self.settings.front / "main.cf").is_file():
             yield f"[intake] postfix: {self.settings.front} has no main.cf"
         yield from self.faults_of_addresses()
@@ -183,6 +202,7 @@ class Installation:
         """What would change, as far as it is known before the delivering instance is there."""
         made = [] if user_of(self.settings) else [f"user {self.settings.user}: is made"]
         made += [] if self.settings.reports.exists() else [f"{self.settings.reports}: is made"]
+        made += [] if self.settings.log.exists() else [f"{self.settings.log}: is made"]
         made += [] if self.is_made else [f"{self.settings.delivering}: is made by postmulti"]
         made += [self.told_of_waiting()] if self.waits() else []
         return [*made, *self.delivering.lines(), *self.front.lines()]
@@ -208,6 +228,7 @@ class Installation:
     def apply(self) -> None:
         self.make_user()
         self.make_folders()
+        self.make_log()
         if not self.is_made:
             self.make_instance()
             self.is_made = True
@@ -245,6 +266,21 @@ class Installation:
             if not is_there:
                 print(f"{made}: is made", flush=True)
 
+    def make_log(self) -> None:
+        """The log of the delivering instance, which postlogd writes as root, and the worker may read. Nobody else is to know the
+        queue IDs in it."""
+        gid, path = user_of(self.settings).pw_gid, self.settings.log
+        if not path.parent.exists():
+            path.parent.mkdir(0o750, parents=True)
+            os.chown(path.parent, 0, gid)
+        if not path.exists():
+            path.touch(0o640)
+            print(f"{path}: is made", flush=True)
+        of = path.stat()
+        if of.st_gid != gid or not of.st_mode & stat.S_IRGRP:
+            os.chown(path, 0, gid)
+            path.chmod(0o640)
+
     def make_instance(self) -> None:
         """Has postmulti make the delivering instance, with nothing of it that listens, and no
         chroot. The front's record tells meanwhile that it is being made."""
@@ -278,6 +314,8 @@ class Installation:
         helper = self.settings.socket
         if helper and not helper.is_socket():
             yield f"there is no {helper}: systemctl enable --now {HELPER}"
+        if not LOGROTATE.is_dir():
+            yield f"logrotate is not installed: {self.settings.log} grows"
         if self.why_no_rule:
             yield (f"{self.why_no_rule}: mail that is deleted while it is being delivered is not"
                    " taken back")

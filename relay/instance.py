@@ -7,7 +7,7 @@ import subprocess
 import threading
 from dataclasses import dataclass
 from pathlib import Path
-from typing import Dict, Set, Tuple
+from typing import Dict, List, Set, Tuple
 
 import log
 from destinations import Capacity
@@ -59,10 +59,12 @@ class Session:
         if lacking:
             self.close()
             raise OSError(f"the delivering instance does not announce {lacking}")
+        # (so that its log tells the envelope ID of each message)
+        self.has_ident = "IDENT" in self.smtp.esmtp_features.get("xforward", "").split()
         self.is_content_begun = False
 
-    def send(self, attempt: Attempt, kept: Kept) -> str:
-        """Hands a message over, and returns its queue ID.
+    def send(self, attempt: Attempt, kept: Kept, is_by_log: bool) -> str:
+        """Hands a message over, and returns its queue ID. A mail tells its success, unless the log does.
 
         NotTaken is raised where it was refused. After OSError or SMTPException nobody knows, if its
         content was begun.
@@ -70,9 +72,10 @@ class Session:
         self.is_content_begun = False
         is_utf8 = kept.envelope.is_utf8 and self.smtp.has_extn("smtputf8")
         options = f"SIZE={kept.size} BODY=8BITMIME RET=HDRS ENVID={xtext(attempt.envelope)}"
-        self.ask(f"MAIL FROM:<{attempt.sender}> {options}{' SMTPUTF8' if is_utf8 else ''}")
-        for it in attempt.recipients:
-            self.ask(f"RCPT TO:<{it}> NOTIFY=SUCCESS,FAILURE ORCPT=rfc822;{xtext(it)}")
+        wanted = "FAILURE" if is_by_log else "SUCCESS,FAILURE"
+        self.ask([*self.ident(attempt.envelope),
+                  f"MAIL FROM:<{attempt.sender}> {options}{' SMTPUTF8' if is_utf8 else ''}",
+                  *(f"RCPT TO:<{it}> NOTIFY={wanted} ORCPT=rfc822;{xtext(it)}" for it in attempt.recipients)])
         # (the content goes from its file to the socket; BDAT counts its bytes, and changes none)
         self.is_content_begun = True
         self.smtp.putcmd(f"BDAT {kept.size} LAST")
@@ -84,13 +87,36 @@ class Session:
             raise smtplib.SMTPServerDisconnected(f"no queue ID: {text!r}")
         return found[1].decode()
 
-    def ask(self, command: str) -> bytes:
-        self.smtp.putcmd(command)
-        return self.answer()
+    def ident(self, envelope: str) -> List[str]:
+        return [f"XFORWARD IDENT={xtext(envelope)}"] if self.has_ident else []
 
-    def answer(self) -> bytes:
+    def probe(self, envelope: str) -> None:
+        """Begins a message and drops it, so that the log has a line with an envelope ID."""
+        try:
+            self.ask([*self.ident(envelope), "MAIL FROM:<>", f"RCPT TO:<probe@{self.smtp.local_hostname}>"])
+            self.smtp.rset()
+        except NotTaken as error:
+            log.warning("the delivering instance takes no probe", why=error)
+
+    def ask(self, commands: List[str]) -> None:
+        """Gives commands in one piece, so that nobody waits for an answer between them."""
+        if any("\r" in it or "\n" in it for it in commands):
+            raise ValueError("a command of two lines")
+        first, told = None, (0, b"")
+        pieces = [commands] if self.smtp.has_extn("pipelining") else [[it] for it in commands]
+        for piece in pieces:
+            self.smtp.send("".join(f"{it}\r\n" for it in piece))
+            for _ in piece:
+                told = self.smtp.getreply()
+                first = first or (None if 200 <= told[0] < 300 else told)
+                if told[0] == 421:
+                    break
+            if first:
+                break
+        self.judge(*(first or told))
+
+    def judge(self, code: int, text: bytes) -> bytes:
         """The text of an answer of the class 2; else the transaction is ended."""
-        code, text = self.smtp.getreply()
         if 200 <= code < 300:
             return text
         if code == 421:
@@ -102,7 +128,7 @@ class Session:
     def last_answer(self) -> bytes:
         """The answer to a content, for which filters there may need long."""
         self.smtp.sock.settimeout(max(LONGEST_END, self.timeout))
-        text = self.answer()
+        text = self.judge(*self.smtp.getreply())
         self.smtp.sock.settimeout(self.timeout)
         return text
 

@@ -17,14 +17,14 @@ TAKEN_BACK_ON_HOLD = "deferred"
 
 
 class Missing:
-    """The queue is asked first and the reports are read then, since what leaves the queue has put its
-    report there before. One look is not believed: a message that moves there may be missed."""
+    """The queue is asked first, and the reports and the log are read then, since what leaves the queue has put its
+    report there before, and its lines. One look is not believed: a message that moves there may be missed."""
 
     def __init__(self, settings: Settings, desk: Desk, handed: Handed, names: Names,
-                 read: Callable[[], int], ended: Callable[[Attempt, list], None],
+                 read: Callable[[], int], left: Callable[[Attempt], None], ended: Callable[[Attempt, list], None],
                  lies: Callable[[str], None], keep: Callable[[Set[str]], None]):
         self.settings, self.desk, self.handed, self.names = settings, desk, handed, names
-        self.read, self.ended, self.lies, self.keep = read, ended, lies, keep
+        self.read, self.left, self.ended, self.lies, self.keep = read, left, ended, lies, keep
         # what lies in the queue, by customer, with the queue that it lies in
         self.lying: Dict[str, List[Tuple[Attempt, str]]] = {}
         # since when an attempt is neither in the queue nor reported, by its envelope ID
@@ -61,6 +61,11 @@ class Missing:
         wait = self.settings.lost_after if attempt.queue_id else self.settings.settle_after
         # A report that lies in the queue since before may be this one's.
         is_report_there = queue.oldest_report <= time.time() - (now - since) + 1
+        if not is_report_there and attempt.is_known(list(attempt.outcomes), is_gone=True):
+            # (the log has told of all its recipients, but not that it has left the queue)
+            self.since.pop(attempt.envelope)
+            self.left(attempt)
+            return
         if is_report_there or since > now - wait:
             return
         words = dict(customer=attempt.customer, id=attempt.id, spool=attempt.spool,
@@ -74,7 +79,8 @@ class Missing:
             log.warning("was not handed over", **words)
 
     def resolve(self, attempt: Attempt, is_lost: bool) -> None:
-        """Awaits nothing more of an attempt. What is known of some of its recipients is told."""
+        """Awaits nothing more of an attempt. What is known of some of its recipients by now is told."""
+        attempt = self.handed.of(attempt.envelope) or attempt
         self.handed.resolved(attempt, told_of(list(attempt.outcomes)), is_lost)
         self.ended(attempt, [])
 

@@ -36,6 +36,11 @@ class Notices:
             return waiting is not None
         return len(waiting) + more <= self.settings.customers[customer].notices
 
+    def takes(self, customer: str, more: int) -> bool:
+        """Whether so many more notices push out none, and none of each other."""
+        waiting = self.unmailed(customer)
+        return waiting is not None and len(waiting) + more <= self.settings.customers[customer].notices
+
     def unmailed(self, customer: str) -> Optional[List[int]]:
         """The numbers of what was not mailed; None where the desk is behind the book.
 

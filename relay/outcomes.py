@@ -1,144 +1,113 @@
-"""What became of what was handed over: the reports of the instance that delivers (RFC 3464).
+"""What became of what was handed over: the reports of the instance that delivers (RFC 3464), and its log (`sent.py`).
 
-They lie in a Maildir. All that stands in one may be written by a stranger, as the answer of a host
+Reports lie in a Maildir. All that stands in one may be written by a stranger, as the answer of a host
 is: so a report counts only for an attempt whose envelope ID it has, and nobody can guess that.
 """
-import email
-import email.policy
 import mailbox
-import re
+import os
 import threading
 from dataclasses import replace
-from email.message import Message
-from typing import Callable, Dict, List, Optional, Tuple
+from typing import Callable, Container, Dict, List, Optional, Tuple
 
 import log
-from destinations import CUSTOMER_ALONE, DOMAIN
-from dsn import STATUS, clean
 from handed import Attempt, Handed, Outcome, told_of
 from names import Names
-from postfix_lines import SOFT_MARK
+from reading import read_text
+from sent import Evidence, Sent
 from settings import CUSTOMER, Settings
+from spool import drop
 
 # So many reports are read at once, and so many bytes of each.
 BATCH, LARGEST = 200, 262_144
 # The folder for what is none of ours, and how many of these are kept.
 ASIDE, MOST_ASIDE = "aside", 100
-# The subject of a status that tells of the connection (RFC 3463).
-OF_THE_CONNECTION = 4
-# How Postfix says that a session was cut behind its greeting: "lost connection with HOST while sending RCPT TO".
-CUT = re.compile(r"(?:lost connection|conversation) with .* while sending ")
-
-
-def outcome_of(group: Message) -> Optional[Outcome]:
-    """What a group of a report says of its recipient; None where it is still being tried.
-
-    A failure that would have been tried again has the mark of `postfix_lines` in its status. Where the
-    instance itself, and not a host, tells of the connection, the domain was not reached; or this
-    message alone, where its session was cut.
-    """
-    kind, _, text = (it.strip() for it in clean(group["Diagnostic-Code"] or "").partition(";"))
-    action = clean(group["Action"] or "").lower()
-    found = STATUS.fullmatch(clean(group["Status"] or ""))
-    digit, subject, detail = found.groups() if found else ("5", "0", "0")
-    is_soft = digit == "4" or (len(subject) > 1 and subject.startswith(SOFT_MARK))
-    if is_soft and digit != "4":
-        subject = subject[len(SOFT_MARK):]
-    if action in ("delivered", "relayed", "expanded"):
-        result, digit = "delivered", "2"
-    elif action == "failed":
-        result, digit = ("deferred", "4") if is_soft else ("failed", "5")
-    else:
-        return None
-    is_lost = is_soft and int(subject) == OF_THE_CONNECTION and kind.lower() != "smtp"
-    return {"recipient": recipient_of(group), "result": result,
-            "status": f"{digit}.{int(subject)}.{int(detail)}", "text": text,
-            "remote": clean(group["Remote-MTA"] or "").partition(";")[2].strip(),
-            "unreached": (CUSTOMER_ALONE if CUT.match(text) else DOMAIN) if is_lost else ""}
-
-
-def recipient_of(group: Message) -> str:
-    named = group["Original-Recipient"] or group["Final-Recipient"] or ""
-    return clean(named).partition(";")[2].strip()
-
-
-def read_report(message: Message) -> Tuple[Optional[str], List[Outcome]]:
-    """The envelope ID of a report, and what it says of each recipient; no ID where it has none.
-
-    Only a part that stands in the report itself is read, and none in a message that it returns.
-    """
-    if message.get_content_type() != "multipart/report" or not message.is_multipart():
-        return None, []
-    for part in message.get_payload():
-        if part.get_content_type() == "message/delivery-status" and part.is_multipart():
-            whole, *groups = part.get_payload()
-            told = [outcome_of(it) for it in groups]
-            return clean(whole["Original-Envelope-Id"] or ""), [it for it in told if it]
-    return None, []
-
-
-def read_text(text: bytes, file: str) -> Tuple[Optional[str], List[Outcome]]:
-    """What a file says that may be a report; no ID where it is none."""
-    try:
-        # (of mail with SMTPUTF8 it is the same by another name: RFC 6533)
-        text = text.replace(b"message/global-delivery-status", b"message/delivery-status")
-        return read_report(email.message_from_bytes(text, policy=email.policy.compat32))
-    except Exception as error:  # whatever a stranger wrote
-        log.error("report not read", file=file, why=repr(error))
-        return None, []
+# Where a Maildir has mail.
+MAILDIR = ("new", "cur")
 
 
 class Outcomes:
-    """Reads reports, and journals what is to be told. `journaled` hears of whom there is something,
+    """Reads reports and the log, and journals what is to be told. `journaled` hears of whom there is something,
     `ended` of each attempt that has ended so, and `comes_late` of whom a report has to be fitted, for
     which its desk is asked."""
 
-    def __init__(self, settings: Settings, handed: Handed, names: Names,
+    def __init__(self, settings: Settings, handed: Handed, names: Names, sent: Sent,
                  journaled: Callable[[str], None], ended: Callable[[Attempt, list], None],
                  comes_late: Callable[[str], None]):
-        self.settings, self.handed, self.names = settings, handed, names
+        self.settings, self.handed, self.names, self.sent = settings, handed, names, sent
         self.journaled, self.ended, self.comes_late = journaled, ended, comes_late
-        # by customer what came of attempts that were given up, and the files that say so
+        # by customer what came of attempts that were given up; the files that say so, and the lines of the log
         self.late: Dict[str, Dict[str, List[Outcome]]] = {}
-        self.late_keys: Dict[str, List[str]] = {}
-        self.guard = threading.Lock()  # of both
+        self.late_files: Dict[str, List[str]] = {}
+        self.late_lines: Dict[str, Evidence] = {}
+        self.guard = threading.Lock()  # of these
 
-    def box(self) -> mailbox.Maildir:
-        # (a new one each time: one that is kept may miss a file of the same moment)
-        return mailbox.Maildir(str(self.settings.reports), create=False)
+    def files(self) -> List[str]:
+        """The reports that have come, each as its folder and its name there."""
+        found: List[str] = []
+        for folder in MAILDIR:
+            try:
+                with os.scandir(self.settings.reports / folder) as entries:
+                    found += [f"{folder}/{it.name}" for it in entries if not (it.name.startswith(".") or it.is_dir())]
+            except FileNotFoundError:
+                return []  # (there is no Maildir yet)
+        return found
 
     def read(self) -> int:
-        """Journals the outcomes of reports that have come, and removes the reports. Returns how many
-        there were."""
-        if not all((self.settings.reports / it).is_dir() for it in ("new", "cur", "tmp")):
-            return 0
-        box, reports, keys = self.box(), {}, {}
+        """Journals the outcomes of reports that have come, and removes the reports; and what the log tells. Returns of how many
+        attempts there was something."""
+        # (the log first: of what it tells as gone a report is there by now)
+        evidence = self.sent.take()
+        reports: Dict[str, List[Outcome]] = {}
+        files: Dict[str, List[str]] = {}
         with self.guard:
-            set_apart = {it for some in self.late_keys.values() for it in some}
-        for key in [it for it in box.keys() if it not in set_apart][:BATCH]:
-            envelope, told = self.read_one(box, key)
-            if envelope and self.handed.of(envelope):
+            set_apart = {it for some in self.late_files.values() for it in some}
+        attempts = self.handed.all_of(evidence)
+        for file in [it for it in self.files() if it not in set_apart][:BATCH]:
+            envelope, told = self.read_one(file)
+            if envelope and envelope not in attempts:
+                attempts.update(self.handed.all_of([envelope]))
+            if envelope in attempts:
                 reports.setdefault(envelope, []).extend(told)
-                keys.setdefault(envelope, []).append(key)
+                files.setdefault(envelope, []).append(file)
             elif self.is_of_dropped(envelope):
-                log.warning("report of a dropped customer", file=key)
-                box.discard(key)
+                log.warning("report of a dropped customer", file=file)
+                self.discard(file)
             else:
-                self.put_aside(box, key)
-        self.set_apart({it: reports.pop(it) for it in [*reports] if self.handed.of(it).is_lost}, keys)
+                self.put_aside(file)
+        for envelope in self.of_attempts(evidence, attempts):
+            reports.setdefault(envelope, []).extend(evidence[envelope].outcomes)
+        self.set_apart({it: reports.pop(it) for it in [*reports] if attempts[it].is_lost}, files, evidence)
         if reports:
-            self.take(reports)
-        for key in (it for envelope in reports for it in keys[envelope]):
-            box.discard(key)
+            self.take(reports, {it for it, of in evidence.items() if of.is_gone})
+        for file in (it for envelope in reports for it in files.get(envelope, ())):
+            self.discard(file)
+        self.sent.done(evidence[it] for it in reports if it in evidence)
         return len(reports)
 
-    def set_apart(self, late: Dict[str, List[Outcome]], keys: Dict[str, List[str]]) -> None:
-        """These reports are of attempts that were given up: each is fitted in a turn of its customer."""
+    def of_attempts(self, evidence: Dict[str, Evidence], attempts: Dict[str, Attempt]) -> List[str]:
+        """The envelope IDs of attempts that are under way, or were given up and are told as delivered. The rest is done with."""
+        found, rest = [], []
+        for envelope, it in evidence.items():
+            attempt = attempts.get(envelope)
+            if attempt and (it.outcomes or not attempt.is_lost) and envelope not in self.late_lines:
+                found.append(envelope)
+            elif envelope not in self.late_lines:
+                rest.append(it)
+        self.sent.done(rest)
+        return found
+
+    def discard(self, file: str) -> None:
+        drop(self.settings.reports / file)
+
+    def set_apart(self, late: Dict[str, List[Outcome]], files: Dict[str, List[str]], evidence: Dict[str, Evidence]) -> None:
+        """These reports, and lines, are of attempts that were given up: each is fitted in a turn of its customer."""
         for envelope, told in late.items():
             customer = self.handed.of(envelope).customer
             with self.guard:
                 self.late.setdefault(customer, {}).setdefault(envelope, []).extend(told)
-                self.late_keys.setdefault(envelope, []).extend(keys[envelope])
+                self.late_files.setdefault(envelope, []).extend(files.get(envelope, ()))
+                if envelope in evidence:
+                    self.late_lines[envelope] = evidence[envelope]
         if late:
             self.ask_for_late()
 
@@ -153,7 +122,7 @@ class Outcomes:
         """Fits the late reports of a customer. A turn: nothing is left to do."""
         with self.guard:
             waiting = {envelope: [*told] for envelope, told in self.late.get(customer, {}).items()}
-            files = {it: [*self.late_keys[it]] for it in waiting}
+            files = {it: [*self.late_files[it]] for it in waiting}
         for envelope, told in waiting.items():
             reports, attempt = {envelope: told}, self.handed.of(envelope)
             if customer not in self.settings.customers:
@@ -162,18 +131,20 @@ class Outcomes:
                 self.move(attempt, reports)
                 self.take(reports)
                 self.journaled(customer)
-            for key in files[envelope]:
-                self.box().discard(key)
+            for file in files[envelope]:
+                self.discard(file)
             self.took(customer, envelope, len(told), len(files[envelope]))
         return False
 
     def took(self, customer: str, envelope: str, outcomes: int, files: int) -> None:
         """So much of the late reports of an attempt is done with; what came meanwhile waits."""
         with self.guard:
+            lines = self.late_lines.pop(envelope, None)
             del self.late[customer][envelope][:outcomes]
-            del self.late_keys[envelope][:files]
-            if not self.late_keys[envelope]:
-                del self.late[customer][envelope], self.late_keys[envelope]
+            del self.late_files[envelope][:files]
+            if not self.late_files[envelope]:
+                del self.late[customer][envelope], self.late_files[envelope]
+        self.sent.done([lines] if lines else [])
 
     def is_of_dropped(self, envelope: Optional[str]) -> bool:
         """Whether an envelope ID is of a customer who is in the settings no more."""
@@ -181,25 +152,29 @@ class Outcomes:
         is_name = bool(dot and CUSTOMER.fullmatch(name))
         return is_name and name not in self.settings.customers
 
-    def read_one(self, box: mailbox.Maildir, key: str) -> Tuple[Optional[str], List[Outcome]]:
+    def read_one(self, file: str) -> Tuple[Optional[str], List[Outcome]]:
         """The envelope ID of a report and what it says; no ID where it is none. (A file that cannot
         be opened now raises OSError, and stays.)"""
-        with box.get_file(key) as file:
-            text = file.read(LARGEST)
-        return read_text(text, key)
+        with open(self.settings.reports / file, "rb") as opened:
+            return read_text(opened.read(LARGEST), file)
 
-    def take(self, reports: Dict[str, List[Outcome]]) -> None:
-        """Journals what reports say."""
-        for envelope, told in reports.items():
-            attempt = self.handed.of(envelope)
-            if attempt and told and not attempt.with_more(told):
+    def take(self, reports: Dict[str, List[Outcome]], gone: Container[str] = ()) -> None:
+        """Journals what reports and the log say; some are gone from the queue."""
+        attempts = self.handed.all_of(reports)
+        for envelope, attempt in attempts.items():
+            told = reports[envelope]
+            if told and not attempt.with_more(told):
                 log.error("report of nobody", customer=attempt.customer, id=attempt.id,
                           envelope=envelope, recipients=",".join(it["recipient"] for it in told))
-        done = self.handed.reported(reports)
+        done = self.handed.reported(reports, gone, attempts)
         for attempt in done:
             self.ended(attempt, attempt.with_more(reports[attempt.envelope]))
         for customer in sorted({it.customer for it in done}):
             self.journaled(customer)
+
+    def left(self, attempt: Attempt) -> None:
+        """An attempt of which all is told has left the queue."""
+        self.take({attempt.envelope: []}, {attempt.envelope})
 
     def move(self, lost: Attempt, reports: Dict[str, List[Outcome]]) -> None:
         """A report came of an attempt that was given up as lost. Where its message was delivered, or
@@ -218,11 +193,12 @@ class Outcomes:
             lost = replace(lost, id=message["id"], number=message["attempts"] + 1)
         self.handed.resolved(lost, told_of(final) if message else [])
 
-    def put_aside(self, box: mailbox.Maildir, key: str) -> None:
+    def put_aside(self, file: str) -> None:
         """Keeps what is none of ours apart, as long as there are few of these."""
+        box = mailbox.Maildir(str(self.settings.reports), create=False)
         aside = box.get_folder(ASIDE) if ASIDE in box.list_folders() else box.add_folder(ASIDE)
-        log.error("foreign mail among the reports", file=key)
+        log.error("foreign mail among the reports", file=file)
         if len(aside) < MOST_ASIDE:
-            with box.get_file(key) as file:
-                aside.add(file.read(LARGEST))
-        box.discard(key)
+            with open(self.settings.reports / file, "rb") as opened:
+                aside.add(opened.read(LARGEST))
+        self.discard(file)

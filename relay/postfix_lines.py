@@ -139,7 +139,7 @@ def notices_listener(settings: Settings) -> Dict[str, Line]:
 
 def delivering(settings: Settings, uid: int, gid: int) -> Instance:
     """`uid` and `gid` are those of the worker, who reads the reports."""
-    parameters = {**whose_mail(settings), **one_attempt(), **reports_kept(settings, uid, gid),
+    parameters = {**whose_mail(settings), **one_attempt(), **log_kept(settings), **reports_kept(settings, uid, gid),
                   **way_out()}
     return Instance(parameters, delivering_services(settings),
                     {"soft_failures": SOFT_FAILURES, "reports": TO_THE_WORKER})
@@ -187,8 +187,19 @@ def one_attempt() -> Dict[str, Line]:
         "minimal_backoff_time": Line("30s", "after a failed STARTTLS Postfix tries plain text"),
         "queue_run_delay": Line("30s", "after a failed STARTTLS Postfix tries plain text"),
         "smtp_discard_ehlo_keywords": Line(
-            "dsn", "this instance reports success, and no next host does"),
+            "dsn", "this instance reports failures, and no next host is asked to"),
     }
+
+
+def log_kept(settings: Settings) -> Dict[str, Line]:
+    """The log by which the worker knows what was delivered."""
+    found = {
+        "maillog_file": Line(str(settings.log), "the worker reads there what was delivered"),
+        "smtpd_authorized_xforward_hosts": Line(LOOPBACK, "the log has the worker's ID of each message"),
+    }
+    if not str(settings.log).startswith("/var/"):
+        found["maillog_file_prefixes"] = Line(str(settings.log.parent), "the log is there")
+    return found
 
 
 def reports_kept(settings: Settings, uid: int, gid: int) -> Dict[str, Line]:
@@ -231,6 +242,7 @@ def delivering_services(settings: Settings) -> Dict[str, Line]:
     found["reports/unix"] = Line(
         "reports unix n - n - 0 cleanup -o header_checks=regexp:$config_directory/reports",
         "sends each report to the worker")
+    found["postlog/unix-dgram"] = Line("postlog unix-dgram n - n - 1 postlogd", "writes the log")
     found["tlsproxy/unix"] = Line(service("tlsproxy", "unix", "0", "tlsproxy"),
                                   "holds the TLS sessions that are kept")
     return found

@@ -5,9 +5,12 @@ from typing import List, Optional, Tuple
 import desk as desks
 import log
 from book import Book, Report
-from desk import Desk, Refused
+from desk import Call, Desk, Refused
 from names import Names
 from notices import Notices
+
+# So many outcomes of a customer are told at once.
+TOGETHER = 16
 
 
 class Reports:
@@ -23,17 +26,40 @@ class Reports:
         told: List[Tuple[Report, bool]] = []
         has_room = True
         try:
-            for spool in spools:
-                report = self.book.report(customer, spool)
-                if report and is_failure(report) and not self.has_room(report):
-                    has_room = False
-                elif report:
-                    told += self.tell_one(report)
+            for at in range(0, len(spools), TOGETHER):
+                found = (self.book.report(customer, it) for it in spools[at:at + TOGETHER])
+                has_room = self.tell_some(customer, [it for it in found if it], told) and has_room
             return has_room
         finally:
             # (many are written down as told at once: the desk takes each again, and says so)
             if told:
                 self.book.all_reported(told)
+
+    def tell_some(self, customer: str, reports: List[Report], told: List[Tuple[Report, bool]]) -> bool:
+        """Tells these, and adds to `told` what the desk took; whether no failure waits for room of its notice."""
+        failures = [it for it in reports if is_failure(it)]
+        if not failures or self.notices.takes(customer, len(failures)):
+            self.tell_together(reports, told)
+            return True
+        self.tell_together([it for it in reports if it not in failures], told)
+        with_room = 0
+        for it in failures:
+            if self.has_room(it):
+                self.tell_together([it], told)
+                with_room += 1
+        return with_room == len(failures)
+
+    def tell_together(self, reports: List[Report], told: List[Tuple[Report, bool]]) -> None:
+        """Tells outcomes of different messages, all before the first reply: so they share the desk's commits."""
+        calls: List[Tuple[Report, Call]] = []
+        try:
+            for it in reports:
+                calls.append((it, self.desk.outcome(it.customer, it.id, it.attempt, it.outcomes)))
+            for it, call in calls:
+                told += self.tell_one(it, call)
+        finally:
+            for _, call in calls:
+                call.close()
 
     def has_room(self, report: Report) -> bool:
         """Whether the notice of a failure pushes out none that waits; else that is logged."""
@@ -43,20 +69,21 @@ class Reports:
                       spool=report.spool)
         return has_room
 
-    def tell_one(self, report: Optional[Report]) -> List[Tuple[Report, bool]]:
-        """Tells one, as the desk takes it; the report that it took, if it did, and whether its
-        message left the queue by it."""
-        while report:
+    def tell_one(self, report: Report, call: Call) -> List[Tuple[Report, bool]]:
+        """Tells one, as the desk takes it, by a call that was sent and by others behind that; the report that it took, if it did,
+        and whether its message left the queue by it."""
+        while True:
             try:
-                reply = self.desk.outcome(report.customer, report.id, report.attempt,
-                                          report.outcomes)
+                reply = call.reply()
             except Refused as refusal:
-                report = self.mended(report, refusal)
+                mended = self.mended(report, refusal)
+                if not mended:
+                    return []
+                report, call = mended, self.desk.outcome(mended.customer, mended.id, mended.attempt, mended.outcomes)
                 continue
             log.info("outcome", customer=report.customer, id=report.id, spool=report.spool,
                      attempt=report.attempt, outcomes=words_of(report), result=reply["result"])
             return [(report, reply.get("left") == 0)]
-        return []
 
     def mended(self, report: Report, refusal: Refused) -> Optional[Report]:
         """The report as the desk may take it; None where it is not to be told, or not now."""

@@ -44,7 +44,7 @@ class Restoring:
             if message and self.book.is_finished(spool):
                 pending = [it["address"] for it in message["pending"]]
                 outcomes = [{"recipient": it, "result": "delivered"} for it in pending]
-                self.desk.outcome(customer, id, message["attempts"] + 1, outcomes)
+                self.desk.outcome(customer, id, message["attempts"] + 1, outcomes).reply()
                 log.warning("told as delivered", customer=customer, id=id, spool=spool,
                             means="it was finished since the backup")
             elif message:

@@ -16,6 +16,7 @@ KEY = re.compile(r"[A-Za-z0-9]{16,64}")
 DOMAIN = re.compile(r"[A-Za-z0-9_-]+(\.[A-Za-z0-9_-]+)*")
 # What stands before the @ of an address, as the desk takes it (docs/API.md).
 LOCAL = re.compile(r'(?:(?!["\\<>(),;@])[!-~])+')
+LOG_FILE = re.compile(r"(?:/[A-Za-z0-9._-]+){3,}")
 USER = re.compile(r"[a-z_][a-z0-9_-]{0,30}")
 COLUMNS = ["name", "key", "messages", "bytes", "lines", "notices", "delay"]
 # (a directory may have one column more)
@@ -76,6 +77,7 @@ class Settings:
     instance: Address
     delivering: Path
     reports: Path
+    log: Path
     postsuper: List[str]
     sessions: int
     timeout: float
@@ -142,6 +144,17 @@ def words(text: str) -> List[str]:
     if found[0].startswith(SOCKET) and (len(found) > 1 or not found[0].startswith(f"{SOCKET}/")):
         raise ValueError("is not unix: and the path of a socket, from / on")
     return found
+
+
+def log_file(text: str) -> Path:
+    if not LOG_FILE.fullmatch(text):
+        raise ValueError("is not the path of a file in a folder below /, without spaces")
+    return Path(text)
+
+
+def log_of(delivering: Path) -> Path:
+    """The log of the instance that delivers, where the settings do not name it: in a folder of its own."""
+    return Path("/var/log") / delivering.name / "mail.log"
 
 
 def seconds(text: str) -> float:
@@ -294,6 +307,7 @@ def load(name: str) -> Settings:
 
     senders, since = reader.read("intake", "senders", lambda it: senders_of(reader.path(it), customer), None) or ({}, {})
     folder = reader.read("spool", "folder", reader.path)
+    delivering = reader.read("delivery", "postfix", reader.path, Path("/etc/postfix-desk"))
     found = Settings(
         file=Path(name).absolute(),
         desk=reader.read("desk", "address", address),
@@ -316,8 +330,9 @@ def load(name: str) -> Settings:
         since=since,
         host=reader.read("delivery", "host", domain),
         instance=reader.read("delivery", "instance", address, ("127.0.0.1", 10026)),
-        delivering=reader.read("delivery", "postfix", reader.path, Path("/etc/postfix-desk")),
+        delivering=delivering,
         reports=reader.read("delivery", "reports", reader.path, folder and folder / "reports"),
+        log=reader.read("delivery", "log", log_file, log_of(delivering)),
         postsuper=reader.read("delivery", "postsuper", words, ["sudo", "-n", "postsuper"]),
         sessions=reader.read("delivery", "sessions", count, 4),
         timeout=reader.read("delivery", "timeout", wait, 60.0),

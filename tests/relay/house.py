@@ -10,6 +10,16 @@ REFUSED = {"error": 44, "name": "NoticesSpent"}
 GOOD, BAD = "p@far.example", "x@hard.example"
 
 
+class Sent:
+    """A call of a test's desk, which answers as its reply is asked for."""
+
+    def __init__(self, reply):
+        self.reply = reply
+
+    def close(self):
+        """Nothing is open."""
+
+
 class Told(Desk):
     """A desk of one customer, with notices of these numbers. It makes one of each failure that it is told, or refuses all outcomes.
     The list of messages, with which a sweep begins, waits at `gate`."""
@@ -19,7 +29,10 @@ class Told(Desk):
         self.gate.set()
         self.is_listing = threading.Event()
 
-    def ask(self, path, body=None, timeout=None):
+    def begin(self, path, body=None, timeout=None):
+        return Sent(lambda: self.answer(path, body))
+
+    def answer(self, path, body):
         return getattr(self, path.split("/")[2].replace("-", "_") + "_asked")(body)
 
     def outcome_asked(self, body):
@@ -64,7 +77,7 @@ class House(Told):
         super().__init__(*notices)
         self.makes, self.is_away, self.swept = makes, is_away, []
 
-    def ask(self, path, body=None, timeout=None):
+    def answer(self, path, body):
         kind, customer = path.split("/")[2], path.rpartition("/")[2]
         if kind == "notices" and customer != "acme":
             return {"notices": []}
@@ -73,7 +86,7 @@ class House(Told):
             self.notices_of += range(1, self.makes + 1) if customer == "acme" else []
             if self.is_away and customer == "acme":
                 raise Away(path)
-        return super().ask(path, body, timeout)
+        return super().answer(path, body)
 
 
 class Hops:

@@ -227,7 +227,7 @@ class Relay:
             found["intake"]["policy"] = named(self.shared.policy)
         delivering = self.shared.delivering
         found["delivery"].update({"instance": named(delivering.address),
-                                  "postfix": delivering.conf, "reports": delivering.reports})
+                                  "postfix": delivering.conf, "reports": delivering.reports, "log": delivering.log})
         found["notices"]["next-hop"] = named(self.senders.address)
         for section, values in (*self.settings.items(), *more.items()):
             found.setdefault(section.replace("_", "-"), {}).update(values)

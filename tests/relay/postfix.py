@@ -284,8 +284,8 @@ class Delivering(Instance):
     def __init__(self, folder, hops=None, uid=65534, largest=LARGEST):
         self.reports = folder / "outcomes/reports"
         lines = postfix_lines.delivering(SimpleNamespace(
-            host="relay.example", user="hqrelay", instance=free_address(), largest=largest, reports=self.reports),
-            uid, uid)
+            host="relay.example", user="hqrelay", instance=free_address(), largest=largest, reports=self.reports,
+            log=folder / "mail.log"), uid, uid)
         at = next(it for it in lines.services if it.endswith("/inet"))
         host, port = at[:-len("/inet")].rsplit(":", 1)
         super().__init__(folder, (host, int(port)), lines, DELIVERING_OF_A_TEST)

@@ -9,11 +9,12 @@ from book import MOST_WAITING, OLD_NAMES, Book, Notice, Report
 from cleaning import Cleaning
 from desk import QUOTA_BYTES, QUOTA_MESSAGES, Refused
 from handed import Attempt, Handed
+from house import Sent
 from intake import MOST_KEPT, Intake, NotTaken
 from mailing import ASIDE, DONE
 from missing import Missing
 from notices import Notices
-from outcomes import outcome_of
+from reading import outcome_of
 from reports import Reports
 from serving import expect
 from settings import Customer
@@ -169,7 +170,7 @@ def test_a_notice_of_success_is_queued_with_its_outcome(folder):
     expect(names == ["acme/1", "acme/s1/1"] and book.untold("acme") == ["s1"], "waiting are", names)
     text = book.content_of("acme/s1/1")
     expect(b"Action: relayed" in text and b"Remote-MTA: dns; mx.far.example" in text and b"Last-Attempt-Date: " in text, "it says", text)
-    desk = SimpleNamespace(outcome=lambda *_: {"result": "done", "left": 0})
+    desk = SimpleNamespace(outcome=lambda *_: Sent(lambda: {"result": "done", "left": 0}))
     reports = Reports(desk, book, None, found)
     for _ in range(2):
         reports.tell("acme", ["s1"])
@@ -196,7 +197,8 @@ class Names:
 def looking(handed, states, taken_back, queue):
     desk = SimpleNamespace(messages=lambda customer: [{"id": id, "state": state} for id, state in states.items()])
     settings = SimpleNamespace(customers={"acme": None}, lost_after=60.0, settle_after=60.0, pause=1.0)
-    found = Missing(settings, desk, handed, Names(), lambda: 0, lambda attempt, outcomes: None, lambda customer: None, lambda known: None)
+    found = Missing(settings, desk, handed, Names(), lambda: 0, lambda attempt: None, lambda attempt, outcomes: None,
+                    lambda customer: None, lambda known: None)
     found.still_lies = lambda attempt: queue == "deferred"
     found.take_one_back = lambda it: taken_back.append((it.id, queue))
     return found
@@ -230,11 +232,6 @@ def group(status, text="host mx.far.example[192.0.2.1] said: no", kind="smtp", a
     return {"Action": action, "Status": status, "Diagnostic-Code": f"{kind}; {text}", "Final-Recipient": "rfc822; p@far.example"}
 
 
-class Fields(dict):
-    def __getitem__(self, name):
-        return self.get(name)
-
-
 @pytest.mark.parametrize("status, kind, text, result, told, unreached", [
     ("5.92.1", "smtp", "450 4.2.1 later", "deferred", "4.2.1", ""),
     ("5.90.1", "smtp", "450 4.100.1 later", "deferred", "4.0.1", ""),
@@ -251,7 +248,7 @@ class Fields(dict):
 def test_what_a_report_says(status, kind, text, result, told, unreached):
     """Of a host that refuses for now, for good, or by a code of its own; and whom an attempt did not reach: the domain, or this
     customer's message alone, where its session was cut."""
-    found = outcome_of(Fields(group(status, text, kind)))
+    found = outcome_of(group(status, text, kind).get)
     expect((found["result"], found["status"], found["unreached"]) == (result, told, unreached), status, text, found)
 
 

@@ -6,6 +6,7 @@ As a script it is what runs in such a machine: test_first.py PROGRAM.
 import os
 import re
 import shlex
+import shutil
 import subprocess
 import sys
 import time
@@ -19,6 +20,8 @@ from serving import LONGEST, Wrong, expect, until
 ROOT = Path(__file__).resolve().parents[2]
 PAGE = ROOT / "docs/RELAY.md"
 PROGRAM = "/srv/hq_main"
+# The log of the Postfix that delivers.
+OWN_LOG = Path("/var/log/postfix-desk/mail.log")
 OF_THE_PAGE = "REPOSITORY/crates/hq_main/out/hq_main"
 # What asks, and may be asked again until it tells what the page shows.
 ASKS = ("cat ", "grep ", "curl -H ")
@@ -79,7 +82,7 @@ def page_faults():
     settings = SimpleNamespace(
         listen=("127.0.0.1", 10024), customers_at=("127.0.0.1", 10025), connections=50, policy=None,
         notices_hop=("127.0.0.1", 10027), instance=("127.0.0.1", 10026), host="relay.example", user="hqrelay",
-        largest=11_000_000, reports=Path("/srv/mail/spool/reports"))
+        largest=11_000_000, reports=Path("/srv/mail/spool/reports"), log=OWN_LOG)
     text = PAGE.read_text(encoding="utf-8").splitlines()
     instances = (postfix_lines.front(settings), postfix_lines.delivering(settings, 999, 999))
     return [row for it in instances for kind in (False, True) for row in rows(it, kind)
@@ -124,7 +127,7 @@ class Shell:
 
 
 def log_of_all():
-    logs = [LOG, *Path("/srv/mail").glob("*.log")]
+    logs = [LOG, OWN_LOG, *Path("/srv/mail").glob("*.log")]
     return "".join(f"\n{it}:\n{it.read_text(errors='replace')[-3000:]}" for it in logs
                    if it.exists())
 
@@ -141,8 +144,17 @@ def first_mail():
             taken = [*Path("/srv/mail/taken").glob("new/*")]
             expect(not taken, "mail on hold was delivered", taken)
         shell.follow(said, wanted)
-    told = LOG.read_text(errors="replace")
+    told = OWN_LOG.read_text(errors="replace")
     expect("postfix-desk/smtp" in told and "status=sent" in told, "the log is", told)
+    # (it has queue IDs, which nobody else is to know)
+    modes = [(it.stat().st_mode & 0o777, it.stat().st_uid, it.group()) for it in (OWN_LOG, OWN_LOG.parent)]
+    expect(modes == [(0o640, 0, "hqrelay"), (0o750, 0, "hqrelay")], "the log is open to", modes)
+    if shutil.which("logrotate"):
+        rotated = subprocess.run(["logrotate", "--force", "--state", "/run/rotated", "/etc/logrotate.d/postfix-desk"],
+                                 stdout=subprocess.PIPE, stderr=subprocess.STDOUT, check=False)
+        of, before = OWN_LOG.stat(), OWN_LOG.with_name("mail.log.1")
+        expect(not rotated.returncode and before.exists() and not of.st_size, "it is rotated so:", rotated.stdout)
+        expect(of.st_mode & 0o777 == 0o640 and OWN_LOG.group() == "hqrelay", "the new one is open to others, or to nobody")
     print(f"{len(commands_of('A first mail'))} commands")
 
 

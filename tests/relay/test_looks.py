@@ -50,7 +50,7 @@ class Turns:
 
 def looking(desk, rests=()):
     settings = SimpleNamespace(customers=dict.fromkeys(NAMES), desks={}, has_several_desks=False, sessions=1, pause=1.0)
-    found = Handover(settings, desk, None, SimpleNamespace(book=None), None, None)
+    found = Handover(settings, desk, None, SimpleNamespace(book=None), None, None, None)
     found.turns = Turns(rests)
     return found
 

@@ -68,16 +68,16 @@ def test_instance_killed(program, shared):
 
 
 def test_reports_closed(program, shared):
-    """The folder of reports cannot be written: reports wait in the instance, and no message is tried
-    again meanwhile."""
+    """The folder of reports cannot be written: reports of failures wait in the instance, and no message is tried
+    again meanwhile. What was delivered is told by the log."""
     with Relay(program, shared, settings={"delivery": {"lost-after": "3"}}) as it:
         os.chmod(shared.delivering.reports / "tmp", 0)
         os.chown(shared.delivering.reports / "tmp", 0, 0)
         try:
             begun(it)
-            until(it.delivered, "nothing is delivered")
+            until(lambda: it.desk.usage("acme")["delivered"] == len(GOOD), "what was delivered is not told")
             time.sleep(8)
-            expect(it.desk.usage("acme")["delivered"] == 0, "an outcome is told without a report")
+            expect(it.desk.usage("acme")["failed"] == 0, "a failure is told without a report")
             expect("no report" not in it.told(), "a report that waits is given up")
         finally:
             shared.delivering.open_reports()
@@ -100,9 +100,10 @@ def test_desk_away(program, shared):
 
 
 def test_report_lost(program, shared):
-    """A report is lost on purpose: that is told as an error, and the message is tried again. It comes
+    """A report is lost on purpose, where there is no log: that is told as an error, and the message is tried again. It comes
     late all the same: it counts, and the message is not tried once more."""
     with Relay(program, shared, settings={"delivery": {"lost-after": "3"}}) as it:
+        it.set(delivery={"log": it.folder / "no.log"})
         it.intake()
         it.take("acme", f"p@{FAR}")
         it.postfix.empty()

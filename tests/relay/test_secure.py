@@ -21,7 +21,7 @@ from serving import LONGEST, expect, free_address, listens, until
 from sinks import DEFERS, REFUSES, Sink
 
 # (the worker's own reading of reports)
-from outcomes import Outcomes
+from reading import read_text
 
 CONTENT = b"From: <ann@a.example>\r\nSubject: tried\r\n\r\nhello\r\n"
 UTF8 = "j\N{LATIN SMALL LETTER O WITH DIAERESIS}rg"
@@ -128,7 +128,7 @@ class Tried:
         found, box = [], mailbox.Maildir(str(self.instance.reports), create=False)
         for key in box.keys():
             if f"Original-Envelope-Id: {envelope}\n".encode() in box.get_bytes(key):
-                of, outcomes = Outcomes.read_one(None, box, key)
+                of, outcomes = read_text(box.get_bytes(key), key)
                 expect(of == envelope and outcomes, "the worker does not read", box.get_bytes(key))
                 found += outcomes
         return found

@@ -10,6 +10,7 @@ from calls import Calls
 from desk import Away
 from destinations import AT_ONCE, BETWEEN_TURNS, CUSTOMER_ALONE, DOMAIN, FIRST, PROVEN, SLOW, UNPROVEN, WRITTEN_BY, Capacity, Destinations
 from handed import Attempt
+from handover import Handover
 from serving import expect, until
 from turns import Turns
 
@@ -184,6 +185,40 @@ def test_what_was_erased(clock):
     mail.to.keep({old[0].envelope})
     left = {it for one in mail.to.domains.values() for it in one.under_way}
     expect(left == {old[0].envelope, *(it.envelope for it in new)}, "left are", left)
+
+
+def test_counts(clock):
+    """What each customer has under way is counted as it begins, ends, is resumed and is given up."""
+    mail = Mail()
+    mail.told("acme", "good.example")
+    old = [mail.attempt("acme", "good.example") for _ in range(3)]
+    mail.to.resume([*old, *old])
+    mail.begun("birch", ["good.example", "other.example"], 3)
+    mail.to.end(old[0])
+    mail.to.end(old[0])
+    clock.now += WRITTEN_BY + 1
+    new = mail.begun("birch", ["good.example"], 1)
+    mail.to.keep({old[1].envelope})
+    for name, one in mail.to.domains.items():
+        owners = [it for it, _ in one.under_way.values()]
+        counted = {it: owners.count(it) for it in owners}
+        expect(one.counts == counted, name, "has", one.counts, "and not", counted)
+    expect({it for one in mail.to.domains.values() for it in one.under_way} == {old[1].envelope, *(it.envelope for it in new)}, "left")
+
+
+def test_a_long_list(clock):
+    """Of a list of mail to a domain that has no room, one message is tried, and those of others behind them go."""
+    mail, tried = Mail(), []
+    begin = mail.to.begin
+    mail.to.begin = lambda attempt: tried.append(attempt) or begin(attempt)
+    due = [{"id": f"{at:04}", "attempt": 1, "spool": f"s{at}", "sender": "", "recipients": [
+        f"p{at}@{'other' if at == 400 else 'good'}.example"]} for at in range(500)]
+    desk = SimpleNamespace(due=lambda customer, after: iter(due))
+    handed = SimpleNamespace(book=SimpleNamespace(untold=lambda customer: []), spools_under_way=lambda customer: set())
+    settings = SimpleNamespace(sessions=1, pause=1.0, customers={"acme": None}, desks={}, has_several_desks=False)
+    found = Handover(settings, desk, SimpleNamespace(size=lambda spool: 1), handed, None, mail.to, None)
+    begun, _ = found.due("acme", None)
+    expect([it.id for it in begun] == ["0000", "0400"] and len(tried) == 3, "begun are", [it.id for it in begun], "of", len(tried))
 
 
 # ---- threads and calls, by desk

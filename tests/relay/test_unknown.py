@@ -42,7 +42,7 @@ def test_a_late_report_behind_another(delivering, monkeypatch):
     """One that comes while another one of its customer is fitted is fitted too, and its file goes."""
     found = delivering(Told())
     discarded, moved = [], []
-    monkeypatch.setattr(found.outcomes, "box", lambda: SimpleNamespace(discard=discarded.append))
+    monkeypatch.setattr(found.outcomes, "discard", discarded.append)
     for it in "AB":
         found.handed.about([Attempt(f"acme.{it}.1.e", "acme", f"s{it}", it, 1, [GOOD], "ann@a.example", time.time())])
         found.handed.resolved(found.handed.of(f"acme.{it}.1.e"), [], is_lost=True)
@@ -50,16 +50,16 @@ def test_a_late_report_behind_another(delivering, monkeypatch):
     def move(lost, reports):
         moved.append(lost.id)
         if lost.id == "A":
-            found.outcomes.set_apart({"acme.B.1.e": [], "acme.A.1.e": []}, {"acme.B.1.e": ["fileB"], "acme.A.1.e": ["fileC"]})
+            found.outcomes.set_apart({"acme.B.1.e": [], "acme.A.1.e": []}, {"acme.B.1.e": ["fileB"], "acme.A.1.e": ["fileC"]}, {})
 
     monkeypatch.setattr(found.outcomes, "move", move)
-    found.outcomes.set_apart({"acme.A.1.e": []}, {"acme.A.1.e": ["fileA"]})
+    found.outcomes.set_apart({"acme.A.1.e": []}, {"acme.A.1.e": ["fileA"]}, {})
     found.outcomes.take_late("acme")
     expect((moved, discarded, found.catching_up.waiting) == (["A"], ["fileA"], {"acme"}), moved, discarded)
     monkeypatch.setattr(found.outcomes, "move", lambda lost, reports: moved.append(lost.id))
     found.outcomes.take_late("acme")
     expect(sorted(moved) == ["A", "A", "B"] and sorted(discarded) == ["fileA", "fileB", "fileC"], moved, discarded)
-    expect(not found.outcomes.late_keys and not found.outcomes.late["acme"], found.outcomes.late)
+    expect(not found.outcomes.late_files and not found.outcomes.late["acme"], found.outcomes.late)
 
 
 def test_reports_while_a_desk_hangs(delivering, monkeypatch):
@@ -80,9 +80,9 @@ class Sessions:
     """A session with the delivering instance, which takes all that is sent."""
 
     def __init__(self):
-        self.sent = []
+        self.sent, self.has_ident = [], False
 
-    def send(self, attempt, kept):
+    def send(self, attempt, kept, is_by_log):
         self.sent.append(attempt.id)
         return f"4F{attempt.id}"
 

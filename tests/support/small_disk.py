@@ -22,8 +22,8 @@ def small_disk(place):
         subprocess.run(["umount", place], check=True, timeout=LONGEST)
 
 
-def fill(path):
+def fill(path, how="wb"):
     """Fills the disk of a file, to its last byte."""
-    with contextlib.suppress(OSError), open(path, "wb", buffering=0) as file:
+    with contextlib.suppress(OSError), open(path, how, buffering=0) as file:
         while file.write(b"x" * 4096):
             pass
