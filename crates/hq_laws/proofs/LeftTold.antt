@@ -158,8 +158,8 @@ all_told entry at head gone s t is parts sound count history serial m p stands t
     short = omega (arith, counted, fewer)
 
     still : IsThere t serial p.address → IsThere (change_all (kept_history entry at head gone)
-        t) serial p.address ⊎ IsRecorded s (change_all (kept_history entry at head gone) t) at serial
-        p.address
+        t) serial p.address ⊎ IsRecorded s (change_all (kept_history entry at head gone) t) at
+        serial p.address
     still it = inl (it.0, ap (λ q. get q serial) (past_queue entry at head gone t) ∙ it.1, it.2)
 
     told : (e : Ended) × Among e gone × (e.serial ≡ serial) × (e.recipient ≡ p.address) →
