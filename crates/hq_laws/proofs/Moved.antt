@@ -44,7 +44,8 @@ module _ (s : State) (shaped : ShapedState s) (p : Message → Bool) (k : ℕ) w
 
   pub dropped : (entry : Entry) (at : ℕ) →
       get (change_all (delete_all entry at s.head (filter p (values s.messages))).changes
-      s).messages k ≡ option_and_then (λ (m : Message). if p m then None else Some m) (get s.messages k)
+      s).messages k ≡
+      option_and_then (λ (m : Message). if p m then None else Some m) (get s.messages k)
   dropped entry at = drops_at entry at (filter p (values s.messages)) s stands k
       ∙ ap (given (get s.messages k) (λ m. None)) found ∙ by (get s.messages k)
     where
