@@ -64,8 +64,9 @@ class Delivery:
                                  self.catching_up.add)
         self.missing = Missing(settings, desk, self.handed, self.names, self.outcomes.read, self.outcomes.left,
                                self.ended, self.catching_up.add, self.destinations.keep)
-        houses = [threading.Thread(target=self.keep_house, args=[it], daemon=True)
-                  for it in settings.of_desks()]
+        houses = [threading.Thread(target=self.keep_house, args=[it], daemon=True) for it in settings.of_desks()]
+        # how often the reports were looked at
+        self.looks = 0
         self.listener = Listener(spool.locks, self.give_turn)
         self.threads = [*houses, *(threading.Thread(target=it, daemon=True) for it in (self.watch, self.listen))]
 
@@ -154,7 +155,25 @@ class Delivery:
             self.telling.add(customer)
         self.handover.look(customers)
 
-    def keep_house(self, customers: List[str]) -> None:
+    # ---- customers that come and go
+
+    def take_up(self, settings: Settings) -> None:
+        """From now on these are the customers. Nothing is begun for one that is none of them."""
+        for it in settings.customers:
+            self.locks.setdefault(it, threading.Lock())
+            self.handover.listing.setdefault(it, threading.Lock())
+        for part in (self, self.handover, self.notices, self.cleaning, self.outcomes, self.missing):
+            part.settings = settings
+        for turns in (self.handover.turns, *self.turns):
+            turns.take_up(settings.desks)
+        self.quiet.take_up(settings.customers)
+
+    def works_for(self, customers: Set[str]) -> bool:
+        """Whether something is under way for one of these."""
+        return (self.handover.works_for(customers) or any(it.waiting & customers for it in self.turns)
+                or any(self.locks[it].locked() or self.handover.listing[it].locked() for it in customers))
+
+    def keep_house(self, desk: str) -> None:
         """Sweeps and cleans those of a desk by the timers, until `end`. Who was passed over has its turn at
         each `pause`."""
         swept = cleaned = float("-inf")
@@ -162,7 +181,7 @@ class Delivery:
         to_sweep: Set[str] = set()
         to_clean: Set[str] = set()
         while not self.ending.is_set():
-            now = time.monotonic()
+            now, customers = time.monotonic(), self.settings.of_desks().get(desk, [])
             if now >= swept + self.settings.sweep_every:
                 swept = now
                 to_sweep.update(self.quiet.may_have_mail().intersection(customers))
@@ -189,7 +208,7 @@ class Delivery:
         self.listener.listen(self.ending)
 
     def give_turn(self, customer: str) -> None:
-        if customer in self.locks:
+        if customer in self.settings.customers:
             self.quiet.stir(customer)
             self.handover.turns.add(customer)
 
@@ -198,6 +217,7 @@ class Delivery:
         looked = time.monotonic()
         while not self.ending.is_set():
             looked = self.see_after(looked)
+            self.looks += 1
 
     def see_after(self, looked: float) -> float:
         """Reads the reports that have come. After each `pause` it looks after what has none; returns
@@ -219,7 +239,7 @@ class Delivery:
 
     def tell(self, customer: str) -> bool:
         """Tells a customer's outcomes. Whatever else has its lock has them told behind."""
-        if customer not in self.locks:
+        if customer not in self.settings.customers:
             return False  # (it was dropped since its mail was handed over)
         # (first, so that a lock that is let go of just now is not missed)
         self.turned_away.add(customer)
@@ -227,7 +247,7 @@ class Delivery:
             return False
         self.turned_away.discard(customer)
         try:
-            if not self.reports.tell(customer, self.book.untold(customer)):
+            if customer in self.settings.customers and not self.reports.tell(customer, self.book.untold(customer)):
                 self.want_room.add(customer)
         finally:
             self.locks[customer].release()
@@ -237,10 +257,12 @@ class Delivery:
 
     def mail(self, customer: str) -> bool:
         """Mails a customer's notices, and has told what waited for their room."""
-        with self.locked(customer):
+        are_mailed = False
+        with self.locked(customer) as is_mine:
+            if not is_mine:
+                return False
             # (what is made from now on is told of anew)
             self.quiet.mail(customer)
-            are_mailed = False
             try:
                 are_mailed = self.notices.send(customer)
             finally:
@@ -255,6 +277,8 @@ class Delivery:
 
     def catch_up(self, customer: str) -> bool:
         """Fits what is under way, or came late, to what a customer did meanwhile, as its desk tells."""
+        if customer not in self.settings.customers:
+            return False
         self.outcomes.take_late(customer)
         return self.missing.take_back(customer)
 
@@ -267,7 +291,8 @@ class Delivery:
             yield False
             return
         try:
-            yield True
+            # (it may be dropped meanwhile)
+            yield customer in self.settings.customers
         finally:
             self.locks[customer].release()
             if customer in self.turned_away:
@@ -278,7 +303,7 @@ class Delivery:
         """Nothing more is awaited of an attempt. Without an outcome its message may be due again."""
         self.destinations.answered(attempt.customer, outcomes, attempt.envelope)
         self.handover.end_attempt(attempt)
-        if not outcomes and attempt.customer in self.locks:
+        if not outcomes and attempt.customer in self.settings.customers:
             self.handover.turns.add(attempt.customer)
 
     # ---- sweeps and clean-up

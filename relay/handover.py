@@ -111,8 +111,13 @@ class Handover:
     def end_attempt(self, attempt: Attempt) -> None:
         """An attempt has ended, or was not begun: mail that waited for its domain may go."""
         for it in self.destinations.end(attempt):
-            if it in self.listing:
+            if it in self.settings.customers:
                 self.turns.add(it)
+
+    def works_for(self, customers: Set[str]) -> bool:
+        """Whether one of these has a turn, or something is being handed over."""
+        with self.guard:
+            return bool(self.turns.waiting & customers) or any(it.partition(".")[0] in customers for it in self.busy)
 
     def is_busy(self, attempt: Attempt) -> bool:
         with self.guard:
@@ -135,6 +140,8 @@ class Handover:
     def turn(self, customer: str) -> bool:
         """Hands over the next batch of a customer, and returns whether there is another one."""
         with self.listing[customer]:
+            if customer not in self.settings.customers:
+                return False
             due, after = self.due(customer, self.after.pop(customer, None))
             if due:
                 self.begin(due)
@@ -216,11 +223,15 @@ class Handover:
                 self.leave(due, left)
 
     def session(self) -> Session:
-        """This thread's session, which is opened anew where it has ended."""
+        """This thread's session, which is opened anew where it has ended, or settings were read since."""
         session = getattr(self.own, "session", None)
-        if not (session and session.is_alive()):
-            self.own.session = None
-            session = self.own.session = Session(self.settings)
+        if session and self.own.settings is not self.settings:
+            session.close()
+        elif session and session.is_alive():
+            self.prove(session)
+            return session
+        self.own.session, self.own.settings = None, self.settings
+        session = self.own.session = Session(self.settings)
         self.prove(session)
         return session
 

@@ -28,6 +28,13 @@ class Quiet:
         self.stirred: Set[str] = set()
         self.left: Dict[str, Tuple[int, ...]] = {}
 
+    def take_up(self, customers: Iterable[str]) -> None:
+        """From now on these are the customers. Of new ones nothing is known."""
+        with self.guard:
+            added, self.customers = set(customers).difference(self.customers), set(customers)
+            self.with_mail = self.with_mail.union(added).intersection(self.customers)
+            self.with_notices = self.with_notices.union(added).intersection(self.customers)
+
     def stir(self, customer: str) -> None:
         """Mail of a customer was queued."""
         with self.guard:

@@ -94,12 +94,12 @@ class Settings:
     def has_several_desks(self) -> bool:
         return len(set(self.desks.values())) > 1
 
-    def of_desks(self) -> List[List[str]]:
-        """The customers of each desk; all together where no table tells."""
+    def of_desks(self) -> Dict[str, List[str]]:
+        """The customers of each desk; all together, of a desk without a name, where no table tells."""
         found: Dict[str, List[str]] = {}
         for it in self.customers:
             found.setdefault(self.desks.get(it, ""), []).append(it)
-        return [*found.values()]
+        return found
 
     @property
     def socket(self) -> Optional[Path]:

@@ -52,6 +52,11 @@ class Turns:
             self.waiting.add(customer)
             self.line_up(customer)
 
+    def take_up(self, desk_of: Dict[str, str]) -> None:
+        """From now on these are the desks of customers; who has a turn, or waits for one, stays in its line."""
+        with self.guard:
+            self.desk_of = {**self.desk_of, **desk_of}
+
     def line_up(self, customer: str) -> None:
         self.lines[self.desk_of.get(customer, "")].append(customer)
         self.guard.notify_all()

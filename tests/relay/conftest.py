@@ -40,7 +40,7 @@ def delivering(folder, hops):
         names = customers or ("acme",)
         settings = SimpleNamespace(
             customers={it: Customer(it, 10, 1000, 1) for it in names}, desks={}, has_several_desks=False,
-            of_desks=lambda: [[*names]], sessions=1, pause=PAUSE, rest=1.0,
+            of_desks=lambda: {"": [*names]}, sessions=1, pause=PAUSE, rest=1.0,
             keep_days=7, lost_after=0.0, settle_after=0.0, sweep_every=3600.0, clean_every=3600.0,
             reports=folder / "reports", folder=folder, log=folder / "mail.log",
             host="relay.example", notices_from="MAILER-DAEMON@relay.example")
