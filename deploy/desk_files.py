@@ -337,7 +337,7 @@ def group_of(name: str) -> int:
 
 
 def tried(words: list) -> None:
-    ended = subprocess.run(words, stdin=subprocess.DEVNULL, capture_output=True, text=True, timeout=LONGEST)
+    ended = subprocess.run(words, stdin=subprocess.DEVNULL, capture_output=True, text=True, timeout=LONGEST, start_new_session=True)
     if ended.returncode:
         told = " / ".join(ended.stderr.strip().splitlines()) or f"status {ended.returncode}"
         raise Refused(f"{Path(words[0]).name} refuses it, and nothing was changed: {told}")

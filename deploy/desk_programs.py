@@ -20,7 +20,8 @@ PROGRAMS = "hq-desk-workers", "hq-relay-intake", "hq-relay-deliver", "nginx"
 
 
 def is_active(unit: str) -> bool:
-    return not subprocess.run(["systemctl", "is-active", "--quiet", unit], stdin=subprocess.DEVNULL).returncode
+    # (in a session of its own, as all that takes files up: what is sent to those of this terminal does not end it)
+    return not subprocess.run(["systemctl", "is-active", "--quiet", unit], stdin=subprocess.DEVNULL, start_new_session=True).returncode
 
 
 def take_up(scripts: Path, desks: List[Desk], is_gone: bool) -> None:
@@ -49,7 +50,7 @@ def fault_of(words: list) -> List[str]:
     """Runs a command; what is to be told where it fails."""
     told = " ".join(map(str, words))
     try:
-        ended = subprocess.run(words, stdin=subprocess.DEVNULL, stderr=subprocess.PIPE, text=True, timeout=LONGEST)
+        ended = subprocess.run(words, stdin=subprocess.DEVNULL, stderr=subprocess.PIPE, text=True, timeout=LONGEST, start_new_session=True)
     except (OSError, subprocess.SubprocessError) as fault:
         return [f"{told}: {fault}"]
     return [f"{told}: {' / '.join(ended.stderr.strip().splitlines()) or f'status {ended.returncode}'}"] if ended.returncode else []

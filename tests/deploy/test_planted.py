@@ -231,7 +231,7 @@ def test_counts_planted(folder):
     (folder / "from/hq-desk-forged.prom").write_text(good + "node_filesystem_avail_bytes 1\n")
     (folder / "from/hq-desk-bytes.prom").write_bytes(b'desk_up{desk="\xff\n"} 1\n')
     with open(folder / "from/hq-desk-large.prom", "wb") as file:
-        file.truncate(40_000_000)
+        file.truncate(3_000_000)
     (folder / "from/other.prom").write_text(good)
     (folder / "to/hq-desk-gone.prom").write_text(good)
     (folder / "to/others.prom").write_text("node_mine 1\n")
@@ -255,6 +255,25 @@ def test_counts_planted(folder):
     expect("is not root's" in told.stderr and not [*(folder / "to").iterdir()], "into a folder of another user's it writes", told)
 
 
+def test_counts_have_a_bound(folder):
+    """node_exporter has all that is shown in memory: it is no more than all customers need, whatever was shown before."""
+    for it in ("from", "to"):
+        (folder / it).mkdir()
+    line = 'desk_messages{customer="acme"} 1\n'
+    def plant(names):
+        for number in names:
+            (folder / f"from/hq-desk-{number:02}.prom").write_text(line * (1_900_000 // len(line)))
+    plant(range(15))
+    expect(shown(folder).returncode == 0 and len([*(folder / "to").iterdir()]) == 15, "fifteen desks of 1.9 MB are not shown")
+    for it in (folder / "from").iterdir():
+        it.unlink()
+        it.symlink_to("/dev/null")
+    plant(range(15, 40))
+    told = shown(folder)
+    found = sum(it.stat().st_size for it in (folder / "to").iterdir())
+    expect(told.returncode == 1 and 30_000_000 < found <= 40_000_000, "shown are", found, "bytes")
+
+
 def test_events_counted(folder):
     """Root reads the journal, and the worker's user counts what of it is the worker's; what that one prints is looked at."""
     needs.root()
@@ -276,8 +295,9 @@ def test_events_counted(folder):
         (folder / "bin/setpriv").write_text(f'#!/bin/sh\nshift 2\nexec /usr/bin/setpriv --reuid={USER} --regid={GROUP} "$@"\n')
         (folder / "bin/setpriv").chmod(0o755)
         told = subprocess.run(words, capture_output=True, text=True, timeout=LONGEST, env={"PATH": f"{folder}/bin:/usr/bin:/bin"})
-        found = (folder / "to/hq-desk-events.prom").read_text()
-        expect(told.returncode == status and (wanted is None or found == wanted) and "forged" not in found, "shown is", found, told)
+        place = folder / "to/hq-desk-events.prom"
+        found = place.read_text() if place.exists() else None
+        expect(told.returncode == status and found == wanted, "shown is", found, told)
 
 
 def test_counted():

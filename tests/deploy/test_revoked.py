@@ -53,10 +53,11 @@ def test_key_that_is_not_printed(place):
 @pytest.mark.parametrize("sign", ["HUP", "INT", "TERM"])
 def test_hung_up(place, sign):
     """Whoever closes the terminal, or stops it, when the files are written keeps nothing from going by them."""
-    # (the first program that is asked stands for the moment)
-    place.systemctl(f'[ -e {place.bin}/sent ] || {{ : >{place.bin}/sent; kill -{sign} $PPID; }}')
+    # (the first program that is asked stands for the moment; what it begins is ended by a signal as ever)
+    place.systemctl(f'[ -e {place.bin}/sent ] || {{ : >{place.bin}/sent; kill -{sign} $PPID; sh -c "kill -{sign} \\$\\$; echo >{place.bin}/stays"; }}; exit 0')
     ended = run(place, "key", "acme", stdout=subprocess.PIPE)
     expect(ended.returncode == 0 and re.fullmatch(r"[0-9a-f]{40}\n", ended.stdout) and called(place) == ALL, "it ended with", ended)
+    expect((place.bin / "sent").exists() and not (place.bin / "stays").exists(), "what it begins heeds no signal")
 
 
 def test_open_to_others(place):

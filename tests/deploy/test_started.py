@@ -129,7 +129,7 @@ def test_stopped_while_it_is_copied(place):
     expect(stopping.poll() is None, "a stop does not wait for who copies the store")
     (place / "slow").unlink()
     expect(told(copying) == (0, "north.db\n"), "the copy ended otherwise")
-    expect(told(stopping) == (0, ""), "the stop ended otherwise")
+    expect(told(stopping) == (0, "desk-stop: it waits for who works at the store of north\n"), "the stop ended otherwise")
     expect((place / "stopped/north").exists() and not listens(address), "the end of the copy has started it")
     expect(run(place, "desk-start", "north").returncode == 0 and listens(address), "it does not start")
 
