@@ -106,6 +106,15 @@ def test_a_failure_of_the_same_recipient(log_of):
     expect([one["result"] for one in it.found.book.report("acme", "sA").outcomes] == ["failed"], it.found.book.report("acme", "sA"))
 
 
+def test_a_report_behind_a_line(log_of):
+    """The line is in the book when the report of a failure comes: the report decides."""
+    it = log_of("A")
+    it.read(taken("A"), was_sent("A"))
+    expect([one["result"] for one in it.found.handed.of(envelope_of("A")).outcomes] == ["delivered"], "not written down")
+    it.found.outcomes.take({envelope_of("A"): [{"recipient": GOOD, "result": "failed", "status": "5.0.0", "text": "no"}]})
+    expect([one["result"] for one in it.found.book.report("acme", "sA").outcomes] == ["failed"], it.found.book.report("acme", "sA"))
+
+
 def test_another_recipient(log_of, logged):
     """A line of somebody to whom the message did not go, or under another queue ID, tells nothing of it."""
     it = log_of("A")
@@ -206,9 +215,12 @@ def test_rotated(folder, follower):
         file.write(LINES[3][2:] + b"\n")
         file.flush()
         expect(lines_of(found) == LINES[3:4], "the old file is left too soon")
-        path.write_bytes(text_of(LINES[4:6]))
+        path.write_bytes(text_of(LINES[4:5]))
+        expect(lines_of(found) == LINES[4:5], "the new file")
+        with open(path, "ab") as new:
+            new.write(text_of(LINES[5:6]))
         file.write(text_of(LINES[6:7]))
-    expect(lines_of(found) == [LINES[6], *LINES[4:6]], "the old file, and then the new one")
+    expect(lines_of(found) == [LINES[6], LINES[5]], "the old file, and then the new one")
     os.rename(folder / "mail.log.1", folder / "mail.log.2")
     os.rename(path, folder / "mail.log.1")
     path.write_bytes(text_of(LINES[7:9]))
