@@ -334,6 +334,21 @@ def test_silence(log_of, logged, monkeypatch):
     expect(trusted(it.found), "not trusted again")
 
 
+def test_a_probe_that_does_not_show_up(log_of, monkeypatch):
+    """No other one holds up mail behind it, until mail has shown that the log is there."""
+    monkeypatch.setattr(sent, "FOR_A_PROBE", 0.1)
+    monkeypatch.setattr(sent, "FRESH", 0.2)
+    it = log_of()
+    it.found.sent.expect(envelope_of("A"))
+    expect(it.found.sent.wants_probe() and not it.found.sent.shows(envelope_of("A")), "no probe is wanted, or it shows up")
+    expect(not it.found.sent.wants_probe(), "a probe behind a probe")
+    it.found.sent.expect(envelope_of("B"))
+    it.write(taken("B"))
+    expect(trusted(it.found) and not it.found.sent.wants_probe(), "not trusted")
+    time.sleep(0.3)
+    expect(it.found.sent.wants_probe(), "what is old is not proved anew")
+
+
 def test_many_that_do_not_show_up(log_of):
     it = log_of()
     it.found.sent.expect(envelope_of("B"))
