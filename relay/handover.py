@@ -237,7 +237,7 @@ class Handover:
 
     def prove(self, session: Session) -> None:
         """Finds out whether the log of the instance tells what is handed over, by a transaction that is not ended."""
-        if session.has_ident and not self.sent.is_trusted():
+        if session.has_ident and self.sent.wants_probe():
             probe = self.sent.probe()
             self.sent.expect(probe)
             session.probe(probe)

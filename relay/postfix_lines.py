@@ -187,7 +187,7 @@ def one_attempt() -> Dict[str, Line]:
         "minimal_backoff_time": Line("30s", "after a failed STARTTLS Postfix tries plain text"),
         "queue_run_delay": Line("30s", "after a failed STARTTLS Postfix tries plain text"),
         "smtp_discard_ehlo_keywords": Line(
-            "dsn", "this instance reports failures, and no next host is asked to"),
+            "silent-discard, dsn", "this instance reports failures, and no next host is asked to; the log has no line of that"),
     }
 
 

@@ -22,8 +22,8 @@ POSITION, KEPT_EACH = "log-position", 5.0
 # The log is not trusted while so many messages do not show up, or one for so many seconds; and no longer than that behind the last
 # one that did. It is silent where one does not for so many.
 MOST_UNSEEN, LATE, FRESH, SILENT = 50, 1.0, 5.0, 10.0
-# In seconds: how long is waited for a probe, and between two looks.
-FOR_A_PROBE, BETWEEN_LOOKS = 2.0, 0.02
+# In seconds: how long is waited for a probe, how long none is made behind one that did not show up, and between two looks.
+FOR_A_PROBE, NO_PROBE, BETWEEN_LOOKS = 2.0, 60.0, 0.02
 # So many messages are remembered that the log tells of and the book does not.
 MOST = 100_000
 
@@ -71,6 +71,7 @@ class Sent:
         self.unseen: Dict[str, float] = {}  # since when, by envelope ID, what was handed over and does not show up yet
         # when something showed up last, the position was kept, and the log was looked at
         self.proven_at, self.kept_at, self.looked = float("-inf"), time.monotonic(), 0.0
+        self.no_probe_until = 0.0
         self.is_silent = False
 
     # ---- whether the log can be trusted
@@ -109,7 +110,7 @@ class Sent:
     def seen(self, envelope: str) -> None:
         if self.unseen.pop(envelope, None) is None:
             return
-        self.proven_at = time.monotonic()
+        self.proven_at, self.no_probe_until = time.monotonic(), 0.0
         if self.is_silent:
             self.is_silent = False
             log.info("the log of the delivering instance tells again")
@@ -119,8 +120,12 @@ class Sent:
         """An envelope ID that is no attempt's."""
         return f"probe.0.0.{secrets.token_hex(12)}"
 
+    def wants_probe(self) -> bool:
+        """Whether a probe may prove the log. (Where one has just shown nothing, mail itself may.)"""
+        return not self.is_trusted() and time.monotonic() >= self.no_probe_until
+
     def shows(self, envelope: str) -> bool:
-        """Waits for a moment until a message has shown up; whether it has."""
+        """Waits for a moment until a probe has shown up; whether it has."""
         end = time.monotonic() + FOR_A_PROBE
         while time.monotonic() < end:
             with self.guard:
@@ -128,6 +133,7 @@ class Sent:
                 if envelope not in self.unseen:
                     return True
             time.sleep(BETWEEN_LOOKS)
+        self.no_probe_until = end + NO_PROBE
         return False
 
     # ---- what it tells

@@ -4,7 +4,7 @@ import itertools
 import json
 import os
 from contextlib import contextmanager, suppress
-from dataclasses import asdict, dataclass
+from dataclasses import dataclass
 from pathlib import Path
 from typing import BinaryIO, Iterator, List, Optional
 
@@ -56,7 +56,7 @@ class Draft:
 
     def __init__(self, path: Path, envelope: Envelope):
         self.file, self.size = open(path, "xb"), 0
-        self.file.write(json.dumps(asdict(envelope)).encode() + b"\n")
+        self.file.write(json.dumps(vars(envelope)).encode() + b"\n")
 
     def write(self, piece: bytes) -> None:
         """Adds a piece of the content, whose bytes are counted."""

@@ -106,6 +106,15 @@ def test_a_failure_of_the_same_recipient(log_of):
     expect([one["result"] for one in it.found.book.report("acme", "sA").outcomes] == ["failed"], it.found.book.report("acme", "sA"))
 
 
+def test_a_report_behind_a_line(log_of):
+    """The line is in the book when the report of a failure comes: the report decides."""
+    it = log_of("A")
+    it.read(taken("A"), was_sent("A"))
+    expect([one["result"] for one in it.found.handed.of(envelope_of("A")).outcomes] == ["delivered"], "not written down")
+    it.found.outcomes.take({envelope_of("A"): [{"recipient": GOOD, "result": "failed", "status": "5.0.0", "text": "no"}]})
+    expect([one["result"] for one in it.found.book.report("acme", "sA").outcomes] == ["failed"], it.found.book.report("acme", "sA"))
+
+
 def test_another_recipient(log_of, logged):
     """A line of somebody to whom the message did not go, or under another queue ID, tells nothing of it."""
     it = log_of("A")
@@ -206,9 +215,12 @@ def test_rotated(folder, follower):
         file.write(LINES[3][2:] + b"\n")
         file.flush()
         expect(lines_of(found) == LINES[3:4], "the old file is left too soon")
-        path.write_bytes(text_of(LINES[4:6]))
+        path.write_bytes(text_of(LINES[4:5]))
+        expect(lines_of(found) == LINES[4:5], "the new file")
+        with open(path, "ab") as new:
+            new.write(text_of(LINES[5:6]))
         file.write(text_of(LINES[6:7]))
-    expect(lines_of(found) == [LINES[6], *LINES[4:6]], "the old file, and then the new one")
+    expect(lines_of(found) == [LINES[6], LINES[5]], "the old file, and then the new one")
     os.rename(folder / "mail.log.1", folder / "mail.log.2")
     os.rename(path, folder / "mail.log.1")
     path.write_bytes(text_of(LINES[7:9]))
@@ -320,6 +332,21 @@ def test_silence(log_of, logged, monkeypatch):
     it.found.sent.expect(envelope_of("D"))
     it.write(taken("D"))
     expect(trusted(it.found), "not trusted again")
+
+
+def test_a_probe_that_does_not_show_up(log_of, monkeypatch):
+    """No other one holds up mail behind it, until mail has shown that the log is there."""
+    monkeypatch.setattr(sent, "FOR_A_PROBE", 0.1)
+    monkeypatch.setattr(sent, "FRESH", 0.2)
+    it = log_of()
+    it.found.sent.expect(envelope_of("A"))
+    expect(it.found.sent.wants_probe() and not it.found.sent.shows(envelope_of("A")), "no probe is wanted, or it shows up")
+    expect(not it.found.sent.wants_probe(), "a probe behind a probe")
+    it.found.sent.expect(envelope_of("B"))
+    it.write(taken("B"))
+    expect(trusted(it.found) and not it.found.sent.wants_probe(), "not trusted")
+    time.sleep(0.3)
+    expect(it.found.sent.wants_probe(), "what is old is not proved anew")
 
 
 def test_many_that_do_not_show_up(log_of):
