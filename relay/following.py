@@ -70,6 +70,7 @@ class Follower:
         self.path, self.kept = path, kept
         self.files: List[File] = []
         self.count, self.why = 0, "it was not read yet"
+        self.last: Optional[Tuple[str, int]] = None  # what was kept last
 
     def read(self) -> Iterator[Tuple[Position, List[bytes]]]:
         """What has come since, in pieces, each with the position before it. `why` tells why there is nothing to be read, if so."""
@@ -137,9 +138,12 @@ class Follower:
     def keep(self, position: Position) -> None:
         """A new start goes on here. (Where that is not written, it reads some lines again.)"""
         made = self.kept.with_name(f".{self.kept.name}.new")
+        if self.last == (position.mark, position.offset):
+            return
         try:
             made.write_text(json.dumps([position.mark, position.offset]))
             os.replace(made, self.kept)
+            self.last = position.mark, position.offset
         except OSError:
             pass
 

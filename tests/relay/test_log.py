@@ -132,7 +132,9 @@ def test_rotated_in_the_middle(program, shared):
                 shared.good.forget()
                 log.touch()
         finally:
+            # (what has the old file open opens the new one)
             old.unlink(missing_ok=True)
+            shared.delivering.reload()
         expect("no report" not in it.told(), it.told()[-900:])
 
 
