@@ -22,3 +22,9 @@ pub mod LeftTold
 pub mod LeftOrPending
 pub mod LeftInCalls
 pub mod LeftInSweeps
+pub mod SearchesMoveOn
+pub mod Replies
+pub mod Asked
+pub mod Pages
+pub mod Relays
+pub mod Envelopes

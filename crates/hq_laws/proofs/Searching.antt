@@ -18,13 +18,13 @@ is_not_under a b h = grind (arith, nat_tests)
 is_few : (a b : ℕ) → nat_lt a b ≡ false → b ≤ a
 is_few a b h = grind (arith, nat_tests)
 
-none_some : {A : Type 0} {x : A} → ◌≡◌ {A = Option A} (Some x) None → ⊥
+pub none_some : {A : Type 0} {x : A} → ◌≡◌ {A = Option A} (Some x) None → ⊥
 none_some h = cc
 
-some_same : {A : Type 0} (x y : A) → ◌≡◌ {A = Option A} (Some x) (Some y) → x ≡ y
+pub some_same : {A : Type 0} (x y : A) → ◌≡◌ {A = Option A} (Some x) (Some y) → x ≡ y
 some_same x y h = cc
 
-abbrev under : ℕ → End → Bool
+abbrev pub under : ℕ → End → Bool
 under n e = nat_lt e.number n
 
 -- those below a number are all kept

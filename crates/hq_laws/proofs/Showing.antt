@@ -36,17 +36,17 @@ use Rattle.hq_laws.specs.Whose.{IsNamed, IsOwn, IsRelays, MayCall}
 use Rattle.hq_laws.proofs.Among.{Among, contained}
 use Rattle.std.specs.List.{Contains}
 
-refused : {A X : Type 0} (e : Refusal) (x : A) → Err e ≡ Ok x → X
+pub refused : {A X : Type 0} (e : Refusal) (x : A) → Err e ≡ Ok x → X
 refused e x h = absurd (differ h) where
   differ : Err e ≡ Ok x → ⊥
   differ h = cc
 
-went_on : {A B : Type 0} (first : Result A Refusal) (then : A → Result B Refusal) (y : B) →
+pub went_on : {A B : Type 0} (first : Result A Refusal) (then : A → Result B Refusal) (y : B) →
     (first >>= then) ≡ Ok y → (x : A) × (first ≡ Ok x) × (then x ≡ Ok y)
 went_on (Ok x) then y h = (x, refl, h)
 went_on (Err e) then y h = refused e y h
 
-same_ok : {A : Type 0} (a b : A) → ◌≡◌ {A = Result A Refusal} (Ok a) (Ok b) → a ≡ b
+pub same_ok : {A : Type 0} (a b : A) → ◌≡◌ {A = Result A Refusal} (Ok a) (Ok b) → a ≡ b
 same_ok a b e = cc
 
 same_some : {A : Type 0} (a b : A) → ◌≡◌ {A = Option A} (Some a) (Some b) → a ≡ b

@@ -3,3 +3,4 @@ pub mod Entries
 pub mod Searches
 pub mod Whose
 pub mod Leaving
+pub mod InShort

@@ -15,8 +15,7 @@ ghost use Rattle.hq_laws.specs.Leaving.{IsPending, IsRecorded, lets_go};
 
 /// A recipient that was pending before a deletion, a report of an attempt or a sweep is pending
 /// after it, or has an end of a number that was given then, where the customer's `history` is as
-/// long as those who left. As many numbers are given as recipients leave, so each who left has one
-/// end, and nobody else has. (In all other calls nobody leaves.)
+/// long as those who left.
 pub fn each_who_left_is_told()
     ensures { (host : List ℕ) (entry : Entry) (s : State) (at : ℕ) (call : Call) → SoundState s
         → lets_go call ≡ true

@@ -1,9 +1,9 @@
 //! Laws over the definitions of the calls and of runs, with no program in them: whose call it is;
 //! calls by hundreds ask everyone once; a submission is answered as its envelope was; what a
-//! pattern finds is what moves by it; counts of an import are kept for good; a history tells each
-//! who left, keeps each end until newer ones take its place, and a search of it misses nothing; in
-//! a run nobody else matters, a reply is read in one way, and a key that may only read changes
-//! nothing; a call of all customers looks at no body.
+//! pattern finds is what moves by it; counts of an import are kept for good; a long enough history
+//! tells each who left, keeps each end until newer ones take its place, and a search of it misses
+//! nothing; in a run nobody else matters, a reply is read in one way, and a key that may only read
+//! changes nothing; a call of all customers looks at no body.
 //!
 //! Each law is the contract of an empty function.
 #![tactic(auto)]
@@ -29,5 +29,7 @@ pub use runs::{
     nobody_else_matters, one_reading, tables_stay,
 };
 pub use searches::a_search_misses_nothing;
-pub use submissions::a_submission_is_answered_as_foreseen;
+pub use submissions::{
+    a_submission_is_answered_as_foreseen, an_envelope_is_its_submission_in_short,
+};
 pub use whose::{hundreds_ask_everyone_once, only_its_keys_make_its_calls};

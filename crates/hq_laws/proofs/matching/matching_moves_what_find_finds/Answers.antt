@@ -3,11 +3,14 @@ use Rattle.hq_rules.specs.Decision.{decide}
 use Rattle.hq_rules.specs.Selections.{is_selected}
 use Rattle.hq_rules.specs.declared.call.Move.TheVariants.{Hold, Release}
 use Rattle.hq_laws.proofs.Moved.{moved, dropped}
+use Rattle.hq_laws.proofs.Pages.{paged}
 use Rattle.hq_laws.proofs.matching.matching_moves_what_find_finds.Goals as goal
 
 pub returns-clause-find : goal.returns-clause-find
-unfolding decide
-returns-clause-find c = λ host entry s at pattern. refl
+returns-clause-find c = paged
+
+pub returns-clause-all : goal.returns-clause-all
+returns-clause-all c = λ m. refl
 
 pub returns-clause-hold : goal.returns-clause-hold
 unfolding decide
