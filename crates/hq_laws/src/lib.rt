@@ -8,21 +8,21 @@
 //! Each law is the contract of an empty function.
 #![tactic(auto)]
 
+mod departures;
 mod histories;
 mod imports;
-mod leaving;
 mod matching;
 mod runs;
 mod searches;
 mod submissions;
 mod whose;
 
+pub use departures::each_who_left_is_told;
 pub use histories::{
     no_number_is_given_twice, nothing_goes_where_nobody_left, the_newest_are_told,
     what_is_told_stays,
 };
 pub use imports::imports_are_kept;
-pub use leaving::each_who_left_is_told;
 pub use matching::matching_moves_what_find_finds;
 pub use runs::{
     a_call_of_all_looks_at_no_body, a_reading_key_changes_nothing, a_route_reads_as_told,

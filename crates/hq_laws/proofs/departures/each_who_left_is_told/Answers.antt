@@ -14,7 +14,7 @@ use Rattle.hq_laws.proofs.Among.{among}
 use Rattle.hq_laws.proofs.There.{pending_or_told}
 use Rattle.hq_laws.proofs.LeftInCalls.{Tells, delete_tells, delete_all_tells, outcome_tells}
 use Rattle.hq_laws.proofs.LeftInSweeps.{sweep_tells}
-use Rattle.hq_laws.proofs.leaving.each_who_left_is_told.Goals as goal
+use Rattle.hq_laws.proofs.departures.each_who_left_is_told.Goals as goal
 
 no : {X : Type 0} → ◌≡◌ {A = Bool} false true → X
 no h = absurd (differ h) where
