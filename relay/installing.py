@@ -29,8 +29,6 @@ OLDEST_SUDO = (1, 9, 10)
 SUDO = re.compile(r"Sudo version ([0-9]+)\.([0-9]+)\.([0-9]+)")
 # (an ID has no vowel: the word ALL of postsuper is none)
 QUEUE_ID = "[0-9B-DF-HJ-NP-TV-Zb-df-hj-np-tv-z]+"
-# The first port at which any user may listen.
-FIRST_OF_ALL = 1024
 # Postfix delivers to users from this number on (virtual_minimum_uid).
 LEAST_UID = 100
 MAILDIR = ("new", "cur", "tmp")
@@ -311,9 +309,6 @@ class Installation:
         services = Master(self.settings.front).standing().values()
         if not self.settings.customers_at and not any(way in it for it in services):
             yield f"add to your listener of customers in master.cf: -o {way}"
-        if self.settings.policy and self.settings.listen[1] >= FIRST_OF_ALL:
-            yield ("[intake] listen is at a port from 1024 on: with `policy` any user of this machine may be handed mail there,"
-                   " unless hq-desk-firewall runs")
         if not postfix_lines.is_loopback(self.settings.notices_hop):
             yield "[notices] next-hop is another machine's: its Postfix must not lead to the desk"
         helper = self.settings.socket
