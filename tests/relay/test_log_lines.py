@@ -1,6 +1,6 @@
 """Which lines of the log count, whatever hosts, senders and recipients write into them."""
 import pytest
-from hypothesis import given, strategies
+from hypothesis import given, settings, strategies
 from log_lines import FAILED, REMOVED, SENT, TAKEN, may_count, read_line
 from serving import expect
 
@@ -84,6 +84,7 @@ def test_lines_that_do_not_count(text):
     expect(not read(text), text)
 
 
+@settings(deadline=None, database=None)
 @given(strategies.text(strategies.characters(min_codepoint=32, max_codepoint=126), max_size=300), strategies.sampled_from(ANSWERS))
 def test_any_answer(text, forged):
     for answer in (text, text + forged, forged + text):

@@ -82,7 +82,7 @@ def test_a_report_that_was_cut(at):
     assert read_fields(REPORT[:at]) in (None, by_email(REPORT[:at]))
 
 
-@settings(max_examples=1500, deadline=None)
+@settings(max_examples=1500, deadline=None, database=None)
 @given(strategies.lists(strategies.tuples(strategies.floats(0, 1), strategies.sampled_from(PIECES), strategies.integers(0, 40)),
                         min_size=1, max_size=4))
 def test_strange_reports(edits):
