@@ -12,7 +12,8 @@ use Rattle.hq_rules.specs.Selections.{matches}
 use Rattle.hq_rules.specs.declared.call.Call.TheVariants as call
 use Rattle.hq_rules.specs.declared.answer.Answer.TheVariants as answer
 
-pub paged : (host : List ℕ) (entry : Entry) (s : State) (at : ℕ) (after : Option ℕ) (pattern : Class × List ℕ) →
+pub paged : (host : List ℕ) (entry : Entry) (s : State) (at : ℕ) (after : Option ℕ)
+    (pattern : Class × List ℕ) →
     (let found = filter (matches pattern) (after_serial after (values s.messages)) in
     (step host entry s at (call.List after (Some pattern))).0
     ≡ answer.Listed (take 100 found) (nat_lt 100 (length found)))

@@ -57,12 +57,14 @@ module _ (d : Directory) (path body : List ℕ) (whom : Whom) (call : Call) wher
       Ok (CallOf held.whose.customer it))))) ≡ Ok (CallOfAll whom call) → shown ≡ Some d.relay
   of_one r asking shown e =
       let who = went_on (held_on d r shown (last_segment path)) _ (CallOfAll whom call) e in
-      let may = went_on (guard (allows who.0.right asking) WrongRole) _ (CallOfAll whom call) who.2 in
+      let may = went_on (guard (allows who.0.right asking) WrongRole) _ (CallOfAll whom call)
+      who.2 in
       let it = went_on (asked_of asking (last_segment path) body) _ (CallOfAll whom call) may.2 in
       of_one_is whom who.0.whose.customer it.0 call (same_ok _ _ it.2)
 
   by_role : (r : Role) (asking : Route) (shown : Option (List ℕ)) →
-      asked_as d r asking shown (last_segment path) body ≡ Ok (CallOfAll whom call) → shown ≡ Some d.relay
+      asked_as d r asking shown (last_segment path) body ≡ Ok (CallOfAll whom call) →
+      shown ≡ Some d.relay
   by_role role.Customer asking shown e = of_one role.Customer asking shown e
   by_role role.Relay asking shown e = of_one role.Relay asking shown e
   by_role role.RelayForAll asking shown e =
@@ -110,8 +112,11 @@ of_relay d x name call methods e there is =
     at.2 in
     let same : methods ≡ at.0 =
     same_ok _ _ (sym (ap (or_refuse NoRoute) there) ∙ at.1) in
-    let r : role.Relay ≡ found.0.0 = sym is ∙ ap role_of same ∙ role_kept at.0 (string_bytes x.method) found.0 found.1 in
-    let one : asked_as d role.Relay found.0.1 (key_shown x) (last_segment path) x.body.items ≡ Ok asked =
-    subst (λ q. asked_as d q found.0.1 (key_shown x) (last_segment path) x.body.items ≡ Ok asked) (sym r) found.2 in
+    let r : role.Relay ≡ found.0.0 = sym is ∙ ap role_of same
+    ∙ role_kept at.0 (string_bytes x.method) found.0 found.1 in
+    let one : asked_as d role.Relay found.0.1 (key_shown x) (last_segment path) x.body.items
+    ≡ Ok asked =
+    subst (λ q. asked_as d q found.0.1 (key_shown x) (last_segment path) x.body.items ≡ Ok asked)
+    (sym r) found.2 in
     let who = went_on (held_on d role.Relay (key_shown x) (last_segment path)) _ asked one in
     relays d (key_shown x) (last_segment path) who.0 who.1

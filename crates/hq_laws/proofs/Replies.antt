@@ -12,7 +12,8 @@ use Rattle.hq_json.specs.Replies.{answer_data, queued, admissible, state_name}
 use Rattle.hq_json.specs.TableReplies.{refused_list}
 
 same_texts : (ps : List Pending) →
-    map (λ t. string t) (map (λ (p : Pending). p.address) ps) ≡ map (λ (p : Pending). string p.address) ps
+    map (λ t. string t) (map (λ (p : Pending). p.address) ps) ≡
+    map (λ (p : Pending). string p.address) ps
 same_texts [] = refl
 same_texts (p ∷ ps) = ap (λ xs. string p.address ∷ xs) (same_texts ps)
 
@@ -22,9 +23,12 @@ pub without : (m : Message) (refused : List Refused) → (ms : Members)
 unfolding queued admissible
 without m refused = (
   members_in ((codes "recipients", addresses m.pending) ∷ (codes "refused", refused_list refused)
-      ∷ (codes "state", string (state_name m.state)) ∷ (codes "verdict", string (codes "queued")) ∷ []),
+      ∷ (codes "state", string (state_name m.state))
+      ∷ (codes "verdict", string (codes "queued")) ∷ []),
   refl,
-  ap (λ xs. having ((codes "recipients", array (items_of xs)) ∷ (codes "refused", refused_list refused)
-      ∷ (codes "state", string (state_name m.state)) ∷ (codes "verdict", string (codes "queued")) ∷ []))
+  ap (λ xs. having ((codes "recipients", array (items_of xs))
+      ∷ (codes "refused", refused_list refused)
+      ∷ (codes "state", string (state_name m.state))
+      ∷ (codes "verdict", string (codes "queued")) ∷ []))
       (same_texts m.pending),
 )

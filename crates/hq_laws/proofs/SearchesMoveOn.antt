@@ -66,6 +66,7 @@ goes_less p es n h = by (nat_lt 100 (length found)) (nat_lt 1000 (length es)) h 
       (if c then last_number (take 1000 es) else None)) ≡ Some n →
       length (filter (under n) es) < length es
   by true c h = less n es (has_first n 1000 es (has_some p n (take 1000 es)
-      (has_first n 100 (filter p (take 1000 es)) (has_last n (take 100 (filter p (take 1000 es))) h))))
+      (has_first n 100 (filter p (take 1000 es))
+      (has_last n (take 100 (filter p (take 1000 es))) h))))
   by false true h = less n es (has_first n 1000 es (has_last n (take 1000 es) h))
   by false false h = absurd (none_some (sym h))
