@@ -94,13 +94,13 @@ class Policy:
         if not customer:
             return NOBODY
         if told.get("recipient") and self.admission.is_asked(customer):
-            before = transaction.at(told.get("instance", ""))
+            message = transaction.at(told.get("instance", ""))
             loop = asyncio.get_running_loop()
-            refusal = await loop.run_in_executor(self.admission.pool, self.admission.refusal, customer, told, before.let_in)
+            refusal = await loop.run_in_executor(self.admission.pool, self.admission.refusal, customer, told, message.let_in)
             if refusal:
                 log.info("refused before its content", customer=customer, answer=refusal)
                 return " ".join(refusal.split())
-            before.let_in += 1
+            message.let_in += 1
         return f"FILTER desk:{way_of(customer, self.intake.settings.listen)}"
 
     @staticmethod
