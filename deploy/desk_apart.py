@@ -1,17 +1,93 @@
 """What keeps root apart from the user of a service: who has taken over that user may have written whatever a command prints, and
-reads the environment of each process of its own."""
+reads the environment of each process of its own. And a file of settings, as systemd reads it."""
 import os
 import re
-from typing import Any, Dict
+import subprocess
+import sys
+import threading
+from pathlib import Path
+from typing import IO, Any, Dict, List, Optional
+
+# The folders of root's programs, which the path of cron, and of `su` without a login, does not name.
+OF_ROOT = "/usr/sbin", "/sbin"
 
 # Of root's environment, in which there may be secrets, a command of that user gets these alone.
 KEPT = "PATH", "LANG", "LC_ALL", "TZ"
+# So many bytes are read of what a command prints.
+MOST = 1 << 20
 # What a terminal obeys, and answers as if somebody had typed it; and what turns the direction of a line.
 OBEYED = re.compile("[\x00-\x08\x0b-\x1f\x7f-\x9f\u200e\u200f\u2028-\u202e\u2066-\u2069\ud800-\udfff]")
 
 
 def environment() -> Dict[str, str]:
     return {**{it: os.environ[it] for it in KEPT if it in os.environ}, "HOME": "/nonexistent"}
+
+
+def run_apart(words: list, read: str = "", most: int = MOST, longest: Optional[float] = None,
+              **more: Any) -> "subprocess.CompletedProcess[str]":
+    """Runs a command of that user to its end, in the folder /: root's own may be closed to that user. One that prints more than so
+    many bytes gets a broken pipe, and the call a ValueError, so that no such user fills root's memory."""
+    found: Dict[str, bytes] = {}
+
+    def keep(name: str, source: IO[bytes]) -> None:
+        with source:
+            found[name] = source.read(most + 1)
+
+    # (it may have a key, which comes to no disk)
+    with open(os.memfd_create("given"), "r+b") as given:
+        given.write(read.encode())
+        given.seek(0)
+        with subprocess.Popen(words, stdin=given, stdout=subprocess.PIPE, stderr=subprocess.PIPE, cwd="/", **more) as command:
+            printed: List[Any] = [("stdout", command.stdout), ("stderr", command.stderr)]
+            threads = [threading.Thread(target=keep, args=it, daemon=True) for it in printed]
+            for it in threads:
+                it.start()
+            try:
+                command.wait(longest)
+            except subprocess.TimeoutExpired:
+                command.kill()
+                raise
+            for it in threads:
+                it.join()
+    if max(map(len, found.values())) > most:
+        raise ValueError(f"{os.path.basename(words[0])} prints more than {most} bytes")
+    told, faults = (found[name].decode(errors="replace") for name, _ in printed)
+    return subprocess.CompletedProcess(words, command.returncode, told, faults)
+
+
+# A value of a file of settings, which may stand between quotes; and the settings that scripts read.
+VALUE, READ = re.compile(r"""(["'])([^"'\\]*)\1|[^"'\\]*"""), ("HOST", "LISTEN")
+
+
+def settings_of(path: Path) -> Dict[str, str]:
+    """The settings of a desk, as its unit has them: systemd takes off quotes around a value, and what is blank beside it. Where it
+    would take more off, a ValueError says where."""
+    found = {}
+    for number, line in enumerate(path.read_text(encoding="utf-8").splitlines(), 1):
+        name, equals, value = line.strip().partition("=")
+        if not equals or name.startswith(("#", ";")):
+            continue
+        whole = VALUE.fullmatch(value.strip())
+        if not whole and name in READ:
+            raise ValueError(f"{path}: line {number}: {name} has a quote or a backslash within; write its value as it is")
+        found[name] = value.strip() if not whole else whole[0] if whole[2] is None else whole[2]
+    return found
+
+
+def find_programs() -> None:
+    """Root's programs are found whatever the path of whoever calls."""
+    known = os.environ.get("PATH", os.defpath).split(os.pathsep)
+    os.environ["PATH"] = os.pathsep.join([*known, *(it for it in OF_ROOT if it not in known)])
+
+
+def take_streams() -> None:
+    """No file gets the number of a stream that is closed: printing fails there, and messages of faults go nowhere."""
+    for number, how in enumerate((os.O_WRONLY, os.O_RDONLY, os.O_WRONLY)):
+        try:
+            os.fstat(number)
+        except OSError:
+            os.open(os.devnull, how)
+    sys.stdout, sys.stderr = sys.stdout or open(1, "w", closefd=False), sys.stderr or open(2, "w", closefd=False)
 
 
 def plain(text: str) -> str:

@@ -24,7 +24,9 @@ import tempfile
 import time
 from datetime import datetime, timezone
 from pathlib import Path
-from typing import Dict, Iterator, List, Optional, Tuple
+from typing import Callable, Dict, Iterator, List, Optional, Tuple
+
+from desk_apart import settings_of
 
 COLUMNS = ["name", "key", "messages", "bytes", "lines", "notices", "delay"]
 FURTHER = "history"
@@ -168,7 +170,7 @@ class Desk:
         if self.name in OTHERS:
             raise Refused(f"{settings}: no desk is called {self.name}, since another file has that name")
         self.written = settings.read_bytes().decode()
-        self.settings = dict(it.split("=", 1) for it in self.written.splitlines() if "=" in it and not it.startswith("#"))
+        self.settings = settings_of(settings)
         if not {"HOST", "LISTEN"} <= self.settings.keys():
             raise Refused(f"{settings} has no line for HOST or LISTEN")
         self.path = self.folder / f"{self.name}.csv"
@@ -179,7 +181,8 @@ class Desk:
             raise Refused(f"{self.path} is no directory of customers: see `hq check`")
         self.columns = header
         self.rows = [dict(zip(header, it)) for it in rows]
-        self.keys_path, self.keys = keys_beside(self.path), []
+        self.keys_path = keys_beside(self.path)
+        self.keys: List[Dict[str, str]] = []
 
     def read_keys(self) -> None:
         """Its named keys, for who writes them. (Who asks a desk has other keys, so that a fault of this file is none to it.)"""
@@ -277,6 +280,15 @@ class Folder:
             for it in self.closed:
                 print(f"{it} was open to others, who may know its keys; it is closed now", file=sys.stderr, flush=True)
 
+    def rehearse(self, scripts: Path) -> None:
+        """Tries all files, and leaves everything as it is."""
+        finish(self.path)
+        try:
+            self.put_all(scripts)
+        finally:
+            finish(self.path)
+            self.closed = []
+
     def put_all(self, scripts: Path) -> None:
         desks, workers = group_of("hqdesk"), group_of("hqrelay")
         for it in self.desks:
@@ -295,7 +307,9 @@ class Folder:
         with tempfile.TemporaryDirectory(dir=self.path, prefix=TRIAL) as made:
             given = [f"{it.settings['LISTEN']}={it.path}{BESIDE}" for it in self.desks]
             tried([scripts / "desk-maps", made, *given])
-            for name, mode, put in (("keys.map", 0o600, self.put_closed), ("names.map", 0o640, put_beside)):
+            maps: List[Tuple[str, int, Callable[[Path, str, int, int], object]]] = [
+                ("keys.map", 0o600, self.put_closed), ("names.map", 0o640, put_beside)]
+            for name, mode, put in maps:
                 put(self.path / name, Path(made, name).read_text(), mode, desks)
             self.check_worker(Path(made))
 

@@ -4,8 +4,9 @@ import shutil
 import subprocess
 import time
 from pathlib import Path
-from typing import List, Optional, Tuple
+from typing import List, Optional, Tuple, Union
 
+from desk_apart import run_apart
 from desk_files import LONGEST, Desk, Refused
 
 # In seconds: what the worker may take, which waits until nobody works by earlier settings.
@@ -79,10 +80,10 @@ def is_known_to_worker(folder: Path, name: str) -> bool:
 
 
 def as_worker(folder: Path, command: str, name: str) -> "subprocess.CompletedProcess[str]":
-    words = ["hq-relay", folder / "relay.ini", command, name]
+    words: List[Union[str, Path]] = ["hq-relay", folder.absolute() / "relay.ini", command, name]
     if os.geteuid() == 0:
         words = [Path(__file__).resolve().parent / "hq-as", "hqrelay", *words]
-    return subprocess.run(words, stdin=subprocess.DEVNULL, capture_output=True, text=True, timeout=LONGEST_ERASING)
+    return run_apart(words, longest=LONGEST_ERASING)
 
 
 def count_again() -> None:
@@ -97,11 +98,11 @@ def of_store(scripts: Path, desk: Desk, stores: Path, command: str, what: str, r
     store = stores / f"{desk.name}.db"
     if not os.path.lexists(store):
         return None
-    words = [scripts / "desk-store", command, store, what]
+    words: List[Union[str, Path]] = [scripts / "desk-store", command, store.absolute(), what]
     if os.geteuid() == 0 and shutil.which("systemctl"):
-        words = [scripts / "desk-restart", desk.name, "--stopped", *words]
+        words = [scripts / "desk-restart", desk.name, "--stopped", *(["--input"] if read else []), *words]
     # (it takes as long as it takes: who ends it would leave the desk stopped)
-    ended = subprocess.run(words, input=read, capture_output=True, text=True)
+    ended = run_apart(words, read)
     if ended.returncode not in (DONE, UNKNOWN, MORE):
         told = " / ".join(ended.stderr.strip().splitlines())
         raise Refused(f"the store of {desk.name}: {told or f'status {ended.returncode}'}")

@@ -111,11 +111,12 @@ class Packing:
         with subprocess.Popen(["dpkg-deb", "--fsys-tarfile", package], stdout=subprocess.PIPE) as files, open(path, "wb") as file:
             with gzip.GzipFile("", "wb", 1 if self.is_trial else 9, file, 0) as zipped, \
                  tarfile.open(fileobj=files.stdout, mode="r|") as old, \
-                 tarfile.open(fileobj=zipped, mode="w|", format=tarfile.GNU_FORMAT) as new:
+                 tarfile.open(fileobj=zipped, mode="w|", format=tarfile.GNU_FORMAT) as new:  # type: ignore[arg-type]  # (it only writes)
                 for it in old:
                     if not it.isdir() or is_ours(it.name):
                         new.addfile(it, old.extractfile(it) if it.isreg() else None)
                 # (dpkg-deb ends by a fault of its own where its last bytes are not read)
+                assert files.stdout
                 files.stdout.read()
         if files.returncode:
             raise NotMade("dpkg-deb cannot read the package")

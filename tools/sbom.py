@@ -12,7 +12,7 @@ from datetime import datetime, timezone
 from pathlib import Path
 from typing import Dict, List
 
-from packing import ROOT, said, sum_of
+from packing import ROOT, NotMade, said, sum_of
 
 UNKNOWN = "NOASSERTION"
 PACKAGE = "SPDXRef-package"
@@ -62,7 +62,9 @@ def files_of(package: Path) -> list:
     """The files that the package installs."""
     with subprocess.Popen(["dpkg-deb", "--fsys-tarfile", package], stdout=subprocess.PIPE) as read:
         with tarfile.open(fileobj=read.stdout, mode="r|") as tar:
-            found = [(it.name, tar.extractfile(it).read()) for it in tar if it.isreg()]
+            opened = ((it.name, tar.extractfile(it)) for it in tar if it.isreg())
+            found = [(name, file.read()) for name, file in opened if file]
+        assert read.stdout
         read.stdout.read()
     return [{"SPDXID": f"SPDXRef-file-{number}", "fileName": name, "checksums": checksums(data), "licenseConcluded": UNKNOWN,
              "licenseInfoInFiles": [UNKNOWN], "copyrightText": UNKNOWN} for number, (name, data) in enumerate(sorted(found), 1)]
@@ -78,14 +80,17 @@ def needed(package: Path) -> list:
     """The packages of Debian without which this one is not installed, each with the lowest version that does."""
     asked = said("dpkg-deb", "-f", str(package), "Depends")
     found = [re.fullmatch(r"([a-z0-9.+-]+)(?::any)?(?: \((.+)\))?", it.strip().split(" | ")[0]) for it in asked.split(",")]
-    return [(it[1], it[2] or "") for it in found]
+    if None in found:
+        raise NotMade(f"these are no packages: {asked}")
+    return [(it[1], it[2] or "") for it in found if it]
 
 
 class Document:
     """The packages of a document, and how they are tied."""
 
     def __init__(self, version: str):
-        self.version, self.packages, self.ties = version, [], [tied("SPDXRef-DOCUMENT", "DESCRIBES", PACKAGE)]
+        self.version, self.ties = version, [tied("SPDXRef-DOCUMENT", "DESCRIBES", PACKAGE)]
+        self.packages: List[dict] = []
 
     def add(self, package: dict, *ties: dict) -> None:
         self.packages.append(package)
@@ -123,7 +128,10 @@ class Document:
 
 
 def of_proved(proved: str, name: str) -> str:
-    return re.search(rf"(?m)^{name} +(.*)$", proved)[1]
+    found = re.search(rf"(?m)^{name} +(.*)$", proved)
+    if not found:
+        raise NotMade(f"PROVED has no line {name}")
+    return found[1]
 
 
 def document(parts: List[Path], proved: str, version: str, moment: int) -> str:

@@ -55,7 +55,7 @@ def test_dashboard(folder):
 
 def test_metrics_are_told():
     """What rules and panels ask for is what relay/metrics tells."""
-    told = set(re.findall(r'"(desk_\w+)"', (DEPLOY.parent / "relay/metrics").read_text())) | OF_OTHERS
+    told = set(re.findall(r'"(desk_\w+)"', (DEPLOY.parent / "relay/hq_relay/metrics.py").read_text())) | OF_OTHERS
     told |= set(re.findall(r"# TYPE (desk_\w+)", (DEPLOY / "desk-metrics").read_text()))
     rules = "\n".join(re.findall(r"(?s)expr: (.*?)\n +(?:for|labels):", (DEPLOY / "prometheus-rules.yml").read_text()))
     asked = set(re.findall(r"\b(?:desk|node)_\w+", rules + "\n".join(expressions())))

@@ -1,8 +1,11 @@
 """The hook for renewed certificates of docs/PROCEDURES.md, by the lines that the page shows."""
+import contextlib
 import os
 import re
 import shutil
+import signal
 import subprocess
+import time
 
 import needs
 import pytest
@@ -30,7 +33,7 @@ def hook(folder):
                                              f'exec {there} "$@"\n')
     script = (DEPLOY / "desk-certificate").read_text()
     expect("cd /etc/hq\n" in script, "the script works elsewhere")
-    (folder / "bin/desk-certificate").write_text(script.replace("/etc/hq", str(folder / "etc")))
+    (folder / "bin/desk-certificate").write_text(script.replace("/etc/hq", str(folder / "etc")).replace("/run/hq-desk", str(folder / "run")))
     for it in [*(folder / "bin").iterdir(), *(folder / "steps").iterdir()]:
         it.chmod(0o755)
     for old, new in (("/etc/letsencrypt/renewal-hooks/deploy", "hooks"), ("/usr/libexec/hq-desk", "bin"), ("/etc/hq", "etc")):
@@ -102,6 +105,21 @@ def test_at_once(hook):
         expect(there(hook) and len([it for it in (hook / "etc").iterdir() if not it.is_symlink()]) == 1, "there is", os.listdir(hook / "etc"))
 
 
+def test_locked_by_others(hook):
+    """Another user of the machine, who may open the folder, keeps nobody from renewing."""
+    needs.root()
+    expect(renewed(hook, "desk.example", "first") == 0, "no pair is taken")
+    for held in (hook / "etc", *hook.glob("run*")):
+        with subprocess.Popen(["setpriv", "--reuid=65534", "--regid=65534", "--clear-groups", "flock", held, "sleep", "60"],
+                              stderr=subprocess.DEVNULL, start_new_session=True) as other:
+            time.sleep(0.5)
+            words = [hook / "bin/desk-certificate", hook / "second.privkey.pem", hook / "second.fullchain.pem"]
+            ended = subprocess.run(["timeout", "10", *words], env={"PATH": f"{hook}/bin:/usr/bin:/bin"}, timeout=LONGEST, capture_output=True)
+            expect(ended.returncode == 0, "while another user has", held, "it ended with", ended)
+            with contextlib.suppress(ProcessLookupError):
+                os.killpg(other.pid, signal.SIGKILL)
+
+
 @pytest.mark.parametrize("are_files", [True, False])
 def test_stopped(hook, are_files):
     """Killed at each of its steps it leaves a pair that fits, also the first time, where both stand there as files; the next run ends it."""
@@ -122,3 +140,50 @@ def test_stopped(hook, are_files):
         expect(renewed(hook, "desk.example", "second") == 0 and there(hook) == "second", "behind the step", last, "it is not ended")
         expect(len([it for it in etc.iterdir() if not it.is_symlink()]) == 1, "left are", os.listdir(etc))
     expect(10 < last < 100 and left == {"first", "second"}, "it was stopped", last, "times, and left", left)
+
+
+SETTING_UP = DEPLOY.parent / "docs/PRODUCTION.md"
+
+
+def typed(folder, tls, name):
+    """The lines by which nginx is set up, but for those that nginx and systemd do."""
+    lines = re.search(r"(?ms)^### nginx\n.*?^```\n(.*?)^```$", SETTING_UP.read_text())[1]
+    for old, new in (("/usr/share/doc/hq-desk/examples", DEPLOY), ("/etc/", f"{folder}/")):
+        lines = lines.replace(old, str(new))
+    ended = subprocess.run(["bash", "-euc", re.sub(r"(?m)^(systemctl|nginx) .*\n", "", lines)], capture_output=True, text=True,
+                           timeout=LONGEST, env={**os.environ, "TLS": str(tls), "NAME": name})
+    expect((ended.returncode, ended.stderr) == (0, ""), "the lines end with", ended)
+
+
+def test_set_up_again(folder):
+    """Typed again, as behind a restore, the lines leave the certificate that was renewed since, the name, and an nginx.conf that
+    somebody has changed; and they put back what is missing."""
+    for it in ("hq/tls", "nginx/conf.d", "first", "later"):
+        (folder / it).mkdir(parents=True)
+    for at in ("first", "later"):
+        for it in ("tls.key", "tls.crt"):
+            (folder / at / it).write_text(f"{it} of {at}")
+    for it in (DEPLOY / "nginx-main.conf", DEPLOY / "nginx.conf"):
+        shutil.copy(it, folder / "hq")
+    (folder / "nginx/nginx.conf").write_text("of Debian\n")
+    typed(folder, folder / "first", "desk.example")
+    own, kept = folder / "nginx/nginx.conf", folder / "nginx/nginx.conf.before-hq-desk"
+    wanted = {"hq/tls.key": "tls.key of first", "hq/tls.crt": "tls.crt of first",
+              "hq/nginx-name.conf": "server_name desk.example;\n"}
+
+    def found():
+        return {it: (folder / it).read_text() for it in wanted}
+
+    expect(found() == wanted and kept.read_text() == "of Debian\n", "it has", found())
+    expect(own.read_bytes() == (DEPLOY / "nginx-main.conf").read_bytes(), "nginx.conf is not ours")
+    for it in ("tls.key", "tls.crt"):
+        (folder / "hq" / it).rename(folder / "hq/tls" / it)
+        (folder / "hq" / it).symlink_to(f"tls/{it}")
+    with open(own, "a") as file:
+        file.write("# mine\n")
+    typed(folder, folder / "later", "other.example")
+    expect(found() == wanted and (folder / "hq/tls.key").is_symlink(), "the pair or the name is another")
+    expect(own.read_text().endswith("# mine\n") and kept.read_text() == "of Debian\n", "nginx.conf is another")
+    (folder / "hq/tls.crt").unlink()
+    typed(folder, folder / "later", "other.example")
+    expect((folder / "hq/tls.crt").read_text() == "tls.crt of later", "what was missing is not there")

@@ -4,7 +4,9 @@
 written is tried in tests/release. `test_named_keys.py` has named keys.
 """
 import fcntl
+import http.server
 import os
+import re
 import subprocess
 import sys
 import threading
@@ -71,6 +73,86 @@ def test_since(place):
     place.done("set", "acme", "--no-domain", "c.example")
     place.done("set", "acme", "--domain", "c.example")
     expect(since("c.example")[0] > first and since("a.example") == [""], "again it is its since", since("c.example"))
+
+
+class Empty(http.server.BaseHTTPRequestHandler):
+    """A desk of which nothing is queued."""
+
+    def do_GET(self):
+        self.send_response(200)
+        self.end_headers()
+        self.wfile.write(b'{"messages":0}')
+
+    def log_message(self, *_):
+        """It tells nothing."""
+
+
+@pytest.fixture
+def empty():
+    """The port of a desk of which nothing is queued."""
+    with http.server.ThreadingHTTPServer(("127.0.0.1", 0), Empty) as server:
+        threading.Thread(target=server.serve_forever, daemon=True).start()
+        yield server.server_address[1]
+        server.shutdown()
+
+
+def test_last_of_a_desk(place, empty):
+    """The last customer of a desk is not dropped, nothing changes then, and its mail goes on; what the message says leads on."""
+    place.desk("north", empty, ACME)
+    place.done("set", "acme", "--domain", "a.example", "--login", "acme@a.example")
+    for more in ([], ["--queued"]):
+        before, ended = place.files(), place.run("drop", *more, "acme")
+        expect(ended.returncode == 1 and "acme is the last customer of north" in ended.stderr, "it ends with", ended)
+        expect(place.files() == before, "changed are", {name for name in before if place.files().get(name) != before[name]})
+    command = ended.stderr.partition("`hq-customers ")[2].partition(" >/dev/null`")[0]
+    place.done(*command.split())
+    place.done("drop", "acme")
+    expect(place.rows().keys() == {"placeholder"} and b"a.example" not in place.files()["senders.csv"], "there are", place.rows())
+    expect("acme north: dropped on 20" in place.done("list"), "it is not told as dropped")
+
+
+def test_refused_behind_a_drop(place, empty):
+    """Where what a drop ends with would be refused, nothing was changed: the customer keeps its logins and domains."""
+    place.desk("north", empty, ACME + ACME.replace("acme", "birch"))
+    place.done("set", "birch", "--domain", "b.example")
+    # (this one takes no directory without birch)
+    (place.bin / "hq").unlink()
+    (place.bin / "hq").write_text('#!/bin/sh\ngrep -q "^birch" "$3" || { echo "hq: no" >&2; exit 1; }\n')
+    (place.bin / "hq").chmod(0o755)
+    before, ended = place.files(), place.run("drop", "birch")
+    expect(ended.returncode == 1 and "nothing was changed" in ended.stderr, "it ends with", ended)
+    expect(place.files() == before, "changed are", {name for name in before if place.files().get(name) != before[name]})
+
+
+SETTINGS = {"plain": "HOST=relay.example\nLISTEN=127.0.0.1:825\n", "quoted": 'HOST="relay.example"\nLISTEN=\'127.0.0.1:825\'\n',
+            "blank": "# HOST=x\n HOST=relay.example \nLISTEN= 127.0.0.1:825\t\n",
+            "lines of another system": "HOST=relay.example\r\nLISTEN=127.0.0.1:825\r\n"}
+
+
+@pytest.mark.parametrize("text", SETTINGS.values(), ids=SETTINGS)
+def test_settings_as_the_unit_has_them(place, text):
+    """Settings are read as systemd reads them: by hq-customers, desk-restart and desk-metrics."""
+    (place.folder / "north.env").write_bytes(text.encode())
+    place.done("add", "birch")
+    expect("birch 127.0.0.1:825;\n" in place.files()["names.map"].decode(), "the desk is at", place.files()["names.map"])
+    ended = subprocess.run([sys.executable, "-c", "import sys, pathlib; sys.path.insert(0, sys.argv[1]); import desk_apart; "
+                            "print(desk_apart.settings_of(pathlib.Path(sys.argv[2])))", DEPLOY, place.folder / "north.env"],
+                           capture_output=True, text=True, timeout=LONGEST)
+    expect(ended.stdout == "{'HOST': 'relay.example', 'LISTEN': '127.0.0.1:825'}\n", "it is read as", ended)
+    line = re.search(r"(?m)^  address=.*$", (DEPLOY / "desk-metrics").read_text())[0]
+    ended = subprocess.run(["sh", "-c", f'file=$0; {line}; echo "$address"', place.folder / "north.env"], capture_output=True,
+                           text=True, timeout=LONGEST)
+    expect(ended.stdout == "127.0.0.1:825\n", "counts are asked at", ended)
+
+
+@pytest.mark.parametrize("line", ['HOST="relay.example', "HOST=relay'x'", "HOST=relay\\.example", 'LISTEN="127.0.0.1:825" # x'])
+def test_settings_that_are_refused(place, line):
+    """Where systemd would read something else, file and line are told, and nothing is changed."""
+    (place.folder / "north.env").write_text(f"# settings\n{line}\n")
+    before, ended = place.files(), place.run("add", "birch")
+    told = (f"hq-customers: {place.folder}/north.env: line 2: {line[:line.index('=')]} has a quote or a backslash within; "
+            "write its value as it is\n")
+    expect((ended.returncode, ended.stderr) == (1, told) and place.files() == before, "it ends with", ended)
 
 
 def test_dropped(place):

@@ -80,6 +80,7 @@ def test_refused_start():
     for word in ("--directory /etc/hq/%i.csv", "--host ${HOST}", "--relay-key-file /etc/hq/%i.key"):
         expect(word in check and word in unit["ExecStart"][0], "the check and the start differ by", word)
     behind = unit["ExecStopPost"][0]
+    expect(all_settings_of(DEPLOY / "hq-desk-workers.service").get("ExecStopPost") == [behind], "a start of nginx is tried again at once")
     expect(behind.startswith("/bin/sh -c '") and behind.endswith("'"), "behind an end there is", behind)
     script = behind[len("/bin/sh -c '"):-1].replace("$$", "$")
     for result, least in (("exit-code", 2), ("success", 0), ("signal", 0), ("core-dump", 0)):

@@ -111,11 +111,30 @@ def test_connections_of_a_user(network):
 
 def test_nobody_is_there(network):
     """Postfix reaches nobody at the addresses by which the worker's policy tells destinations apart, whoever listens there."""
-    named = re.search(r"(?m)^NETWORK, SIZE = (\d+), (\d+)$", (DEPLOY.parent / "relay/policy.py").read_text())
+    named = re.search(r"(?m)^NETWORK, SIZE = (\d+), (\d+)$", (DEPLOY.parent / "relay/hq_relay/intake/policy_server.py").read_text())
     expect(named and named.groups() == ("64", "64") and "127.64.0.0/10" in network.rules.read_text(), "the addresses are others:", named)
     for host, user, wanted in (("127.66.43.51", POSTFIX, 0), ("127.127.255.255", POSTFIX, 0), ("127.66.43.51", 0, 3), ("127.0.0.1", POSTFIX, 3)):
         for port in (823, 10024, 20024):
             expect(network.connected(host, port, user, 3) == wanted, "at", host, port, "the user", user)
+
+
+def test_own_port_of_mail(network):
+    """Postfix reaches port 25 of this machine by none of its addresses; others do, and Postfix reaches that of other machines."""
+    for host, user, wanted in (("127.0.0.1", POSTFIX, 0), ("127.0.0.2", POSTFIX, 0), ("127.0.0.2", STRANGER, 3),
+                               ("127.0.0.1", WORKER, 3), ("127.0.0.1", 0, 3)):
+        expect(network.connected(host, 25, user, 3) == wanted, "at", host, "the user", user)
+    for host, user, wanted in (("198.51.100.1", POSTFIX, "0"), ("198.51.100.1", STRANGER, "3"), ("2001:db8::1", POSTFIX, "0"),
+                               ("2001:db8::1", STRANGER, "3")):
+        listens, added = CONNECTS, ""
+        if ":" in host:
+            listens = CONNECTS.replace("backlog", "family=socket.AF_INET6, backlog")
+            added = f"ip addr add {host}/64 dev inner nodad; "
+        told = network.run(f'{PEER}{added}"$0" -c "$1" {host} 25 {user} 3; kill $holder', listens)
+        expect(told.split() == [wanted], "at an own address", host, "the user", user, "has", told)
+    told = network.run(f'{PEER} nsenter -t $holder -n "$0" -c "$1" 25 & listener=$!; sleep 0.5; '
+                       f'setpriv --reuid={POSTFIX} --clear-groups "$0" -c "$2"; kill $listener $holder', LISTENS,
+                       "import socket; print(socket.create_connection(('198.51.100.2', 25), 2).getpeername()[1])")
+    expect(told.split() == ["25"], "of another machine it reaches", told)
 
 
 def test_a_session_of_before(network):

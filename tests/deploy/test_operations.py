@@ -51,7 +51,7 @@ def copied(store, folder):
 
 # ---- 1 and 2
 
-def backups(place, north):
+def backups(place, north, folder):
     """Backups under load: nothing that was accepted is lost, and nothing is there twice."""
     took = []
     for number in range(BACKUPS):
@@ -65,7 +65,7 @@ def backups(place, north):
         took.append((away, len(load.others), len(load.accepted)))
         if number + 1 < BACKUPS:
             emptied(north)
-    secret(place, north, copy)
+    secret(place, north, folder)
     restored(place, north, copy, before, load, stopped, stopped + away)
     away, missed, accepted = zip(*took)
     expect(any(missed), "the load met no stop")
@@ -73,14 +73,13 @@ def backups(place, north):
             f"{min(missed)} to {max(missed)} calls got 502, {sum(accepted)} submissions kept")
 
 
-def secret(place, north, copy):
-    """What has keys is copied for who has the key of backups alone."""
-    folder = north.folder
+def secret(place, north, folder):
+    """The files with keys are copied, elsewhere than among them, for the owner of the key of backups alone."""
     made = ["openssl", "req", "-x509", "-newkey", "rsa:2048", "-nodes", "-subj", "/CN=backup", "-keyout",
             folder / "backup.key", "-out", folder / "backup.crt"]
     subprocess.run(made, check=True, capture_output=True, timeout=LONGEST)
-    place.run("Backup of the keys", BACKUP=str(copy), OF_BACKUPS=str(folder / "backup.crt"))
-    sealed = copy / "hq.cms"
+    place.run("Backup of the keys", BACKUP=str(folder), OF_BACKUPS=str(folder / "backup.crt"))
+    sealed = folder / "hq.cms"
     expect(stat.S_IMODE(sealed.stat().st_mode) == 0o600, "the keys may be read by others")
     expect(key_of("acme").encode() not in sealed.read_bytes(), "a key stands in the open")
     opened = subprocess.run(["sh", "-euc", "openssl cms -decrypt -inform DER -in $0 -inkey $1 | tar -t",
@@ -296,9 +295,9 @@ def procedures(place, used, north, south, proxy):
     return Place(place, used, [north, south], proxy)
 
 
-def test_procedures(procedures, program, used, north, south, proxy):
+def test_procedures(procedures, folder, program, used, north, south, proxy):
     """Backup and restore, a new key, the erasing of labels, a move to another desk, and an upgrade."""
-    backups(procedures, north)
+    backups(procedures, north, folder)
     new_key(procedures, north, proxy)
     if shutil.which("sqlite3"):
         unlabelled(procedures, north)

@@ -5,8 +5,10 @@ alone may read, and to one that others may not write.
 """
 import contextlib
 import fcntl
+import grp
 import os
 import pty
+import pwd
 import re
 import subprocess
 import termios
@@ -77,7 +79,8 @@ class Service:
         if "desk-stop" in line or "desk-start" in line:
             return 0
         line = line.replace(f"{SCRIPTS}/desk-backup", str(self.scripts / "desk-backup"))
-        for it, here in (("hq-as hqdesk", f"{DEPLOY}/hq-as {USER}"), ("-init /dev/null ", ""), ("-g hqdesk", f"-g {GROUP}"), ("/etc/hq", self.etc),
+        for it, here in (("hq-as --input hqdesk", f"{DEPLOY}/hq-as --input {USER}"), ("hq-as hqdesk", f"{DEPLOY}/hq-as {USER}"),
+                         ("-init /dev/null ", ""), ("-g hqdesk", f"-g {GROUP}"), ("/etc/hq", self.etc),
                          ("/var/lib/hqdesk", self.own), ("/usr/libexec/hq-desk", DEPLOY)):
             line = line.replace(it, str(here))
         if re.match(r"systemctl|apt-get|nginx", line):
@@ -138,11 +141,42 @@ def test_restored_elsewhere(service):
         service.step(it, BACKUP=str(service.backup))
     wanted = {it.name: it.read_bytes() for it in service.own.iterdir()}
     service.as_service("sh", "-c", f"rm {service.own}/north.db*")
-    lines = [it for it in lines_of("Restore") if it.startswith(("tar ", "hq-as hqdesk "))]
+    lines = [it for it in lines_of("Restore") if it.startswith(("tar ", "hq-as hqdesk ", "hq-as --input hqdesk "))]
     expect(len(lines) == 3, "the lines are", lines)
     for it in lines:
         expect(service.step(it, BACKUP=str(service.backup)) == 0, "it fails:", it)
     expect({it.name: it.read_bytes() for it in service.own.iterdir()} == wanted, "it is another store")
+
+
+def test_keys_in_part(folder):
+    """A copy of the keys that is not whole fails, whatever became of the program behind the pipe."""
+    line, = lines_of("Backup of the keys")
+    (folder / "bin").mkdir()
+    for name, does in (("tar", "echo half; [ ! -e bad ]"), ("openssl", "exec cat")):
+        (folder / "bin" / name).write_text(f"#!/bin/sh\n{does}\n")
+        (folder / "bin" / name).chmod(0o755)
+    for status in (0, 1):
+        ended = subprocess.run(["sh", "-c", line], cwd=folder, capture_output=True, timeout=LONGEST,
+                               env={"PATH": f"{folder}/bin:{os.environ['PATH']}", "BACKUP": str(folder), "OF_BACKUPS": "backup.crt"})
+        expect(ended.returncode == status, "a copy ends with", ended)
+        (folder / "bad").touch()
+
+
+@pytest.mark.parametrize("name, log", [("hq-desk.logrotate", "/var/log/hq-nginx"), ("logs.conf", "/var/log/hqdesk")])
+def test_quiet_days(folder, name, log):
+    """Ninety files are ninety days at most: a log is moved away on a day without a line too."""
+    needs.command("logrotate")
+    text = (DEPLOY / name).read_text().replace(log, str(folder)).replace("/run/nginx.pid", str(folder / "none"))
+    (folder / "rules").write_text(text.replace("hqproxy adm", f"{pwd.getpwuid(os.geteuid()).pw_name} {grp.getgrgid(os.getegid()).gr_name}"))
+    (folder / "rules").chmod(0o644)
+    (folder / "it.log").touch()
+    for day in range(3):
+        (folder / "it.log").touch()
+        (folder / "state").write_text(f'logrotate state -- version 2\n"{folder}/it.log" 2026-1-{day + 1}-0:0:0\n')
+        ended = subprocess.run(["logrotate", "--state", folder / "state", folder / "rules"], capture_output=True, text=True, timeout=LONGEST)
+        expect(ended.returncode == 0, "logrotate ends with", ended)
+    found = sorted(it.name for it in folder.glob("it.log.*"))
+    expect(len(found) == 3, "moved away are", found)
 
 
 def test_rotation(service):
@@ -199,15 +233,17 @@ def test_no_terminal(folder):
     status, told = at_terminal(DEPLOY / "hq-as", USER, "sh", "-c", PRINTS_AND_LOOKS)
     expect(status == 7, "the status is", status)
     expect(b"printed" in told and b"told" in told and b"/dev/pts" not in told and b"\n?" in told.replace(b"\r", b""), "it has", told)
-    for words, given, wanted in ((("cat",), b"handed on", b"handed on"), (("sh", "-c", "exit 3"), b"", b"")):
-        ended = subprocess.run([DEPLOY / "hq-as", USER, *words], input=given, capture_output=True, timeout=LONGEST)
+    for words, given, wanted in ((("--input", USER, "cat"), b"handed on", b"handed on"), ((USER, "sh", "-c", "exit 3"), b"", b"")):
+        ended = subprocess.run([DEPLOY / "hq-as", *words], input=given, capture_output=True, timeout=LONGEST)
         expect(ended.stdout == wanted and ended.returncode == (3 if "sh" in words else 0), words, "got", ended)
 
 
 def test_asked_without_terminal():
     """hq-ask runs a batch as the user of the desks in a session of its own, and by pipes alone."""
-    found = re.search(r"(?s)subprocess\.run\((words.*?preexec_fn.*?)\)", (DEPLOY / "hq-ask").read_text())
-    expect(found and "start_new_session=True" in found[1] and "capture_output=True" in found[1] and "input=" in found[1], "it runs", found)
+    found = re.search(r"run_apart\((words.*)\)", (DEPLOY / "hq-ask").read_text())
+    expect(found and "start_new_session=True" in found[1] and "preexec_fn=self.become_user" in found[1], "it runs", found)
+    piped = re.search(r"subprocess\.Popen\((.*?)\)", (DEPLOY / "desk_apart.py").read_text())
+    expect(piped and "stdin=given, stdout=subprocess.PIPE, stderr=subprocess.PIPE, cwd=\"/\"" in piped[1], "it is run with", piped)
 
 
 def shown(folder, *more):

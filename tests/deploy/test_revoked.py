@@ -80,3 +80,18 @@ def test_erased_by_a_clock_ahead(place):
         expect(run(place, "add", name, stdout=subprocess.PIPE).returncode == 0, name, "is not added")
         found = (place.folder / "erased.csv").read_text().splitlines()[1]
         expect(found.startswith(f"{name},2") and (found == f"{name},{moment}") == is_kept and "2099" not in found, "of", name, "it has", found)
+
+
+def closed(*numbers):
+    """Closes streams, as `>&-` of a shell does."""
+    return lambda: [os.close(it) for it in numbers]
+
+
+def test_closed_streams(place):
+    """With a closed output an old key ends all the same, and what cannot be printed is told; nothing is written where a stream was."""
+    for numbers, status in (((1,), 1), ((0, 1), 1), ((0, 1, 2), 1), ((2,), 0), ((0, 2), 0)):
+        ended = run(place, "key", "acme", preexec_fn=closed(*numbers), stdout=subprocess.PIPE)
+        expect(called(place) == ALL, "with", numbers, "closed it had not all taken up:", ended)
+        expect(ended.returncode == status, "with", numbers, "closed it ended with", ended)
+        expect(2 in numbers or ("could not be printed" in ended.stderr) == bool(status), "it told", ended)
+        expect((place.folder / ".customers.lock").read_text() == "", "the lock has", (place.folder / ".customers.lock").read_text())

@@ -1,5 +1,7 @@
 """What stops and starts desks, and copies their stores: whatever is typed behind it reaches them, and two who do so at once do no harm."""
 import os
+import shlex
+import shutil
 import subprocess
 import time
 
@@ -18,7 +20,8 @@ case $1 in
   stop) rm -f "{folder}/runs-$name"; pkill -F "{folder}/pid-$name" 2>/dev/null; exit 0 ;;
 esac
 [ "$name" != bad ] || exit 1
-[ ! -e "{folder}/stopped/$name" ] && [ ! -e "{folder}/run.copied/$name" ] || exit 0
+[ ! -e "{folder}/stopped/$name" ] || {{ echo "Assertion failed on job for $2." >&2; exit 1; }}
+sh -c "$(sed "s#%i#$name#g" "{folder}/condition")" || exit 0
 : >"{folder}/runs-$name"
 port=$(sed -n 's/^LISTEN=.*://p' {folder}/$name.env)
 sleep 1 && exec python3 -c "import socket, sys, time; where = sys.argv[1]
@@ -54,7 +57,16 @@ def place(folder):
         it.chmod(0o755)
     for it in ("stopped", "stores"):
         (folder / it).mkdir()
+    (folder / "condition").write_text(condition_of("hq-desk@.service").replace("/run/hq-desk", f"{folder}/run"))
     return folder
+
+
+def condition_of(unit):
+    """The script by which a unit starts or not."""
+    line, = all_settings_of(DEPLOY / unit)["ExecCondition"]
+    way, found = line.split(" ", 1)
+    expect(way == "+/bin/sh", unit, "asks by", line)
+    return shlex.split(found)[1]
 
 
 def is_set_up(place, name):
@@ -157,7 +169,9 @@ def test_worked_at_while_it_is_copied(place):
     time.sleep(0.5)
     expect([it.poll() for it in others] == [None, None], "two work at one store")
     (place / "slow").unlink()
-    expect(told(copying) == (0, "north.db\n"), "the copy ended otherwise")
+    # (who waits may come before the start of the desk, which then waits too)
+    status, text = told(copying)
+    expect(status == 0 and text.endswith("north.db\n"), "the copy ended with", status, text)
     found = [told(it) for it in others]
     expect([it[0] for it in found] == [0, 0] and "worked\n" in found[0][1] and found[1][1].endswith("north.db\n"), "they ended with", found)
 
@@ -171,6 +185,50 @@ def test_killed_copy(place):
     copying.communicate(timeout=LONGEST)
     expect((place / "run.copied/north").exists(), "a kill leaves no mark")
     expect(run(place, "desk-start", "north").returncode == 0 and listens(address), "it does not start")
+
+
+@pytest.mark.parametrize("name", ["2026-11-30T10:31", "host:copy", "-x:1", "with a space"])
+def test_names_of_folders(place, name):
+    """A copy goes into whatever folder is named, and is whole: with a colon it is no other machine's."""
+    is_set_up(place, "north")
+    ended = subprocess.run(capture_output=True, timeout=LONGEST, cwd=place, **words(place, "desk-backup", name, "north"))
+    expect((ended.returncode, ended.stdout) == (0, "north.db\n"), name, "it ended with", ended)
+    expect((place / name / "north.tar").exists(), name, "there is no copy")
+
+
+def test_started_behind_a_killed_copy(place):
+    """So it is where systemctl starts it, as soon as nothing of the copy is left; while that goes on it starts no desk."""
+    address = is_set_up(place, "north")
+    copying = slow_copy(place)
+    until(lambda: (place / "nightly/north.tar").exists(), "nothing is written")
+    for _ in range(2):
+        ended = run(place, "systemctl", "start", "hq-desk@north.service")
+        expect(ended.returncode == 0 and "its store is being copied" in ended.stderr, "while it is copied a start is", ended)
+        # (what copies goes on behind its parent)
+        copying.kill()
+    (place / "slow").unlink()
+    copying.communicate(timeout=LONGEST)
+    expect((place / "run.copied/north").exists() and not listens(address), "a kill leaves no mark, or it was started")
+    ended = run(place, "systemctl", "start", "hq-desk@north.service")
+    until(lambda: listens(address), "it does not start")
+    expect((ended.stderr, (place / "run.copied/north").exists()) == ("", False), "the mark is left, and told is", ended)
+
+
+def test_closed_to_others(place):
+    """Whatever the mask of whoever types, another user of the machine has no lock of a desk, and stops none."""
+    needs.root()
+    is_set_up(place, "north")
+    for command, *more in (("desk-restart", "north"), ("desk-stop", "north"), ("desk-start", "north"), ("desk-backup", place / "copy", "north")):
+        for made in ("run.locks", "run.copied", "stopped"):
+            shutil.rmtree(place / made, ignore_errors=True)
+        expect(subprocess.run(umask=0, timeout=LONGEST, **words(place, command, *more)).returncode == 0, command, "fails")
+        if command == "desk-restart":
+            (place / "stopped").mkdir(0o700)
+        expect((place / "run.locks/north").exists(), command, "has no lock")
+        other = ["setpriv", "--reuid=65534", "--regid=65534", "--clear-groups", "sh", "-c",
+                 'flock --nonblock "$0/run.locks/north" echo locked; : >"$0/stopped/north" && echo stopped', place]
+        told = subprocess.run(other, capture_output=True, text=True, timeout=LONGEST)
+        expect(told.stdout == "", "behind", command, "another user has", told)
 
 
 def test_nothing_to_copy(place):
@@ -192,7 +250,11 @@ def test_nothing_to_copy(place):
 
 
 def test_stays_stopped():
-    """A unit whose desk was stopped, or is being copied, starts neither behind a boot nor by retention."""
-    for unit in ("hq-desk@.service", "hq-desk-retain@.service"):
-        found = all_settings_of(DEPLOY / unit)["ConditionPathExists"]
-        expect(found == ["!/var/lib/hq-desk-stopped/%i", "!/run/hq-desk.copied/%i"], unit, "starts where", found)
+    """A unit whose desk was stopped, or is being copied, starts neither behind a boot nor by retention; who starts one that was stopped is told."""
+    stopped = "!/var/lib/hq-desk-stopped/%i"
+    for unit, wanted in (("hq-desk@.service", ([stopped], None)), ("hq-desk-retain@.service", (None, [stopped]))):
+        settings = all_settings_of(DEPLOY / unit)
+        found = tuple(settings.get(it) for it in ("AssertPathExists", "ConditionPathExists"))
+        expect(found == wanted, unit, "starts where", found)
+        own, first = (condition_of(it).partition("{")[0] for it in (unit, "hq-desk@.service"))
+        expect(own == first and "/run/hq-desk.copied/%i" in own, unit, "goes by", own)

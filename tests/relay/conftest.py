@@ -3,16 +3,16 @@ import tempfile
 from pathlib import Path
 from types import SimpleNamespace
 
-import log
+from hq_relay import log
 import needs
 import pytest
-from book import Book
-from delivery import Delivery
+from hq_relay.storage.book import Book
+from hq_relay.delivery.service import Delivery
 from house import PAUSE, Hops
 from machine import PYTHON, Shared
-from mailing import DONE, Hop
-from settings import Customer
-from spool import Spool
+from hq_relay.notices.next_hop import Mailing, NextHop
+from hq_relay.settings_tables import Customer
+from hq_relay.storage.spool import Spool
 
 
 @pytest.fixture(scope="module")
@@ -26,8 +26,8 @@ def shared():
 
 @pytest.fixture
 def hops(monkeypatch):
-    found = Hops(DONE)
-    monkeypatch.setattr(Hop, "mail", lambda _, recipient, content: found.mail(recipient, content))
+    found = Hops(Mailing.DONE)
+    monkeypatch.setattr(NextHop, "mail", lambda _, recipient, content: found.mail(recipient, content))
     return found
 
 

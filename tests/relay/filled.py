@@ -12,9 +12,10 @@ from types import SimpleNamespace
 from machine import PYTHON, WORKER, Running
 from serving import KEYS, RELAY, expect, free_address, named
 
-from book import Book, Report
-from handed import Attempt, Handed
-from spool import Envelope, Spool
+from hq_relay.outcome import Outcome, Result
+from hq_relay.storage.book import Book, Report
+from hq_relay.storage.attempts import Attempt, Attempts
+from hq_relay.storage.spool import Envelope, Spool
 
 HEADER = "name,key,messages,bytes,lines,notices,delay"
 LIMITS = "1000,500000000,1000,1000,0"
@@ -122,7 +123,7 @@ class Place:
         (spool.content / f"broken-{customer}").write_text(f'{{"customer": "{customer}"\n')
         book.taken(customer, kept, "0000000001", f"250 2.0.0 queued as {customer}")
         self.attempts(book, customer, kept)
-        book.attempted(Report(customer, kept, "0000000001", 1, [{"recipient": f"bob@{customer}.example", "result": "failed"}]))
+        book.attempted(Report(customer, kept, "0000000001", 1, (Outcome(f"bob@{customer}.example", Result.FAILED),)))
         book.set_aside(customer, 3, f"ann@{customer}.example", b"a notice of " + customer.encode() * 3000)
         book.mailing(customer, 4)
         book.close()
@@ -138,10 +139,10 @@ class Place:
         for number, spool in ((1, "gone"), (2, kept)):
             it = Attempt(f"{customer}.0000000001.{number}.abc", customer, spool, "0000000001", number,
                          [f"bob@{customer}.example"], f"ann@{customer}.example", 1.0)
-            Handed(book).about([it])
-            Handed(book).over({it.envelope: IDS[customer]}, [])
+            Attempts(book).about([it])
+            Attempts(book).over({it.envelope: IDS[customer]}, [])
             if number == 1:
-                Handed(book).resolved(it, [])
+                Attempts(book).resolved(it, [])
 
     # ---- what is there
 

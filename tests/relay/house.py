@@ -1,7 +1,7 @@
 """A desk and a next hop of notices that are a test's, for a whole delivery with its threads and its book. No Postfix runs."""
 import threading
 
-from desk import Away, Desk, Refused
+from hq_relay.desk.client import Away, Desk, Refused
 from serving import expect
 
 # In seconds: the longest that is waited for what comes at once, how long it is seen that nothing comes, and the worker's pause.

@@ -1,14 +1,14 @@
 #!/usr/bin/env python3
 """Runs a worker that kills itself: tests/relay/killed.py WORKER STEP WHEN COUNT WORDS..
 
-STEP is a function of one of the worker's modules, as `spool.Spool.keep`; WHEN is `before` or
+STEP is a function of the worker's package, as `storage.spool.Spool.keep`; WHEN is `before` or
 `behind`; COUNT says at which of its calls. The worker itself knows nothing of it: the function is
 wrapped before the worker begins. WORDS are the worker's.
 """
 import functools
-import importlib
 import multiprocessing
 import os
+import pkgutil
 import runpy
 import signal
 import sys
@@ -26,8 +26,8 @@ def die(step, when):
 def wrap(step, when, count):
     """Has the worker killed before or behind one call of a function: the first is 1. The calls of all
     its processes are counted."""
-    module, *within, name = step.split(".")
-    owner = functools.reduce(getattr, within, importlib.import_module(module))
+    path, _, name = step.rpartition(".")
+    owner = pkgutil.resolve_name(f"hq_relay.{path}")
     function, calls = getattr(owner, name), multiprocessing.Value("i", 0)
 
     @functools.wraps(function)

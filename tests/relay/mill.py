@@ -18,7 +18,7 @@ import threading
 import time
 
 import small_disk
-from intake import spool_name
+from hq_relay.intake.incoming import spool_name
 from machine import DOMAINS, WIDE, Desk, Relay
 from serving import HEADER, KEYS, Wrong, expect, free_address, named
 from sinks import ACCEPTS, DEFERS, REFUSES, Sink, whole

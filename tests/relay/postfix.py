@@ -18,7 +18,7 @@ from types import SimpleNamespace
 
 from serving import LONGEST, Wrong, expect, free_address, listens, until
 
-import postfix_lines
+from hq_relay.postfix import lines as postfix_lines
 
 # How many seconds lie between two runs of the queue.
 FLUSHED_EACH = 0.25

@@ -93,6 +93,27 @@ def test_quota(program, shared):
         expect_nothing_left(it)
 
 
+def test_untold_sizes(program, shared):
+    """What has no room does not stay in Postfix, also where its client names no size, or another one; what has room comes in."""
+    with Relay(program, shared, LIMITS) as it:
+        it.intake()
+        for options in ([], ["size=10"]):
+            for text, wanted in (("y" * 70 + "\r\n") * 300, 452), ("a few\r\n", 250):
+                # (in the same session Postfix tells the size of the message before)
+                with it.postfix.session() as client:
+                    client.ehlo()
+                    client.mail("ann@a.example", options)
+                    told = client.rcpt("p@b.example")
+                    expect(told[0] == 250, "before its content is told", told)
+                    told = client.data(f"Subject: a mail\r\n\r\n{text}")
+                    expect(told[0] == wanted, options, "is answered by", told)
+            until(lambda: it.desk.usage("acme")["messages"] == 1, "nothing is queued")
+            it.postfix.empty()
+            it.desk.own("acme", "POST", "/v1/delete-all")
+        expect("refused after its content" in it.told(), "nothing is logged")
+        expect_nothing_left(it)
+
+
 def test_nothing_is_written(program, shared):
     """Neither the worker nor the desk writes or syncs anything of what is refused."""
     needs.command("strace")

@@ -3,24 +3,28 @@ import sqlite3
 import time
 from types import SimpleNamespace
 
-import notices
+from hq_relay.notices import mailer as notices
 import pytest
-from book import MOST_WAITING, OLD_NAMES, Book, Notice, Report
-from cleaning import Cleaning
-from desk import QUOTA_BYTES, QUOTA_MESSAGES, Refused
-from handed import Attempt, Handed
+from hq_relay.storage.notice_records import MOST_WAITING, OwnNotice
+from hq_relay.storage.book import OLD_NAMES, Book, Report
+from hq_relay.storage.spool_cleaning import SpoolCleaning
+from hq_relay.desk.client import QUOTA_BYTES, QUOTA_MESSAGES, Refused
+from hq_relay.desk.replies import ListedMessage, OutcomeReply
+from hq_relay.storage.attempts import Attempt, Attempts
 from house import Sent
-from intake import MOST_KEPT, Intake, NotTaken
-from mailing import ASIDE, DONE
-from missing import Missing
-from notices import Notices
-from reading import outcome_of
-from reports import Reports
+from hq_relay.intake.submission import MOST_KEPT, Intake
+from hq_relay.intake.incoming import NotTaken
+from hq_relay.notices.next_hop import Mailing
+from hq_relay.delivery.attempt_supervision import AttemptSupervision
+from hq_relay.notices.mailer import NoticeMailer
+from hq_relay.outcome import Outcome, Result
+from hq_relay.postfix.report_reader import outcome_of
+from hq_relay.delivery.outcome_reporter import OutcomeReporter
 from serving import expect
-from settings import Customer
-from spool import Envelope, Spool
+from hq_relay.settings_tables import Customer
+from hq_relay.storage.spool import Envelope, Spool
 
-GONE = Report("acme", "s1", "1", 1, [{"recipient": "p@far.example", "result": "delivered"}])
+GONE = Report("acme", "s1", "1", 1, (Outcome("p@far.example", Result.DELIVERED),))
 # Statements that may read all of a table: what the desk was not told yet is told, and goes.
 SCANS = {"SELECT DISTINCT customer FROM journal"}
 
@@ -31,12 +35,12 @@ def attempt(customer="acme", number=1, **more):
 
 def used(book):
     """All that the worker asks of its book, once."""
-    handed = Handed(book)
+    handed = Attempts(book)
     handed.about([attempt(), attempt(number=2), attempt(number=3)])
     handed.over({"acme.1.1.x": "4F"}, ["acme.3.1.x"])
     handed.moved(attempt(), "7", 2)
-    handed.reported({"acme.1.1.x": [{"recipient": "p@far.example", "result": "delivered"}]})
-    handed.resolved(attempt(number=2), [{"recipient": "p@far.example", "result": "failed"}], True)
+    handed.reported({"acme.1.1.x": [Outcome("p@far.example", Result.DELIVERED)]})
+    handed.resolved(attempt(number=2), [Outcome("p@far.example", Result.FAILED)], True)
     for it in (handed.under_way, lambda: handed.lying("acme"), lambda: handed.of("x"), lambda: handed.last_of("s1"),
                lambda: handed.spools_under_way("acme"), lambda: handed.is_under_way("acme", "s1"),
                lambda: handed.find("spool = ? AND customer = ? AND done IS NULL", "s1", "acme"), lambda: handed.forget(0.0)):
@@ -48,8 +52,8 @@ def used(book):
     book.moved(GONE)
     for it in (lambda: book.answer("s1"), lambda: book.spool_of("acme", "1"), lambda: book.all_mailed("acme"), lambda: book.is_finished("s1"),
                lambda: book.uncleaned("acme"), lambda: book.kept_bytes("acme"), lambda: book.gone(["s1"], 5), lambda: book.cleaned(["s1"]),
-               lambda: book.report("acme", "s1"), lambda: book.untold("acme"), book.all_untold, lambda: book.reported(GONE),
-               lambda: book.last_notice("acme"), lambda: book.mailing("acme", 3), lambda: book.begun("acme"), lambda: book.told("acme", 3),
+               lambda: book.report("acme", "s1"), lambda: book.unreported("acme"), book.all_unreported, lambda: book.reported(GONE),
+               lambda: book.last_notice("acme"), lambda: book.mailing("acme", 3), lambda: book.begun("acme"), lambda: book.mailed("acme", 3),
                lambda: book.set_aside("acme", 4, "q@a.example", b"x"), lambda: book.waiting("acme"), lambda: book.content_of("acme/4"),
                lambda: book.tried("acme/4", 5.0), lambda: book.waited("acme/4"), lambda: book.set_back("acme", 1),
                lambda: book.has_any("acme"), lambda: book.forget_messages("birch"), lambda: book.forget("acme", set(), 1e12),
@@ -93,7 +97,7 @@ def test_a_book_of_before(folder):
 # ---- what cannot be written is not mailed
 
 class Hop:
-    def __init__(self, answer=DONE):
+    def __init__(self, answer=Mailing.DONE):
         self.mailed, self.why, self.answer = [], "", answer
 
     def mail(self, recipient, content):
@@ -105,7 +109,7 @@ def noticing(folder):
     book = Book(folder)
     book.set_aside("acme", 1, "ann@a.example", b"content")
     settings = SimpleNamespace(host="relay.example", notices_from="M@relay.example", pause=0.0)
-    return Notices(settings, None, Spool(folder), Handed(book), None), book
+    return NoticeMailer(settings, None, Spool(folder), Attempts(book), None), book
 
 
 def fails(*_):
@@ -141,7 +145,7 @@ def test_a_notice_that_waits_and_is_refused_for_now(folder, monkeypatch):
     """It waits for its next time."""
     found, book = noticing(folder)
     waiting_is_due(monkeypatch)
-    found.send_waiting("acme", Hop(ASIDE))
+    found.send_waiting("acme", Hop(Mailing.ASIDE))
     expect([it.tried > 0 for it in book.waiting("acme")] == [True], book.waiting("acme"))
 
 
@@ -160,20 +164,20 @@ def test_a_notice_of_success_is_queued_with_its_outcome(folder):
     """At the moment at which the outcome is journaled, and once: whatever comes between that and the desk."""
     found, book = noticing(folder)
     wanting(folder)
-    handed = found.handed
+    handed = found.attempts
     handed.about([attempt()])
     handed.over({"acme.1.1.x": "4F"}, [])
-    told = [{"recipient": "p@far.example", "result": "delivered", "status": "2.0.0", "text": "ok", "remote": "mx.far.example"}]
+    told = [Outcome("p@far.example", Result.DELIVERED, "2.0.0", "ok", "mx.far.example")]
     for _ in range(2):
         handed.reported({"acme.1.1.x": told})
     names = [it.name for it in book.waiting("acme")]
-    expect(names == ["acme/1", "acme/s1/1"] and book.untold("acme") == ["s1"], "waiting are", names)
+    expect(names == ["acme/1", "acme/s1/1"] and book.unreported("acme") == ["s1"], "waiting are", names)
     text = book.content_of("acme/s1/1")
     expect(b"Action: relayed" in text and b"Remote-MTA: dns; mx.far.example" in text and b"Last-Attempt-Date: " in text, "it says", text)
-    desk = SimpleNamespace(outcome=lambda *_: Sent(lambda: {"result": "done", "left": 0}))
-    reports = Reports(desk, book, None, found)
+    desk = SimpleNamespace(outcome=lambda *_: Sent(lambda: OutcomeReply("done", 0)))
+    reports = OutcomeReporter(desk, book, None, found)
     for _ in range(2):
-        reports.tell("acme", ["s1"])
+        reports.report("acme", ["s1"])
     expect([it.name for it in book.waiting("acme")] == names, "told again it is", book.waiting("acme"))
 
 
@@ -182,9 +186,9 @@ def test_too_many_wait(folder):
     book = Book(folder)
     with book.writing() as database:
         for it in range(MOST_WAITING + 1):
-            book.wait_with(database, "acme", Notice(f"n{it}", "ann@a.example", b""))
-        book.journal(database, GONE, Notice("last", "ann@a.example", b""))
-    expect(len(book.waiting("acme")) == MOST_WAITING and book.untold("acme") == ["s1"], len(book.waiting("acme")))
+            book.wait_with(database, "acme", OwnNotice(f"n{it}", "ann@a.example", b""))
+        book.journal(database, GONE, OwnNotice("last", "ann@a.example", b""))
+    expect(len(book.waiting("acme")) == MOST_WAITING and book.unreported("acme") == ["s1"], len(book.waiting("acme")))
 
 
 # ---- what is under way
@@ -195,9 +199,9 @@ class Names:
 
 
 def looking(handed, states, taken_back, queue):
-    desk = SimpleNamespace(messages=lambda customer: [{"id": id, "state": state} for id, state in states.items()])
+    desk = SimpleNamespace(messages=lambda customer: [ListedMessage(id, 0, state) for id, state in states.items()])
     settings = SimpleNamespace(customers={"acme": None}, lost_after=60.0, settle_after=60.0, pause=1.0)
-    found = Missing(settings, desk, handed, Names(), lambda: 0, lambda attempt: None, lambda attempt, outcomes: None,
+    found = AttemptSupervision(settings, desk, handed, Names(), lambda: 0, lambda attempt: None, lambda attempt, outcomes: None,
                     lambda customer: None, lambda known: None)
     found.still_lies = lambda attempt: queue == "deferred"
     found.take_one_back = lambda it: taken_back.append((it.id, queue))
@@ -211,7 +215,7 @@ def test_what_is_taken_back(folder, queue, state, is_taken):
     """What is held goes back from where nobody can be sending it, also where Postfix was told to read its files again just now;
     what is deleted goes from anywhere."""
     taken = []
-    found = looking(Handed(Book(folder)), {"1": state} if state else {}, taken, queue)
+    found = looking(Attempts(Book(folder)), {"1": state} if state else {}, taken, queue)
     found.lying = {"acme": [(attempt(queue_id="4F"), queue)]}
     found.take_back("acme")
     expect(taken == ([("1", queue)] if is_taken else []), "taken back was", taken)
@@ -222,7 +226,7 @@ def test_what_is_taken_back(folder, queue, state, is_taken):
 def test_a_hold_behind_an_old_look(folder):
     """What was deferred as the queue was looked at, and is being sent as its customer's list is there, stays."""
     taken = []
-    found = looking(Handed(Book(folder)), {"1": "hold"}, taken, "deferred")
+    found = looking(Attempts(Book(folder)), {"1": "hold"}, taken, "deferred")
     found.lying, found.still_lies = {"acme": [(attempt(queue_id="4F"), "deferred")]}, lambda attempt: False
     found.take_back("acme")
     expect(not taken, "taken back was", taken)
@@ -249,7 +253,7 @@ def test_what_a_report_says(status, kind, text, result, told, unreached):
     """Of a host that refuses for now, for good, or by a code of its own; and whom an attempt did not reach: the domain, or this
     customer's message alone, where its session was cut."""
     found = outcome_of(group(status, text, kind).get)
-    expect((found["result"], found["status"], found["unreached"]) == (result, told, unreached), status, text, found)
+    expect((found.result, found.status, found.unreached) == (result, told, unreached), status, text, found)
 
 
 # ---- what a customer deletes
@@ -278,7 +282,7 @@ def test_what_is_deleted_and_kept(folder, customer_bytes, left):
     """Of what is gone as many bytes stay as the customer's quota has; what went first goes first. What is queued stays."""
     now = int(time.time())
     settings, book, spool = kept(folder, customer_bytes, a=now - 400, b=now - 300, c=now - 200, d=now - 100, queued=None)
-    Cleaning(settings, spool, book, Queued("queued")).clean("acme", set())
+    SpoolCleaning(settings, spool, book, Queued("queued")).clean("acme", set())
     expect(spool.names() == [*left, "queued"] and book.kept_bytes("acme") == 100 * (len(left) + 1), "left are", spool.names())
 
 

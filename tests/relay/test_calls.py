@@ -4,9 +4,10 @@ import socket
 import threading
 
 import pytest
-from book import Book, Report
-from desk import Away, Desk, Refused
-from reports import TOGETHER, Reports
+from hq_relay.storage.book import Book, Report
+from hq_relay.desk.client import Away, Desk, Refused
+from hq_relay.outcome import Outcome, Result
+from hq_relay.delivery.outcome_reporter import TOGETHER, OutcomeReporter
 from serving import expect
 from sinks import whole
 
@@ -101,19 +102,19 @@ def test_nobody_listens():
 def journaled(folder, count, result="delivered"):
     book = Book(folder)
     for at in range(count):
-        book.attempted(Report("acme", f"s{at:03}", f"{at:010}", 1, [{"recipient": "p@far.example", "result": result}]))
+        book.attempted(Report("acme", f"s{at:03}", f"{at:010}", 1, (Outcome("p@far.example", Result(result)),)))
     return book
 
 
 def test_told_together(folder):
     """So many outcomes are sent before the first reply comes. A message with two rows in the journal is told once."""
     book = journaled(folder, TOGETHER)
-    book.attempted(Report("acme", "s000", "0000000000", 1, [{"recipient": "q@far.example", "result": "delivered"}]))
+    book.attempted(Report("acme", "s000", "0000000000", 1, (Outcome("q@far.example", Result.DELIVERED),)))
     answering = Answering(TOGETHER, lambda body: reply_of(200, DONE))
     with answering as desk:
-        assert Reports(desk, book, None, Room(9)).tell("acme", book.untold("acme"))
+        assert OutcomeReporter(desk, book, None, Room(9)).report("acme", book.unreported("acme"))
     ids = [it["id"] for it in answering.asked]
-    expect(sorted(ids) == [f"{at:010}" for at in range(TOGETHER)] and not book.untold("acme"), "told was", ids)
+    expect(sorted(ids) == [f"{at:010}" for at in range(TOGETHER)] and not book.unreported("acme"), "told was", ids)
     both = next(it["outcomes"] for it in answering.asked if it["id"] == "0000000000")
     expect([it["recipient"] for it in both] == ["p@far.example", "q@far.example"], "of both recipients", both)
 
@@ -127,10 +128,10 @@ def test_one_of_several_is_not_taken(folder, status, body):
         return reply_of(status, body) if asked["id"] == "0000000002" else reply_of(200, DONE)
     with Answering(4, answer) as desk:
         try:
-            Reports(desk, book, None, Room(9)).tell("acme", book.untold("acme"))
+            OutcomeReporter(desk, book, None, Room(9)).report("acme", book.unreported("acme"))
         except Away:
             expect(status == 503, "the desk was away")
-    left = book.untold("acme")
+    left = book.unreported("acme")
     expect("s002" in left and "s000" not in left and "s001" not in left, "left are", left)
     expect(("s003" in left) == (status == 503), "left are", left)
 
@@ -138,10 +139,10 @@ def test_one_of_several_is_not_taken(folder, status, body):
 def test_failures_without_room(folder, logged):
     """No more failures are told than there is room for their notices; what was delivered is."""
     book = journaled(folder, 5, "failed")
-    book.attempted(Report("acme", "t", "0000000009", 1, [{"recipient": "p@far.example", "result": "delivered"}]))
+    book.attempted(Report("acme", "t", "0000000009", 1, (Outcome("p@far.example", Result.DELIVERED),)))
     answering = Answering(1, lambda body: reply_of(200, DONE))
     with answering as desk:
-        assert not Reports(desk, book, None, Room(2)).tell("acme", book.untold("acme"))
+        assert not OutcomeReporter(desk, book, None, Room(2)).report("acme", book.unreported("acme"))
     told = [it["id"] for it in answering.asked]
-    expect(told == ["0000000009", "0000000000", "0000000001"] and len(book.untold("acme")) == 3, "told was", told)
+    expect(told == ["0000000009", "0000000000", "0000000001"] and len(book.unreported("acme")) == 3, "told was", told)
     expect(logged == ["no room for a notice"] * 3, "it tells", logged)

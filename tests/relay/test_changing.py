@@ -3,13 +3,15 @@ import signal
 import time
 
 import pytest
-from changing import Changing
-from destinations import Capacity
+from hq_relay.customers.changes import CustomerChanges
+from hq_relay.delivery.destinations import Capacity
 from house import SOON, WHILE, House
 from machine import FAR, HEADER, KEYS, WIDE, Relay
-from quiet import Quiet
+from hq_relay.customers.activity import CustomerActivity
+from hq_relay.desk.replies import Usage
 from serving import expect, until
-from settings import Customer, load
+from hq_relay.settings_tables import Customer
+from hq_relay.settings import load
 
 SETTINGS = """[desk]
 address = 127.0.0.1:825
@@ -60,7 +62,7 @@ NOW = {"acme": "north", "birch": "north", "cedar": "south"}
 def test_what_is_taken_up(folder, desks, more, wanted):
     """Customers that come and go, and no other change: not one of timers, nor of desks, nor a customer's move."""
     now = settings_of(folder, NOW)
-    found = Changing(Delivery(now)).may(settings_of(folder, desks, more))
+    found = CustomerChanges(Delivery(now)).may(settings_of(folder, desks, more))
     expect(found == wanted, desks, more, "are taken up" if found else "want a new start")
 
 
@@ -68,7 +70,7 @@ def test_who_left(folder):
     """Until nothing is done for a customer who was dropped, and a whole look at reports has passed, the change is not told."""
     it = Delivery(settings_of(folder, NOW))
     it.destinations, it.take_up = type("", (), {})(), lambda settings: setattr(it, "settings", settings)
-    changing = Changing(it)
+    changing = CustomerChanges(it)
     expect(changing.is_done(), "something is under way at first")
     it.busy = {"birch"}
     changing.take_up(settings_of(folder, {"acme": "north", "cedar": "south"}), Capacity())
@@ -88,8 +90,8 @@ def test_who_left(folder):
 
 def test_new_and_dropped_customers_are_quiet():
     """Of a new customer there may be mail and notices; of one that was dropped nothing is asked any more."""
-    it = Quiet(None, ["acme", "birch"])
-    it.take([{"customer": name, "messages": 0, "delivered": 0, "failed": 0, "expired": 0, "deleted": 0} for name in ("acme", "birch")])
+    it = CustomerActivity(None, ["acme", "birch"])
+    it.take([Usage(name, *[0] * 9) for name in ("acme", "birch")])
     for name in ("acme", "birch"):
         it.mail(name)
     it.stir("birch")

@@ -2,10 +2,10 @@
 import time
 from types import SimpleNamespace
 
-from book import Uncleaned
-from cleaning import Cleaning
+from hq_relay.storage.book import Uncleaned
+from hq_relay.storage.spool_cleaning import SpoolCleaning
 from serving import expect
-from settings import Customer
+from hq_relay.settings_tables import Customer
 
 MANY = 20_000
 
@@ -19,7 +19,7 @@ class Book:
     def uncleaned(self, customer):
         return {f"s{number}": Uncleaned(False, None, 10) for number in range(MANY)}
 
-    def untold(self, customer):
+    def unreported(self, customer):
         return []
 
     def cleaned(self, spools):
@@ -38,6 +38,6 @@ def test_a_clean_up_of_much(monkeypatch):
     settings = SimpleNamespace(customers={"acme": Customer("acme", 10, 1000, 10)}, keep_days=7.0)
     spool, names = SimpleNamespace(remove=lambda name: None), SimpleNamespace(queued=lambda customer: {})
     begun = time.monotonic()
-    Cleaning(settings, spool, book, names).clean("acme", set())
+    SpoolCleaning(settings, spool, book, names).clean("acme", set())
     expect(len(book.removed) == MANY - 100, "removed were", len(book.removed))
     expect(time.monotonic() < begun + 10, "that took", time.monotonic() - begun)

@@ -16,11 +16,12 @@ from machine import PYTHON
 from serving import expect, named, until
 from stand_in import StandIn
 
-from book import Book, Report
-from handed import Attempt, Handed
+from hq_relay.storage.book import Book, Report
+from hq_relay.storage.attempts import Attempt, Attempts
 
-STEPS = ("instance.take_back", "erasing.Erasing.take_back", "erasing.Erasing.drop_one", "erasing.Erasing.drop_contents",
-         "book.Book.forget_customer", "book.Book.overwrite", "erasing.Erasing.drop_reports")
+STEPS = ("postfix.delivering_instance.take_back", "customers.erasure.Erasure.take_back",
+         "customers.erasure.Erasure.drop_one", "customers.erasure.Erasure.drop_contents", "storage.book.Book.forget_customer",
+         "storage.book.Book.overwrite", "customers.erasure.Erasure.drop_reports")
 
 
 @pytest.fixture
@@ -79,7 +80,7 @@ def test_known(place):
     place.erase()
     place.run("knows", "dale").ends(3)
     book = Book(place.spool)
-    book.attempted(Report("dale", "s1", "1", 1, []))
+    book.attempted(Report("dale", "s1", "1", 1, ()))
     book.close()
     place.run("knows", "dale").ends(0)
     shutil.rmtree(place.spool)
@@ -111,7 +112,7 @@ def test_not_taken_back(place):
 def test_unknown_in_the_queue(place):
     """A message whose queue ID nobody wrote down is not taken back: it might be another's. That is told."""
     book = Book(place.spool)
-    Handed(book).about([Attempt("dale.2.1.abc", "dale", "dale-3", "2", 1, ["bob@x.example"], "ann@x.example", 1.0)])
+    Attempts(book).about([Attempt("dale.2.1.abc", "dale", "dale-3", "2", 1, ["bob@x.example"], "ann@x.example", 1.0)])
     book.close()
     place.has(*LEFT)
     place.queue((IDS["acme"], "ann@acme.example", "bob@acme.example"), ("4jbPwk62v8z1bcMm", "ann@x.example", "bob@x.example"))

@@ -212,7 +212,7 @@ def test_left_over(program, shared):
     """What Postfix gave up before it was submitted goes from the spool, once Postfix would not try
     it any more."""
     with Relay(program, shared, settings={"spool": {"keep-days": "0"}}) as it:
-        killed = it.intake(("desk.Desk.submit", "before", 1))
+        killed = it.intake(("desk.client.Desk.submit", "before", 1))
         it.take("acme", f"p@{FAR}")
         killed.dies()
         it.postfix.drop()

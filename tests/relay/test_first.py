@@ -78,10 +78,10 @@ def rows(instance, is_proposal):
 def page_faults():
     """The rows that the page does not have."""
     sys.path.append(str(ROOT / "relay"))
-    import postfix_lines
+    from hq_relay.postfix import lines as postfix_lines
     settings = SimpleNamespace(
-        listen=("127.0.0.1", 10024), customers_at=("127.0.0.1", 10025), connections=50, policy=None,
-        notices_hop=("127.0.0.1", 10027), instance=("127.0.0.1", 10026), host="relay.example", user="hqrelay",
+        listen=("127.0.0.1", 823), customers_at=("127.0.0.1", 819), connections=50, policy=None,
+        notices_hop=("127.0.0.1", 821), instance=("127.0.0.1", 822), host="relay.example", user="hqrelay",
         largest=11_000_000, reports=Path("/srv/mail/spool/reports"), log=OWN_LOG)
     text = PAGE.read_text(encoding="utf-8").splitlines()
     instances = (postfix_lines.front(settings), postfix_lines.delivering(settings, 999, 999))

@@ -208,9 +208,10 @@ def test_reported_twice(program, shared):
         id = submitted(it, "s1", f"p@{FAR}")
         it.run("check").ends()
         it.run("unknown").ends()
-        script = ("import sys; sys.path.insert(0, sys.argv[1]); from pathlib import Path; from book import Book, Report;"
-                  "book = Book(Path('spool')); one = {'recipient': sys.argv[3], 'result': 'delivered'};"
-                  "[book.attempted(Report('acme', 's1', sys.argv[2], 1, [one])) for _ in 'ab']")
+        script = ("import sys; sys.path.insert(0, sys.argv[1]); from pathlib import Path; from hq_relay.storage.book import Book, Report;"
+                  "from hq_relay.outcome import Outcome, Result;"
+                  "book = Book(Path('spool')); one = Outcome(sys.argv[3], Result.DELIVERED);"
+                  "[book.attempted(Report('acme', 's1', sys.argv[2], 1, (one,))) for _ in 'ab']")
         it.python(script, id, f"p@{FAR}")
         told = it.deliver()
         it.desk.expect_usage("acme", delivered=1)

@@ -107,7 +107,7 @@ def state():
     """What both instances have, with the table files and the rule of sudo."""
     found = {f"{folder} {kind}": run("postconf", "-c", folder, kind)
              for folder in (FRONT, DESK) for kind in ("-n", "-M")}
-    for name in (DESK / "soft_failures", DESK / "reports", SUDOERS / "hqrelay"):
+    for name in (DESK / "soft_failures", DESK / "reports", DESK / "own_addresses", SUDOERS / "hqrelay"):
         found[str(name)] = name.read_text()
     return found
 
@@ -345,7 +345,7 @@ def cut_to_its_end():
 def cut_at(number):
     """Runs install, which kills itself behind its write of a number."""
     sys.path.insert(0, str(REPOSITORY / "relay"))
-    import places
+    from hq_relay.postfix import configuration as places
     left = int(number)
 
     def cutting(real, writes):
@@ -362,8 +362,8 @@ def cut_at(number):
 
     places.keep = cutting(places.keep, lambda _: True)
     places.run = cutting(places.run, is_write)
-    import installing
-    from settings import load
+    from hq_relay.postfix import installation as installing
+    from hq_relay.settings import load
     return installing.install(load("relay.ini"))
 
 

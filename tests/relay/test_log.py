@@ -14,7 +14,7 @@ from machine import FAR, Relay
 from postfix import children_of, name_of
 from serving import expect, until
 from sinks import Sink
-from sent import FRESH
+from hq_relay.delivery.delivery_log import FRESH
 from small_disk import fill, small_disk
 from test_harm import submitted
 

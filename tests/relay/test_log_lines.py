@@ -1,7 +1,8 @@
 """Which lines of the log count, whatever hosts, senders and recipients write into them."""
 import pytest
 from hypothesis import given, settings, strategies
-from log_lines import FAILED, REMOVED, SENT, TAKEN, may_count, read_line
+from hq_relay.outcome import Outcome, Result
+from hq_relay.postfix.log_lines import FAILED, REMOVED, SENT, TAKEN, may_count, read_line
 from serving import expect
 
 ID, OTHER = "4jd7yb2hywz1c3CP", "4jd7yb2k31z1c3CQ"
@@ -25,8 +26,7 @@ def test_lines_of_a_message():
     expect((taken.kind, taken.queue_id, taken.envelope) == (TAKEN, ID, ENVELOPE), taken)
     expect((removed.kind, removed.queue_id) == (REMOVED, ID), removed)
     expect((sent.kind, sent.queue_id) == (SENT, ID), sent)
-    expect(sent.outcome == {"recipient": "bob@far.example", "result": "delivered", "status": "2.0.0", "text": "250 2.0.0 taken",
-                            "remote": "mx.far.example", "unreached": "", "by": "log"}, sent.outcome)
+    expect(sent.outcome == Outcome("bob@far.example", Result.DELIVERED, "2.0.0", "250 2.0.0 taken", "mx.far.example", is_by_log=True), sent.outcome)
     expect(read(WAS_NOT % "no").kind == FAILED, read(WAS_NOT % "no"))
 
 
@@ -38,7 +38,7 @@ def test_lines_of_a_message():
 def test_lines_that_count(text):
     """Of other agents and releases, of a recipient whose mail was sent elsewhere, and one that postlogd cut behind the status."""
     found = read(text)
-    expect(found and found.kind == SENT and found.outcome["recipient"] == "bob@far.example", text, found)
+    expect(found and found.kind == SENT and found.recipient == "bob@far.example", text, found)
 
 
 ANSWERS = [WAS_SENT, f"x) {WAS_SENT}", f"dsn=2.0.0, status=sent (250 ok) {SMTP}", f"{ID}: removed", WAS_REMOVED, WAS_TAKEN,
@@ -66,7 +66,7 @@ def test_a_line_that_was_cut(at):
     expect(not at or not read(tail), tail)
     other = WAS_SENT.replace(ID, OTHER).replace("bob", "eve")
     found, own = read(head + other), (OTHER, "eve@far.example") if not at else (ID, "bob@far.example")
-    expect(not found or (found.queue_id, found.outcome["recipient"]) == own and (is_whole or not at), head, found)
+    expect(not found or (found.queue_id, found.recipient) == own and (is_whole or not at), head, found)
 
 
 @pytest.mark.parametrize("recipient", ["bob@far.example>, relay=x", 'b"ob@far.example', "a b@far.example", "a,b@far.example"])

@@ -2,11 +2,12 @@
 import time
 from types import SimpleNamespace
 
-import log
+from hq_relay import log
 import pytest
-from desk import NO_ROUTE, Away, Desk, Refused
-from handover import LOOK_SECONDS, ROUNDS_ALONE, Handover
-from destinations import UNPROVEN, Destinations
+from hq_relay.desk.replies import due_message_of
+from hq_relay.desk.client import NO_ROUTE, Away, Desk, Refused
+from hq_relay.delivery.handover import LOOK_SECONDS, ROUNDS_ALONE, Handover
+from hq_relay.delivery.destinations import UNPROVEN, Destinations
 from serving import expect
 
 NAMES = ["acme", "birch", "cedar"]
@@ -141,15 +142,15 @@ def test_what_is_told_of_a_look_that_failed(logged, answer, is_told):
 def test_a_turn_that_fails_behind_its_first_page():
     """What it had found counts as under way to its domain no more."""
     def listed(customer, after):
-        yield entry(1)
+        yield due_message_of(entry(1))
         raise Away("/relay/due/acme")
 
     found = looking(SimpleNamespace(due=listed))
     found.destinations = Destinations(1.0)
     found.spool = SimpleNamespace(size=lambda name: 900)
-    found.handed = SimpleNamespace(spools_under_way=lambda customer: set())
-    found.book = SimpleNamespace(untold=lambda customer: [])
+    found.attempts = SimpleNamespace(spools_under_way=lambda customer: set())
+    found.book = SimpleNamespace(unreported=lambda customer: [])
     for _ in range(UNPROVEN + 1):
         with pytest.raises(Away):
             found.due("acme", None)
-    expect(found.destinations.begin(found.attempt("acme", entry(2) | {"recipients": ["q@far.example"]})), "the domain is held up")
+    expect(found.destinations.begin(found.attempt("acme", due_message_of(entry(2) | {"recipients": ["q@far.example"]}))), "the domain is held up")

@@ -39,7 +39,7 @@ def test_death_before_the_answer(program, shared):
     for at in (1, 2, 3):
         with Relay(program, shared) as it:
             it.desk.line("acme", "recipient", f"no@{FAR}", "REJECT not wanted here")
-            first = it.intake(("intake.Incoming.end", "behind", at))
+            first = it.intake(("intake.incoming.IncomingMessage.end", "behind", at))
             it.take("acme", f"yes@{FAR}", f"no@{FAR}", f"ok@{FAR}")
             first.dies()
             it.intake()
@@ -170,7 +170,7 @@ def round_of(it, *recipients):
 def test_death_behind_the_submit(program, shared):
     """The intake dies behind the submit, or before its record; the message is delivered and gone,
     and Postfix tries again."""
-    for step, when in (("desk.Desk.submit", "behind"), ("book.Book.taken", "before")):
+    for step, when in (("desk.client.Desk.submit", "behind"), ("storage.book.Book.taken", "before")):
         with Relay(program, shared) as it:
             first = it.intake((step, when, 1))
             it.take("acme", f"p@{FAR}")
@@ -228,7 +228,7 @@ def test_retry_of_a_part(program, shared):
     for at in (1, 2):
         with Relay(program, shared) as it:
             it.desk.line("acme", "recipient", f"later@{FAR}", "DEFER not yet")
-            first = it.intake(("desk.Desk.submit", "behind", at))
+            first = it.intake(("desk.client.Desk.submit", "behind", at))
             it.take("acme", f"a@{FAR}", f"later@{FAR}", f"b@{FAR}")
             first.dies()
             second = it.intake()

@@ -107,7 +107,7 @@ def test_report_lost(program, shared):
         it.intake()
         it.take("acme", f"p@{FAR}")
         it.postfix.empty()
-        killed = it.run("deliver", "--once", killed=("handed.Handed.over", "behind", 1))
+        killed = it.run("deliver", "--once", killed=("storage.attempts.Attempts.over", "behind", 1))
         killed.dies()
         box = shared.delivering.reports / "new"
         until(lambda: list(box.iterdir()), "no report comes")

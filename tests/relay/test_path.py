@@ -178,7 +178,7 @@ def test_nothing_is_left(program, shared):
         expect(len(contents(it)) == 4, "the spool has", contents(it))
         it.deliver()
         intake.kill()
-        killed = it.intake(("desk.Desk.submit", "before", 1))
+        killed = it.intake(("desk.client.Desk.submit", "before", 1))
         it.take("acme", f"unknown@{FAR}")
         killed.dies()
         it.postfix.drop()

@@ -5,12 +5,14 @@ import threading
 import time
 from types import SimpleNamespace
 
-import admission
+from hq_relay.intake import admission
 import pytest
-from calls import Calls
-from desk import Away, Refused
-from intake import Intake, NotTaken
-from policy import LARGEST, Policy, way_of
+from hq_relay.desk.call_limits import CallLimits
+from hq_relay.desk.client import Away, Refused
+from hq_relay.desk.replies import verdict_of
+from hq_relay.intake.submission import Intake
+from hq_relay.intake.incoming import NotTaken
+from hq_relay.intake.policy_server import LARGEST, PolicyServer, way_of
 from serving import expect
 
 AT = ("127.0.0.1", 823)
@@ -38,14 +40,14 @@ class Desk:
         if name in self.ERRORS or size > self.room:
             number, told = self.ERRORS.get(name, (41, "QuotaBytes"))
             raise Refused({"error": number, "name": told})
-        return self.REPLIES.get(name, {"recipients": [recipient], "refused": [], "state": "incoming", "verdict": "queued"})
+        return verdict_of(self.REPLIES.get(name, {"recipients": [recipient], "refused": [], "state": "incoming", "verdict": "queued"}))
 
 
 def intake():
     found = Intake.__new__(Intake)
     found.settings = SimpleNamespace(listen=AT, logins={"ann": "acme", "bea@b.example": "birch"}, domains={"a.example": "acme", "c.example": "cedar"},
                                      desks={"acme": "north", "birch": "north", "cedar": "south"}, has_several_desks=True, customers={})
-    found.desk, found.full, found.calls = Desk(), {}, Calls(2)
+    found.desk, found.full, found.calls = Desk(), {}, CallLimits(2)
     return found
 
 
@@ -73,7 +75,7 @@ def answered():
     listening = socket.create_server(("127.0.0.1", 0))
     loop = asyncio.new_event_loop()
     behind = intake()
-    policy = Policy(behind, [listening])
+    policy = PolicyServer(behind, [listening])
     loop.run_until_complete(policy.start())
     thread = threading.Thread(target=loop.run_forever, daemon=True)
     thread.start()
@@ -159,6 +161,27 @@ def test_full(answered):
     expect(found == ["action=452 4.2.2 QuotaMessages", "action=554 5.7.1 no thanks"], "the answers are", found)
     with pytest.raises(NotTaken):
         answered.intake.expect_room("acme", 1)
+
+
+def whole(size, instance="1.1", **told):
+    return request(sender="x@a.example", protocol_state="END-OF-MESSAGE", instance=instance, size=size, **told)
+
+
+@pytest.mark.parametrize("name, size, wanted", [
+    ("p@b", "5900", "action=DUNNO"), ("p@b", "5910", "action=452 4.2.2 QuotaBytes"), ("p@b", "9999999999", "action=452 4.2.2 QuotaBytes"),
+    ("away@b", "20000", "action=DUNNO"), ("dropped@b", "900", "action=DUNNO")])
+def test_whole(answered, name, size, wanted):
+    """A message whose content came is asked for by its size, with what is added to it, and not by the one that its client named."""
+    found = answered(recipient(name, size="10"), whole(size), wants=2)
+    expect(found == [way("acme"), wanted], "the answers are", found)
+
+
+def test_whole_of_several(answered):
+    """One of the recipients who were let in is asked for, by one size; without any there is nothing to ask, and a refusal for good is not told."""
+    found = answered(recipient("refused@b"), recipient("p@b"), recipient("q@b"), whole("5000"), whole("900", "1.2"), whole("900", "1.3", recipient="refused@b"),
+                     wants=6)
+    expect(found[3:] == ["action=DUNNO"] * 3, "the answers are", found)
+    expect([it[2:] for it in answered.intake.desk.asked[3:]] == [("p@b", 9096), ("x@a.example", 4996), ("refused@b", 4996)], "asked was", answered.intake.desk.asked)
 
 
 @pytest.mark.parametrize("size, wanted", [("", 1), ("0", 1), ("x", 1), ("-5", 1), ("9" * 11, 1), ("2147483647", 2147483647),

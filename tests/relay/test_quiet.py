@@ -3,13 +3,16 @@ import time
 from collections import Counter
 
 import pytest
-import quiet
-from desk import Away, Refused
+from hq_relay.customers import activity as quiet
+from hq_relay.desk.client import Away, Refused
+from hq_relay.desk.replies import COUNTS, usage_of
 from house import PAUSE, Told
-from quiet import LEFT, Quiet
+from hq_relay.customers.activity import CustomerActivity
 from serving import expect, until
 
-NOTHING = dict.fromkeys(LEFT, 0)
+# The counts of recipients that left the queue; and a usage without any.
+LEFT = ("delivered", "failed", "expired", "deleted")
+NOTHING = dict.fromkeys(COUNTS, 0)
 
 
 class Desk:
@@ -22,7 +25,7 @@ class Desk:
         self.counts += 1
         if self.error:
             raise self.error
-        told = [{"customer": name, "messages": 0, **NOTHING, **more} for name, more in self.customers.items()]
+        told = [usage_of({"customer": name, **NOTHING, **more}) for name, more in self.customers.items()]
         self.during()
         return told
 
@@ -43,7 +46,7 @@ def test_first(monkeypatch):
     """Nobody is left out before a count; behind it those with mail may have mail, and all whose notices were never asked for may have
     some."""
     desk = Desk(acme={"messages": 1}, birch={}, cedar={"failed": 2})
-    it = Quiet(desk, desk.customers)
+    it = CustomerActivity(desk, desk.customers)
     expect(it.may_have_mail() == it.may_have_notices() == {*desk.customers}, "at first", it.may_have_mail(), it.may_have_notices())
     it.count()
     expect(it.may_have_mail() == {"acme"} and it.may_have_notices() == {*desk.customers}, "then", it.may_have_mail())
@@ -54,7 +57,7 @@ def test_first(monkeypatch):
 def test_notices(monkeypatch):
     """Whose recipients left the queue since the last count may have notices, and who has mail; and who was told of one meanwhile."""
     desk = Desk(acme={"messages": 1}, birch={}, cedar={})
-    it = Quiet(desk, desk.customers)
+    it = CustomerActivity(desk, desk.customers)
     counted(monkeypatch, it)
     mailed(it)
     it.notice("cedar")
@@ -75,7 +78,7 @@ def test_notices(monkeypatch):
 def test_mail_that_comes_meanwhile(monkeypatch):
     """Mail that is queued while the desk counts is not forgotten, whether or not the count saw it."""
     desk = Desk(acme={}, birch={})
-    it = Quiet(desk, desk.customers)
+    it = CustomerActivity(desk, desk.customers)
     it.count()
     it.stir("acme")
     expect(it.may_have_mail() == {"acme"}, "behind a count", it.may_have_mail())
@@ -91,7 +94,7 @@ def test_mail_that_comes_meanwhile(monkeypatch):
 def test_a_desk_that_does_not_count(monkeypatch, error):
     """Where the desk does not tell, everybody may have mail, and it is asked again at the next look."""
     desk = Desk(acme={}, birch={})
-    it = Quiet(desk, desk.customers)
+    it = CustomerActivity(desk, desk.customers)
     it.count()
     desk.error = error
     counted(monkeypatch, it)
@@ -105,7 +108,7 @@ def test_a_desk_that_does_not_count(monkeypatch, error):
 
 def test_between_counts(monkeypatch):
     desk = Desk(acme={})
-    it = Quiet(desk, desk.customers)
+    it = CustomerActivity(desk, desk.customers)
     it.count()
     later = quiet.time.monotonic() + quiet.BETWEEN_COUNTS
     monkeypatch.setattr(quiet.time, "monotonic", lambda: later - 1)
@@ -136,7 +139,7 @@ class Idle(Told):
         return {"done": [{"customer": it, **told(it)} for it in self.names[at:at + 100]], "next": more[0] if more else None, "stopped": None}
 
     def usage_from_asked(self, body):
-        return self.hundred(body, lambda it: {"messages": int(it in self.busy), **NOTHING})
+        return self.hundred(body, lambda it: {**NOTHING, "messages": int(it in self.busy)})
 
     def due_from_asked(self, body):
         return self.hundred(body, lambda it: {"due": [], "more": False})
@@ -144,7 +147,7 @@ class Idle(Told):
 
 def rested(delivery, desk, seconds=1.5):
     """What the desk is asked while nothing happens, once all were asked of whom nothing was known."""
-    until(lambda: desk.asked["notices c000"] and not delivery.quiet.may_have_notices(), "notices are never asked for")
+    until(lambda: desk.asked["notices c000"] and not delivery.activity.may_have_notices(), "notices are never asked for")
     until(lambda: not delivery.is_working(), "it never rests")
     desk.asked.clear()
     end = time.monotonic() + seconds

@@ -3,7 +3,7 @@ import email
 
 import pytest
 from hypothesis import given, settings, strategies
-from reading import read_fields, read_report, read_text
+from hq_relay.postfix.report_reader import read_fields, read_report, read_text
 
 BOUND = "4jd7yb2k31z1c3CQ.1796007543/relay.example"
 HEAD = f"""\
@@ -72,7 +72,7 @@ def test_a_report_is_read():
     envelope, told = read_fields(REPORT)
     assert (envelope, told) == by_email(REPORT) == read_text(REPORT, "")
     assert envelope == "acme.0000000001.1.abc"
-    assert [(it["recipient"], it["result"], it["status"], it["text"], it["unreached"]) for it in told] == [
+    assert [(it.recipient, it.result, it.status, it.text, it.unreached) for it in told] == [
         ("x@hard.example", "failed", "5.1.1", "550 5.1.1 no such user", ""),
         ("y@soft.example", "deferred", "4.2.0", "lost connection with far.example while sending MAIL FROM", "")]
 

@@ -21,7 +21,7 @@ from serving import LONGEST, expect, free_address, listens, until
 from sinks import DEFERS, REFUSES, Sink
 
 # (the worker's own reading of reports)
-from reading import read_text
+from hq_relay.postfix.report_reader import read_text
 
 CONTENT = b"From: <ann@a.example>\r\nSubject: tried\r\n\r\nhello\r\n"
 UTF8 = "j\N{LATIN SMALL LETTER O WITH DIAERESIS}rg"
@@ -135,7 +135,7 @@ class Tried:
 
     def expect_outcome(self, envelope, result, text=""):
         found = self.outcomes(envelope)
-        is_so = len(found) == 1 and found[0]["result"] == result and text in found[0]["text"]
+        is_so = len(found) == 1 and found[0].result == result and text in found[0].text
         expect(is_so, "the outcome is not", result, text, "but", found)
 
     def arrived(self, domain):
@@ -204,7 +204,7 @@ def test_one_attempt(tried):
     for sender in ("ann@a.example", ""):
         hosts = ("moved", "soft", "hard", "wrong")
         envelope = tried.hand_over(*(f"bob@{it}.example" for it in hosts), sender=sender)
-        found = {it["recipient"]: (it["result"], it["status"][0])
+        found = {it.recipient: (it.result, it.status[0])
                  for it in tried.outcomes(envelope, 4)}
         wanted = {"bob@moved.example": ("delivered", "2"), "bob@soft.example": ("deferred", "4"),
                   "bob@hard.example": ("failed", "5"), "bob@wrong.example": ("failed", "5")}

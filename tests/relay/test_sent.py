@@ -6,9 +6,11 @@ import os
 import time
 
 import pytest
-import sent
-from following import PIECE, Follower
-from handed import Attempt
+from hq_relay.delivery import delivery_log as sent
+from hq_relay.desk.replies import Message
+from hq_relay.outcome import Outcome, Result
+from hq_relay.postfix.log_follower import PIECE, LogFollower
+from hq_relay.storage.attempts import Attempt
 from house import GOOD, Told
 from serving import expect
 
@@ -41,9 +43,9 @@ class Log:
         self.start()
         for it in ids:
             attempt = Attempt(envelope_of(it), "acme", f"s{it}", it, 1, [*recipients], "ann@a.example", time.time())
-            self.found.handed.about([attempt])
+            self.found.attempts.about([attempt])
         if is_over:
-            self.found.handed.over({envelope_of(it): f"4F0000{it}" for it in ids}, [])
+            self.found.attempts.over({envelope_of(it): f"4F0000{it}" for it in ids}, [])
 
     def start(self):
         """A new start of the worker."""
@@ -56,8 +58,8 @@ class Log:
     def read(self, *lines):
         """What is in the journal, when these lines were written and read."""
         self.write(*lines)
-        self.found.outcomes.read()
-        return [*self.found.book.untold("acme")]
+        self.found.collector.read()
+        return [*self.found.book.unreported("acme")]
 
 
 @pytest.fixture
@@ -71,10 +73,10 @@ def test_sent_and_gone(log_of):
     """It is delivered when it has left the queue, and no sooner."""
     it = log_of("A", "B")
     expect(it.read(taken("A"), was_sent("A"), taken("B")) == [], "journaled before it left the queue")
-    expect(it.read(removed("A"), removed("B")) == ["sA"], it.found.book.untold("acme"))
+    expect(it.read(removed("A"), removed("B")) == ["sA"], it.found.book.unreported("acme"))
     told = it.found.book.report("acme", "sA").outcomes
-    expect(told == [{"recipient": GOOD, "result": "delivered", "status": "2.0.0", "text": "250 2.0.0 ok"}], told)
-    expect([one.id for one in it.found.handed.under_way()] == ["B"], "what was removed and not sent is held")
+    expect(told == (Outcome(GOOD, Result.DELIVERED, "2.0.0", "250 2.0.0 ok"),), told)
+    expect([one.id for one in it.found.attempts.under_way()] == ["B"], "what was removed and not sent is held")
 
 
 def test_read_twice(log_of):
@@ -92,9 +94,9 @@ def test_a_failure_beside_a_success(log_of):
     """Of two recipients one got it: nothing is told before the report of the other one is there."""
     it = log_of("A", recipients=(GOOD, OTHER))
     expect(it.read(taken("A"), was_sent("A"), was_sent("A", OTHER, "bounced", "550 no"), removed("A")) == [], "a report is missing")
-    report = [{"recipient": OTHER, "result": "failed", "status": "5.0.0", "text": "no"}]
-    it.found.outcomes.take({envelope_of("A"): report}, {envelope_of("A")})
-    told = {one["recipient"]: one["result"] for one in it.found.book.report("acme", "sA").outcomes}
+    report = [Outcome(OTHER, Result.FAILED, "5.0.0", "no")]
+    it.found.collector.take({envelope_of("A"): report}, {envelope_of("A")})
+    told = {one.recipient: one.result for one in it.found.book.report("acme", "sA").outcomes}
     expect(told == {GOOD: "delivered", OTHER: "failed"}, told)
 
 
@@ -102,17 +104,17 @@ def test_a_failure_of_the_same_recipient(log_of):
     """The log tells both of one recipient: the report decides."""
     it = log_of("A")
     expect(it.read(taken("A"), was_sent("A"), was_sent("A", status="bounced"), removed("A")) == [], "journaled")
-    it.found.outcomes.take({envelope_of("A"): [{"recipient": GOOD, "result": "failed", "status": "5.0.0", "text": "no"}]})
-    expect([one["result"] for one in it.found.book.report("acme", "sA").outcomes] == ["failed"], it.found.book.report("acme", "sA"))
+    it.found.collector.take({envelope_of("A"): [Outcome(GOOD, Result.FAILED, "5.0.0", "no")]})
+    expect([one.result for one in it.found.book.report("acme", "sA").outcomes] == ["failed"], it.found.book.report("acme", "sA"))
 
 
 def test_a_report_behind_a_line(log_of):
     """The line is in the book when the report of a failure comes: the report decides."""
     it = log_of("A")
     it.read(taken("A"), was_sent("A"))
-    expect([one["result"] for one in it.found.handed.of(envelope_of("A")).outcomes] == ["delivered"], "not written down")
-    it.found.outcomes.take({envelope_of("A"): [{"recipient": GOOD, "result": "failed", "status": "5.0.0", "text": "no"}]})
-    expect([one["result"] for one in it.found.book.report("acme", "sA").outcomes] == ["failed"], it.found.book.report("acme", "sA"))
+    expect([one.result for one in it.found.attempts.of(envelope_of("A")).outcomes] == ["delivered"], "not written down")
+    it.found.collector.take({envelope_of("A"): [Outcome(GOOD, Result.FAILED, "5.0.0", "no")]})
+    expect([one.result for one in it.found.book.report("acme", "sA").outcomes] == ["failed"], it.found.book.report("acme", "sA"))
 
 
 def test_another_recipient(log_of, logged):
@@ -126,8 +128,8 @@ def test_not_written_down(log_of):
     """Its queue ID is not in the book, since a stop came: the log has its envelope ID."""
     it = log_of("A", is_over=False)
     it.write(taken("A"))
-    it.found.outcomes.read()
-    it.found.sent.keep()
+    it.found.collector.read()
+    it.found.delivery_log.keep()
     it.start()
     expect(it.read(was_sent("A"), removed("A")) == ["sA"], "not attributed")
 
@@ -136,8 +138,8 @@ def test_in_the_book(log_of):
     """A new start goes on behind what it read, and knows a message by the book."""
     it = log_of("A")
     it.read(taken("A"), was_sent("A"))
-    it.found.sent.keep()
-    position = it.found.sent.follower.kept_position()
+    it.found.delivery_log.keep()
+    position = it.found.delivery_log.follower.kept_position()
     expect(position[1] == len("".join(f"{one}\n" for one in (taken("A"), was_sent("A")))), "it would go on at", position)
     it.start()
     expect(it.read(removed("A")) == ["sA"], "not journaled")
@@ -146,22 +148,22 @@ def test_in_the_book(log_of):
 def test_a_journal_that_cannot_be_written(log_of, monkeypatch):
     """What was read is told when it can be written down."""
     it = log_of("A")
-    reported = it.found.handed.reported
-    monkeypatch.setattr(it.found.handed, "reported", lambda *_: 1 / 0)
+    reported = it.found.attempts.reported
+    monkeypatch.setattr(it.found.attempts, "reported", lambda *_: 1 / 0)
     with pytest.raises(ZeroDivisionError):
         it.read(taken("A"), was_sent("A"), removed("A"))
-    monkeypatch.setattr(it.found.handed, "reported", reported)
+    monkeypatch.setattr(it.found.attempts, "reported", reported)
     expect(it.read() == ["sA"], "what was read is lost")
 
 
 def test_a_late_line(log_of):
     """A line that comes when its attempt was given up counts still."""
     it = log_of("A")
-    it.found.handed.resolved(it.found.handed.of(envelope_of("A")), [], is_lost=True)
-    it.found.names.anywhere = lambda *_: {"id": "A", "attempts": 1}
+    it.found.attempts.resolved(it.found.attempts.of(envelope_of("A")), [], is_lost=True)
+    it.found.names.anywhere = lambda *_: Message("A", "sA", "ann@a.example", (GOOD,), 1)
     it.read(was_sent("A"), removed("A"))
-    it.found.outcomes.take_late("acme")
-    expect(it.found.book.untold("acme") == ["sA"], "a late line is lost")
+    it.found.collector.take_late("acme")
+    expect(it.found.book.unreported("acme") == ["sA"], "a late line is lost")
 
 
 def test_a_line_is_lost(log_of, monkeypatch):
@@ -169,15 +171,15 @@ def test_a_line_is_lost(log_of, monkeypatch):
     it = log_of("A", "B")
     it.read(taken("A"), was_sent("A"), taken("B"))
     queue = type("Queue", (), {"has": lambda *_: False, "oldest_report": float("inf"), "ids": {}})()
-    monkeypatch.setattr("instance.queue", lambda _: queue)
+    monkeypatch.setattr("hq_relay.postfix.delivering_instance.queue", lambda _: queue)
     monkeypatch.setattr(it.found.settings, "lost_after", 60.0)
-    it.found.missing.look(lambda _: False)
-    expect(it.found.book.untold("acme") == ["sA"], it.found.book.untold("acme"))
-    expect([one.id for one in it.found.handed.under_way()] == ["B"], "what was not told is held")
+    it.found.supervision.look(lambda _: False)
+    expect(it.found.book.unreported("acme") == ["sA"], it.found.book.unreported("acme"))
+    expect([one.id for one in it.found.attempts.under_way()] == ["B"], "what was not told is held")
     queue.oldest_report = 0.0
     it.read(was_sent("B"))
-    it.found.missing.look(lambda _: False)
-    expect([one.id for one in it.found.handed.under_way()] == ["B"], "a report may lie in the queue")
+    it.found.supervision.look(lambda _: False)
+    expect([one.id for one in it.found.attempts.under_way()] == ["B"], "a report may lie in the queue")
 
 
 # ---- the file
@@ -194,7 +196,7 @@ def follower(folder):
     made = []
 
     def make():
-        made.append(Follower(folder / "mail.log", folder / "position"))
+        made.append(LogFollower(folder / "mail.log", folder / "position"))
         return made[-1]
     yield make
     for it in made:
@@ -293,8 +295,8 @@ def test_a_line_without_end(folder, follower):
 # ---- whether it is trusted
 
 def trusted(found):
-    found.sent.looked = 0.0
-    return found.sent.is_trusted()
+    found.delivery_log.looked = 0.0
+    return found.delivery_log.is_trusted()
 
 
 def test_trust(log_of, logged, monkeypatch):
@@ -302,12 +304,12 @@ def test_trust(log_of, logged, monkeypatch):
     it = log_of("A")
     it.write(taken("A"))
     expect(not trusted(it.found), "trusted by a line of before")
-    it.found.sent.expect(envelope_of("B"))
+    it.found.delivery_log.expect(envelope_of("B"))
     expect(not trusted(it.found), "trusted by nothing")
     it.write(taken("B"))
     expect(trusted(it.found), "not trusted")
     monkeypatch.setattr(sent, "LATE", 0.1)
-    it.found.sent.expect(envelope_of("C"))
+    it.found.delivery_log.expect(envelope_of("C"))
     expect(trusted(it.found), "no patience")
     time.sleep(0.2)
     expect(not trusted(it.found) and not logged, "what is late is trusted", logged)
@@ -323,13 +325,13 @@ def test_silence(log_of, logged, monkeypatch):
     monkeypatch.setattr(sent, "SILENT", 0.1)
     it = log_of("A")
     for id in "BC":
-        it.found.sent.expect(envelope_of(id))
+        it.found.delivery_log.expect(envelope_of(id))
         time.sleep(0.2)
-        it.found.outcomes.read()
+        it.found.collector.read()
         expect(not trusted(it.found) and logged == ["no log of the delivering instance"], logged)
     it.write(taken("C"))
     expect(not trusted(it.found), "trusted by a line of before")
-    it.found.sent.expect(envelope_of("D"))
+    it.found.delivery_log.expect(envelope_of("D"))
     it.write(taken("D"))
     expect(trusted(it.found), "not trusted again")
 
@@ -339,34 +341,34 @@ def test_a_probe_that_does_not_show_up(log_of, monkeypatch):
     monkeypatch.setattr(sent, "FOR_A_PROBE", 0.1)
     monkeypatch.setattr(sent, "FRESH", 0.2)
     it = log_of()
-    it.found.sent.expect(envelope_of("A"))
-    expect(it.found.sent.wants_probe() and not it.found.sent.shows(envelope_of("A")), "no probe is wanted, or it shows up")
-    expect(not it.found.sent.wants_probe(), "a probe behind a probe")
-    it.found.sent.expect(envelope_of("B"))
+    it.found.delivery_log.expect(envelope_of("A"))
+    expect(it.found.delivery_log.wants_probe() and not it.found.delivery_log.shows(envelope_of("A")), "no probe is wanted, or it shows up")
+    expect(not it.found.delivery_log.wants_probe(), "a probe behind a probe")
+    it.found.delivery_log.expect(envelope_of("B"))
     it.write(taken("B"))
-    expect(trusted(it.found) and not it.found.sent.wants_probe(), "not trusted")
+    expect(trusted(it.found) and not it.found.delivery_log.wants_probe(), "not trusted")
     time.sleep(0.3)
-    expect(it.found.sent.wants_probe(), "what is old is not proved anew")
+    expect(it.found.delivery_log.wants_probe(), "what is old is not proved anew")
 
 
 def test_many_that_do_not_show_up(log_of):
     it = log_of()
-    it.found.sent.expect(envelope_of("B"))
+    it.found.delivery_log.expect(envelope_of("B"))
     it.write(taken("B"))
     expect(trusted(it.found), "not trusted")
     for at in range(sent.MOST_UNSEEN + 1):
-        it.found.sent.expect(f"acme.{at}.1.x")
+        it.found.delivery_log.expect(f"acme.{at}.1.x")
     expect(not trusted(it.found), "trusted")
 
 
 def test_no_file(log_of):
     """A log that cannot be read is not trusted, and reports are read all the same."""
     it = log_of("A")
-    it.found.sent.expect(envelope_of("B"))
+    it.found.delivery_log.expect(envelope_of("B"))
     it.write(taken("B"))
     expect(trusted(it.found), "not trusted")
     it.path.rename(it.path.with_name("gone"))
-    expect(not trusted(it.found) and it.found.outcomes.read() == 0, "trusted without a file")
+    expect(not trusted(it.found) and it.found.collector.read() == 0, "trusted without a file")
 
 
 @pytest.mark.parametrize("recipient, is_plain", [
@@ -376,6 +378,6 @@ def test_no_file(log_of):
 def test_addresses(log_of, recipient, is_plain):
     """Postfix's log may have an odd address in another form: a mail tells its success."""
     it = log_of("A", recipients=(GOOD, recipient))
-    it.found.sent.expect(envelope_of("B"))
+    it.found.delivery_log.expect(envelope_of("B"))
     it.write(taken("B"))
-    expect(trusted(it.found) and it.found.sent.is_trusted(it.found.handed.of(envelope_of("A"))) == is_plain, recipient)
+    expect(trusted(it.found) and it.found.delivery_log.is_trusted(it.found.attempts.of(envelope_of("A"))) == is_plain, recipient)

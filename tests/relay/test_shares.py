@@ -4,15 +4,17 @@ import time
 from types import SimpleNamespace
 
 import pytest
-from bell import Bell, Listener
-import calls
-from calls import Calls
-from desk import Away
-from destinations import AT_ONCE, BETWEEN_TURNS, CUSTOMER_ALONE, DOMAIN, FIRST, PROVEN, SLOW, UNPROVEN, WRITTEN_BY, Capacity, Destinations
-from handed import Attempt
-from handover import Handover
+from hq_relay.storage.wakeups import WakeupSender, WakeupListener
+from hq_relay.desk import call_limits as calls
+from hq_relay.desk.call_limits import CallLimits
+from hq_relay.desk.client import Away
+from hq_relay.desk.replies import DueMessage
+from hq_relay.delivery.destinations import AT_ONCE, BETWEEN_TURNS, FIRST, PROVEN, SLOW, UNPROVEN, WRITTEN_BY, Capacity, Destinations
+from hq_relay.outcome import Outcome, Result, Unreached
+from hq_relay.storage.attempts import Attempt
+from hq_relay.delivery.handover import Handover
 from serving import expect, until
-from turns import Turns
+from hq_relay.customers.turns import CustomerTurns
 
 SOON, WHILE = 10, 0.3
 CAPACITY = Capacity(100, 5)
@@ -53,9 +55,9 @@ class Mail:
         self.to.end(attempt)
         return may
 
-    def told(self, customer, domain, unreached="", count=1):
+    def told(self, customer, domain, unreached=Unreached.NOTHING, count=1):
         for _ in range(count):
-            self.to.answered(customer, [{"recipient": f"p@{domain}", "unreached": unreached}])
+            self.to.answered(customer, [Outcome(f"p@{domain}", Result.DEFERRED, unreached=unreached)])
 
 
 def domains(kind, count):
@@ -110,7 +112,7 @@ def test_cuts_rest_for_their_customer(clock):
     """A host that answers cuts the sessions of one customer: its mail to that domain rests, and nobody else's."""
     mail = Mail()
     mail.told("birch", "good.example")
-    mail.told("acme", "good.example", CUSTOMER_ALONE, 12)
+    mail.told("acme", "good.example", Unreached.CUSTOMER_ALONE, 12)
     expect(not mail.may("acme", "good.example") and mail.may("acme", "other.example"), "its mail does not rest there alone")
     expect(mail.may("birch", "good.example"), "the mail of another rests")
     clock.now += 61
@@ -124,9 +126,9 @@ def test_domains_rest(clock, is_proven, failures):
     if is_proven:
         mail.told("birch", "away.example")
     for length in (60, 120, 240):
-        mail.told("acme", "away.example", DOMAIN, failures - 1)
+        mail.told("acme", "away.example", Unreached.DOMAIN, failures - 1)
         expect(mail.may("birch", "away.example"), "it rests too soon")
-        mail.told("acme", "away.example", DOMAIN)
+        mail.told("acme", "away.example", Unreached.DOMAIN)
         clock.now += length - 1
         expect(not mail.may("acme", "away.example") and not mail.may("birch", "away.example"), "it does not rest for", length)
         clock.now += 2
@@ -211,10 +213,9 @@ def test_a_long_list(clock):
     mail, tried = Mail(), []
     begin = mail.to.begin
     mail.to.begin = lambda attempt: tried.append(attempt) or begin(attempt)
-    due = [{"id": f"{at:04}", "attempt": 1, "spool": f"s{at}", "sender": "", "recipients": [
-        f"p{at}@{'other' if at == 400 else 'good'}.example"]} for at in range(500)]
+    due = [DueMessage(f"{at:04}", 1, f"s{at}", "", [f"p{at}@{'other' if at == 400 else 'good'}.example"]) for at in range(500)]
     desk = SimpleNamespace(due=lambda customer, after: iter(due))
-    handed = SimpleNamespace(book=SimpleNamespace(untold=lambda customer: []), spools_under_way=lambda customer: set())
+    handed = SimpleNamespace(book=SimpleNamespace(unreported=lambda customer: []), spools_under_way=lambda customer: set())
     settings = SimpleNamespace(sessions=1, pause=1.0, customers={"acme": None}, desks={}, has_several_desks=False)
     found = Handover(settings, desk, SimpleNamespace(size=lambda spool: 1), handed, None, mail.to, None)
     begun, _ = found.due("acme", None)
@@ -233,7 +234,7 @@ def test_turns_of_several_desks():
         done.append(customer)
 
     names = [f"{desk}{it}" for it in range(30) for desk in "ns"]
-    turns = Turns(4, 1.0, work, {it: it[0] for it in names})
+    turns = CustomerTurns(4, 1.0, work, {it: it[0] for it in names})
     turns.start()
     for it in sorted(names):
         turns.add(it)
@@ -248,7 +249,7 @@ def test_turns_of_several_desks():
 def test_turns_of_one_desk():
     """Where there is one desk, or nobody tells which, its customers take all threads."""
     gate, begun = threading.Event(), []
-    turns = Turns(4, 1.0, lambda customer: begun.append(customer) or not gate.wait(SOON))
+    turns = CustomerTurns(4, 1.0, lambda customer: begun.append(customer) or not gate.wait(SOON))
     turns.start()
     for it in "abcdef":
         turns.add(it)
@@ -261,7 +262,7 @@ def test_turns_of_one_desk():
 
 def test_calls_of_a_desk_that_hangs(clock):
     """So many calls of a desk are under way; once they take too long, further ones fail at once, and those of other desks go on."""
-    found = Calls(2)
+    found = CallLimits(2)
     with found.one_of("north"), found.one_of("north"):
         clock.now += 3
         with pytest.raises(Away):
@@ -276,7 +277,7 @@ def test_calls_of_a_desk_that_hangs(clock):
 def test_calls_wait_no_longer(monkeypatch):
     """Nor does a call wait for long where each of those before it is quick, but too many are."""
     monkeypatch.setattr(calls, "LONGEST", WHILE)
-    found = calls.Calls(1)
+    found = calls.CallLimits(1)
     with found.one_of("north"):
         begun = time.monotonic()
         with pytest.raises(Away):
@@ -287,7 +288,7 @@ def test_calls_wait_no_longer(monkeypatch):
 
 def test_calls_wait_for_their_turn():
     """A call waits while those before it are as quick as they should be."""
-    found, entered = Calls(1), threading.Event()
+    found, entered = CallLimits(1), threading.Event()
 
     def call():
         with found.one_of("north"):
@@ -301,7 +302,7 @@ def test_calls_wait_for_their_turn():
 
 def test_desks_of_customers():
     """Of a table the desks; customers of whom it tells nothing stand together."""
-    from settings import Settings
+    from hq_relay.settings import Settings
     names = dict.fromkeys(("acme", "birch", "cedar", "dale"))
     told = SimpleNamespace(customers=names, desks={"acme": "north", "birch": "south", "cedar": "north"})
     expect([*Settings.of_desks(told).values()] == [["acme", "cedar"], ["birch"], ["dale"]], Settings.of_desks(told))
@@ -315,7 +316,7 @@ def heard(folder):
     place = folder / ("long" * 40)
     place.mkdir()
     found, ending = [], threading.Event()
-    thread = threading.Thread(target=lambda: Listener(place, found.append).listen(ending), daemon=True)
+    thread = threading.Thread(target=lambda: WakeupListener(place, found.append).listen(ending), daemon=True)
     thread.start()
     until((place / "queued").is_socket, "nobody listens", SOON)
     yield place, found
@@ -326,28 +327,28 @@ def heard(folder):
 def test_rings(heard):
     """Each customer for whom mail was queued has a turn soon, and few for many rings."""
     place, found = heard
-    bell = Bell(place)
+    bell = WakeupSender(place)
     for _ in range(200):
-        bell.ring("acme")
-    bell.ring("birch")
+        bell.send("acme")
+    bell.send("birch")
     until(lambda: {*found} >= {"acme", "birch"}, f"heard is {found}", SOON)
     expect(found.count("acme") <= 10, "for many rings it has many turns", found)
 
 
 def test_rings_that_nobody_hears(folder, heard):
     """They are no fault; a listener that begins anew hears those of later."""
-    bell = Bell(folder)
+    bell = WakeupSender(folder)
     for _ in range(3):
-        bell.ring("acme")
+        bell.send("acme")
     found, ending = [], threading.Event()
     for _ in range(2):
-        thread = threading.Thread(target=lambda: Listener(folder, found.append).listen(ending), daemon=True)
+        thread = threading.Thread(target=lambda: WakeupListener(folder, found.append).listen(ending), daemon=True)
         thread.start()
-        until(lambda: bell.ring("birch") or "birch" in found, "a new one does not hear", SOON)
+        until(lambda: bell.send("birch") or "birch" in found, "a new one does not hear", SOON)
         ending.set()
         thread.join(SOON)
         found.clear()
         ending.clear()
-    full = Bell(heard[0])
+    full = WakeupSender(heard[0])
     for _ in range(20_000):
-        full.ring("x" * 60)
+        full.send("x" * 60)

@@ -12,18 +12,22 @@ import pytest
 from machine import WIDE, Relay
 from serving import expect
 
-import postfix_lines
+from hq_relay.postfix import lines as postfix_lines
 
-INTAKE = ["spool.Spool.keep", "desk.Desk.submit", "book.Book.taken", "intake.Incoming.end"]
-DELIVERY = ["handed.Handed.about", "instance.Session.probe", "instance.Session.send", "handed.Handed.over",
-            "sent.Sent.hear", "sent.Sent.take", "handed.Handed.reported", "sent.Sent.done", "sent.Sent.keep",
-            "desk.Desk.outcome", "desk.Call.reply", "book.Book.all_reported", "mailing.Hop.mail", "book.Book.told"]
+INTAKE = ["storage.spool.Spool.keep", "desk.client.Desk.submit", "storage.book.Book.taken",
+          "intake.incoming.IncomingMessage.end"]
+DELIVERY = ["storage.attempts.Attempts.about", "postfix.delivering_instance.Session.probe",
+            "postfix.delivering_instance.Session.send", "storage.attempts.Attempts.over",
+            "delivery.delivery_log.DeliveryLog.hear", "delivery.delivery_log.DeliveryLog.take",
+            "storage.attempts.Attempts.reported", "delivery.delivery_log.DeliveryLog.done",
+            "delivery.delivery_log.DeliveryLog.keep", "desk.client.Desk.outcome", "desk.client.Call.reply",
+            "storage.book.Book.all_reported", "notices.next_hop.NextHop.mail", "storage.book.Book.mailed"]
 MOMENTS = ["before", "behind"]
 COUNTS = [1, 2]
 # What a round does once.
-ONCE = {"instance.Session.probe", "sent.Sent.keep"}
+ONCE = {"postfix.delivering_instance.Session.probe", "delivery.delivery_log.DeliveryLog.keep"}
 # The next hop of notices has it, and nobody has written that down.
-DOUBLES_A_NOTICE = {("mailing.Hop.mail", "behind"), ("book.Book.told", "before")}
+DOUBLES_A_NOTICE = {("notices.next_hop.NextHop.mail", "behind"), ("storage.book.Book.mailed", "before")}
 ONE_SESSION, ONE_CUSTOMER = {"delivery": {"sessions": "1"}}, {"acme": WIDE}
 
 

@@ -20,8 +20,9 @@ from machine import FAR, PYTHON, WORKER, Relay
 from serving import expect, until
 from test_deploy import let_through
 
-import instance
-from settings import BadSettings, load
+from hq_relay.delivery.attempt_supervision import AttemptSupervision
+from hq_relay.postfix import delivering_instance as instance
+from hq_relay.settings import BadSettings, load
 
 HELPER = WORKER.parent / "take-back"
 POSTSUPER = """\
@@ -112,6 +113,18 @@ def test_over_a_socket(helper, folder):
         gate.set()
     with pytest.raises(OSError, match="refused"):
         instance.take_back(settings, THERE)
+
+
+@pytest.mark.parametrize("fault, is_error", [(OSError("postsuper ended with 1"), True), (ConnectionRefusedError(), True),
+                                             (TimeoutError(), True), (ConnectionResetError(), False)])
+def test_not_taken_back(logged, monkeypatch, fault, is_error):
+    """What cannot be taken back is sent all the same: that is an error, unless the helper has no place just now."""
+    def fails(_settings, _id):
+        raise fault
+    monkeypatch.setattr(instance, "take_back", fails)
+    attempt = SimpleNamespace(queue_id=THERE, customer="acme", id="0000000001")
+    AttemptSupervision.take_one_back(SimpleNamespace(settings=None), attempt)
+    expect(logged == ["not taken back"] * is_error, "errors are", logged)
 
 
 def test_settings(folder):

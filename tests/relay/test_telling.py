@@ -7,12 +7,13 @@ import threading
 import time
 from types import SimpleNamespace
 
-import instance
+from hq_relay.postfix import delivering_instance as instance
 import pytest
-from book import Report
-from handed import Attempt
+from hq_relay.outcome import Outcome, Result
+from hq_relay.storage.book import Report
+from hq_relay.storage.attempts import Attempt
 from house import BAD, GOOD, SOON, WHILE, House, Told
-from mailing import DONE, LATER
+from hq_relay.notices.next_hop import Mailing
 from serving import expect, until
 
 
@@ -31,13 +32,13 @@ def keeping(delivering, monkeypatch):
 
 
 def outcome(recipient, result):
-    return {"recipient": recipient, "result": result, "status": "5.1.1", "text": "no"}
+    return Outcome(recipient, Result(result), "5.1.1", "no")
 
 
 def comes(found, id, recipient, result):
     """An outcome is journaled, and a turn of telling it given, as when its report was read."""
-    found.book.attempted(Report("acme", f"s{id}", id, 1, [outcome(recipient, result)]))
-    found.telling.add("acme")
+    found.book.attempted(Report("acme", f"s{id}", id, 1, (outcome(recipient, result),)))
+    found.reporting.add("acme")
 
 
 def left(found):
@@ -57,7 +58,7 @@ def begun(work):
     return thread
 
 
-@pytest.mark.parametrize("answer, mailed", [(LATER, 0), (OSError("disk full"), 0), (DONE, 1)])
+@pytest.mark.parametrize("answer, mailed", [(Mailing.LATER, 0), (OSError("disk full"), 0), (Mailing.DONE, 1)])
 def test_an_outcome_that_comes_during_a_mailing(delivering, hops, answer, mailed):
     """It is told when that ends, whether or not the notice was mailed; no look comes between."""
     found = delivering(Told(1))
@@ -66,23 +67,23 @@ def test_an_outcome_that_comes_during_a_mailing(delivering, hops, answer, mailed
     found.mailing.add("acme")
     expect(hops.is_asked.wait(SOON), "no notice is mailed")
     comes(found, "A", GOOD, "delivered")
-    found.telling.wait()
+    found.reporting.wait()
     expect(not found.desk.told, "told beside a mailing", found.desk.told)
     hops.gate.set()
     until(lambda: found.desk.told, "not told behind a mailing", SOON)
     found.wait()
-    expect((found.desk.told, found.book.untold("acme"), found.book.last_notice("acme")) == (["A"], [], mailed), found.desk.told)
+    expect((found.desk.told, found.book.unreported("acme"), found.book.last_notice("acme")) == (["A"], [], mailed), found.desk.told)
 
 
 def test_an_outcome_that_comes_during_a_sweep(delivering):
     """It is told when that ends. (No notice is mailed meanwhile.)"""
     found = delivering(Told())
     found.desk.gate.clear()
-    found.telling.start()
+    found.reporting.start()
     sweeping = begun(lambda: found.chores(["acme"], {"acme"}, set(), True))
     expect(found.desk.is_listing.wait(SOON), "nothing is swept")
     comes(found, "A", GOOD, "delivered")
-    found.telling.wait()
+    found.reporting.wait()
     expect(not found.desk.told, "told beside a sweep", found.desk.told)
     found.desk.gate.set()
     sweeping.join(SOON)
@@ -126,14 +127,14 @@ def test_a_failure_without_room_for_its_notice(delivering, hops, logged):
 def test_a_failure_without_room_while_the_hop_is_away(delivering, hops, logged):
     """It has no turn until the next hop takes notices."""
     found = delivering(Told(1))
-    hops.answer = LATER
+    hops.answer = Mailing.LATER
     hops.gate.set()
     found.begin_turns()
     comes(found, "A", BAD, "failed")
     expect(hops.is_asked.wait(SOON), "no notice is mailed")
     time.sleep(WHILE)
     expect(not found.desk.told and logged == ["no room for a notice"], found.desk.told, logged)
-    hops.answer = DONE
+    hops.answer = Mailing.DONE
     found.mailing.add("acme")
     until(lambda: found.book.last_notice("acme") == 2, "not mailed", SOON)
     expect(found.desk.told == ["A"], found.desk.told)
@@ -144,13 +145,13 @@ def test_a_round_with_an_attempt_that_is_lost(delivering, hops, monkeypatch):
     found = delivering(Told())
     hops.gate.set()
     monkeypatch.setattr(instance, "queue", lambda _: SimpleNamespace(has=lambda *_: False, oldest_report=float("inf")))
-    found.handed.about([Attempt("acme.A.1.e", "acme", "sA", "A", 1, [GOOD, BAD], "ann@a.example", time.time())])
-    found.handed.over({"acme.A.1.e": "F00D"}, [])
-    found.handed.reported({"acme.A.1.e": [outcome(GOOD, "delivered")]})
-    expect(found.once() and found.desk.told == ["A"] and not found.book.untold("acme"), found.desk.told)
+    found.attempts.about([Attempt("acme.A.1.e", "acme", "sA", "A", 1, [GOOD, BAD], "ann@a.example", time.time())])
+    found.attempts.over({"acme.A.1.e": "F00D"}, [])
+    found.attempts.reported({"acme.A.1.e": [outcome(GOOD, "delivered")]})
+    expect(found.once() and found.desk.told == ["A"] and not found.book.unreported("acme"), found.desk.told)
 
 
-@pytest.mark.parametrize("answer, uncleaned", [(DONE, []), (LATER, ["acme"])])
+@pytest.mark.parametrize("answer, uncleaned", [(Mailing.DONE, []), (Mailing.LATER, ["acme"])])
 def test_house_while_a_mailing_hangs(keeping, hops, answer, uncleaned):
     """The others are swept and cleaned meanwhile. That customer is soon behind it, without another sweep of the others, but its
     content stays where the notice still waits. What belongs to nobody is cleaned up at last."""
@@ -187,7 +188,7 @@ def test_house_while_a_notice_of_a_sweep_hangs(keeping, hops):
 def test_house_while_notices_wait(keeping, hops, logged):
     """A sweep that would push them out, and clean-up, are tried once: their customer comes again by the timers alone."""
     found = keeping(House(1, 2))
-    hops.answer = LATER
+    hops.answer = Mailing.LATER
     hops.gate.set()
     found.start()
     wanted = ["birch", "cedar"], ["acme"], [["acme"]]

@@ -2,12 +2,12 @@
 import time
 from types import SimpleNamespace
 
-import instance
+from hq_relay.postfix import delivering_instance as instance
 import pytest
-from handed import Attempt
+from hq_relay.storage.attempts import Attempt
 from house import GOOD, SOON, Told
 from serving import expect
-from spool import Envelope
+from hq_relay.storage.spool import Envelope
 
 
 class Late(Told):
@@ -21,7 +21,7 @@ class Late(Told):
         return {"messages": [] if body["after"] else [{"id": "A", "arrival": 1, "state": self.state}]}
 
     def message_asked(self, body):
-        return {"id": "A", "spool": "sA", "arrival": 1}
+        return {"id": "A", "spool": "sA", "sender": "ann@a.example", "arrival": 1, "pending": [], "attempts": 0}
 
     def sweep_asked(self, body):
         self.swept += 1
@@ -34,7 +34,7 @@ def test_late_mail_without_its_content(delivering, logged, state, is_kept, swept
     found = delivering(Late(state))
     if is_kept:
         found.cleaning.spool.keep(found.cleaning.spool.draft(Envelope("acme", "sA", "ann@a.example", GOOD)), "sA")
-    found.sweep("acme")
+    found.sweeper.sweep("acme")
     expect(found.desk.swept == swept and logged == ["not given up: content is missing"] * (not swept), found.desk.swept, logged)
 
 
@@ -42,24 +42,24 @@ def test_a_late_report_behind_another(delivering, monkeypatch):
     """One that comes while another one of its customer is fitted is fitted too, and its file goes."""
     found = delivering(Told())
     discarded, moved = [], []
-    monkeypatch.setattr(found.outcomes, "discard", discarded.append)
+    monkeypatch.setattr(found.collector, "discard", discarded.append)
     for it in "AB":
-        found.handed.about([Attempt(f"acme.{it}.1.e", "acme", f"s{it}", it, 1, [GOOD], "ann@a.example", time.time())])
-        found.handed.resolved(found.handed.of(f"acme.{it}.1.e"), [], is_lost=True)
+        found.attempts.about([Attempt(f"acme.{it}.1.e", "acme", f"s{it}", it, 1, [GOOD], "ann@a.example", time.time())])
+        found.attempts.resolved(found.attempts.of(f"acme.{it}.1.e"), [], is_lost=True)
 
     def move(lost, reports):
         moved.append(lost.id)
         if lost.id == "A":
-            found.outcomes.set_apart({"acme.B.1.e": [], "acme.A.1.e": []}, {"acme.B.1.e": ["fileB"], "acme.A.1.e": ["fileC"]}, {})
+            found.collector.set_apart({"acme.B.1.e": [], "acme.A.1.e": []}, {"acme.B.1.e": ["fileB"], "acme.A.1.e": ["fileC"]}, {})
 
-    monkeypatch.setattr(found.outcomes, "move", move)
-    found.outcomes.set_apart({"acme.A.1.e": []}, {"acme.A.1.e": ["fileA"]}, {})
-    found.outcomes.take_late("acme")
+    monkeypatch.setattr(found.collector, "move", move)
+    found.collector.set_apart({"acme.A.1.e": []}, {"acme.A.1.e": ["fileA"]}, {})
+    found.collector.take_late("acme")
     expect((moved, discarded, found.catching_up.waiting) == (["A"], ["fileA"], {"acme"}), moved, discarded)
-    monkeypatch.setattr(found.outcomes, "move", lambda lost, reports: moved.append(lost.id))
-    found.outcomes.take_late("acme")
+    monkeypatch.setattr(found.collector, "move", lambda lost, reports: moved.append(lost.id))
+    found.collector.take_late("acme")
     expect(sorted(moved) == ["A", "A", "B"] and sorted(discarded) == ["fileA", "fileB", "fileC"], moved, discarded)
-    expect(not found.outcomes.late_files and not found.outcomes.late["acme"], found.outcomes.late)
+    expect(not found.collector.late_files() and not found.collector.late["acme"], found.collector.late)
 
 
 def test_reports_while_a_desk_hangs(delivering, monkeypatch):
@@ -67,8 +67,8 @@ def test_reports_while_a_desk_hangs(delivering, monkeypatch):
     found = delivering(Told())
     found.desk.gate.clear()
     monkeypatch.setattr(instance, "queue", lambda _: SimpleNamespace(has=lambda *_: True, ids={"F00D": "active"}, oldest_report=0.0))
-    found.handed.about([Attempt("acme.A.1.e", "acme", "sA", "A", 1, [GOOD], "ann@a.example", time.time())])
-    found.handed.over({"acme.A.1.e": "F00D"}, [])
+    found.attempts.about([Attempt("acme.A.1.e", "acme", "sA", "A", 1, [GOOD], "ann@a.example", time.time())])
+    found.attempts.over({"acme.A.1.e": "F00D"}, [])
     found.begin_turns()
     begun = time.monotonic()
     found.see_after(0.0)
@@ -106,7 +106,7 @@ def test_a_content_that_cannot_be_read(delivering, logged, monkeypatch):
         return opened(spool)
 
     monkeypatch.setattr(found.handover.spool, "opened", broken)
-    found.handed.about(due)
+    found.attempts.about(due)
     found.handover.hand_over(due)
     expect(session.sent == ["A", "C"] and logged == ["content missing"], session.sent, logged)
-    expect(found.book.untold("acme") == ["sB"] and [it.id for it in found.handed.under_way()] == ["A", "C"], found.book.untold("acme"))
+    expect(found.book.unreported("acme") == ["sB"] and [it.id for it in found.attempts.under_way()] == ["A", "C"], found.book.unreported("acme"))

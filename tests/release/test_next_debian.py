@@ -1,27 +1,59 @@
-"""The files of nginx in the Debian behind this one, whose nginx has other lines for HTTP/2: taken without a warning."""
+"""The Debian behind this one. Its nginx has other lines for HTTP/2, which are taken without a warning; and its postsuper, which
+opens the log of its Postfix as it begins, takes mail back within the unit of the package.
+"""
+import json
 import shutil
 import subprocess
 from pathlib import Path
 
 import needs
 import pytest
+from booted import Booted
 from releasing import ROOT
 from rooted import TO_MAKE, fetched, mirror, place
 from serving import LONGEST, expect
 
 NEXT = {"bookworm": "trixie"}
 DEPLOY = ROOT / "deploy"
+PROGRAMS = "nginx", "postfix", "python3-aiosmtpd", "systemd-sysv", "dbus"
+HELPER = "hq-relay-postsuper.socket", "hq-relay-postsuper@.service"
+# Of the package: the worker with its user and its settings. (apt asks nothing of Postfix here, so its settings are none yet.)
+WORKER = """\
+useradd --system --home-dir /var/lib/hqrelay --shell /usr/sbin/nologin hqrelay
+install -d -o hqrelay -g hqrelay -m 700 /var/lib/hqrelay
+echo relaykey00000001 >/etc/hq/relay.key
+echo name,key,messages,bytes,lines,notices,delay >/etc/hq/relay.csv
+echo kind,name,customer >/etc/hq/senders.csv
+echo customer,desk >/etc/hq/desks.csv
+test -e /etc/postfix/main.cf || cp /usr/share/postfix/main.cf.debian /etc/postfix/main.cf
+/usr/libexec/hq-desk/relay/worker /etc/hq/relay.ini install
+systemctl enable --now hq-relay-postsuper.socket
+"""
+SEND = """python3 -c '
+import smtplib
+smtplib.SMTP("127.0.0.1", 822).sendmail("ann@a.example", ["bob@far.example"], "Subject: x")'"""
+# What the worker does to have a message taken back.
+ASK = """runuser -u hqrelay -- python3 -c '
+import socket
+with socket.socket(socket.AF_UNIX) as it:
+    it.connect("/run/hq-relay-postsuper.sock")
+    it.sendall(b"{}\\n")
+    print(it.makefile().read(), end="")'"""
 
 
 @pytest.fixture(scope="module")
 def debian():
-    """The folder of the next Debian, with its nginx alone."""
+    """The folder of the next Debian, with what of it is tried."""
     address, name = mirror()
     needs.that(name in NEXT, f"Debian behind {name} that is known")
     with place() as made:
         folder = Path(made) / "debian"
-        fetched(lambda: subprocess.run(["debootstrap", "--variant=minbase", "--include=nginx", NEXT[name], folder, address],
-                                       capture_output=True, text=True, check=True, timeout=TO_MAKE))
+        try:
+            words = ["debootstrap", "--variant=minbase", f"--include={','.join(PROGRAMS)}", NEXT[name], folder, address]
+            fetched(lambda: subprocess.run(words, capture_output=True, text=True, check=True, timeout=2 * TO_MAKE))
+        finally:
+            # (one that was cut leaves it mounted, and its folder could not be removed)
+            subprocess.run(["umount", "--recursive", folder / "proc"], stderr=subprocess.DEVNULL)
         # (the package makes this user)
         for name, line in (("passwd", "hqproxy:x:990:990::/nonexistent:/usr/sbin/nologin\n"), ("group", "hqproxy:x:990:\n")):
             with open(folder / "etc" / name, "a") as file:
@@ -59,3 +91,26 @@ def test_later_lines(debian):
     """Those for later releases are taken without a warning, and those for earlier ones with one, which is why there are two."""
     expect("[warn]" not in tried(debian, "1.25"), "it warns:", tried(debian, "1.25"))
     expect('the "listen ... http2" directive is deprecated' in tried(debian, "1.22"), "both are taken:", tried(debian, "1.22"))
+
+
+@pytest.fixture(scope="module")
+def machine(debian):
+    """That Debian with the worker of the package, whose own systemd runs."""
+    shutil.copytree(ROOT / "relay", debian / "usr/libexec/hq-desk/relay", ignore=shutil.ignore_patterns("__pycache__"))
+    (debian / "etc/hq").mkdir(exist_ok=True)
+    shutil.copy(ROOT / "packaging/settings/relay.ini.example", debian / "etc/hq/relay.ini")
+    for it in HELPER:
+        shutil.copy(DEPLOY / it, debian / "usr/lib/systemd/system")
+    with Booted(debian) as it:
+        it.run(WORKER, longest=120)
+        yield it
+
+
+def test_taken_back(machine):
+    """Root's helper takes a message back for the worker, within its unit."""
+    machine.run(f"postconf -c /etc/postfix-desk -e defer_transports=smtp; postfix -c /etc/postfix-desk reload; {SEND}")
+    lies = json.loads(machine.run("postqueue -c /etc/postfix-desk -j"))["queue_id"]
+    told = machine.run(ASK.format(lies))
+    expect(told == "deleted\n", "the helper tells", told)
+    expect(machine.run("postqueue -c /etc/postfix-desk -j") == "", "it is queued")
+    expect(machine.run(ASK.format(lies)) == "not there\n", "behind that the helper tells another")

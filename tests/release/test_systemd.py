@@ -190,10 +190,24 @@ def test_order(machine):
 
 
 def test_stopped_over_a_boot(machine):
-    """A desk that was stopped is not started by a boot; it comes up once it is started."""
-    machine.run("/usr/libexec/hq-desk/desk-stop north; systemctl start hq-desk@north multi-user.target")
-    expect(machine.active("hq-desk@north") == ["inactive"], "it was started")
+    """A desk that was stopped is started neither by a boot nor by systemctl, which tells that; it comes up once it is started."""
+    machine.run("/usr/libexec/hq-desk/desk-stop north; systemctl start multi-user.target")
+    told = machine.run("systemctl start hq-desk@north", status=1)
+    expect(machine.active("hq-desk@north") == ["inactive"] and "Assertion failed" in told, "it was started, or told is", told)
+    machine.run("/usr/libexec/hq-desk/desk-backup /root/stopped north; hq-customers retain 90", longest=120)
+    expect(machine.active("hq-desk@north") == ["inactive"], "a backup has started it")
     machine.run("/usr/libexec/hq-desk/desk-start north", longest=120)
+    machine.until_active("hq-desk@north")
+
+
+def test_killed_copy(machine):
+    """While its store is copied nothing starts a desk; the mark of a copy that was killed keeps it from no start."""
+    machine.run("mkdir -p /run/hq-desk.copied; exec 9>/run/hq-desk.locks/north; flock 9; touch /run/hq-desk.copied/north; "
+                "systemctl stop hq-desk@north; systemctl start hq-desk@north")
+    told = machine.run("journalctl -u hq-desk@north -n 20 -o cat --no-pager")
+    expect(machine.active("hq-desk@north") == ["inactive"], "it was started while it is copied")
+    expect("its store is being copied" in told, "told is", told)
+    machine.run("systemctl start hq-desk@north; test ! -e /run/hq-desk.copied/north", longest=120)
     machine.until_active("hq-desk@north")
 
 
@@ -203,9 +217,67 @@ def test_installed_again(machine, releases):
     machine.run("systemctl disable --now hq-desk-retain@north.timer; apt-get remove -y hq-desk", longest=120)
     expect(machine.run("postconf -h defer_transports") == "desk\n", "mail does not wait")
     machine.run(f"apt-get install -y {package}", longest=120)
-    machine.until_active(*OURS, "hq-desk-metrics.timer")
-    expect(machine.run("postconf -h defer_transports; ls /run/hq-desk.again /etc/postfix/desk-deferred 2>/dev/null || true") == "\n", "mail waits")
+    until_as_before(machine)
     until(lambda: '"messages":' in usage(machine), "acme is not answered")
+
+
+def stands_in(machine, name, when, does):
+    """A command of the machine does something else first where its words begin so, once."""
+    (machine.folder / "usr/local/sbin" / name).write_text(f'#!/bin/sh\ncase "$*" in "{when}"*) rm "$0"; {does} ;; esac\n'
+                                                          f'exec /usr/bin/env PATH=/usr/sbin:/usr/bin {name} "$@"\n')
+    machine.run(f"chmod 755 /usr/local/sbin/{name}")
+
+
+def until_as_before(machine):
+    """All of it runs, and no mail waits."""
+    expect(machine.run("postconf -h defer_transports; ls /run/hq-desk.again /etc/postfix/desk-deferred 2>/dev/null || true") == "\n", "mail waits")
+    machine.until_active(*OURS, "hq-desk-metrics.timer")
+
+
+@pytest.mark.parametrize("name, when", [("postconf", "-e defer_transports"), ("postfix", "reload"), ("systemctl", "stop hq-desk-workers")])
+def test_cut_removal(machine, name, when):
+    """A removal that is cut, as by Ctrl-C, leaves all of it running, and no mail waits."""
+    stands_in(machine, name, when, "kill -INT $PPID")
+    # (apt gives what it runs a path of its own)
+    told = machine.run("dpkg --remove hq-desk", status=1, longest=120)
+    expect("interrupted" in told, "the removal was not cut:", told)
+    until_as_before(machine)
+
+
+def test_second_try(machine, releases):
+    """Where an installation fails as mail is to go on, as on a full disk, the next call has it go on."""
+    machine.run("apt-get remove -y hq-desk", longest=120)
+    stands_in(machine, "postconf", "-X", "exit 1")
+    machine.run(f"dpkg -i /root/{package_in(releases.now).name}", status=1, longest=120)
+    machine.run("dpkg --configure -a", longest=120)
+    until_as_before(machine)
+
+
+def test_second_upgrade(machine, releases):
+    """A desk whose store is still to be migrated is not started again by a further upgrade either; once it was started anew it is."""
+    package, before = f"/root/{package_in(releases.now).name}", pid_of(machine, "hq-desk@north")
+    for schema, does in ((2, "hq migrate"), (4, "Restore")):
+        machine.run(f"echo {schema} >/usr/share/hq-desk/schema")
+        for _ in range(2):
+            told = machine.run(f"dpkg -i {package}", longest=120)
+            expect(f"its store has schema {schema}" in told and does in told and pid_of(machine, "hq-desk@north") == before, "told is", told)
+        machine.run("systemctl restart hq-desk@north")
+        before = pid_of(machine, "hq-desk@north")
+    told = machine.run(f"dpkg -i {package}", longest=120)
+    expect("schema" not in told and pid_of(machine, "hq-desk@north") != before, "the desk was not started again:", told)
+    machine.until_active(*OURS)
+
+
+def test_removed_meanwhile(machine, releases):
+    """A retention that is under way as the package is removed starts no desk behind it."""
+    machine.run("mkdir -p /run/systemd/system/hq-desk-retain@.service.d; systemctl daemon-reload; printf '[Service]\\nExecStartPre=/bin/sleep 30\\n' "
+                ">/run/systemd/system/hq-desk-retain@.service.d/slow.conf; systemctl daemon-reload; systemctl start --no-block hq-desk-retain@north; sleep 2")
+    expect(machine.active("hq-desk@north", "hq-desk-retain@north") == ["inactive", "activating"], "nothing is retained")
+    machine.run("apt-get remove -y hq-desk; rm -r /run/systemd/system/hq-desk-retain@.service.d; sleep 1", longest=120)
+    found = machine.run("systemctl list-units --no-legend --plain --no-pager 'hq-*'; ps -o args= -u hqdesk || true")
+    expect(found == "", "there is", found)
+    machine.run(f"dpkg -i /root/{package_in(releases.now).name}", longest=120)
+    until_as_before(machine)
 
 
 def test_removed(machine):

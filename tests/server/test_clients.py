@@ -293,8 +293,10 @@ def failing_machine(program, folder, library):
         answered += server.answered
     for seconds in ("4102444800", "-1"):
         with Server(asked, folder, 2, LD_PRELOAD=library, CLOCK_AT=seconds) as server:
-            told = server.received(server.connect())
-            expect(told == b"", "at", seconds, "seconds a connection got", told)
+            client = server.connect()
+            client.sendall(request("GET", "/v1/usage", ACME))
+            told = server.received(client)
+            expect(told == b"", "at", seconds, "seconds a request got", told)
             server.stops("hq: clock")
     with Server(asked, folder, 2, LD_PRELOAD=library, ACCEPT_FAILS_AT="2") as server:
         server.ask(request("GET", "/v1/usage", ACME), 200, USED)

@@ -10,7 +10,7 @@ use Rattle.hq_words.specs.Given.{CheckGiven}
 use Rattle.hq_batch.specs.Printing.{IsPrinted}
 use Rattle.hq_settings.specs.declared.trouble.Trouble.{Trouble}
 use Rattle.hq_settings.specs.declared.trouble.Trouble.TheVariants.{Desk}
-use Rattle.hq_settings.specs.Steps.{Then, IsFile}
+use Rattle.hq_settings.specs.Steps.{Then, IsFile, Reading}
 
 -- that many, on a line
 unfoldable pub count_line : ℕ → List ℕ
@@ -22,13 +22,14 @@ IsCountTold count (Ok rendered) = (rendered.number ≡ 0) × (rendered.bytes.ite
 IsCountTold count (Err trouble) = trouble ≡ Desk (AsFault no_memory)
 
 -- what is told of a directory and of the keys beside it, with the relay or without one
-abbrev pub FileEnds : Option (List ℕ) → Option Named → List ℕ → Result Rendered Trouble → Type 0
-FileEnds keys relay file = Then (CountsCustomers relay keys file) IsCountTold
+abbrev pub FileEnds : Reading → Option (List ℕ) → Option Named → List ℕ →
+    Result Rendered Trouble → Type 0
+FileEnds reads keys relay file = Then (CountsCustomers reads relay keys file) IsCountTold
 
 -- How a check ends: with the first trouble of a start, or with the number of its customers.
-abbrev pub CheckEnds : CheckGiven → Result Rendered Trouble → Type 0
-CheckEnds given = Then (HasRelay given.host given.relay_key) (λ relay.
-    Then IsFile (FileEnds given.keys relay))
+abbrev pub CheckEnds : Reading → CheckGiven → Result Rendered Trouble → Type 0
+CheckEnds reads given = Then (HasRelay reads given.host given.relay_key) (λ relay.
+    Then (IsFile reads given.directory) (FileEnds reads given.keys relay))
 
 -- a check ends so, and is printed
 abbrev pub Checks : (Result Rendered Trouble → Type 0) → Type 0 → Option (List ℕ) →

@@ -44,3 +44,8 @@ pub record RepliedInRounds {D : Type 0} (sight : DeskSight D) (d : Directory) (o
         (sight.store.tables new))
     pub alone : OnOpenSound sight.store old new (Alone (sight.host old) d (asks_in d asked)
         (all_in replied) (sight.store.tables old) (sight.store.tables new))
+
+-- that by two desks, before the rounds and after them
+abbrev pub RepliedBy : {D : Type 0} → DeskSight D → Directory → D → D →
+    List (List (Option LineRequest)) → List (List (List ℕ)) → Type 0
+RepliedBy sight d old new asked lines = RepliedInRounds sight d old asked lines new

@@ -35,16 +35,17 @@ RunEnds done untouched old new (Err trouble) = (fault : EngineFault) × (trouble
 -- ---- in rounds
 
 -- What lines ask for is replied to in rounds, as a batch of the customers of these settings, with a
--- desk over this shelf, by a memory that may have refused.
+-- desk over this shelf, by a memory that may have refused; and `left` is the shelf after it.
 pub record ServesInRounds {S : Type 0} (refused : Type 0) (sight : Sight S) (settings : Settings)
-    (shelf : S) (asked : List (List (Option LineRequest))) (lines : List (List (List ℕ))) : Type 0
-  where
-    pub old : Desk S
-    pub host_is : host_of old ≡ settings.host
-    pub shelf_is : shelf_of old ≡ shelf
-    pub new : Desk S
-    pub replied : RepliedInRounds (with_refusals refused (on sight)) settings.directory old asked
-        lines new
+    (shelf left : S) (asked : List (List (Option LineRequest))) (lines : List (List (List ℕ)))
+    : Type 0 where
+  pub old : Desk S
+  pub host_is : host_of old ≡ settings.host
+  pub shelf_is : shelf_of old ≡ shelf
+  pub new : Desk S
+  pub left_is : shelf_of new ≡ left
+  pub replied : RepliedInRounds (with_refusals refused (on sight)) settings.directory old asked
+      lines new
 
 -- how a run in rounds ends
 abbrev pub RoundsRunEnd : (List (List (Option LineRequest)) → List (List (List ℕ)) → Type 0) →

@@ -13,7 +13,7 @@ use crate::print;
 use hq_import::{DirectoryFail, DirectoryRefusal, read_directory};
 use hq_kept::Customer;
 use hq_rules::Rendered;
-use hq_settings::{Relay, Trouble, count_customers, file_of, relay_given};
+use hq_settings::{Files, Relay, Trouble, count_customers, relay_given};
 use hq_values::Fault;
 use hq_words::Check;
 use std::alloc::Global;
@@ -40,15 +40,16 @@ fn count_told(alloc: Global, count: usize) -> Result<Rendered, Trouble>
 }
 
 /// The line that a check prints of a directory and of the keys beside it, or its trouble.
-fn told_of(
-    rt: &HostRuntime,
+fn told_of<F: Files>(
+    rt: &F,
     relay: Option<Relay>,
     keys: Option<&str>,
     read: Result<Vec<Customer>, DirectoryFail>,
 ) -> Result<Rendered, Trouble>
     requires { IfOk read (λ customers. IsTrue (are_customers customers.items)) }
     ensures { (file : List ℕ) → ReadsDirectory ⊤ (seen_by (λ v. v.items) read) (directory_in file)
-        → FileEnds (option_map (λ k. k.now) keys.entry) (option_map relay_seen relay) file result }
+        → FileEnds (F.reads rt.now) (option_map (λ k. k.now) keys.entry)
+        (option_map relay_seen relay) file result }
 {
     let count = count_customers(rt, relay, keys, read)?;
     count_told(rt.alloc(), count)
@@ -63,15 +64,15 @@ fn refusal_in(read: &Result<Vec<Customer>, DirectoryFail>) -> Option<DirectoryRe
 }
 
 /// Prints what is told of a directory, and behind a refusal what is wrong in its row.
-fn print_file<W: Write, E: Write>(
-    rt: &HostRuntime,
+fn print_file<F: Files, W: Write, E: Write>(
+    rt: &F,
     relay: Option<Relay>,
     keys: Option<&str>,
     file: &[u8],
     output: &mut W,
     errors: &mut E,
 ) -> u8
-    ensures { Checks (FileEnds (option_map (λ k. k.now) keys.entry)
+    ensures { Checks (FileEnds (F.reads rt.now) (option_map (λ k. k.now) keys.entry)
         (option_map relay_seen relay) file.now) (output.new ≡ output.old)
         (W.contents output.old) (W.contents output.new) result }
 {
@@ -88,20 +89,20 @@ fn print_file<W: Write, E: Write>(
 /// directory, the keys beside it, and the relay's key against both; without a relay's key all but
 /// that. Prints how many customers there are, or tells what a start would tell and, of a directory,
 /// what is wrong in its row; and answers the exit status.
-pub fn check<W: Write, E: Write>(
-    rt: &HostRuntime,
+pub fn check<F: Files, W: Write, E: Write>(
+    rt: &F,
     given: &Check,
     output: &mut W,
     errors: &mut E,
 ) -> u8
-    ensures { Checks (CheckEnds (check_of given.now)) (output.new ≡ output.old)
+    ensures { Checks (CheckEnds (F.reads rt.now) (check_of given.now)) (output.new ≡ output.old)
         (W.contents output.old) (W.contents output.new) result }
 {
     let relay = match relay_given(rt, given) {
         Ok(relay) => relay,
         Err(trouble) => return print(Err(trouble), output, errors),
     };
-    let file = match file_of(rt, given.directory) {
+    let file = match rt.read(given.directory) {
         Ok(file) => file,
         Err(trouble) => return print(Err(trouble), output, errors),
     };

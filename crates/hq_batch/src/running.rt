@@ -2,10 +2,9 @@
 
 ghost use Rattle.std.specs.Prelude.{◌≡◌};
 ghost use Rattle.hq_desk.specs.Desks.{on};
-ghost use Rattle.hq_desk.specs.declared.desk.Desk.{Desk};
 ghost use Rattle.hq_lines.specs.Ends.{RoundsEnd};
 ghost use Rattle.hq_wire.specs.Exchanges.{with_refusals};
-ghost use Rattle.hq_batch.specs.InRounds.{RepliedInRounds};
+ghost use Rattle.hq_batch.specs.InRounds.{RepliedBy};
 ghost use Rattle.hq_batch.specs.Runs.{RoundsRunEnd, RunEnds, ServesInRounds, ServesOver};
 
 use crate::batch;
@@ -44,8 +43,7 @@ pub fn run_batch<S: MovesMessages + Drop, R: Read, W: Write, L: Log, M: JsonMemo
     Ok(())
 }
 
-/// Replies to the lines of an input in rounds, with a desk that is dropped when the input has
-/// ended.
+/// Replies to the lines of an input in rounds, and gives the desk back.
 fn serve_in_rounds<S: Rounds, R: Read, W: Write, L: Log, M: JsonMemory>(
     memory: M,
     desk: Desk<S>,
@@ -53,15 +51,15 @@ fn serve_in_rounds<S: Rounds, R: Read, W: Write, L: Log, M: JsonMemory>(
     input: &mut R,
     output: &mut W,
     log: &mut L,
-) -> Result<(), EngineFault>
-    ensures { RoundsEnd (λ asked lines. (new : Desk S) × RepliedInRounds
-        (with_refusals M.refused (on S.sight)) directory.now desk asked lines new)
-        (M.refused × (input.new ≡ input.old) × (output.new ≡ output.old))
+) -> (Result<(), EngineFault>, Desk<S>)
+    ensures { RoundsEnd (RepliedBy (with_refusals M.refused (on S.sight)) directory.now desk
+        result.1)
+        (M.refused × (input.new ≡ input.old) × (output.new ≡ output.old) × (result.1 ≡ desk))
         (record { input = R.remaining input.old; output = W.contents output.old })
-        (record { input = R.remaining input.new; output = W.contents output.new }) result }
+        (record { input = R.remaining input.new; output = W.contents output.new }) result.0 }
 {
     let Ok(waiting) = Waiting::new(memory) else {
-        return Err(EngineFault::WantOfMemory);
+        return (Err(EngineFault::WantOfMemory), desk);
     };
     let mut front = RoundFront {
         memory: &memory,
@@ -70,11 +68,17 @@ fn serve_in_rounds<S: Rounds, R: Read, W: Write, L: Log, M: JsonMemory>(
         log,
         waiting,
     };
-    answer_lines(memory, input, output, &mut front)
+    let ended = answer_lines(memory, input, output, &mut front);
+    match front.desk.take() {
+        Some(desk) => (ended, desk),
+        // (every round gives it back)
+        None => unreachable!(),
+    }
 }
 
 /// Replies to the lines of an input as `run_batch` does, in rounds: lines that one read gave share
-/// a commit, 64 of them at most, and no reply leaves before it.
+/// a commit, 64 of them at most, and no reply leaves before it. It gives the shelf back as the last
+/// line left it.
 ///
 /// After a fault of writing the lines are done up to those of the round whose replies could not be
 /// written, and no other; the replies of the rounds before went out whole.
@@ -85,14 +89,18 @@ pub fn run_batch_in_rounds<S: Rounds, R: Read, W: Write, L: Log, M: JsonMemory>(
     input: &mut R,
     output: &mut W,
     log: &mut L,
-) -> Result<(), Trouble>
-    ensures { RoundsRunEnd (ServesInRounds M.refused S.sight settings shelf)
-        (M.refused × (input.new ≡ input.old) × (output.new ≡ output.old))
+) -> (Result<(), Trouble>, S)
+    ensures { RoundsRunEnd (ServesInRounds M.refused S.sight settings shelf result.1)
+        (M.refused × (input.new ≡ input.old) × (output.new ≡ output.old) × (result.1 ≡ shelf))
         (record { input = R.remaining input.old; output = W.contents output.old })
-        (record { input = R.remaining input.new; output = W.contents output.new }) result }
+        (record { input = R.remaining input.new; output = W.contents output.new }) result.0 }
 {
     let Settings { host, directory } = settings;
     let desk = Desk::new(shelf, host);
-    serve_in_rounds(memory, desk, &directory, input, output, log)?;
-    Ok(())
+    let (ended, desk) = serve_in_rounds(memory, desk, &directory, input, output, log);
+    let ended = match ended {
+        Ok(()) => Ok(()),
+        Err(fault) => Err(Trouble::from(fault)),
+    };
+    (ended, desk.into_shelf())
 }

@@ -1,5 +1,4 @@
 -- A request whose bytes come in chunks.
--- Inner: it serves proofs alone, and no promise rests on it.
 use Rattle.std.specs.Prelude.{ℕ, List}
 use Rattle.hq_http.specs.Requests.{Determines, refused, request}
 use Rattle.hq_http.specs.Stages.{StageIs, request_seen}

@@ -2,7 +2,7 @@
 //! asked, what came of it, and how long the desk took; it tells no key and no body of a request.
 //!
 //! ```
-//! let mut log = log_of(rt, Some("desk.log")); // or "-", for standard error
+//! let mut log = rt.log(Some("desk.log")); // or "-", for standard error
 //! log.begin();
 //! let reply = exchange(alloc, &mut desk, &directory, &asked);
 //! log.replied(&answered); // one line more, or `hq: log` on the errors
@@ -17,4 +17,4 @@ mod target;
 pub use entry::ExchangeEntry;
 pub use keeping::{Answered, Log, NoLog};
 pub use line_log::LineLog;
-pub use target::{HostLog, LogTarget, log_of};
+pub use target::{HostLog, LogTarget, Logs};

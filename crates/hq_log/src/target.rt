@@ -1,5 +1,6 @@
 //! Where a log goes, by its name.
 
+use crate::keeping::Log;
 use crate::line_log::LineLog;
 use std::fs::OpenOptions;
 use std::io::{self, Write};
@@ -45,8 +46,20 @@ impl Write for LogTarget<'_> {
 /// The log of a program: lines to a target, and lost ones told on standard error.
 pub type HostLog<'h> = LineLog<'h, HostRuntime, LogTarget<'h>, Stderr>;
 
-/// The log of this name, where there is one.
-pub fn log_of<'h>(host: &'h HostRuntime, name: Option<&'h str>) -> Option<HostLog<'h>> {
-    let target = LogTarget::new(host, name?);
-    Some(LineLog::new(host, target, host.stderr()))
+/// What opens the logs that words name.
+pub trait Logs<'h> {
+    /// A log.
+    type Log: Log + Drop;
+
+    /// The log of this name; without a name, one that keeps nothing.
+    fn log(&'h self, name: Option<&'h str>) -> Self::Log;
+}
+
+impl<'h> Logs<'h> for HostRuntime {
+    type Log = Option<HostLog<'h>>;
+
+    fn log(&'h self, name: Option<&'h str>) -> Option<HostLog<'h>> {
+        let target = LogTarget::new(self, name?);
+        Some(LineLog::new(self, target, self.stderr()))
+    }
 }

@@ -5,8 +5,10 @@ use Rattle.hq_tables.specs.Shelves.{Sight}
 use Rattle.hq_rules.specs.declared.render.Rendered.{Rendered}
 use Rattle.hq_admin.specs.declared.rounds.ToldAll.{ToldAll}
 use Rattle.hq_batch.specs.Printing.{IsPrinted, ArePrinted}
+use Rattle.hq_settings.specs.Steps.{Reading}
 use Rattle.hq_settings.specs.declared.trouble.Trouble.{Trouble}
 use Rattle.hq_sql_admin.specs.Rounds.{SweepAllEnds}
+use Rattle.hq_sql_shelf.specs.Stores.{Doing}
 use Rattle.hq_sql_admin.specs.Words.{SweepEnds}
 use Rattle.hq_words.specs.declared.options.Sweep.{Sweep}
 
@@ -24,12 +26,16 @@ IsRoundPrinted (Ok done) unwritten old new status =
     × (status ≡ round_status done.stopped printed)
 IsRoundPrinted (Err trouble) unwritten old new status = unwritten × (status ≡ 1)
 
--- The customer that is named is swept, or all are where none is, and it is printed.
-abbrev pub DoesSweep : {S : Type 0} → Sight S → Sweep → Option (List ℕ) → Type 0 → Option (List ℕ) →
-    Option (List ℕ) → ℕ → Type 0
-DoesSweep sight given (Some name) unwritten old new status =
-    (done : Result Rendered Trouble) × SweepEnds sight given name done
-    × IsPrinted done unwritten old new status
-DoesSweep sight given None unwritten old new status =
-    (done : Result ToldAll Trouble) × SweepAllEnds sight given done
-    × IsRoundPrinted done unwritten old new status
+module _ {K S : Type 0} (reads : Reading) (sight : Sight S) (does : Doing K S)
+    (stores_old stores_new : K) where
+  -- The customer that is named is swept, or all are where none is, and it is printed.
+  abbrev pub DoesSweep : Sweep → Option (List ℕ) → Type 0 → Option (List ℕ) → Option (List ℕ) → ℕ →
+      Type 0
+  DoesSweep given (Some name) unwritten old new status =
+      (done : Result Rendered Trouble)
+      × SweepEnds reads sight does stores_old stores_new given name done
+      × IsPrinted done unwritten old new status
+  DoesSweep given None unwritten old new status =
+      (done : Result ToldAll Trouble)
+      × SweepAllEnds sight does stores_old stores_new reads given done
+      × IsRoundPrinted done unwritten old new status

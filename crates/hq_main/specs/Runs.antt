@@ -19,11 +19,15 @@ use Rattle.hq_batch.specs.Batches.{ask_in, reply_line}
 use Rattle.hq_settings.specs.Builtin.{settings}
 use Rattle.hq_batch.specs.Runs.{RunEnds, Exits}
 use Rattle.hq_settings.specs.SettingUp.{SetsUp}
+use Rattle.hq_settings.specs.Steps.{Reading}
+use Rattle.hq_serve.specs.Coming.{Serving}
+use Rattle.hq_sql_shelf.specs.Stores.{Doing}
 use Rattle.hq_batch.specs.Checks.{CheckEnds, Checks}
 use Rattle.hq_admin.specs.declared.rounds.ToldAll.{ToldAll}
 use Rattle.hq_settings.specs.declared.trouble.Trouble.{Trouble}
 use Rattle.hq_sql_server.specs.Stored.{StoreEnds}
 use Rattle.hq_batch.specs.Printing.{IsPrinted}
+use Rattle.hq_network.specs.Networks.{Networking}
 use Rattle.hq_sql_server.specs.Runs.{ServeEnds}
 use Rattle.hq_sql_admin.specs.Migrations.{MigrateEnds}
 use Rattle.hq_sql_admin.specs.Rounds.{UsageEnds}
@@ -57,19 +61,21 @@ pub record ServesBuiltin (asked : List (Option LineRequest)) (lines : List (List
       tables
   pub no_faults : store_faults replies ≡ 0
 
--- How a batch ends with the settings that its words name: with the trouble of these, and then
--- nothing is read or written; or as its store has it.
-abbrev pub SetBatchEnds : {S : Type 0} → Sight S → Option (List ℕ) → Type 0 → Streams → Streams →
-    Result Settings Trouble → Result ⊤ Trouble → Type 0
-SetBatchEnds sight store untouched old new (Err trouble) result = untouched × (result ≡ Err trouble)
-SetBatchEnds sight store untouched old new (Ok set) result =
-    StoreEnds sight store set untouched old new result
+module _ {K S : Type 0} (reads : Reading) (sight : Sight S) (does : Doing K S)
+    (stores_old stores_new : K) where
+  -- How a batch ends with the settings that its words name: with the trouble of these, and then
+  -- nothing is read or written, or done to a store; or as its store has it.
+  abbrev pub SetBatchEnds : Option (List ℕ) → Type 0 → Streams → Streams →
+      Result Settings Trouble → Result ⊤ Trouble → Type 0
+  SetBatchEnds store untouched old new (Err trouble) result = untouched
+      × (stores_new ≡ stores_old) × (result ≡ Err trouble)
+  SetBatchEnds store untouched old new (Ok set) result =
+      StoreEnds sight does store stores_old stores_new set untouched old new result
 
-abbrev pub BatchEnds : {S : Type 0} → Sight S → BatchGiven → Type 0 → Streams → Streams →
-    Result ⊤ Trouble → Type 0
-BatchEnds sight given untouched old new result =
-    (set : Result Settings Trouble) × SetsUp given.host given.relay_key given.keys set
-    × SetBatchEnds sight given.store untouched old new set result
+  abbrev pub BatchEnds : BatchGiven → Type 0 → Streams → Streams → Result ⊤ Trouble → Type 0
+  BatchEnds given untouched old new result = (set : Result Settings Trouble)
+      × SetsUp reads given.host given.relay_key given.directory given.keys set
+      × SetBatchEnds given.store untouched old new set result
 
 -- one call, or a migration, and how it is printed; nothing is read
 abbrev pub Prints : (Result Rendered Trouble → Type 0) → Type 0 → Type 0 → Streams → Streams → ℕ →
@@ -78,53 +84,82 @@ Prints ends unread unwritten old new status =
     unread × ((done : Result Rendered Trouble) × ends done
     × IsPrinted done unwritten old.output new.output status)
 
--- what is done for a word, by what is sight of a store in a file
-abbrev pub DoesWord : {S : Type 0} → Sight S → Word → Type 0 → Type 0 → Streams → Streams → ℕ →
-    Type 0
-DoesWord sight (Serve given) unread unwritten old new status =
-    unread × Exits (ServeEnds sight given unwritten old.output new.output) status
-DoesWord sight (Batch given) unread unwritten old new status =
-    Exits (BatchEnds sight (given_of given) (unread × unwritten) old new) status
-DoesWord sight (Check given) unread unwritten old new status =
-    unread × Checks (CheckEnds (check_of given)) unwritten old.output new.output status
-DoesWord sight (Usage given) unread unwritten old new status =
-    unread × ((done : Result ToldAll Trouble) × UsageEnds sight given done
-    × IsRoundPrinted done unwritten old.output new.output status)
-DoesWord sight (Queue given) unread unwritten old new status =
-    Prints (QueueEnds sight given) unread unwritten old new status
-DoesWord sight (History given) unread unwritten old new status =
-    Prints (HistoryEnds sight given) unread unwritten old new status
-DoesWord sight (Hold given) unread unwritten old new status =
-    Prints (HoldEnds sight given) unread unwritten old new status
-DoesWord sight (Release given) unread unwritten old new status =
-    Prints (ReleaseEnds sight given) unread unwritten old new status
-DoesWord sight (Delete given) unread unwritten old new status =
-    Prints (DeleteEnds sight given) unread unwritten old new status
-DoesWord sight (Import given) unread unwritten old new status =
-    Prints (ImportEnds sight given) unread unwritten old new status
-DoesWord sight (Sweep given) unread unwritten old new status =
-    unread × DoesSweep sight given (option_map (λ c. c.now) given.customer) unwritten old.output
-    new.output status
-DoesWord sight (Migrate given) unread unwritten old new status =
-    Prints MigrateEnds unread unwritten old new status
+-- these words serve clients, or this is so
+abbrev pub UnlessServe : Word → Type 0 → Type 0
+UnlessServe (Serve given) it = ⊤
+UnlessServe _ it = it
 
--- what is done for what words ask, and the exit status; want of memory may come in place of what
--- they ask
-abbrev pub Does : {S : Type 0} → Sight S → Result Words AllocError → Type 0 → Type 0 → Streams →
-    Streams → ℕ → Type 0
-Does sight (Ok Builtin) unread unwritten old new status =
-    Exits (RunEnds ServesBuiltin (unread × unwritten) old new) status
-Does sight (Ok (OfWord asked)) unread unwritten old new status =
-    DoesWord sight asked unread unwritten old new status
-Does sight (Ok (Shown text)) unread unwritten old new status =
-    unread × (status ≤ 1) × (status ≡ 0 → Appends old.output new.output (string_bytes text))
-Does sight (Ok (Refused text)) unread unwritten old new status = unread × unwritten × (status ≡ 2)
-Does sight (Err error) unread unwritten old new status = unread × unwritten × (status ≡ 1)
+abbrev pub UnlessServed : Result Words AllocError → Type 0 → Type 0
+UnlessServed (Ok (OfWord asked)) it = UnlessServe asked it
+UnlessServed _ it = it
 
--- The program does what its words ask for.
-pub record Commands {S : Type 0} (sight : Sight S) (words : List (List ℕ))
-    (unread unwritten : Type 0) (old new : Streams) (status : ℕ) : Type 0 where
-  pub asked : Result Words AllocError
-  pub says : IfOk asked (Says words)
-  pub none : words ≡ [] → asked ≡ Ok Builtin
-  pub does : Does sight asked unread unwritten old new status
+-- What the program has of its machine: what it reads; what is done at the network, from one
+-- state of it to another, and with clients; how many connections are left; what is seen of a store;
+-- and what is done to stores, from one state of these to another.
+module _ {N C K S : Type 0} (reads : Reading) (networks : Networking N C) (serves : Serving C)
+    (connections : C → ℕ) (net_old net_new : N) (sight : Sight S) (does : Doing K S)
+    (stores_old stores_new : K) where
+  -- what is done for a word
+  abbrev pub DoesWord : Word → Type 0 → Type 0 → Streams → Streams → ℕ → Type 0
+  DoesWord (Serve given) unread unwritten old new status =
+      unread × Exits (ServeEnds reads networks serves connections net_old net_new sight does
+      stores_old stores_new given unwritten old.output new.output) status
+  DoesWord (Batch given) unread unwritten old new status =
+      Exits (BatchEnds reads sight does stores_old stores_new (given_of given)
+      (unread × unwritten) old new) status
+  DoesWord (Check given) unread unwritten old new status =
+      unread × (stores_new ≡ stores_old)
+      × Checks (CheckEnds reads (check_of given)) unwritten old.output new.output status
+  DoesWord (Usage given) unread unwritten old new status =
+      unread × ((done : Result ToldAll Trouble)
+      × UsageEnds sight does stores_old stores_new reads given done
+      × IsRoundPrinted done unwritten old.output new.output status)
+  DoesWord (Queue given) unread unwritten old new status =
+      Prints (QueueEnds reads sight does stores_old stores_new given) unread unwritten old new
+      status
+  DoesWord (History given) unread unwritten old new status =
+      Prints (HistoryEnds reads sight does stores_old stores_new given) unread unwritten old new
+      status
+  DoesWord (Hold given) unread unwritten old new status =
+      Prints (HoldEnds reads sight does stores_old stores_new given) unread unwritten old new
+      status
+  DoesWord (Release given) unread unwritten old new status =
+      Prints (ReleaseEnds reads sight does stores_old stores_new given) unread unwritten old new
+      status
+  DoesWord (Delete given) unread unwritten old new status =
+      Prints (DeleteEnds reads sight does stores_old stores_new given) unread unwritten old new
+      status
+  DoesWord (Import given) unread unwritten old new status =
+      Prints (ImportEnds reads sight does stores_old stores_new given) unread unwritten old new
+      status
+  DoesWord (Sweep given) unread unwritten old new status =
+      unread × DoesSweep reads sight does stores_old stores_new given
+      (option_map (λ c. c.now) given.customer) unwritten old.output new.output status
+  DoesWord (Migrate given) unread unwritten old new status =
+      Prints (MigrateEnds does stores_old stores_new given) unread unwritten old new status
+
+  -- what is done for what words ask, and the exit status; want of memory may come in place of what
+  -- they ask
+  abbrev pub Does : Result Words AllocError → Type 0 → Type 0 → Streams → Streams → ℕ → Type 0
+  Does (Ok Builtin) unread unwritten old new status =
+      Exits (RunEnds ServesBuiltin (unread × unwritten) old new) status
+      × (stores_new ≡ stores_old)
+  Does (Ok (OfWord asked)) unread unwritten old new status =
+      DoesWord asked unread unwritten old new status
+  Does (Ok (Shown text)) unread unwritten old new status =
+      unread × (stores_new ≡ stores_old) × (status ≤ 1)
+      × (status ≡ 0 → Appends old.output new.output (string_bytes text))
+  Does (Ok (Refused text)) unread unwritten old new status = unread × unwritten
+      × (stores_new ≡ stores_old) × (status ≡ 2)
+  Does (Err error) unread unwritten old new status = unread × unwritten
+      × (stores_new ≡ stores_old) × (status ≡ 1)
+
+  -- The program does what its words ask for. Nothing is done at the network for words that serve no
+  -- clients.
+  pub record Commands (words : List (List ℕ)) (unread unwritten : Type 0) (old new : Streams)
+      (status : ℕ) : Type 0 where
+    pub asked : Result Words AllocError
+    pub says : IfOk asked (Says words)
+    pub none : words ≡ [] → asked ≡ Ok Builtin
+    pub does_so : Does asked unread unwritten old new status
+    pub network : UnlessServed asked (net_new ≡ net_old)

@@ -4,24 +4,27 @@ ghost use Rattle.std.specs.Prelude.{◌≡◌, [], map as map_list, string_bytes
 ghost use Rattle.hq_batch.specs.Runs.{RunEnds, Exits};
 ghost use Rattle.hq_words.specs.Asked.{given_of};
 ghost use Rattle.hq_main.specs.Runs.{ServesBuiltin, BatchEnds, DoesWord, Commands};
+ghost use Rattle.hq_main.specs.Runs.{UnlessServe};
 
-use crate::rounds::{do_sweep, print_round};
-use crate::stores::{explain, print_over, tell_over};
+use crate::rounds::{do_sweep, print_round_over};
+use crate::stores::{print_over, tell_over};
+use crate::world::World;
 use hq_batch::{check, refuse, run_batch, show, tell};
 use hq_lists::ListShelf;
-use hq_log::{NoLog, log_of};
+use hq_log::NoLog;
+use hq_network::Network;
 use hq_settings::{Trouble, builtin_settings, set_up};
 use hq_sql_admin::{delete, history, hold, import, migrate, queue, release, usage};
 use hq_sql_server::{run_stored, serve_http};
-use hq_sql_shelf::FileShelf;
-use hq_tables::Shelf;
+use hq_sql_shelf::Stores;
 use hq_values::Fault;
 use hq_words::{Batch, Word, Words, read_words};
+use std::alloc::Global;
 use std::io::{Read, Write};
 
 /// Serves the built-in customers from an empty desk in memory, over plain lists.
 fn run_builtin<R: Read, W: Write>(
-    rt: &HostRuntime,
+    alloc: Global,
     input: &mut R,
     output: &mut W,
 ) -> Result<(), Trouble>
@@ -29,64 +32,98 @@ fn run_builtin<R: Read, W: Write>(
         (record { input = R.remaining input.old; output = W.contents output.old })
         (record { input = R.remaining input.new; output = W.contents output.new }) result }
 {
-    let settings = builtin_settings(rt.alloc())?;
-    let shelf = ListShelf::new(rt.alloc());
-    run_batch(rt.alloc(), shelf, settings, input, output, &mut NoLog)
+    let settings = builtin_settings(alloc)?;
+    let shelf = ListShelf::new(alloc);
+    run_batch(alloc, shelf, settings, input, output, &mut NoLog)
 }
 
-/// Serves the customers of a directory, over a store in memory or in a file.
-fn run_given<R: Read, W: Write>(
-    rt: &HostRuntime,
-    batch: &Batch,
+/// Replies to the lines of an input for the customers of a directory, over a store in memory or at
+/// a path.
+fn run_given<'w, T: World<'w>, K: Stores, R: Read, W: Write>(
+    rt: &'w T,
+    stores: &mut K,
+    batch: &Batch<'w>,
     input: &mut R,
     output: &mut W,
 ) -> Result<(), Trouble>
-    ensures { BatchEnds ⟦<FileShelf as Shelf>⟧.sight (given_of batch.now)
-        ((input.new ≡ input.old) × (output.new ≡ output.old))
+    ensures { BatchEnds (T.reads rt.now) K.Store.sight K.does stores.old stores.new
+        (given_of batch.now) ((input.new ≡ input.old) × (output.new ≡ output.old))
         (record { input = R.remaining input.old; output = W.contents output.old })
         (record { input = R.remaining input.new; output = W.contents output.new }) result }
 {
     let settings = set_up(rt, batch.host, batch.relay_key, batch.directory, batch.keys)?;
-    let mut log = log_of(rt, batch.log);
-    run_stored(rt, batch.store, settings, input, output, &mut log)
+    let mut log = rt.log(batch.log);
+    run_stored(
+        rt.alloc(),
+        stores,
+        batch.store,
+        settings,
+        input,
+        output,
+        &mut log,
+    )
 }
 
 /// Does what a word of the program asks for, and answers the exit status.
-fn do_word<R: Read, W: Write, E: Write>(
-    rt: &HostRuntime,
-    asked: &Word,
+fn do_word<'w, T: World<'w>, N: Network, K: Stores, R: Read, W: Write, E: Write>(
+    rt: &'w T,
+    network: &mut N,
+    stores: &mut K,
+    asked: &Word<'w>,
     input: &mut R,
     output: &mut W,
     errors: &mut E,
 ) -> u8
-    ensures { DoesWord ⟦<FileShelf as Shelf>⟧.sight asked.now
+    ensures network { UnlessServe asked.now (network.new ≡ network.old) }
+    ensures does { DoesWord (T.reads rt.now) N.does N.Clients.does N.Clients.left network.old
+        network.new K.Store.sight K.does stores.old stores.new asked.now
         (input.new ≡ input.old) (output.new ≡ output.old)
         (record { input = R.remaining input.old; output = W.contents output.old })
         (record { input = R.remaining input.new; output = W.contents output.new }) result }
 {
     match asked {
         Word::Serve(given) => {
-            let served = serve_http(rt, given, output, errors);
-            tell_over(rt, given.store, served, errors)
+            let served = serve_http(rt, network, stores, given, output, errors);
+            tell_over(&*stores, given.store, served, errors)
         }
         Word::Batch(batch) => {
-            let ended = run_given(rt, batch, input, output);
-            tell_over(rt, batch.store, ended, errors)
+            let ended = run_given(rt, stores, batch, input, output);
+            tell_over(&*stores, batch.store, ended, errors)
         }
         Word::Check(given) => check(rt, given, output, errors),
-        Word::Queue(given) => print_over(rt, given.store, queue(rt, given), output, errors),
-        Word::History(given) => print_over(rt, given.store, history(rt, given), output, errors),
-        Word::Hold(given) => print_over(rt, given.store, hold(rt, given), output, errors),
-        Word::Release(given) => print_over(rt, given.store, release(rt, given), output, errors),
-        Word::Delete(given) => print_over(rt, given.store, delete(rt, given), output, errors),
-        Word::Usage(given) => {
-            let done = usage(rt, given);
-            explain(rt, given.store, &done, errors);
-            print_round(done, output, errors)
+        Word::Queue(given) => {
+            let done = queue(rt, stores, given);
+            print_over(&*stores, given.store, done, output, errors)
         }
-        Word::Import(given) => print_over(rt, given.store, import(rt, given), output, errors),
-        Word::Sweep(given) => do_sweep(rt, given, output, errors),
-        Word::Migrate(given) => print_over(rt, given.store, migrate(rt, given), output, errors),
+        Word::History(given) => {
+            let done = history(rt, stores, given);
+            print_over(&*stores, given.store, done, output, errors)
+        }
+        Word::Hold(given) => {
+            let done = hold(rt, stores, given);
+            print_over(&*stores, given.store, done, output, errors)
+        }
+        Word::Release(given) => {
+            let done = release(rt, stores, given);
+            print_over(&*stores, given.store, done, output, errors)
+        }
+        Word::Delete(given) => {
+            let done = delete(rt, stores, given);
+            print_over(&*stores, given.store, done, output, errors)
+        }
+        Word::Usage(given) => {
+            let done = usage(rt, stores, given);
+            print_round_over(&*stores, given.store, done, output, errors)
+        }
+        Word::Import(given) => {
+            let done = import(rt, stores, given);
+            print_over(&*stores, given.store, done, output, errors)
+        }
+        Word::Sweep(given) => do_sweep(rt, stores, given, output, errors),
+        Word::Migrate(given) => {
+            let done = migrate(rt.alloc(), stores, given);
+            print_over(&*stores, given.store, done, output, errors)
+        }
     }
 }
 
@@ -95,31 +132,39 @@ fn do_word<R: Read, W: Write, E: Write>(
 /// done and printed, or help or the version was shown; 1 for a refusal or a fault; 2 for words that
 /// are not taken. Each of the last two is told on `errors`, where that can be written.
 ///
+/// `rt`, `network` and `stores` are all that it has of the machine: what it reads, whom it serves
+/// and what it does to stores are as its words name them. It does nothing else to a store or at the
+/// network.
+///
 /// After a failed input the whole lines before are replied to; after a failed output the exchanges
 /// of the first lines, or the calls, are done; where the desk could not begin, nothing is read or
 /// written.
-pub fn command<R: Read, W: Write, E: Write>(
-    rt: &HostRuntime,
-    words: &[String],
+pub fn command<'w, T: World<'w>, N: Network, K: Stores, R: Read, W: Write, E: Write>(
+    rt: &'w T,
+    network: &mut N,
+    stores: &mut K,
+    words: &'w [String],
     input: &mut R,
     output: &mut W,
     errors: &mut E,
 ) -> u8
-    ensures none { words.now ≡ [] → Exits (RunEnds ServesBuiltin
+    ensures none { words.entry.now ≡ [] → Exits (RunEnds ServesBuiltin
         ((input.new ≡ input.old) × (output.new ≡ output.old))
         (record { input = R.remaining input.old; output = W.contents output.old })
-        (record { input = R.remaining input.new; output = W.contents output.new })) result }
-    ensures words { Commands ⟦<FileShelf as Shelf>⟧.sight
-        (map_list string_bytes words.now) (input.new ≡ input.old) (output.new ≡ output.old)
+        (record { input = R.remaining input.new; output = W.contents output.new })) result
+        × (stores.new ≡ stores.old) × (network.new ≡ network.old) }
+    ensures words { Commands (T.reads rt.now) N.does N.Clients.does N.Clients.left network.old
+        network.new K.Store.sight K.does stores.old stores.new
+        (map_list string_bytes words.entry.now) (input.new ≡ input.old) (output.new ≡ output.old)
         (record { input = R.remaining input.old; output = W.contents output.old })
         (record { input = R.remaining input.new; output = W.contents output.new }) result }
 {
     match read_words(rt.alloc(), words) {
         Ok(Words::Builtin) => {
-            let ended = run_builtin(rt, input, output);
+            let ended = run_builtin(rt.alloc(), input, output);
             tell(ended, errors)
         }
-        Ok(Words::Word(asked)) => do_word(rt, &asked, input, output, errors),
+        Ok(Words::Word(asked)) => do_word(rt, network, stores, &asked, input, output, errors),
         Ok(Words::Shown(text)) => show(text.as_str(), output, errors),
         Ok(Words::Refused(text)) => refuse(text.as_str(), errors),
         Err(_) => tell(Err(Trouble::from(Fault::WantOfMemory)), errors),

@@ -6,16 +6,15 @@ ghost use Rattle.hq_main.specs.Rounds.{DoesSweep, IsRoundPrinted};
 use crate::stores::{explain, print_over};
 use hq_admin::ToldAll;
 use hq_batch::{print_all, tell};
-use hq_settings::Trouble;
+use hq_settings::{Files, Trouble};
 use hq_sql_admin::{sweep, sweep_all};
-use hq_sql_shelf::FileShelf;
-use hq_tables::Shelf;
+use hq_sql_shelf::Stores;
 use hq_words::Sweep;
 use std::io::Write;
 
 /// Prints what a round came to, and answers the exit status: 0 when the calls of all customers were
 /// done, none was refused, and each is on the output. A fault that stopped it is told last.
-pub(crate) fn print_round<W: Write, E: Write>(
+fn print_round<W: Write, E: Write>(
     done: Result<ToldAll, Trouble>,
     output: &mut W,
     errors: &mut E,
@@ -34,24 +33,42 @@ pub(crate) fn print_round<W: Write, E: Write>(
     }
 }
 
+/// Prints what a round over the store of a path came to, as `print_round` does.
+pub(crate) fn print_round_over<K: Stores, W: Write, E: Write>(
+    stores: &K,
+    store: &str,
+    done: Result<ToldAll, Trouble>,
+    output: &mut W,
+    errors: &mut E,
+) -> u8
+    ensures { IsRoundPrinted done (output.new ≡ output.old) (W.contents output.old)
+        (W.contents output.new) result }
+{
+    explain(stores, store, &done, errors);
+    print_round(done, output, errors)
+}
+
 /// Sweeps the customer that is named, or all where none is, prints what it came to, and answers the
 /// exit status.
-pub(crate) fn do_sweep<W: Write, E: Write>(
-    rt: &HostRuntime,
+pub(crate) fn do_sweep<F: Files, K: Stores, W: Write, E: Write>(
+    rt: &F,
+    stores: &mut K,
     given: &Sweep,
     output: &mut W,
     errors: &mut E,
 ) -> u8
-    ensures { DoesSweep ⟦<FileShelf as Shelf>⟧.sight given.now
+    ensures { DoesSweep (F.reads rt.now) K.Store.sight K.does stores.old stores.new given.now
         (option_map (λ c. c.now) given.now.customer) (output.new ≡ output.old)
         (W.contents output.old) (W.contents output.new) result }
 {
     match given.customer {
-        Some(name) => print_over(rt, given.store, sweep(rt, given, name), output, errors),
+        Some(name) => {
+            let done = sweep(rt, stores, given, name);
+            print_over(&*stores, given.store, done, output, errors)
+        }
         None => {
-            let done = sweep_all(rt, given);
-            explain(rt, given.store, &done, errors);
-            print_round(done, output, errors)
+            let done = sweep_all(rt, stores, given);
+            print_round_over(&*stores, given.store, done, output, errors)
         }
     }
 }

@@ -1,4 +1,4 @@
-//! What is told of a call over a store in a file: also that another process has it.
+//! What is told of a call over the store of a path: also that another process has it.
 
 ghost use Rattle.std.specs.Prelude.{◌≡◌, ⊤};
 ghost use Rattle.hq_batch.specs.Printing.{IsPrinted};
@@ -7,13 +7,13 @@ ghost use Rattle.hq_batch.specs.Runs.{status};
 use hq_batch::{print, tell};
 use hq_rules::Rendered;
 use hq_settings::Trouble;
-use hq_sql_admin::is_taken;
+use hq_sql_shelf::Stores;
 use hq_values::{Fail, Fault};
 use std::io::Write;
 
 /// Tells in a line that another process has the store, where that is why it could not be used.
-pub(crate) fn explain<T, E: Write>(
-    rt: &HostRuntime,
+pub(crate) fn explain<T, K: Stores, E: Write>(
+    stores: &K,
     store: &str,
     done: &Result<T, Trouble>,
     errors: &mut E,
@@ -21,14 +21,14 @@ pub(crate) fn explain<T, E: Write>(
     let Err(Trouble::Desk(Fail::Fault(Fault::Disk))) = done else {
         return;
     };
-    if is_taken(rt, store) {
+    if stores.is_taken(store) {
         let _told = writeln!(errors, "hq: another process has the store");
     }
 }
 
 /// Prints what a call over a store was answered, and answers the exit status, as `print` does.
-pub(crate) fn print_over<W: Write, E: Write>(
-    rt: &HostRuntime,
+pub(crate) fn print_over<K: Stores, W: Write, E: Write>(
+    stores: &K,
     store: &str,
     done: Result<Rendered, Trouble>,
     output: &mut W,
@@ -37,14 +37,14 @@ pub(crate) fn print_over<W: Write, E: Write>(
     ensures { IsPrinted done (output.new ≡ output.old) (W.contents output.old)
         (W.contents output.new) result }
 {
-    explain(rt, store, &done, errors);
+    explain(stores, store, &done, errors);
     print(done, output, errors)
 }
 
 /// Tells how a run ended, and answers the exit status, as `tell` does. Without a store the desk
 /// stood in memory.
-pub(crate) fn tell_over<E: Write>(
-    rt: &HostRuntime,
+pub(crate) fn tell_over<K: Stores, E: Write>(
+    stores: &K,
     store: Option<&str>,
     ended: Result<(), Trouble>,
     errors: &mut E,
@@ -52,7 +52,7 @@ pub(crate) fn tell_over<E: Write>(
     ensures { result ≡ status ended }
 {
     if let Some(store) = store {
-        explain(rt, store, &ended, errors);
+        explain(stores, store, &ended, errors);
     }
     tell(ended, errors)
 }

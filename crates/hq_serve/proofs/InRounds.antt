@@ -1,111 +1,138 @@
--- Rounds of a desk, one after another.
-use Rattle.std.proofs.Common.{◌≡◌, ◌+◌, ◌-◌, ◌≤◌, ℕ, List, [], ◌∷◌, ◌++◌, length, refl, sym, ap}
-use Rattle.std.proofs.Common.{◌∙◌, false, subst, arith, length-append}
+-- Rounds of a server, one after another.
+use Rattle.std.proofs.Common.{◌≡◌, ◌+◌, ◌-◌, ◌≤◌, ℕ, List, [], ◌∷◌, ◌++◌, length, map, refl, sym}
+use Rattle.std.proofs.Common.{ap, ◌∙◌, subst, arith, length-append}
+use Rattle.std.proofs.lemmas.List.{map-append}
+use Rattle.std.specs.List.{flat_map}
 use Rattle.hq_values.specs.Turns.{InTurn}
 use Rattle.hq_values.proofs.Turns.{one_turn, turns_on}
-use Rattle.hq_tables.specs.Shelves.{OnOpenSound}
-use Rattle.hq_tables.specs.Sound.{Sound}
-use Rattle.hq_tables.specs.Tables.{Tables}
 use Rattle.hq_rules.specs.Desks.{DeskSight}
 use Rattle.hq_requests.specs.declared.directory.Directory.{Directory}
-use Rattle.hq_wire.specs.Exchanges.{Ask, MayReply}
-use Rattle.hq_wire.specs.Replies.{SeenReply}
-use Rattle.hq_wire.specs.Runs.{AllReplied}
-use Rattle.hq_wire.proofs.Alone.{alone}
-use Rattle.hq_together.specs.Sessions.{all_in}
+use Rattle.hq_wire.specs.Exchanges.{with_refusals}
 use Rattle.hq_together.specs.Together.{ServedInRound}
 use Rattle.hq_together.proofs.InRounds.{alone_as_one, replied_as_one}
-use Rattle.hq_serve.specs.Listening.{IsOver}
-use Rattle.hq_serve.specs.Rounds.{DoesRound, DoesRounds, ServesRounds}
-use Rattle.hq_serve.specs.declared.listening.ServiceEnd.{ServiceEnd}
+use Rattle.hq_serve.specs.Coming.{ClientEvent, Serving, EndsWith, HaveOutcomes, RoundDone}
+use Rattle.hq_serve.specs.Coming.{client_of, events_of, round_asks, round_events, round_replies}
+use Rattle.hq_serve.specs.Coming.{round_taken, sent_each}
+use Rattle.hq_serve.specs.Rounds.{DoesRounds, IsOver, ServesRounds}
+use Rattle.hq_serve.specs.Taking.{Takes, RepliesToRound}
+use Rattle.hq_serve.specs.declared.coming.ServiceEnd.{ServiceEnd}
+use Rattle.hq_serve.specs.declared.coming.ServiceEnd.TheVariants.{Done, Network, Clock}
+use Rattle.hq_serve.specs.declared.rounds.Round.{Round}
+use Rattle.hq_serve.proofs.Taking.{did_more, flat_one, idle, taken_on}
 
-append_assoc : {A : Type 0} (xs ys zs : List A) → (xs ++ ys) ++ zs ≡ xs ++ (ys ++ zs)
-append_assoc [] ys zs = refl
-append_assoc (x ∷ xs) ys zs = ap (λ ts. x ∷ ts) (append_assoc xs ys zs)
+-- that no more come is why no more are served
+pub is_over : (left : ℕ) (why : ServiceEnd) (came done : ℕ) → EndsWith left why →
+    IsOver why came left done
+is_over left Done came done h = h
+is_over left Network came done h = h
+is_over left Clock came done h = absurd h
 
-nothing_behind : {A : Type 0} (xs : List A) → xs ++ [] ≡ xs
-nothing_behind [] = refl
-nothing_behind (x ∷ xs) = ap (λ ts. x ∷ ts) (nothing_behind xs)
+module _ {K D : Type 0} (refused : Type 0) (sight : DeskSight D) (d : Directory)
+    (does : Serving K) where
+  -- so far so many were taken, in these rounds
+  pub record RoundsDone (done : ℕ) (start now : K) (old new : D) : Type 0 where
+    pub rounds : List RoundDone
+    pub are_taken : HaveOutcomes refused (flat_map round_taken rounds)
+    pub clients : does start (flat_map round_events rounds) now
+    pub counted : length (flat_map round_taken rounds) ≡ done
+    pub served : InTurn (ServedInRound (with_refusals refused sight) d) old
+        (map (round_asks d) rounds) (map round_replies rounds) new
 
--- all of several lists, and of one behind them
-one_behind : {A : Type 0} (xss : List (List A)) (ys : List A) →
-    all_in (xss ++ ys ∷ []) ≡ all_in xss ++ ys
-one_behind [] ys = nothing_behind ys
-one_behind (xs ∷ xss) ys = ap (λ ts. xs ++ ts) (one_behind xss ys)
-    ∙ sym (append_assoc xs (all_in xss) ys)
-
-module _ {D : Type 0} (sight : DeskSight D) (d : Directory) where
-  -- so far so many exchanges were done, in rounds
-  pub record RoundsDone (done : ℕ) (old new : D) : Type 0 where
-    pub asked : List (List Ask)
-    pub replied : List (List SeenReply)
-    pub counted : length (all_in asked) ≡ done
-    pub served : InTurn (ServedInRound sight d) old asked replied new
-
-  pub none_done : (desk : D) → RoundsDone 0 desk desk
-  none_done desk = record {
-    asked = [];
-    replied = [];
+  pub none_done : (start : K) (desk : D) → does start [] start →
+      RoundsDone 0 start start desk desk
+  none_done start desk none = record {
+    rounds = [];
+    are_taken = tt;
+    clients = none;
     counted = refl;
     served = refl;
   }
 
-  -- one round more
-  pub one_more : (done count more : ℕ) (old mid new : D) → more ≡ done + count →
-      RoundsDone done old mid → DoesRound sight d count mid new → RoundsDone more old new
-  one_more done count more old mid new is so one =
-      let it = one.served in
-      let length_is = ap length (one_behind so.asked one.asks)
-      ∙ length-append (all_in so.asked) one.asks in
-      let few = so.counted in
-      let these = one.one_each in
-      record {
-        asked = so.asked ++ one.asks ∷ [];
-        replied = so.replied ++ one.replies ∷ [];
-        counted = omega (arith, length_is, few, these, is);
-        served = turns_on (ServedInRound sight d) old mid new so.asked (one.asks ∷ [])
-            so.replied (one.replies ∷ []) so.served
-            (one_turn (ServedInRound sight d) mid new one.asks one.replies it);
-      }
+  module _ (on : (old mid new : K) (events more : List ClientEvent) → does old events mid →
+      does mid more new → does old (events ++ more) new) where
+    -- nobody came meanwhile
+    pub waited : (done : ℕ) (start mid now : K) (old new : D) → RoundsDone done start mid old new →
+        does mid [] now → RoundsDone done start now old new
+    waited done start mid now old new so none = record {
+      rounds = so.rounds;
+      are_taken = so.are_taken;
+      clients = idle does on start mid now (flat_map round_events so.rounds) so.clients none;
+      counted = so.counted;
+      served = so.served;
+    }
 
-  -- what was done of the connections that came
-  abbrev does : (done came : ℕ) (old new : D) → done ≤ came → RoundsDone done old new →
-      DoesRounds sight d came old new
-  does done came old new few so =
-      let counted = so.counted in
-      record {
-        asked = so.asked;
-        replied = so.replied;
-        one_each = omega (arith, counted, few);
-        served = so.served;
-        as_one = replied_as_one sight d old new so.asked so.replied so.served;
-        alone = alone_as_one sight d old new so.asked so.replied so.served;
-      }
+    -- the clients of one round
+    of_round : (before after end : K) (round : Round) (old new : D)
+        (t : Takes refused does before after round) →
+        (p : RepliesToRound (with_refusals refused sight) d does round after end old new) →
+        does before
+        (flat_map events_of t.taken ++ sent_each (flat_map client_of t.taken) p.replies) end
+    of_round before after end round old new t p =
+        on before after end (flat_map events_of t.taken)
+        (sent_each (flat_map client_of t.taken) p.replies) t.did
+        (subst (λ cs. does after (sent_each cs p.replies) end) t.clients p.sent)
+
+    -- one round more
+    pub one_more : (done more : ℕ) (start before after end : K) (round : Round) (old mid new : D) →
+        more ≡ done + round.taken → RoundsDone done start before old mid →
+        Takes refused does before after round →
+        RepliesToRound (with_refusals refused sight) d does round after end mid new →
+        RoundsDone more start end old new
+    one_more done more start before after end round old mid new is so t p =
+        let one : RoundDone = record { taken = t.taken; replies = p.replies } in
+        let taken_so = flat_one round_taken so.rounds one in
+        let events_so = flat_one round_events so.rounds one in
+        let asks = round_asks d one in
+        let served : ServedInRound (with_refusals refused sight) d mid asks p.replies new =
+        subst (λ these. ServedInRound (with_refusals refused sight) d mid these p.replies new)
+        (t.exchanges d) p.served in
+        let turns = turns_on (ServedInRound (with_refusals refused sight) d) old mid new
+        (map (round_asks d) so.rounds) (asks ∷ []) (map round_replies so.rounds)
+        (p.replies ∷ []) so.served
+        (one_turn (ServedInRound (with_refusals refused sight) d) mid new asks p.replies served) in
+        record {
+          rounds = so.rounds ++ one ∷ [];
+          are_taken = subst (HaveOutcomes refused) (sym taken_so)
+              (taken_on refused (flat_map round_taken so.rounds) t.taken so.are_taken t.are_taken);
+          clients = did_more does on start before end (flat_map round_events so.rounds)
+              (round_events one) (flat_map round_events (so.rounds ++ one ∷ [])) events_so
+              so.clients (of_round before after end round mid new t p);
+          counted = ap length taken_so ∙ length-append (flat_map round_taken so.rounds) t.taken
+              ∙ ap (λ n. n + length t.taken) so.counted ∙ ap (λ n. done + n) (sym t.counted)
+              ∙ sym is;
+          served = subst (λ rs. InTurn (ServedInRound (with_refusals refused sight) d) old
+              (map (round_asks d) (so.rounds ++ one ∷ [])) rs new)
+              (sym (map-append round_replies so.rounds (one ∷ [])))
+              (subst (λ asked. InTurn (ServedInRound (with_refusals refused sight) d) old asked
+              (map round_replies so.rounds ++ p.replies ∷ []) new)
+              (sym (map-append (round_asks d) so.rounds (one ∷ []))) turns);
+        }
+
+  -- what the desk did in all
+  abbrev did : (rounds : List RoundDone) (old new : D) →
+      InTurn (ServedInRound (with_refusals refused sight) d) old (map (round_asks d) rounds)
+      (map round_replies rounds) new → DoesRounds (with_refusals refused sight) d rounds old new
+  did rounds old new served = record {
+    served = served;
+    as_one = replied_as_one (with_refusals refused sight) d old new (map (round_asks d) rounds)
+        (map round_replies rounds) served;
+    alone = alone_as_one (with_refusals refused sight) d old new (map (round_asks d) rounds)
+        (map round_replies rounds) served;
+  }
 
   -- why no more are served
-  pub ends : (coming left done : ℕ) (why : ServiceEnd) (old new : D) → done + left ≤ coming →
-      RoundsDone done old new →
+  pub ends : (coming left done : ℕ) (why : ServiceEnd) (start now : K) (old new : D) →
+      done + left ≤ coming → RoundsDone done start now old new →
       ((came : ℕ) → came + left ≡ coming → IsOver why came left done) →
-      ServesRounds sight d coming left why old new
-  ends coming left done why old new few so over = record {
+      ServesRounds refused sight d does coming left why start now old new
+  ends coming left done why start now old new few so over = record {
+    rounds = so.rounds;
+    are_taken = so.are_taken;
+    clients = so.clients;
+    desk = did so.rounds old new so.served;
     came = coming - left;
     counted = omega (arith, few);
-    does = does done (coming - left) old new (omega (arith, few)) so;
+    one_each = subst (λ n. n ≤ coming - left) (sym so.counted) (omega (arith, few));
     over = subst (λ n. IsOver why (coming - left) left n) (sym so.counted)
         (over (coming - left) (omega (arith, few)));
   }
-
-  -- what is done of those that came is done of those that were to come
-  pub of_all_coming : (coming left : ℕ) (why : ServiceEnd) (old new : D) →
-      ServesRounds sight d coming left why old new → DoesRounds sight d coming old new
-  of_all_coming coming left why old new so =
-      let counted = so.counted in
-      let few = so.does.one_each in
-      record {
-        asked = so.does.asked;
-        replied = so.does.replied;
-        one_each = omega (arith, counted, few);
-        served = so.does.served;
-        as_one = so.does.as_one;
-        alone = so.does.alone;
-      }

@@ -1,3 +1,4 @@
 pub mod Connected
-pub mod Logging
 pub mod InRounds
+pub mod Logging
+pub mod Taking

@@ -1,7 +1,6 @@
-pub mod Clients
+pub mod Coming
 pub mod Connections
-pub mod Listening
 pub mod Logged
-pub mod Places
 pub mod Rounds
 pub mod Steps
+pub mod Taking

@@ -1,186 +1,215 @@
-//! The connections of a listening socket, served several at once, and by rounds: exchanges whose
-//! requests have come share one commit.
+//! The clients of a server, served several at once, and by rounds: exchanges whose requests have
+//! come share one commit.
 
+ghost use Rattle.std.specs.Prelude.{◌≡◌, ◌≤◌, ◌∷◌, [], map};
 ghost use Rattle.hq_desk.specs.Desks.{on};
 ghost use Rattle.hq_wire.specs.Exchanges.{with_refusals};
-ghost use Rattle.hq_serve.specs.Listening.{connections_left};
-ghost use Rattle.std.specs.Prelude.{◌≤◌, length};
-ghost use Rattle.hq_serve.specs.Rounds.{DoesRound, IsOverSo, ServesRounds};
+ghost use Rattle.hq_wire.specs.Replies.{seen};
+ghost use Rattle.hq_serve.specs.Coming.{EndsWith, sent_each, sent_to};
+ghost use Rattle.hq_serve.specs.Rounds.{ServesRounds};
+ghost use Rattle.hq_serve.specs.Taking.{AddsExchange, IsTakenInto, Takes, RepliesToRound, wants_of};
 
-use crate::connections::Connections;
-use crate::listening::{Limits, ServiceEnd, moment_now};
+use crate::coming::{Asked, Came, Clients, Ready, ServiceEnd};
 use crate::serving::exchange_of;
-use crate::waiting::Waiting;
 use hq_bodies::JsonMemory;
 use hq_desk::Desk;
-use hq_http::{Input, write_response};
 use hq_log::{Answered, Log};
+use hq_memory::Memory;
 use hq_rounds::Rounds;
 use hq_together::{round, takes_long};
 use hq_values::{Fault, Moment};
 use hq_wire::{Directory, Exchange, Reply, fault_reply, refusal_reply};
-use std::alloc::{AllocError, Global};
+use std::alloc::AllocError;
 use std::io::Write;
-use std::net::Net;
-use std::rt::Clock;
-use std::time::Instant;
 
-/// How many exchanges share a round at most.
-pub(crate) const MOST_TOGETHER: usize = 64;
+/// How many clients share a round at most.
+pub const MOST_TOGETHER: usize = 64;
 
-/// A reply as a response; `None` where there is no memory for it.
-fn response_of(alloc: Global, reply: &Reply<'_>) -> Option<Vec<u8>> {
-    let mut bytes = Vec::new(alloc);
-    write_response(&mut bytes, reply.status, reply.body.as_bytes()).ok()?;
-    Some(bytes)
-}
-
-/// The exchanges of a round, and the places of their clients.
+/// Those that were taken into a round: how many, and of these the exchanges that are done in it,
+/// with the clients that asked for them.
 #[derive(Drop)]
 struct Round {
+    taken: usize,
+    clients: Vec<usize>,
     exchanges: Vec<Exchange>,
-    places: Vec<usize>,
 }
 
 impl Round {
+    /// One into which nobody was taken. It takes no memory.
+    fn new<M: Memory>(memory: M) -> Round
+        ensures { (result.taken ≡ 0) × (result.clients.items ≡ []) × (result.exchanges.items ≡ []) }
+    {
+        Round {
+            taken: 0,
+            clients: memory.none(),
+            exchanges: memory.none(),
+        }
+    }
+
     /// How many of its calls take no long time.
     fn short_calls(&self) -> usize {
         let calls = self.exchanges.iter();
         calls.filter(|call| !takes_long(call.path.as_str())).count()
     }
 
-    /// Adds what the client of a place asks for; an error tells that there is no memory for it.
-    fn add(&mut self, place: usize, exchange: Exchange) -> Result<(), AllocError> {
-        self.places.push(place)?;
-        if self.exchanges.push(exchange).is_err() {
-            self.places.pop();
-            return Err(AllocError);
+    /// Adds what a client asks for. An error says that there is no memory for it, and it
+    /// stays as it is.
+    fn add<M: Memory>(
+        &mut self,
+        memory: M,
+        client: usize,
+        exchange: Exchange,
+    ) -> Result<(), AllocError>
+        ensures { AddsExchange M.refused client exchange self.old self.new result }
+    {
+        memory.push(&mut self.clients, client)?;
+        if let Err(error) = memory.push(&mut self.exchanges, exchange) {
+            self.clients.pop();
+            return Err(error);
         }
         Ok(())
     }
 }
 
-/// Where replies go: to clients, and to the log.
-#[derive(Drop)]
-struct Answers<'w, 'l, L> {
-    alloc: Global,
-    waiting: &'w mut Waiting,
-    log: &'l mut L,
-    limits: Limits,
-    at: Moment,
-    now: Option<Instant>,
+/// Logs a reply, and sends it to a client.
+fn send<K: Clients, L: Log>(
+    clients: &mut K,
+    log: &mut L,
+    client: usize,
+    at: Option<Moment>,
+    asked: Option<&Exchange>,
+    reply: &Reply<'_>,
+)
+    ensures sent { K.does clients.old (sent_to client (seen reply.now) ∷ []) clients.new }
+    ensures left { K.left clients.new ≡ K.left clients.old }
+{
+    log.replied(&Answered { at, asked, reply });
+    clients.answer(client, reply);
 }
 
-impl<L: Log> Answers<'_, '_, L> {
-    /// Tells a reply to the log, and has its response leave to the client of a place.
-    fn send(&mut self, place: usize, asked: Option<&Exchange>, reply: &Reply<'_>) {
-        self.log.replied(&Answered {
-            at: Some(self.at),
-            asked,
-            reply,
-        });
-        if let Some(bytes) = response_of(self.alloc, reply) {
-            self.waiting.answer(place, bytes, self.limits, self.now);
-        }
-    }
-
-    /// Replies that memory was wanted.
-    fn send_want(&mut self, place: usize, asked: Option<&Exchange>) {
-        self.send(place, asked, &fault_reply(None, Fault::WantOfMemory));
-    }
-
-    /// Takes what one client asks for into a round, or replies to it at once where that is no
-    /// exchange. Whether the round goes on.
-    fn take<M: JsonMemory>(
-        &mut self,
-        memory: M,
-        round: &mut Round,
-        place: usize,
-        input: Input,
-    ) -> bool {
-        match input {
-            Input::Nothing => {}
-            Input::Refused(refusal) => {
-                self.send(place, None, &refusal_reply(memory, None, refusal));
-            }
-            Input::NoRoom => self.send_want(place, None),
-            Input::Request(request) => {
-                let long = takes_long(request.path.as_str());
-                if long && !round.exchanges.is_empty() {
-                    self.waiting.put_back(place, Input::Request(request));
-                    return false;
-                }
-                if round.add(place, exchange_of(request, self.at)).is_err() {
-                    self.send_want(place, None);
-                }
-                return !long;
-            }
-        }
-        true
-    }
-
-    /// The exchanges of the next round, at most so many. Their replies' time counts from here.
-    fn take_round<M: JsonMemory>(&mut self, memory: M, most: usize) -> Round
-        ensures { length result.exchanges.items ≤ most }
-    {
-        self.log.begin();
-        let mut round = Round {
-            exchanges: Vec::new(self.alloc),
-            places: Vec::new(self.alloc),
-        };
-        for _ in 0..MOST_TOGETHER {
-            let Some((place, input)) = self.waiting.next_asked() else {
-                break;
-            };
-            if !self.take(memory, &mut round, place, input) {
-                break;
-            }
-        }
-        round.exchanges.truncate(most);
-        round
-    }
-
-    /// Sends the replies of a round. Where there are none, each client gets 90.
-    fn send_all(&mut self, round: &Round, replies: &[Reply<'_>]) {
-        let mut replies = replies.iter();
-        for (place, exchange) in round.places.iter().zip(round.exchanges.iter()) {
-            match replies.next() {
-                Some(reply) => self.send(*place, Some(exchange), reply),
-                None => self.send_want(*place, Some(exchange)),
-            }
-        }
-    }
-}
-
-/// Does a round of a desk, and sends its replies; the clients' time to take them counts from there.
-/// It does no more exchanges than the round has. It may delay the next round.
-fn do_round<C: Clock, S: Rounds, L: Log, M: JsonMemory>(
-    rt: &C,
+/// Takes what came from a client into a round, or replies to it at once.
+fn take_one<K: Clients, L: Log, M: JsonMemory>(
     memory: M,
+    clients: &mut K,
+    log: &mut L,
+    round: &mut Round,
+    came: Came,
+)
+    ensures taken { IsTakenInto M.refused K.does came clients.old clients.new round.old round.new }
+    ensures left { K.left clients.new ≡ K.left clients.old }
+{
+    let Came { client, at, asked } = came;
+    match asked {
+        Asked::Refused(why) => {
+            let reply = refusal_reply(memory, None, why);
+            send(clients, log, client, Some(at), None, &reply);
+        }
+        Asked::NoRoom => {
+            let reply = fault_reply(None, Fault::WantOfMemory);
+            send(clients, log, client, Some(at), None, &reply);
+        }
+        Asked::Request(request) => {
+            match round.add(memory, client, exchange_of(request, at)) {
+                Ok(()) => {}
+                Err(_) => {
+                    let reply = fault_reply(None, Fault::WantOfMemory);
+                    send(clients, log, client, Some(at), None, &reply);
+                }
+            }
+        }
+    }
+}
+
+/// The next round, of so many clients at most. Their replies' time counts from here.
+fn take_round<K: Clients, L: Log, M: JsonMemory>(
+    memory: M,
+    clients: &mut K,
+    log: &mut L,
+    most: usize,
+) -> Round
+    ensures taken { Takes M.refused K.does clients.old clients.new result }
+    ensures few { result.taken ≤ most }
+    ensures left { K.left clients.new ≡ K.left clients.old }
+{
+    log.begin();
+    let mut round = Round::new(memory);
+    for _ in 0..most.min(MOST_TOGETHER) {
+        let Some(came) = clients.next(!round.exchanges.is_empty()) else {
+            break;
+        };
+        let takes_long = came.asked.is_long();
+        take_one(memory, clients, log, &mut round, came);
+        round.taken = round.taken.saturating_add(1);
+        if takes_long {
+            break;
+        }
+    }
+    round
+}
+
+/// Sends the replies of a round, to each client its own.
+fn send_all<K: Clients, L: Log>(clients: &mut K, log: &mut L, round: &Round, replies: &[Reply<'_>])
+    ensures sent { K.does clients.old (sent_each round.now.clients.items (map seen replies.now))
+        clients.new }
+    ensures left { K.left clients.new ≡ K.left clients.old }
+{
+    for (place, client) in round.clients.iter().enumerate() {
+        let Some(reply) = replies.get(place) else {
+            break;
+        };
+        let asked = round.exchanges.get(place);
+        let at = asked.map(|exchange| exchange.at);
+        send(clients, log, *client, at, asked, reply);
+    }
+}
+
+/// Sends each client of a round that memory was wanted.
+fn send_wants<K: Clients, L: Log>(clients: &mut K, log: &mut L, round: &Round)
+    ensures sent { K.does clients.old (sent_each round.now.clients.items
+        (wants_of round.now.exchanges.items)) clients.new }
+    ensures left { K.left clients.new ≡ K.left clients.old }
+{
+    let want = fault_reply(None, Fault::WantOfMemory);
+    for (place, exchange) in round.exchanges.iter().enumerate() {
+        let Some(client) = round.clients.get(place) else {
+            break;
+        };
+        send(
+            clients,
+            log,
+            *client,
+            Some(exchange.at),
+            Some(exchange),
+            &want,
+        );
+    }
+}
+
+/// Does the exchanges of a round, and sends its clients the replies.
+fn do_round<K: Clients, S: Rounds, L: Log, M: JsonMemory>(
+    memory: M,
+    clients: &mut K,
+    log: &mut L,
     desk: Desk<S>,
     directory: &Directory,
     round_of: &Round,
-    answers: &mut Answers<'_, '_, L>,
 ) -> Desk<S>
-    ensures { DoesRound (with_refusals M.refused (on S.sight)) directory.now
-        (length round_of.now.exchanges.items) desk result }
+    ensures replies { RepliesToRound (with_refusals M.refused (on S.sight)) directory.now K.does
+        round_of.now clients.old clients.new desk result }
+    ensures left { K.left clients.new ≡ K.left clients.old }
 {
     let (replies, desk) = round(memory, desk, directory, round_of.exchanges.as_slice());
-    let begun = answers.now;
-    answers.now = Instant::now(rt).ok();
-    answers.waiting.put_off(begun, answers.now);
-    let calls = round_of.short_calls();
-    answers.waiting.delay_next(calls, begun, answers.now);
+    clients.round_done(round_of.short_calls());
     match replies {
-        Ok(replies) => answers.send_all(round_of, replies.as_slice()),
-        Err(_) => answers.send_all(round_of, &[]),
+        Ok(replies) => send_all(clients, log, round_of, replies.as_slice()),
+        Err(_) => send_wants(clients, log, round_of),
     }
     desk
 }
 
-/// Why no more are served, where none could be accepted behind those that came.
-fn end_of(left: usize) -> ServiceEnd
-    ensures { IsOverSo left result }
+/// How serving ends with so many connections left.
+pub fn end_of(left: u32) -> ServiceEnd
+    ensures { EndsWith left result }
 {
     if left == 0 {
         return ServiceEnd::Done;
@@ -188,80 +217,48 @@ fn end_of(left: usize) -> ServiceEnd
     ServiceEnd::Network
 }
 
-/// Serves the connections that are to come, several at once, and then no more. Exchanges whose
-/// requests have come share a round, 64 at most. One commit makes them stand together, and no
-/// response leaves before it. A round waits up to 10 milliseconds for clients of the one before it,
-/// so that they share its commit. A long call, as a report, has a round of its own.
+/// Serves the clients that are to come, several at once, and then no more. Exchanges whose requests
+/// have come share a round, 64 at most. One commit makes them stand together, and no response
+/// leaves before it. A long call, such as a report, has a round of its own.
 ///
-/// All exchanges are one run, of one at most for each connection that came, at the moments of their
-/// rounds. Each customer gets the replies, and keeps the records, that it would have alone. The
-/// desk does nothing for bytes that are no request. Requests and replies take room from `memory`.
-///
-/// No client waits for another that is slow, or takes nothing: 256 at once at most are read and
-/// written as far as their sockets go. While responses hold 64 MB, no more requests are taken. A
-/// client that fails, or exceeds a limit, is told in a line: `hq: input` while its request comes,
-/// and `hq: output` while its response leaves. The log is told each reply, and may lose it.
-///
-/// Behind a response, further bytes of a client are thrown away until the client ends its side, for
-/// a second and 4,096 reads at most. Else the connection would be reset, and its response lost.
+/// Each client that came is sent the reply to its own request, and no other. All exchanges are one
+/// run, at the moments at which they were taken. Each customer gets the replies, and keeps the
+/// records, that it would have alone. The desk does nothing for bytes that are no request. Requests
+/// and replies take room from `memory`. The log has each reply, and may lose it.
 ///
 /// It ends with `Done` once all have come and been served, and not before. It ends with `Network`
-/// once one could not be accepted, and those that came have been served; or where sockets cannot be
-/// watched at all. It ends with `Clock` where the clock tells no moment for a round.
-pub fn serve_rounds<C: Clock + Net + AllocGlobal, S: Rounds, E: Write, L: Log, M: JsonMemory>(
-    rt: &C,
+/// once one could not be accepted, and those that came have been served. It ends with `Clock` if
+/// the clock gives no moment for a round.
+pub fn serve_rounds<K: Clients, S: Rounds, E: Write, L: Log, M: JsonMemory>(
     memory: M,
-    connections: &mut Connections,
-    limits: Limits,
+    clients: &mut K,
     desk: Desk<S>,
     directory: &Directory,
     errors: &mut E,
     log: &mut L,
 ) -> (ServiceEnd, Desk<S>)
-    ensures { ServesRounds (with_refusals M.refused (on S.sight)) directory.now
-        (connections_left connections.old) (connections_left connections.new) result.0 desk
-        result.1 }
+    ensures { ServesRounds M.refused (on S.sight) directory.now K.does (K.left clients.old)
+        (K.left clients.new) result.0 clients.old clients.new desk result.1 }
 {
-    let coming = connections.left() as usize;
-    if coming == 0 {
-        return (ServiceEnd::Done, desk);
-    }
-    let Some(mut waiting) = Waiting::new(rt, connections.listener()) else {
-        return (ServiceEnd::Network, desk);
-    };
+    let coming = clients.left() as usize;
     let mut desk = desk;
     let mut done: usize = 0;
     for _ in 0..u64::MAX {
-        let now = Instant::now(rt).ok();
-        waiting.admit(memory, connections, limits, now, errors);
-        waiting.turn(memory, limits, now, errors);
-        let left = connections.left() as usize;
-        if waiting.is_over(left) {
-            return (end_of(left), desk);
+        let ready = clients.ready(errors);
+        if let Ready::Over(end) = ready {
+            return (end, desk);
         }
-        let most = coming.saturating_sub(left).saturating_sub(done);
-        if most == 0 {
-            waiting.wait(now);
+        let came = coming.saturating_sub(clients.left() as usize);
+        let most = came.saturating_sub(done);
+        if most == 0 || ready == Ready::Waits {
             continue;
         }
-        let Some(at) = moment_now(rt) else {
+        if ready == Ready::NoMoment {
             return (ServiceEnd::Clock, desk);
-        };
-        if !waiting.is_ready(now) {
-            waiting.wait(now);
-            continue;
         }
-        let mut answers = Answers {
-            alloc: rt.alloc(),
-            waiting: &mut waiting,
-            log,
-            limits,
-            at,
-            now,
-        };
-        let round_of = answers.take_round(memory, most);
-        done = done.saturating_add(round_of.exchanges.len());
-        desk = do_round(rt, memory, desk, directory, &round_of, &mut answers);
+        let round_of = take_round(memory, clients, log, most);
+        done = done.saturating_add(round_of.taken);
+        desk = do_round(memory, clients, log, desk, directory, &round_of);
     }
-    (end_of(connections.left() as usize), desk)
+    (end_of(clients.left()), desk)
 }

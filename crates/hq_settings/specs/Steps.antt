@@ -35,14 +35,18 @@ IsUnread File = ⊤
 IsUnread (Desk (AsFault fault)) = fault ≡ no_memory
 IsUnread _ = ⊥
 
--- the bytes of some file, or that it cannot be read, or want of memory
-abbrev pub IsFile : Result (List ℕ) Trouble → Type 0
-IsFile (Ok bytes) = ⊤
-IsFile (Err trouble) = IsUnread trouble
+-- what reading the file of a path gave, by those who read it
+abbrev pub Reading : Type 1
+Reading = List ℕ → Result (List ℕ) Trouble → Type 0
 
--- the customers of some file
-abbrev pub HasCustomers : Result (List Customer) Trouble → Type 0
-HasCustomers = Then IsFile (λ file. IsRead (customers_in file))
+-- the bytes of the file of a path, as it was read; or that it could not be, or want of memory
+abbrev pub IsFile : Reading → List ℕ → Result (List ℕ) Trouble → Type 0
+IsFile reads path (Ok bytes) = reads path (Ok bytes)
+IsFile reads path (Err trouble) = reads path (Err trouble) × IsUnread trouble
+
+-- the customers of the directory of a path
+abbrev pub HasCustomers : Reading → List ℕ → Result (List Customer) Trouble → Type 0
+HasCustomers reads path = Then (IsFile reads path) (λ file. IsRead (customers_in file))
 
 -- what is read of a file of keys, its refusal, or want of memory
 abbrev pub AreKeysRead : {A : Type 0} → Result A DirectoryRefusal → Result A Trouble → Type 0
@@ -51,9 +55,10 @@ AreKeysRead reading (Err (Keys refusal)) = reading ≡ Err refusal
 AreKeysRead reading (Err (Desk (AsFault fault))) = fault ≡ no_memory
 AreKeysRead reading (Err _) = ⊥
 
--- the keys that these customers have beside their own: those of some file where one is named, and
--- else none
-abbrev pub HasKeys : List Customer → Option (List ℕ) → Result (List NamedKey) Trouble → Type 0
-HasKeys customers None found = found ≡ Ok []
-HasKeys customers (Some path) found =
-    Then IsFile (λ file. AreKeysRead (keys_in customers file)) found
+-- the keys that these customers have beside their own: those of the file of a path, if one is
+-- named, and else none
+abbrev pub HasKeys : Reading → List Customer → Option (List ℕ) → Result (List NamedKey) Trouble →
+    Type 0
+HasKeys reads customers None found = found ≡ Ok []
+HasKeys reads customers (Some path) found =
+    Then (IsFile reads path) (λ file. AreKeysRead (keys_in customers file)) found

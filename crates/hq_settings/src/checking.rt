@@ -11,7 +11,7 @@ ghost use Rattle.hq_settings.specs.Seen.{relay_seen};
 ghost use Rattle.hq_settings.specs.Checked.{HasRelay, CountsCustomers, count_of};
 
 use crate::files::keys_of;
-use crate::{Relay, Settings, Trouble, relay_of};
+use crate::{Files, Relay, Settings, Trouble, relay_of};
 use hq_import::{DirectoryFail, NamedKey};
 use hq_kept::Customer;
 use hq_values::{Fail, Host};
@@ -19,22 +19,22 @@ use hq_words::Check;
 use std::alloc::Global;
 
 /// No relay, where its name is good.
-fn name_alone(alloc: Global, host: &str) -> Result<Option<Relay>, Trouble>
-    ensures { HasRelay host.now None (seen_by (option_map relay_seen) result) }
+fn name_alone<F: Files>(rt: &F, host: &str) -> Result<Option<Relay>, Trouble>
+    ensures { HasRelay (F.reads rt.now) host.now None (seen_by (option_map relay_seen) result) }
 {
-    let _name = Host::parse(alloc, host)?;
+    let _name = Host::parse(rt.alloc(), host)?;
     Ok(None)
 }
 
 /// The relay that a check names, as `relay_of` has it. Where no key is given there is none, and the
 /// name is checked alone: 56 `BadHost`, or want of memory.
-pub fn relay_given(rt: &HostRuntime, given: &Check) -> Result<Option<Relay>, Trouble>
-    ensures { HasRelay (check_of given.now).host (check_of given.now).relay_key
+pub fn relay_given<F: Files>(rt: &F, given: &Check) -> Result<Option<Relay>, Trouble>
+    ensures { HasRelay (F.reads rt.now) (check_of given.now).host (check_of given.now).relay_key
         (seen_by (option_map relay_seen) result) }
 {
     match given.relay_key {
         Some(key) => Ok(Some(relay_of(rt, given.host, key)?)),
-        None => name_alone(rt.alloc(), given.host),
+        None => name_alone(rt, given.host),
     }
 }
 
@@ -73,16 +73,16 @@ fn count_of(
 /// beside it, and the relay, where one is known. Else the first of these: the directory's own
 /// refusal; that the file of keys cannot be read, or where it is wrong; 57 `BadRelayKey` where the
 /// relay's key is one of a customer. It may be want of memory at any of them.
-pub fn count_customers(
-    rt: &HostRuntime,
+pub fn count_customers<F: Files>(
+    rt: &F,
     relay: Option<Relay>,
     keys: Option<&str>,
     read: Result<Vec<Customer>, DirectoryFail>,
 ) -> Result<usize, Trouble>
     requires { IfOk read (λ customers. IsTrue (are_customers customers.items)) }
     ensures { (file : List ℕ) → ReadsDirectory ⊤ (seen_by (λ v. v.items) read) (directory_in file)
-        → CountsCustomers (option_map relay_seen relay) (option_map (λ k. k.now) keys.entry) file
-        result }
+        → CountsCustomers (F.reads rt.now) (option_map relay_seen relay)
+        (option_map (λ k. k.now) keys.entry) file result }
 {
     let customers = directory_read(read)?;
     let named = keys_of(rt, customers.as_slice(), keys)?;

@@ -27,7 +27,7 @@ mod words_tests;
 
 pub use builtin::settings as builtin_settings;
 pub use checking::{count_customers, relay_given};
-pub use files::{customers_of, file_of, keys_of};
+pub use files::{Files, customers_of, keys_of};
 pub use relay::Relay;
 pub use relay_words::relay_of;
 pub use setting_up::set_up;

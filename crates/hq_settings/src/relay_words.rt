@@ -9,8 +9,7 @@ ghost use Rattle.hq_words.specs.Asked.{key_given};
 ghost use Rattle.hq_words.specs.Given.{InFile};
 ghost use Rattle.hq_settings.specs.SettingUp.{NamesRelay, key_line};
 
-use crate::files::file_of;
-use crate::{Relay, Trouble};
+use crate::{Files, Relay, Trouble};
 use hq_values::{Fail, Host};
 use hq_words::RelayKey;
 use std::alloc::Global;
@@ -57,19 +56,21 @@ pub(crate) fn relay_with(alloc: Global, host: &str, file: &[u8]) -> Result<Relay
 
 /// The relay of this name, and of the key in the file of a path, which is read where the name is
 /// good.
-fn relay_in_file(rt: &HostRuntime, host: &str, path: &str) -> Result<Relay, Trouble>
-    ensures { NamesRelay host.now (InFile path.now) (seen_by relay_seen result) }
+fn relay_in_file<F: Files>(rt: &F, host: &str, path: &str) -> Result<Relay, Trouble>
+    ensures { NamesRelay (F.reads rt.now) host.now (InFile path.now)
+        (seen_by relay_seen result) }
 {
     let name = Host::parse(rt.alloc(), host)?;
-    let file = file_of(rt, path)?;
+    let file = rt.read(path)?;
     Ok(relay_with(rt.alloc(), name.as_str(), file.as_slice())?)
 }
 
 /// The relay of this name and this key: 56 for the name; that the file of the key cannot be read;
 /// 57 for the form of the key; or want of memory. A file has the key on its one line: further lines
 /// are none of a key.
-pub fn relay_of(rt: &HostRuntime, host: &str, key: RelayKey) -> Result<Relay, Trouble>
-    ensures { NamesRelay host.now (key_given key.entry) (seen_by relay_seen result) }
+pub fn relay_of<F: Files>(rt: &F, host: &str, key: RelayKey) -> Result<Relay, Trouble>
+    ensures { NamesRelay (F.reads rt.now) host.now (key_given key.entry)
+        (seen_by relay_seen result) }
 {
     match key {
         RelayKey::Given(key) => Ok(Relay::new(rt.alloc(), host, key)?),

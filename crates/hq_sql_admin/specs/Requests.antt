@@ -13,7 +13,7 @@ use Rattle.hq_rules.specs.declared.call.Call.TheVariants.{DeleteAll, History, Fi
 use Rattle.hq_admin.specs.Customers.{entry_named}
 use Rattle.hq_admin.specs.declared.performing.AdminCall.{AdminCall}
 use Rattle.hq_settings.specs.declared.trouble.Trouble.{Trouble}
-use Rattle.hq_settings.specs.Steps.{Then, IsFile, IsRead}
+use Rattle.hq_settings.specs.Steps.{Then, IsFile, IsRead, Reading}
 use Rattle.hq_sql_admin.specs.declared.requests.Done.{Done}
 use Rattle.hq_sql_admin.specs.declared.requests.Done.TheVariants.{Held, Released, Deleted}
 use Rattle.hq_words.specs.declared.selecting.Matching.{Matching}
@@ -23,9 +23,10 @@ use Rattle.hq_words.specs.declared.selecting.Telling.{Telling}
 use Rattle.hq_words.specs.declared.options.Import.{Import}
 use Rattle.hq_words.specs.declared.options.Sweep.{Sweep}
 
--- the customer of this name in some file
-abbrev pub HasCustomer : List ℕ → Result Entry Trouble → Type 0
-HasCustomer name = Then IsFile (λ file. IsRead (entry_named file name))
+-- the customer of this name in the directory of a path
+abbrev pub HasCustomer : Reading → List ℕ → List ℕ → Result Entry Trouble → Type 0
+HasCustomer reads directory name = Then (IsFile reads directory) (λ file.
+    IsRead (entry_named file name))
 
 -- this call of a customer
 abbrev pub AsksFor : List ℕ → ℕ → Entry → Call → Result AdminCall Trouble → Type 0
@@ -60,38 +61,38 @@ history_call (Some pattern) = FindHistory pattern None
 
 -- what is told of a customer, of all or of what a pattern is for; its relay's name and moment show
 -- nowhere
-abbrev pub TellingAsks : (Option (Class × List ℕ) → Call) → Telling → Result AdminCall Trouble →
-    Type 0
-TellingAsks call given = Then (IsRead (host_in (codes "localhost"))) (λ host.
-    Then (HasCustomer given.customer.now) (λ entry.
+abbrev pub TellingAsks : Reading → (Option (Class × List ℕ) → Call) → Telling →
+    Result AdminCall Trouble → Type 0
+TellingAsks reads call given = Then (IsRead (host_in (codes "localhost"))) (λ host.
+    Then (HasCustomer reads given.directory.now given.customer.now) (λ entry.
     Then (HasPattern given.pattern) (λ pattern.
     AsksFor host 0 entry (call pattern))))
 
 -- the report
-abbrev pub QueueAsks : Telling → Result AdminCall Trouble → Type 0
-QueueAsks = TellingAsks Report
+abbrev pub QueueAsks : Reading → Telling → Result AdminCall Trouble → Type 0
+QueueAsks reads = TellingAsks reads Report
 
 -- the history
-abbrev pub HistoryAsks : Telling → Result AdminCall Trouble → Type 0
-HistoryAsks = TellingAsks history_call
+abbrev pub HistoryAsks : Reading → Telling → Result AdminCall Trouble → Type 0
+HistoryAsks reads = TellingAsks reads history_call
 
 -- what is done to the messages that a pattern is for, at a moment; the relay's name shows nowhere
-abbrev pub MoveAsks : Moving → Done → Result AdminCall Trouble → Type 0
-MoveAsks given done = Then (IsRead (host_in (codes "localhost"))) (λ host.
-    Then (HasCustomer given.customer.now) (λ entry.
+abbrev pub MoveAsks : Reading → Moving → Done → Result AdminCall Trouble → Type 0
+MoveAsks reads given done = Then (IsRead (host_in (codes "localhost"))) (λ host.
+    Then (HasCustomer reads given.directory.now given.customer.now) (λ entry.
     Then (IsRead (pattern_read given.pattern)) (λ pattern.
     AsksFor host given.at entry (move_call done pattern))))
 
--- the import of some file under a label; its relay's name and moment show nowhere
-abbrev pub ImportAsks : Import → Result AdminCall Trouble → Type 0
-ImportAsks given = Then (IsRead (host_in (codes "localhost"))) (λ host.
-    Then (HasCustomer given.customer.now) (λ entry.
+-- the import of the file of a path under a label; its relay's name and moment show nowhere
+abbrev pub ImportAsks : Reading → Import → Result AdminCall Trouble → Type 0
+ImportAsks reads given = Then (IsRead (host_in (codes "localhost"))) (λ host.
+    Then (HasCustomer reads given.directory.now given.customer.now) (λ entry.
     Then (IsRead (label_in given.label.now)) (λ label.
-    Then IsFile (λ lines.
+    Then (IsFile reads given.file.now) (λ lines.
     AsksFor host 0 entry (OfImport label lines)))))
 
 -- the sweep of the customer of this name, at a moment
-abbrev pub SweepAsks : Sweep → List ℕ → Result AdminCall Trouble → Type 0
-SweepAsks given name = Then (IsRead (host_in given.host.now)) (λ host.
-    Then (HasCustomer name) (λ entry.
+abbrev pub SweepAsks : Reading → Sweep → List ℕ → Result AdminCall Trouble → Type 0
+SweepAsks reads given name = Then (IsRead (host_in given.host.now)) (λ host.
+    Then (HasCustomer reads given.directory.now name) (λ entry.
     AsksFor host given.at entry OfSweep))

@@ -10,9 +10,10 @@ ghost use Rattle.hq_sql_admin.specs.Requests.{history_call, pattern_read};
 use hq_admin::{AdminCall, customer_in};
 use hq_kept::{Class, Entry, Pattern};
 use hq_rules::Call;
-use hq_settings::{Trouble, file_of};
+use hq_settings::{Files, Trouble};
 use hq_values::{Host, Items, Label, Moment};
 use hq_words::{Import, Matching, Moving, Sweep, Telling};
+use std::alloc::Global;
 
 /// The relay's name where nothing shows it.
 pub(crate) const LOCALHOST: &str = "localhost";
@@ -21,10 +22,10 @@ pub(crate) const LOCALHOST: &str = "localhost";
 pub(crate) const NO_MOMENT: u64 = 0;
 
 /// The customer of this name, in the directory of a path.
-fn customer_of(rt: &HostRuntime, directory: &str, name: &str) -> Result<Entry, Trouble>
-    ensures { HasCustomer name.now result }
+fn customer_of<F: Files>(rt: &F, directory: &str, name: &str) -> Result<Entry, Trouble>
+    ensures { HasCustomer (F.reads rt.now) directory.now name.now result }
 {
-    let file = file_of(rt, directory)?;
+    let file = rt.read(directory)?;
     Ok(customer_in(rt.alloc(), file.as_slice(), name)?)
 }
 
@@ -61,33 +62,33 @@ fn history_call(pattern: Option<Pattern>) -> Call
 }
 
 /// The pattern that words give.
-fn pattern_of(rt: &HostRuntime, matching: Matching) -> Result<Pattern, Trouble>
+fn pattern_of(alloc: Global, matching: Matching) -> Result<Pattern, Trouble>
     ensures { IsRead (pattern_read matching.entry) result }
 {
     let pattern = match matching {
-        Matching::Sender(text) => Pattern::parse(rt.alloc(), Class::SenderSide, text)?,
-        Matching::Recipient(text) => Pattern::parse(rt.alloc(), Class::RecipientSide, text)?,
+        Matching::Sender(text) => Pattern::parse(alloc, Class::SenderSide, text)?,
+        Matching::Recipient(text) => Pattern::parse(alloc, Class::RecipientSide, text)?,
     };
     Ok(pattern)
 }
 
 /// The pattern that words give, where they give one.
-fn any_pattern_of(rt: &HostRuntime, matching: Option<Matching>) -> Result<Option<Pattern>, Trouble>
+fn any_pattern_of(alloc: Global, matching: Option<Matching>) -> Result<Option<Pattern>, Trouble>
     ensures { HasPattern matching.entry result }
 {
     match matching {
         None => Ok(None),
-        Some(matching) => Ok(Some(pattern_of(rt, matching)?)),
+        Some(matching) => Ok(Some(pattern_of(alloc, matching)?)),
     }
 }
 
 /// The queue report of a customer: of the messages that a pattern is for, or of all.
-pub(crate) fn queue_request(rt: &HostRuntime, given: &Telling) -> Result<AdminCall, Trouble>
-    ensures { QueueAsks given.now result }
+pub(crate) fn queue_request<F: Files>(rt: &F, given: &Telling) -> Result<AdminCall, Trouble>
+    ensures { QueueAsks (F.reads rt.now) given.now result }
 {
     let host = Host::parse(rt.alloc(), LOCALHOST)?;
     let entry = customer_of(rt, given.directory, given.customer)?;
-    let pattern = any_pattern_of(rt, given.pattern)?;
+    let pattern = any_pattern_of(rt.alloc(), given.pattern)?;
     Ok(AdminCall {
         host,
         at: Moment::no_later(NO_MOMENT),
@@ -97,12 +98,12 @@ pub(crate) fn queue_request(rt: &HostRuntime, given: &Telling) -> Result<AdminCa
 }
 
 /// The history of a customer: what of it a pattern is for, or the newest of it.
-pub(crate) fn history_request(rt: &HostRuntime, given: &Telling) -> Result<AdminCall, Trouble>
-    ensures { HistoryAsks given.now result }
+pub(crate) fn history_request<F: Files>(rt: &F, given: &Telling) -> Result<AdminCall, Trouble>
+    ensures { HistoryAsks (F.reads rt.now) given.now result }
 {
     let host = Host::parse(rt.alloc(), LOCALHOST)?;
     let entry = customer_of(rt, given.directory, given.customer)?;
-    let pattern = any_pattern_of(rt, given.pattern)?;
+    let pattern = any_pattern_of(rt.alloc(), given.pattern)?;
     Ok(AdminCall {
         host,
         at: Moment::no_later(NO_MOMENT),
@@ -112,16 +113,16 @@ pub(crate) fn history_request(rt: &HostRuntime, given: &Telling) -> Result<Admin
 }
 
 /// What is done to the messages of a customer that a pattern is for.
-pub(crate) fn move_request(
-    rt: &HostRuntime,
+pub(crate) fn move_request<F: Files>(
+    rt: &F,
     given: &Moving,
     done: Done,
 ) -> Result<AdminCall, Trouble>
-    ensures { MoveAsks given.now done result }
+    ensures { MoveAsks (F.reads rt.now) given.now done result }
 {
     let host = Host::parse(rt.alloc(), LOCALHOST)?;
     let entry = customer_of(rt, given.directory, given.customer)?;
-    let pattern = pattern_of(rt, given.pattern)?;
+    let pattern = pattern_of(rt.alloc(), given.pattern)?;
     Ok(AdminCall {
         host,
         at: given.at,
@@ -131,13 +132,13 @@ pub(crate) fn move_request(
 }
 
 /// The import of a file into a customer's access tables.
-pub(crate) fn import_request(rt: &HostRuntime, given: &Import) -> Result<AdminCall, Trouble>
-    ensures { ImportAsks given.now result }
+pub(crate) fn import_request<F: Files>(rt: &F, given: &Import) -> Result<AdminCall, Trouble>
+    ensures { ImportAsks (F.reads rt.now) given.now result }
 {
     let host = Host::parse(rt.alloc(), LOCALHOST)?;
     let entry = customer_of(rt, given.directory, given.customer)?;
     let label = Label::parse(rt.alloc(), given.label)?;
-    let lines = file_of(rt, given.file)?;
+    let lines = rt.read(given.file)?;
     Ok(AdminCall {
         host,
         at: Moment::no_later(NO_MOMENT),
@@ -147,12 +148,12 @@ pub(crate) fn import_request(rt: &HostRuntime, given: &Import) -> Result<AdminCa
 }
 
 /// The sweep of the queue of the customer of this name.
-pub(crate) fn sweep_request(
-    rt: &HostRuntime,
+pub(crate) fn sweep_request<F: Files>(
+    rt: &F,
     given: &Sweep,
     name: &str,
 ) -> Result<AdminCall, Trouble>
-    ensures { SweepAsks given.now name.now result }
+    ensures { SweepAsks (F.reads rt.now) given.now name.now result }
 {
     let host = Host::parse(rt.alloc(), given.host)?;
     let entry = customer_of(rt, given.directory, name)?;

@@ -1,13 +1,12 @@
 -- What a batch over a shelf in memory does from empty tables.
 use Rattle.std.specs.Global.{Global}
-use Rattle.std.proofs.Common.{◌≡◌, inl, inr, ℕ, List, Option, Result, Ok, Err, IfOk, refl, sym, ap}
+use Rattle.std.proofs.Common.{◌≡◌, ℕ, List, Option, refl, sym, ap}
 use Rattle.std.proofs.Common.{◌∙◌, subst, map}
 use Rattle.std.specs.Bool.{⊤}
 use Rattle.sqlite.specs.Held.{Held, state}
 use Rattle.sqlite.specs.Steps.{over_memory}
 use Rattle.sqlite.proofs.Callers.{memory_is_clean}
 use Rattle.sqlite_trees.specs.declared.memory.MemStore.{MemStore}
-use Rattle.hq_values.specs.declared.failure.Fault.{Fault}
 use Rattle.hq_tables.specs.Shelves.{OnOpenSound}
 use Rattle.hq_tables.specs.Sound.{Sound}
 use Rattle.hq_tables.specs.Tables.{no_tables}
@@ -26,12 +25,9 @@ use Rattle.hq_wire.specs.Replies.{SeenReply}
 use Rattle.hq_wire.specs.Runs.{AllReplied, Alone}
 use Rattle.hq_wire.proofs.Serving.{all_replied}
 use Rattle.hq_lines.specs.Fields.{LineRequest}
-use Rattle.hq_lines.specs.Lines.{Streams}
 use Rattle.hq_batch.specs.Batches.{ask_in}
 use Rattle.hq_batch.specs.Runs.{ServesOver}
-use Rattle.hq_settings.specs.declared.trouble.Trouble.{Trouble}
-use Rattle.hq_batch.proofs.Ends.{run_ends_as}
-use Rattle.hq_sql_server.specs.Stored.{memory, FromEmpty, ServesFromEmpty, OpenedEnds, MemoryEnds}
+use Rattle.hq_sql_server.specs.Stored.{memory, FromEmpty, ServesFromEmpty}
 
 -- a store in memory is always open
 stands_in_memory : (standing : Standing) (c : Held MemStore) → Stands standing (state over_memory c)
@@ -78,7 +74,7 @@ from_empty settings shelf ours none old new named is asks replies together apart
           (subst (λ t. Alone (host_of old) d asks replies t after) empty alone);
     }
 
-serves : (settings : Settings) (shelf : SqlShelf MemStore Global)
+pub serves : (settings : Settings) (shelf : SqlShelf MemStore Global)
     → IsOurs (state over_memory shelf.conn) →
     tables_in (state over_memory shelf.conn).committed ≡ no_tables
     → (asked : List (Option LineRequest)) (lines : List (List ℕ)) →
@@ -92,15 +88,3 @@ serves settings shelf ours none asked lines it = record {
       (map (ask_in settings.directory) asked) it.replied.0 it.replied.2.each)
       it.replied.2.alone;
 }
-
-pub memory_ends : (settings : Settings) (opened : Result (SqlShelf MemStore Global) Fault)
-    (untouched : Type 0) (old new : Streams) (result : Result ⊤ Trouble)
-    → IfOk opened (λ s. IsOurs (state over_memory s.conn)) →
-    IfOk opened (λ s. tables_in (state over_memory s.conn).committed ≡ no_tables)
-    → OpenedEnds memory settings opened untouched old new result →
-    MemoryEnds settings untouched old new result
-memory_ends settings (Ok shelf) untouched old new result ours none p =
-    inl (run_ends_as (ServesOver ⊤ memory settings shelf) (ServesFromEmpty settings)
-    (serves settings shelf ours none) untouched untouched (λ (same : untouched). same) old new
-    result p)
-memory_ends settings (Err fault) untouched old new result ours none p = inr (fault, p)

@@ -1,20 +1,23 @@
 -- What is told of the place at which a server listens.
-use Rattle.std.specs.Prelude.{◌≡◌, ⊤, ℕ, List, Option, Result, Ok, Err}
+use Rattle.std.specs.Prelude.{◌≡◌, ⊤, ℕ, List, [], ◌∷◌, Option, Some, None, Result, Ok, Err}
 use Rattle.std.specs.Io.KnownBytes.{Appends}
 use Rattle.hq_values.specs.Refusals.{no_memory}
 use Rattle.hq_values.specs.declared.failure.Fail.TheVariants.{Fault as AsFault}
 use Rattle.hq_settings.specs.declared.trouble.Trouble.{Trouble}
 use Rattle.hq_settings.specs.declared.trouble.Trouble.TheVariants.{Output, Network, Desk}
-use Rattle.hq_serve.specs.Places.{IsPlaceOf, place_line}
-use Rattle.hq_serve.specs.declared.places.Place.{Place}
+use Rattle.hq_network.specs.Networks.{Networking, ended, listened}
+use Rattle.hq_network.specs.Places.{IsPlaceOf, place_line}
+use Rattle.hq_sockets.specs.declared.deadlines.Limits.{Limits}
+use Rattle.hq_network.specs.declared.places.Place.{Place}
+use Rattle.hq_words.specs.declared.options.Serve.{Serve}
+
+-- how long a client may take, as the words have it
+abbrev pub limits_of : Serve → Limits
+limits_of given = record { idle = given.idle_timeout; request = given.request_timeout }
 
 -- A place is told: its line is written.
 abbrev pub IsPlaceTold : Place → Option (List ℕ) → Option (List ℕ) → Type 0
 IsPlaceTold place old new = Appends old new (place_line place)
-
--- a place that this text names is told
-abbrev pub HasTold : List ℕ → Option (List ℕ) → Option (List ℕ) → Type 0
-HasTold text old new = (place : Place) × IsPlaceOf text place × IsPlaceTold place old new
 
 -- why no place is told: memory ran out, and nothing is written; or the output fails
 abbrev pub IsUntold : Type 0 → Trouble → Type 0
@@ -27,13 +30,31 @@ abbrev pub TellsPlace : Type 0 → Type 0 → Result ⊤ Trouble → Type 0
 TellsPlace unwritten told (Ok _) = told
 TellsPlace unwritten told (Err trouble) = IsUntold unwritten trouble
 
--- why nothing is listened on: the place is none or cannot be bound, and nothing is written; or it
--- is not told
-abbrev pub IsUnbound : Type 0 → Trouble → Type 0
-IsUnbound unwritten Network = unwritten
-IsUnbound unwritten trouble = IsUntold unwritten trouble
+-- So many clients come to a place that the text names, within these limits, and its line is
+-- written. Nothing else is done at the network.
+pub record IsListening {N K : Type 0} (does : Networking N K) (left : K → ℕ) (text : List ℕ)
+    (count : ℕ) (limits : Limits) (net_old net_new : N) (old new : Option (List ℕ)) (clients : K)
+    : Type 0 where
+  pub place : Place
+  pub named : IsPlaceOf text place
+  pub listened_so : does net_old (listened text limits (Some clients) ∷ []) net_new
+  pub counted : left clients ≡ count
+  pub told : IsPlaceTold place old new
 
--- A place is listened at and told; or there is none.
-abbrev pub ListenEnds : {A : Type 0} → Type 0 → Type 0 → Result A Trouble → Type 0
-ListenEnds unwritten told (Ok listener) = told
-ListenEnds unwritten told (Err trouble) = IsUnbound unwritten trouble
+-- Why no clients are served: the place is none or cannot be bound, and nothing is written; or it is
+-- not told, and its clients are ended as they came.
+abbrev pub IsUnbound : {N K : Type 0} → Networking N K → List ℕ → Limits → N → N → Type 0 →
+    Trouble → Type 0
+IsUnbound does text limits net_old net_new unwritten Network = unwritten
+    × does net_old (listened text limits None ∷ []) net_new
+IsUnbound {K = K} does text limits net_old net_new unwritten trouble = IsUntold unwritten trouble
+    × ((clients : K) × does net_old (listened text limits (Some clients) ∷ ended clients ∷ [])
+    net_new)
+
+-- Either of that is so.
+abbrev pub ListenEnds : {N K : Type 0} → Networking N K → (K → ℕ) → List ℕ → ℕ → Limits → N → N →
+    Type 0 → Option (List ℕ) → Option (List ℕ) → Result K Trouble → Type 0
+ListenEnds does left text count limits net_old net_new unwritten old new (Ok clients) =
+    IsListening does left text count limits net_old net_new old new clients
+ListenEnds does left text count limits net_old net_new unwritten old new (Err trouble) =
+    IsUnbound does text limits net_old net_new unwritten trouble

@@ -1,16 +1,23 @@
 -- What a server of the program does over a store of `sqlite`, however it ends.
 use Rattle.std.specs.Global.{Global}
-use Rattle.std.specs.Prelude.{◌≡◌, ◌⊎◌, ⊤, ℕ, List, Option, option_map, Result, Ok, Err}
+use Rattle.std.specs.Prelude.{◌≡◌, ◌⊎◌, ◌∷◌, [], ⊤, ℕ, List, map, Option, None, Some, option_map}
+use Rattle.std.specs.Prelude.{Result, Ok, Err}
 use Rattle.sqlite_trees.specs.declared.memory.MemStore.{MemStore}
-use Rattle.hq_wire.specs.Exchanges.{with_refusals}
+use Rattle.hq_values.specs.declared.failure.Fail.TheVariants.{Fault as AsFault}
 use Rattle.hq_values.specs.declared.failure.Fault.{Fault}
 use Rattle.hq_tables.specs.Shelves.{Sight}
-use Rattle.hq_sql_shelf.specs.Opened.{OverOpened, OverMemory, OverStore}
+use Rattle.hq_sql_shelf.specs.Opened.{OverMemory}
+use Rattle.hq_sql_shelf.specs.Stores.{Doing, OverStore}
 use Rattle.hq_sql_shelf.specs.declared.shelf.SqlShelf.{SqlShelf}
 use Rattle.hq_desk.specs.Desks.{host_of, on, shelf_of}
 use Rattle.hq_desk.specs.declared.desk.Desk.{Desk}
 use Rattle.hq_settings.specs.declared.settings.Settings.{Settings}
-use Rattle.hq_serve.specs.Rounds.{DoesRounds}
+use Rattle.hq_settings.specs.Steps.{Reading}
+use Rattle.hq_network.specs.Networks.{Networking, ended}
+use Rattle.hq_serve.specs.Coming.{Serving, round_asks, round_replies}
+use Rattle.hq_serve.specs.Rounds.{ServesRounds}
+use Rattle.hq_serve.specs.declared.coming.ServiceEnd.{ServiceEnd}
+use Rattle.hq_serve.specs.declared.coming.ServiceEnd.TheVariants as end
 use Rattle.hq_together.specs.Sessions.{all_in}
 use Rattle.hq_words.specs.Asked.{key_given}
 use Rattle.hq_words.specs.declared.options.Serve.{Serve}
@@ -18,80 +25,110 @@ use Rattle.hq_settings.specs.SettingUp.{SetsUp}
 use Rattle.hq_settings.specs.declared.trouble.Trouble.{Trouble}
 use Rattle.hq_settings.specs.declared.trouble.Trouble.TheVariants.{Network, Clock}
 use Rattle.hq_sql_server.specs.Stored.{memory, FromEmpty, IsUnopened}
-use Rattle.hq_sql_server.specs.Listening.{HasTold, IsUnbound}
+use Rattle.hq_sql_server.specs.Listening.{IsListening, IsUnbound, limits_of}
 
--- So many connections at most are served by a desk over this shelf, in rounds of exchanges.
-pub record ServesConnections {S : Type 0} (sight : Sight S) (settings : Settings) (count : ℕ)
-    (shelf : S) : Type 0 where
-  pub old : Desk S
-  pub host_is : host_of old ≡ settings.host
-  pub shelf_is : shelf_of old ≡ shelf
-  pub new : Desk S
-  pub served : DoesRounds (with_refusals ⊤ (on sight)) settings.directory count old new
+-- why no more are served, as it is told
+abbrev pub IsEndOf : ServiceEnd → Result ⊤ Trouble → Type 0
+IsEndOf end.Done result = result ≡ Ok tt
+IsEndOf end.Network result = result ≡ Err Network
+IsEndOf end.Clock result = result ≡ Err Clock
 
--- Why no more are served: as many came as there were to be, or one could not be accepted, or the
--- clock tells no moment. That as many came is said where connections are counted, of
--- `serve_rounds`; nothing that is seen here tells of a socket.
-abbrev pub IsEnd : Result ⊤ Trouble → Type 0
-IsEnd (Ok _) = ⊤
-IsEnd (Err Network) = ⊤
-IsEnd (Err Clock) = ⊤
-IsEnd (Err _) = ⊥
+-- What the program has of its network: what is done at it, from one state to another; what is done
+-- with clients; and how many connections are left.
+module _ {N K : Type 0} (does : Networking N K) (serves : Serving K) (connections : K → ℕ)
+    (net_old net_new : N) where
+  -- no clients are served, for this reason
+  abbrev pub IsUnheard : Serve → Type 0 → Result ⊤ Trouble → Type 0
+  IsUnheard given unwritten (Ok _) = ⊥
+  IsUnheard given unwritten (Err trouble) =
+      IsUnbound does given.listen.now (limits_of given) net_old net_new unwritten trouble
 
--- nothing is listened on, for this reason
-abbrev pub IsUnheard : Type 0 → Result ⊤ Trouble → Type 0
-IsUnheard unwritten (Ok _) = ⊥
-IsUnheard unwritten (Err trouble) = IsUnbound unwritten trouble
+  -- The clients of the place that words name are served by a desk over this shelf, and `left` is
+  -- the shelf after them. Nothing else is done at the network, and no client is sent more.
+  pub record ServesPlace {S : Type 0} (sight : Sight S) (settings : Settings) (given : Serve)
+      (out_old out_new : Option (List ℕ)) (result : Result ⊤ Trouble) (shelf left : S) : Type 0
+    where
+      pub clients : K
+      pub net : N
+      pub listening : IsListening does connections given.listen.now given.count (limits_of given)
+          net_old net out_old out_new clients
+      pub clients_after : K
+      pub stopped : does net (ended clients_after ∷ []) net_new
+      pub old : Desk S
+      pub host_is : host_of old ≡ settings.host
+      pub shelf_is : shelf_of old ≡ shelf
+      pub new : Desk S
+      pub left_is : shelf_of new ≡ left
+      pub why : ServiceEnd
+      pub served : ServesRounds ⊤ (on sight) settings.directory serves (connections clients)
+          (connections clients_after) why clients clients_after old new
+      pub ended_so : IsEndOf why result
 
--- How a server ends: nothing is listened on; or the place is told, and then connections are served
--- so.
-abbrev pub ServedEnds : Type 0 → Type 0 → Type 0 → Result ⊤ Trouble → Type 0
-ServedEnds served unwritten told result =
-    IsUnheard unwritten result ⊎ (told × IsEnd result × served)
+  -- How a server ends over a shelf: no clients are served, and the shelf stays; or they are served
+  -- so.
+  abbrev pub ServedEnds : {S : Type 0} → Sight S → Settings → Serve → Type 0 → Option (List ℕ) →
+      Option (List ℕ) → Result ⊤ Trouble → S → S → Type 0
+  ServedEnds sight settings given unwritten out_old out_new result shelf left =
+      (IsUnheard given unwritten result × (left ≡ shelf))
+      ⊎ ServesPlace sight settings given out_old out_new result shelf left
 
--- over a desk as it was opened: over this shelf, or there is none
-abbrev pub OpenedServerEnds : {S : Type 0} → Sight S → Settings → ℕ → Result S Fault → Type 0 →
-    Type 0 → Result ⊤ Trouble → Type 0
-OpenedServerEnds sight settings count opened unwritten told result = OverOpened
-    (λ shelf. ServedEnds (ServesConnections sight settings count shelf) unwritten told result)
-    (λ fault. IsUnopened unwritten fault result) opened
+  -- Over the store of a path, which is left as the last round left it; or it could not be opened,
+  -- and nothing is written, or done at the network.
+  abbrev pub StoreServerEnds : {M S : Type 0} → Sight S → Doing M S → List ℕ → M → M → Settings →
+      Serve → Type 0 → Option (List ℕ) → Option (List ℕ) → Result ⊤ Trouble → Type 0
+  StoreServerEnds sight opens path old new settings given unwritten out_old out_new result =
+      OverStore sight opens path old new
+      (ServedEnds sight settings given unwritten out_old out_new result)
+      (λ fault. IsUnopened unwritten fault result × (net_new ≡ net_old))
 
--- ---- in memory
+  -- ---- in memory
 
--- Connections are served by a desk over a shelf in memory, which began with empty tables: to each
--- customer the desk is its own.
-pub record ServesEmpty (settings : Settings) (count : ℕ) : Type 0 where
-  pub shelf : SqlShelf MemStore Global
-  pub over : ServesConnections memory settings count shelf
-  pub from_empty : FromEmpty settings (all_in over.served.asked) (all_in over.served.replied)
-      over.new
+  -- Clients are served by a desk over a shelf in memory, which began with empty tables: to each
+  -- customer the desk is its own.
+  pub record ServesEmpty (settings : Settings) (given : Serve) (out_old out_new : Option (List ℕ))
+      (result : Result ⊤ Trouble) : Type 0 where
+    pub shelf : SqlShelf MemStore Global
+    pub left : SqlShelf MemStore Global
+    pub over : ServesPlace memory settings given out_old out_new result shelf left
+    pub from_empty : FromEmpty settings
+        (all_in (map (round_asks settings.directory) over.served.rounds))
+        (all_in (map round_replies over.served.rounds)) over.new
 
-abbrev pub MemoryServerEnds : Settings → ℕ → Type 0 → Type 0 → Result ⊤ Trouble → Type 0
-MemoryServerEnds settings count unwritten told result = OverMemory
-    (ServedEnds (ServesEmpty settings count) unwritten told result)
-    (λ fault. IsUnopened unwritten fault result)
+  abbrev pub MemoryServerEnds : Settings → Serve → Type 0 → Option (List ℕ) → Option (List ℕ) →
+      Result ⊤ Trouble → Type 0
+  MemoryServerEnds settings given unwritten out_old out_new result = OverMemory
+      (IsUnheard given unwritten result ⊎ ServesEmpty settings given out_old out_new result)
+      (λ fault. IsUnopened unwritten fault result × (net_new ≡ net_old))
 
--- ---- in memory, or in the file of a path
+  -- ---- as words have it
 
-abbrev pub StoreServerEnds : {S : Type 0} → Sight S → Option (List ℕ) → Settings → ℕ → Type 0 →
-    Type 0 → Result ⊤ Trouble → Type 0
-StoreServerEnds sight path settings count unwritten told result = OverStore sight path
-    (MemoryServerEnds settings count unwritten told result)
-    (λ opened. OpenedServerEnds sight settings count opened unwritten told result)
+  module _ {M S : Type 0} (sight : Sight S) (opens : Doing M S) (old new : M) where
+    -- Without a path the store is in memory, and nothing is done to any other; or it is that of the
+    -- path.
+    abbrev pub PathServerEnds : Option (List ℕ) → Settings → Serve → Type 0 → Option (List ℕ) →
+        Option (List ℕ) → Result ⊤ Trouble → Type 0
+    PathServerEnds None settings given unwritten out_old out_new result =
+        MemoryServerEnds settings given unwritten out_old out_new result × (new ≡ old)
+    PathServerEnds (Some path) settings given unwritten out_old out_new result =
+        StoreServerEnds sight opens path old new settings given unwritten out_old out_new result
 
--- How a server ends with the settings that its words name: with the trouble of these, and then
--- nothing is printed; or as its store has it, at a place that its words name.
-abbrev pub SetServerEnds : {S : Type 0} → Sight S → Serve → Type 0 → Option (List ℕ) →
-    Option (List ℕ) → Result Settings Trouble → Result ⊤ Trouble → Type 0
-SetServerEnds sight given unwritten old new (Err trouble) result = unwritten
-    × (result ≡ Err trouble)
-SetServerEnds sight given unwritten old new (Ok set) result =
-    StoreServerEnds sight (option_map (λ s. s.now) given.store) set given.count unwritten
-    (HasTold given.listen.now old new) result
+    -- with the settings that the words name; or with the trouble of these, and then nothing is
+    -- printed, or done to a store or at the network
+    abbrev pub SetServerEnds : Serve → Type 0 → Option (List ℕ) → Option (List ℕ) →
+        Result Settings Trouble → Result ⊤ Trouble → Type 0
+    SetServerEnds given unwritten out_old out_new (Err trouble) result = unwritten × (new ≡ old)
+        × (net_new ≡ net_old) × (result ≡ Err trouble)
+    SetServerEnds given unwritten out_old out_new (Ok set) result =
+        PathServerEnds (option_map (λ s. s.now) given.store) set given unwritten out_old out_new
+        result
 
-abbrev pub ServeEnds : {S : Type 0} → Sight S → Serve → Type 0 → Option (List ℕ) → Option (List ℕ) →
+-- how a server ends for its words
+abbrev pub ServeEnds : {N K M S : Type 0} → Reading → Networking N K → Serving K → (K → ℕ) → N → N →
+    Sight S → Doing M S → M → M → Serve → Type 0 → Option (List ℕ) → Option (List ℕ) →
     Result ⊤ Trouble → Type 0
-ServeEnds sight given unwritten old new result =
-    (set : Result Settings Trouble) × SetsUp given.host.now (key_given given.relay_key)
+ServeEnds reads does serves connections net_old net_new sight opens old new given unwritten out_old
+    out_new result = (set : Result Settings Trouble)
+    × SetsUp reads given.host.now (key_given given.relay_key) given.directory.now
     (option_map (λ k. k.now) given.keys) set
-    × SetServerEnds sight given unwritten old new set result
+    × SetServerEnds does serves connections net_old net_new sight opens old new given unwritten
+    out_old out_new set result

@@ -1,6 +1,6 @@
 -- What a batch of the program does over a store of `sqlite`, however it ends.
 use Rattle.std.specs.Global.{Global}
-use Rattle.std.specs.Prelude.{◌≡◌, ⊤, ℕ, false, List, map, Option, Result, Err}
+use Rattle.std.specs.Prelude.{◌≡◌, ⊤, ℕ, false, List, map, Option, None, Some, Result, Err}
 use Rattle.sqlite.specs.Held.{state}
 use Rattle.sqlite.specs.Steps.{over_memory}
 use Rattle.sqlite_trees.specs.declared.memory.MemStore.{MemStore}
@@ -8,7 +8,8 @@ use Rattle.hq_values.specs.declared.failure.Fail.TheVariants.{Fault as AsFault}
 use Rattle.hq_values.specs.declared.failure.Fault.{Fault}
 use Rattle.hq_tables.specs.Shelves.{Sight}
 use Rattle.hq_tables.specs.Tables.{no_tables}
-use Rattle.hq_sql_shelf.specs.Opened.{OverOpened, OverMemory, OverStore}
+use Rattle.hq_sql_shelf.specs.Opened.{OverMemory}
+use Rattle.hq_sql_shelf.specs.Stores.{Doing, OverStore}
 use Rattle.hq_sql_shelf.specs.Shelf.{sight_over}
 use Rattle.hq_sql_shelf.specs.declared.shelf.SqlShelf.{SqlShelf}
 use Rattle.hq_desk.specs.Desks.{on}
@@ -28,20 +29,15 @@ use Rattle.hq_settings.specs.declared.trouble.Trouble.TheVariants.{Desk as OfDes
 abbrev pub IsUnopened : Type 0 → Fault → Result ⊤ Trouble → Type 0
 IsUnopened untouched fault result = untouched × (result ≡ Err (OfDesk (AsFault fault)))
 
--- How a run ends over a desk as it was opened: the lines are those of a batch over this shelf, or
--- there is none.
-abbrev pub OpenedEnds : {S : Type 0} → Sight S → Settings → Result S Fault → Type 0 → Streams →
-    Streams → Result ⊤ Trouble → Type 0
-OpenedEnds sight settings opened untouched old new result = OverOpened
-    (λ shelf. RunEnds (ServesOver ⊤ sight settings shelf) untouched old new result)
-    (λ fault. IsUnopened untouched fault result) opened
-
--- The same in rounds.
-abbrev pub OpenedInRounds : {S : Type 0} → Sight S → Settings → Result S Fault → Type 0 → Streams →
-    Streams → Result ⊤ Trouble → Type 0
-OpenedInRounds sight settings opened untouched old new result = OverOpened
-    (λ shelf. RoundsRunEnd (ServesInRounds ⊤ sight settings shelf) untouched old new result)
-    (λ fault. IsUnopened untouched fault result) opened
+-- How a batch ends over the store of a path, which is left as the last round left it: its lines are
+-- those of a batch in rounds over it; or it could not be opened.
+abbrev pub BatchStoreEnds : {K S : Type 0} → Sight S → Doing K S → List ℕ → K → K → Settings →
+    Type 0 → Streams → Streams → Result ⊤ Trouble → Type 0
+BatchStoreEnds sight does path stores_old stores_new settings untouched old new result =
+    OverStore sight does path stores_old stores_new
+    (λ shelf left. RoundsRunEnd (ServesInRounds ⊤ sight settings shelf left)
+    (untouched × (left ≡ shelf)) old new result)
+    (λ fault. IsUnopened untouched fault result)
 
 -- ---- in memory
 
@@ -73,10 +69,12 @@ MemoryEnds settings untouched old new result = OverMemory
     (RunEnds (ServesFromEmpty settings) untouched old new result)
     (λ fault. IsUnopened untouched fault result)
 
--- ---- in memory, or in the file of a path
+-- ---- in memory, or over the store of a path
 
-abbrev pub StoreEnds : {S : Type 0} → Sight S → Option (List ℕ) → Settings → Type 0 → Streams →
-    Streams → Result ⊤ Trouble → Type 0
-StoreEnds sight path settings untouched old new result = OverStore sight path
-    (MemoryEnds settings untouched old new result)
-    (λ opened. OpenedInRounds sight settings opened untouched old new result)
+-- Without a path the store is in memory, and nothing is done to any other.
+abbrev pub StoreEnds : {K S : Type 0} → Sight S → Doing K S → Option (List ℕ) → K → K → Settings →
+    Type 0 → Streams → Streams → Result ⊤ Trouble → Type 0
+StoreEnds sight does None stores_old stores_new settings untouched old new result =
+    MemoryEnds settings untouched old new result × (stores_new ≡ stores_old)
+StoreEnds sight does (Some path) stores_old stores_new settings untouched old new result =
+    BatchStoreEnds sight does path stores_old stores_new settings untouched old new result

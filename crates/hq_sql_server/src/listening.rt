@@ -1,22 +1,24 @@
 //! The place at which a server listens.
 
 ghost use Rattle.std.specs.Prelude.{◌≡◌};
-ghost use Rattle.hq_sql_server.specs.Listening.{HasTold, IsPlaceTold, ListenEnds, TellsPlace};
+ghost use Rattle.hq_sql_server.specs.Listening.{IsPlaceTold, ListenEnds, TellsPlace, limits_of};
 
 use hq_batch::put;
-use hq_serve::{Limits, Listener, Place, bind};
+use hq_network::{Network, Place};
 use hq_settings::Trouble;
+use hq_sockets::Limits;
 use hq_values::Fault;
 use hq_words::Serve;
 use std::alloc::Global;
 use std::io::Write;
-use std::time::Duration;
 
 /// How long a client may take, as the words have it.
-pub(crate) fn limits(given: &Serve) -> Limits {
+fn limits(given: &Serve) -> Limits
+    ensures { result ≡ limits_of given.now }
+{
     Limits {
-        idle: Duration::from_secs(u64::from(given.idle_timeout)),
-        request: Duration::from_secs(u64::from(given.request_timeout)),
+        idle: given.idle_timeout,
+        request: given.request_timeout,
     }
 }
 
@@ -32,18 +34,25 @@ fn tell_place<W: Write>(alloc: Global, place: Place<'_>, output: &mut W) -> Resu
 }
 
 /// Listens at an address or a path, and prints the one that was bound: an address has another port
-/// where that of the text is 0.
-pub(crate) fn listen<W: Write>(
-    rt: &HostRuntime,
-    text: &str,
+/// if that of the text is 0. If it cannot be printed, its clients are ended at once.
+pub(crate) fn listen<N: Network, W: Write>(
+    alloc: Global,
+    network: &mut N,
+    given: &Serve,
     output: &mut W,
-) -> Result<Listener, Trouble>
-    ensures { ListenEnds (output.new ≡ output.old)
-        (HasTold text.now (W.contents output.old) (W.contents output.new)) result }
+) -> Result<N::Clients, Trouble>
+    ensures { ListenEnds N.does N.Clients.left given.now.listen.now given.now.count
+        (limits_of given.now) network.old network.new (output.new ≡ output.old)
+        (W.contents output.old) (W.contents output.new) result }
 {
-    let Some((listener, place)) = bind(rt, text) else {
-        return Err(Trouble::Network);
-    };
-    tell_place(rt.alloc(), place, output)?;
-    Ok(listener)
+    match network.listen(given.listen, given.count, limits(given)) {
+        None => Err(Trouble::Network),
+        Some((clients, place)) => match tell_place(alloc, place, output) {
+            Ok(()) => Ok(clients),
+            Err(trouble) => {
+                network.end(clients);
+                Err(trouble)
+            }
+        },
+    }
 }

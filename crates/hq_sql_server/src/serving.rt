@@ -1,29 +1,23 @@
-//! The connections of a server, over a store as it was opened.
+//! The connections of a server, over a store in memory or at a path.
 
-ghost use Rattle.std.specs.Prelude.{◌≡◌, option_map, ⊤};
-ghost use Rattle.sqlite.specs.Held.{state};
-ghost use Rattle.hq_sql_shelf.specs.Shelf.{sight_over};
-ghost use Rattle.hq_sql_server.specs.Listening.{HasTold};
-ghost use Rattle.hq_sql_server.specs.Runs.{IsEnd, OpenedServerEnds, MemoryServerEnds};
-ghost use Rattle.hq_sql_server.specs.Runs.{StoreServerEnds, ServeEnds};
+ghost use Rattle.std.specs.Prelude.{◌≡◌};
+ghost use Rattle.hq_sql_server.specs.Runs.{IsEndOf, MemoryServerEnds, ServedEnds, ServeEnds};
+ghost use Rattle.hq_sql_server.specs.Runs.{StoreServerEnds};
 
-use crate::listening::{limits, listen};
+use crate::listening::listen;
 use hq_desk::Desk;
-use hq_log::log_of;
+use hq_log::Logs;
+use hq_network::Network;
 use hq_rounds::Rounds;
-use hq_serve::{Connections, ServiceEnd, serve_rounds};
-use hq_settings::{Settings, Trouble, set_up};
-use hq_sql_shelf::{FileShelf, SqlShelf, open_file};
-use hq_tables::Shelf;
-use hq_values::Fault;
+use hq_serve::{ServiceEnd, serve_rounds};
+use hq_settings::{Files, Settings, Trouble, set_up};
+use hq_sql_shelf::{SqlShelf, Stores};
 use hq_words::Serve;
-use sqlite::Alter;
-use std::alloc::Global;
 use std::io::Write;
 
 /// Why a server ends, as the program tells it.
 fn ended(end: ServiceEnd) -> Result<(), Trouble>
-    ensures { IsEnd result }
+    ensures { IsEndOf end result }
 {
     match end {
         ServiceEnd::Done => Ok(()),
@@ -32,88 +26,71 @@ fn ended(end: ServiceEnd) -> Result<(), Trouble>
     }
 }
 
-/// Serves the connections of an address over a shelf as it was opened; where it could not be, tells
-/// why, and listens on nothing.
-fn serve_over<S: Rounds, W: Write, E: Write>(
-    rt: &HostRuntime,
-    opened: Result<S, Fault>,
+/// Serves the connections of a place over a shelf, and gives it back.
+fn serve_over<'h, R: Logs<'h> + AllocGlobal, N: Network, S: Rounds, W: Write, E: Write>(
+    rt: &'h R,
+    network: &mut N,
+    shelf: S,
     settings: Settings,
-    given: &Serve,
+    given: &Serve<'h>,
     output: &mut W,
     errors: &mut E,
-) -> Result<(), Trouble>
-    ensures { OpenedServerEnds S.sight settings given.now.count opened (output.new ≡ output.old)
-        (HasTold given.now.listen.now (W.contents output.old) (W.contents output.new)) result }
+) -> (Result<(), Trouble>, S)
+    ensures { ServedEnds N.does N.Clients.does N.Clients.left network.old network.new S.sight
+        settings given.now (output.new ≡ output.old) (W.contents output.old)
+        (W.contents output.new) result.0 shelf result.1 }
 {
-    let shelf = opened?;
-    let listener = listen(rt, given.listen, output)?;
+    let memory = rt.alloc();
+    let mut clients = match listen(memory, network, given, output) {
+        Ok(clients) => clients,
+        Err(trouble) => return (Err(trouble), shelf),
+    };
     let Settings { host, directory } = settings;
     let desk = Desk::new(shelf, host);
-    let mut connections = Connections::new(listener, given.count);
-    let mut log = log_of(rt, given.log);
-    let (end, _desk) = serve_rounds(
-        rt,
-        rt.alloc(),
-        &mut connections,
-        limits(given),
-        desk,
-        &directory,
-        errors,
-        &mut log,
-    );
-    ended(end)
+    let mut log = rt.log(given.log);
+    let (end, desk) = serve_rounds(memory, &mut clients, desk, &directory, errors, &mut log);
+    network.end(clients);
+    (ended(end), desk.into_shelf())
 }
 
-/// Serves the connections of an address over a store of `sqlite` as it was opened, as `serve_over`
-/// does.
-fn serve_opened<S: Alter + Drop, W: Write, E: Write>(
-    rt: &HostRuntime,
-    opened: Result<SqlShelf<S, Global>, Fault>,
+/// Serves the connections of a place from an empty desk, whose store stands in memory.
+fn serve_memory<'h, R: Logs<'h> + AllocGlobal, N: Network, W: Write, E: Write>(
+    rt: &'h R,
+    network: &mut N,
     settings: Settings,
-    given: &Serve,
+    given: &Serve<'h>,
     output: &mut W,
     errors: &mut E,
 ) -> Result<(), Trouble>
-    ensures { OpenedServerEnds (sight_over ⊤ ⊤ (state S.Store)) settings given.now.count opened
-        (output.new ≡ output.old)
-        (HasTold given.now.listen.now (W.contents output.old) (W.contents output.new)) result }
+    ensures { MemoryServerEnds N.does N.Clients.does N.Clients.left network.old network.new
+        settings given.now (output.new ≡ output.old) (W.contents output.old)
+        (W.contents output.new) result }
 {
-    serve_over(rt, opened, settings, given, output, errors)
+    let shelf = SqlShelf::open_memory(rt.alloc())?;
+    let (ended, _shelf) = serve_over(rt, network, shelf, settings, given, output, errors);
+    ended
 }
 
-/// Serves the connections of an address from an empty desk, whose store stands in memory.
-fn serve_memory<W: Write, E: Write>(
-    rt: &HostRuntime,
+/// Serves the connections of a place over the store of a path, which is made if it is missing, and
+/// leaves it. If it cannot be opened, the fault is told, and nothing is listened on.
+fn serve_store<'h, R: Logs<'h> + AllocGlobal, N: Network, K: Stores, W: Write, E: Write>(
+    rt: &'h R,
+    network: &mut N,
+    stores: &mut K,
+    path: &str,
     settings: Settings,
-    given: &Serve,
+    given: &Serve<'h>,
     output: &mut W,
     errors: &mut E,
 ) -> Result<(), Trouble>
-    ensures { MemoryServerEnds settings given.now.count (output.new ≡ output.old)
-        (HasTold given.now.listen.now (W.contents output.old) (W.contents output.new)) result }
+    ensures { StoreServerEnds N.does N.Clients.does N.Clients.left network.old network.new
+        K.Store.sight K.does path.now stores.old stores.new settings given.now
+        (output.new ≡ output.old) (W.contents output.old) (W.contents output.new) result }
 {
-    let opened = SqlShelf::open_memory(rt.alloc());
-    serve_opened(rt, opened, settings, given, output, errors)
-}
-
-/// Serves connections over the store of a path, which is made where it is missing. Without a path
-/// the store is empty, and in memory.
-fn serve_stored<W: Write, E: Write>(
-    rt: &HostRuntime,
-    settings: Settings,
-    given: &Serve,
-    output: &mut W,
-    errors: &mut E,
-) -> Result<(), Trouble>
-    ensures { StoreServerEnds ⟦<FileShelf as Shelf>⟧.sight
-        (option_map (λ s. s.now) given.now.store) settings given.now.count
-        (output.new ≡ output.old)
-        (HasTold given.now.listen.now (W.contents output.old) (W.contents output.new)) result }
-{
-    match given.store {
-        None => serve_memory(rt, settings, given, output, errors),
-        Some(path) => serve_opened(rt, open_file(rt, path), settings, given, output, errors),
-    }
+    let store = stores.open(path)?;
+    let (ended, store) = serve_over(rt, network, store, settings, given, output, errors);
+    stores.leave(store);
+    ended
 }
 
 /// Serves HTTP connections for the customers of a directory: listens on the address that is given,
@@ -128,17 +105,25 @@ fn serve_stored<W: Write, E: Write>(
 /// accepted; `Output` where the address cannot be printed; and `Clock` where the clock tells no
 /// moment of the desk.
 ///
-/// Without a store the desk stands in memory and is empty at first: to every customer its replies,
-/// and what is kept of it, are those that it would have alone on the desk.
-pub fn serve_http<W: Write, E: Write>(
-    rt: &HostRuntime,
-    given: &Serve,
+/// Each client is sent the reply to its own request, and nothing else. Without a store the desk
+/// stands in memory and is empty at first: to every customer its replies, and what is kept of it,
+/// are those that it would have alone on the desk. The store of a path is left as the last request
+/// left it.
+pub fn serve_http<'h, R: Files + Logs<'h>, N: Network, K: Stores, W: Write, E: Write>(
+    rt: &'h R,
+    network: &mut N,
+    stores: &mut K,
+    given: &Serve<'h>,
     output: &mut W,
     errors: &mut E,
 ) -> Result<(), Trouble>
-    ensures { ServeEnds ⟦<FileShelf as Shelf>⟧.sight given.now
-        (output.new ≡ output.old) (W.contents output.old) (W.contents output.new) result }
+    ensures { ServeEnds (R.reads rt.now) N.does N.Clients.does N.Clients.left network.old
+        network.new K.Store.sight K.does stores.old stores.new given.now (output.new ≡ output.old)
+        (W.contents output.old) (W.contents output.new) result }
 {
     let settings = set_up(rt, given.host, given.relay_key, given.directory, given.keys)?;
-    serve_stored(rt, settings, given, output, errors)
+    match given.store {
+        None => serve_memory(rt, network, settings, given, output, errors),
+        Some(path) => serve_store(rt, network, stores, path, settings, given, output, errors),
+    }
 }

@@ -3,3 +3,4 @@ pub mod Shelf
 pub mod Stops
 pub mod Migration
 pub mod Opened
+pub mod Stores

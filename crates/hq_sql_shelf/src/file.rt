@@ -42,7 +42,7 @@ fn make(rt: &HostRuntime, path: &str) {
 /// 90 is want of memory, 91 a file that cannot be opened or read, 92 a store that is no desk, and
 /// 93 one whose connection is gone. Where the process or its machine stops behind it, a desk that
 /// is ours is left with the tables that it has (`rests`).
-pub fn open_file(rt: &HostRuntime, path: &str) -> Result<FileShelf, Fault>
+pub(crate) fn open_file(rt: &HostRuntime, path: &str) -> Result<FileShelf, Fault>
     ensures settled { IfOk result (λ s. HasCleanDisk (file_state s.conn)
         → IsSettled (file_state s.conn)) }
     ensures fresh { IfOk result (IsOpened ⟦<FileShelf as Shelf>⟧.sight) }
@@ -75,7 +75,7 @@ fn is_empty(rt: &HostRuntime, path: &str) -> Result<bool, Fault> {
 ///
 /// 90 is want of memory, 91 a file that is not there or cannot be opened or read, 92 a store of
 /// neither version, and 93 one whose connection is gone.
-pub fn migrate_file(rt: &HostRuntime, path: &str) -> Result<u64, Fault> {
+pub(crate) fn migrate_file(rt: &HostRuntime, path: &str) -> Result<u64, Fault> {
     // (an empty file that is opened becomes an empty store)
     if is_empty(rt, path)? {
         return Err(Fault::BadSchema);

@@ -1,32 +1,39 @@
-use Rattle.std.proofs.Common.{Err, refl}
-use Rattle.std.proofs.lemmas.Result.{err_from_is_err_and}
-use Rattle.hq_desk.specs.Desks.{on}
-use Rattle.hq_desk.specs.declared.desk.Desk.{Desk}
-use Rattle.hq_lines.proofs.Told.{rounds_end_as}
+use Rattle.std.proofs.Common.{◌≡◌, Err, sym, subst, ap, ◌∙◌}
 use Rattle.hq_wire.specs.Exchanges.{with_refusals}
-use Rattle.hq_batch.specs.InRounds.{RepliedInRounds}
-use Rattle.hq_batch.specs.Runs.{ServesInRounds}
+use Rattle.hq_desk.specs.Desks.{on, shelf_of}
+use Rattle.hq_batch.specs.InRounds.{RepliedBy}
+use Rattle.hq_batch.specs.Runs.{RoundsRunEnd, ServesInRounds}
+use Rattle.hq_batch.proofs.Ends.{told_of, told_so}
 use Rattle.hq_batch.proofs.running.run_batch_in_rounds.Goals as goal
+use Rattle.hq_batch.proofs.running.run_batch_in_rounds.Goals.{in-Ok, in-Err}
 
-pub returns-in_err-serve_in_rounds : goal.returns-in_err-serve_in_rounds
-returns-in_err-serve_in_rounds g c =
-    let told = err_from_is_err_and c.from_residual.result c.from_residual.ensures.1 in
+pub returns : goal.returns
+returns g c =
     let sight = with_refusals g.M.Memory.refused (on g.S.Shelf.sight) in
     let d = c.args.settings.directory in
     let old = c.new-desk.result in
-    rw (told.1, told.2) (
-      c.in_err-serve_in_rounds.field-0.0,
-      refl,
-      rounds_end_as (λ asked lines. (new : Desk g.row.S.Denot)
-          × RepliedInRounds sight d old asked lines new)
-          (ServesInRounds g.M.Memory.refused g.S.Shelf.sight c.args.settings c.args.shelf)
-          (λ asked lines p. record {
-            old = old;
-            host_is = c.new-desk.ensures.host;
-            shelf_is = c.new-desk.ensures.shelf;
-            new = p.0;
-            replied = p.1;
-          })
-          (λ same. same) _ _ (Err c.in_err-serve_in_rounds.field-0.0)
-          c.in_err-serve_in_rounds.ensures,
-    )
+    let new = c.serve_in_rounds-ended.result.1 in
+    let serves = ServesInRounds g.M.Memory.refused g.S.Shelf.sight c.args.settings c.args.shelf
+    c.into_shelf.result in
+    let told : c.match-ended.ended ≡ told_of c.serve_in_rounds-ended.result.0 =
+    elim c.match-ended.branch [
+      | in-Ok w ↦ w.ended-is ∙ sym (ap told_of w.in-Ok.is)
+      | in-Err w ↦ w.ended-is ∙ ap (λ t. Err t) w.from.ensures ∙ sym (ap told_of w.in-Err.is)
+    ] in
+    subst (RoundsRunEnd serves _ _ _) (sym told)
+    (told_so (RepliedBy sight d old new) serves
+    (λ asked lines p. record {
+      old = old;
+      host_is = c.new-desk.ensures.host;
+      shelf_is = c.new-desk.ensures.shelf;
+      new = new;
+      left_is = sym c.into_shelf.ensures;
+      replied = p;
+    })
+    _ _
+    (λ same. (
+      same.0,
+      same.1,
+      same.2,
+      c.into_shelf.ensures ∙ ap shelf_of same.3 ∙ c.new-desk.ensures.shelf,
+    )) _ _ c.serve_in_rounds-ended.result.0 c.serve_in_rounds-ended.ensures)

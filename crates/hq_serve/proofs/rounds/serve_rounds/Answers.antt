@@ -1,90 +1,92 @@
-use Rattle.std.proofs.Common.{◌≡◌, ◌+◌, length, arith, subst}
+use Rattle.std.proofs.Common.{◌≡◌, ◌+◌, arith, subst}
 use Rattle.hq_desk.specs.Desks.{on}
-use Rattle.hq_wire.specs.Exchanges.{with_refusals}
-use Rattle.hq_serve.specs.Listening.{IsOver, connections_left}
-use Rattle.hq_serve.proofs.InRounds.{ends, none_done, one_more}
+use Rattle.hq_serve.specs.Coming.{EndsWith}
+use Rattle.hq_serve.specs.declared.coming.ServiceEnd.TheVariants.{Clock}
+use Rattle.hq_serve.proofs.InRounds.{ends, is_over, none_done, one_more, waited}
 use Rattle.hq_serve.proofs.rounds.serve_rounds.Goals as goal
-
-pub returns-then-coming-eq0 : goal.returns-then-coming-eq0
-returns-then-coming-eq0 g c =
-    let sight = with_refusals g.M.Memory.refused (on g.S.Shelf.sight) in
-    let none = c.if-coming-eq0.true in
-    let is = c.left-coming.ensures in
-    ends sight c.args.directory.now (connections_left c.args.connections.now)
-    (connections_left c.args.connections.now) 0 _ c.args.desk c.args.desk (omega arith)
-    (none_done sight c.args.directory.now c.args.desk)
-    (λ came counted. omega (arith, none, is))
-
-pub returns-in_default : goal.returns-in_default
-returns-in_default g c =
-    let sight = with_refusals g.M.Memory.refused (on g.S.Shelf.sight) in
-    let some = c.if-coming-eq0.false in
-    let is = c.left-coming.ensures in
-    ends sight c.args.directory.now (connections_left c.args.connections.now)
-    (connections_left c.args.connections.now) 0 _ c.args.desk c.args.desk (omega arith)
-    (none_done sight c.args.directory.now c.args.desk)
-    (λ came counted. omega (arith, some, is))
-
-pub returns-in_default-moment_now : goal.returns-in_default-moment_now
-returns-in_default-moment_now g c =
-    let sight = with_refusals g.M.Memory.refused (on g.S.Shelf.sight) in
-    let few = c.loop.invariant.0 in
-    let fewer = c.admit.ensures in
-    let coming = c.left-coming.ensures in
-    let left = c.left-left.ensures in
-    let came = c.saturating_sub.ensures in
-    let most = c.saturating_sub-most.ensures in
-    let some = c.if-most-eq0.false in
-    ends sight c.args.directory.now (connections_left c.args.connections.now)
-    (connections_left c.admit.new.connections) c.loop.done _ c.args.desk c.loop.desk
-    (omega (arith, few, fewer)) c.loop.invariant.1
-    (λ all counted. omega (arith, few, fewer, coming, left, came, most, some, counted))
-
-pub returns-then-is_over : goal.returns-then-is_over
-returns-then-is_over g c =
-    let sight = with_refusals g.M.Memory.refused (on g.S.Shelf.sight) in
-    let few = c.loop.invariant.0 in
-    let fewer = c.admit.ensures in
-    ends sight c.args.directory.now (connections_left c.args.connections.now)
-    (connections_left c.admit.new.connections) c.loop.done _ c.args.desk c.loop.desk
-    (omega (arith, few, fewer)) c.loop.invariant.1
-    (λ came counted. subst (λ n. IsOver c.end_of.result came n c.loop.done) c.left-left.ensures
-    (c.end_of.ensures came c.loop.done))
-
-pub returns : goal.returns
-returns g c =
-    let sight = with_refusals g.M.Memory.refused (on g.S.Shelf.sight) in
-    ends sight c.args.directory.now (connections_left c.args.connections.now)
-    (connections_left c.loop.connections) c.loop.done _ c.args.desk c.loop.desk
-    c.loop.invariant.0 c.loop.invariant.1
-    (λ came counted. subst (λ n. IsOver c.end_of-2.result came n c.loop.done) c.left.ensures
-    (c.end_of-2.ensures came c.loop.done))
 
 pub loop-init : goal.loop-init
 loop-init g c = (
   omega arith,
-  none_done (with_refusals g.M.Memory.refused (on g.S.Shelf.sight)) c.args.directory.now
-      c.args.desk,
+  none_done g.M.Memory.refused (on g.S.Shelf.sight) c.args.directory.now g.K.Clients.does
+      c.args.clients.now c.args.desk (g.K.Clients.none_does c.args.clients.now),
 )
+
+pub returns-in-Over : goal.returns-in-Over
+returns-in-Over g c =
+    let few = c.loop.invariant.0 in
+    let fewer = c.ready-ready.ensures.fewer in
+    ends g.M.Memory.refused (on g.S.Shelf.sight) c.args.directory.now g.K.Clients.does
+    (g.K.Clients.left c.args.clients.now) (g.K.Clients.left c.ready-ready.new.self) c.loop.done
+    c.in-Over.end c.args.clients.now c.ready-ready.new.self c.args.desk c.loop.desk
+    (omega (arith, few, fewer))
+    (waited g.M.Memory.refused (on g.S.Shelf.sight) c.args.directory.now g.K.Clients.does
+    g.K.Clients.does_on c.loop.done c.args.clients.now c.loop.clients c.ready-ready.new.self
+    c.args.desk c.loop.desk c.loop.invariant.1 c.ready-ready.ensures.nothing)
+    (λ came counted. is_over (g.K.Clients.left c.ready-ready.new.self) c.in-Over.end came
+    c.loop.done (rw c.in-Over.is at c.ready-ready.ensures.ready))
+
+pub loop-preserved-then-most-eq0 : goal.loop-preserved-then-most-eq0
+loop-preserved-then-most-eq0 g c =
+    let few = c.loop.invariant.0 in
+    let fewer = c.ready-ready.ensures.fewer in (
+      omega (arith, few, fewer),
+      waited g.M.Memory.refused (on g.S.Shelf.sight) c.args.directory.now g.K.Clients.does
+          g.K.Clients.does_on c.loop.done c.args.clients.now c.loop.clients
+          c.ready-ready.new.self c.args.desk c.loop.desk c.loop.invariant.1
+          c.ready-ready.ensures.nothing,
+    )
+
+pub returns-then-eq-2 : goal.returns-then-eq-2
+returns-then-eq-2 g c =
+    let few = c.loop.invariant.0 in
+    let fewer = c.ready-ready.ensures.fewer in
+    let coming = c.left-coming.ensures in
+    let left = c.left.ensures in
+    let came = c.saturating_sub-came.ensures in
+    let most = c.saturating_sub-most.ensures in
+    let some = c.if-most-eq0.false in
+    ends g.M.Memory.refused (on g.S.Shelf.sight) c.args.directory.now g.K.Clients.does
+    (g.K.Clients.left c.args.clients.now) (g.K.Clients.left c.ready-ready.new.self) c.loop.done
+    Clock c.args.clients.now c.ready-ready.new.self c.args.desk c.loop.desk
+    (omega (arith, few, fewer))
+    (waited g.M.Memory.refused (on g.S.Shelf.sight) c.args.directory.now g.K.Clients.does
+    g.K.Clients.does_on c.loop.done c.args.clients.now c.loop.clients c.ready-ready.new.self
+    c.args.desk c.loop.desk c.loop.invariant.1 c.ready-ready.ensures.nothing)
+    (λ all counted. omega (arith, few, fewer, coming, left, came, most, some, counted))
 
 pub loop-preserved : goal.loop-preserved
 loop-preserved g c =
-    let sight = with_refusals g.M.Memory.refused (on g.S.Shelf.sight) in
     let few = c.loop.invariant.0 in
-    let fewer = c.admit.ensures in
+    let fewer = c.ready-ready.ensures.fewer in
     let coming = c.left-coming.ensures in
-    let left = c.left-left.ensures in
-    let came = c.saturating_sub.ensures in
+    let left = c.left.ensures in
+    let came = c.saturating_sub-came.ensures in
     let most = c.saturating_sub-most.ensures in
-    let len = c.len.ensures in
-    let bound = c.take_round-round_of.ensures in
+    let bound = c.take_round-round_of.ensures.few in
     let sum = c.saturating_add-done.ensures in
-    let is : c.saturating_add-done.result
-    ≡ c.loop.done + length c.take_round-round_of.result.exchanges.items =
-    omega (arith, few, fewer, coming, left, came, most, len, bound, sum) in (
-      omega (arith, few, fewer, coming, left, came, most, len, bound, is),
-      one_more sight c.args.directory.now c.loop.done
-          (length c.take_round-round_of.result.exchanges.items) c.saturating_add-done.result
-          c.args.desk c.loop.desk c.do_round-desk.result is c.loop.invariant.1
-          c.do_round-desk.ensures,
+    let limit = c.left-coming.type_inv in
+    let stays = c.take_round-round_of.ensures.left in
+    let stayed = c.do_round-desk.ensures.left in
+    let is : c.saturating_add-done.result ≡ c.loop.done + c.take_round-round_of.result.taken =
+    omega (arith, few, fewer, coming, left, came, most, bound, sum, limit) in (
+      omega (arith, few, fewer, coming, left, came, most, bound, is, stays, stayed),
+      one_more g.M.Memory.refused (on g.S.Shelf.sight) c.args.directory.now g.K.Clients.does
+          g.K.Clients.does_on c.loop.done c.saturating_add-done.result c.args.clients.now
+          c.ready-ready.new.self c.take_round-round_of.new.clients c.do_round-desk.new.clients
+          c.take_round-round_of.result c.args.desk c.loop.desk c.do_round-desk.result is
+          (waited g.M.Memory.refused (on g.S.Shelf.sight) c.args.directory.now g.K.Clients.does
+          g.K.Clients.does_on c.loop.done c.args.clients.now c.loop.clients
+          c.ready-ready.new.self c.args.desk c.loop.desk c.loop.invariant.1
+          c.ready-ready.ensures.nothing)
+          c.take_round-round_of.ensures.taken c.do_round-desk.ensures.replies,
     )
+
+pub returns : goal.returns
+returns g c =
+    ends g.M.Memory.refused (on g.S.Shelf.sight) c.args.directory.now g.K.Clients.does
+    (g.K.Clients.left c.args.clients.now) (g.K.Clients.left c.loop.clients) c.loop.done
+    c.end_of.result c.args.clients.now c.loop.clients c.args.desk c.loop.desk
+    c.loop.invariant.0 c.loop.invariant.1
+    (λ came counted. is_over (g.K.Clients.left c.loop.clients) c.end_of.result came c.loop.done
+    (subst (λ n. EndsWith n c.end_of.result) c.left-2.ensures c.end_of.ensures))

@@ -1,13 +1,11 @@
 use Rattle.std.proofs.Common.{◌+◌, ◌≤◌}
 use Rattle.hq_desk.specs.Desks.{on}
-use Rattle.hq_wire.specs.Exchanges.{with_refusals}
-use Rattle.hq_serve.specs.Listening.{connections_left}
 use Rattle.hq_serve.proofs.InRounds.{RoundsDone}
 use Rattle.hq_serve.proofs.rounds.serve_rounds.Given as goal
 
--- so far the desk did no more exchanges than connections came
+-- so far no more clients were taken than connections came, and the desk did their rounds
 abbrev pub invariant-loop : goal.invariant-loop
 invariant-loop g l =
-    let sight = with_refusals g.M.Memory.refused (on g.S.Shelf.sight) in
-    (l.done + connections_left l.connections ≤ connections_left l.fn.connections)
-    × RoundsDone sight l.directory l.done l.fn.desk l.desk
+    (l.done + g.K.Clients.left l.clients ≤ g.K.Clients.left l.fn.clients)
+    × RoundsDone g.M.Memory.refused (on g.S.Shelf.sight) l.directory g.K.Clients.does l.done
+    l.fn.clients l.clients l.fn.desk l.desk

@@ -7,15 +7,16 @@ use Rattle.hq_settings.specs.declared.trouble.Trouble.TheVariants.{Desk}
 use Rattle.hq_settings.proofs.setting_up.set_up.Goals as goal
 
 pub returns-in_err-customers : goal.returns-in_err-customers
-returns-in_err-customers c = (
+returns-in_err-customers g c = (
   Ok (relay_seen c.in_ok-relay.relay),
   c.in_ok-relay.ensures,
   (Err c.in_err-customers.field-0.0, c.in_err-customers.ensures.customers, search rules),
 )
 
 pub returns-in_err-named : goal.returns-in_err-named
-returns-in_err-named c =
-    let keys = subst (λ cs. HasKeys cs (option_map (λ k. k.now) c.args.keys)
+returns-in_err-named g c =
+    let reads = g.F.Files.reads c.args.rt.now in
+    let keys = subst (λ cs. HasKeys reads cs (option_map (λ k. k.now) c.args.keys)
     (Err c.in_err-named.field-0.0)) c.as_slice.ensures.value c.in_err-named.ensures.keys in (
       Ok (relay_seen c.in_ok-relay.relay),
       c.in_ok-relay.ensures,
@@ -27,8 +28,9 @@ returns-in_err-named c =
     )
 
 pub returns-in_err-with_keys : goal.returns-in_err-with_keys
-returns-in_err-with_keys c =
-    let keys = subst (λ cs. HasKeys cs (option_map (λ k. k.now) c.args.keys)
+returns-in_err-with_keys g c =
+    let reads = g.F.Files.reads c.args.rt.now in
+    let keys = subst (λ cs. HasKeys reads cs (option_map (λ k. k.now) c.args.keys)
     (Ok c.in_ok-named.named.items)) c.as_slice.ensures.value c.in_ok-named.ensures.keys in
     let told : c.from_residual-in_err-with_keys.result ≡ Err (Desk c.in_err-with_keys.field-0.0) =
     search rules in
@@ -44,8 +46,9 @@ returns-in_err-with_keys c =
     )
 
 pub returns : goal.returns
-returns c =
-    let keys = subst (λ cs. HasKeys cs (option_map (λ k. k.now) c.args.keys)
+returns g c =
+    let reads = g.F.Files.reads c.args.rt.now in
+    let keys = subst (λ cs. HasKeys reads cs (option_map (λ k. k.now) c.args.keys)
     (Ok c.in_ok-named.named.items)) c.as_slice.ensures.value c.in_ok-named.ensures.keys in (
       Ok (relay_seen c.in_ok-relay.relay),
       c.in_ok-relay.ensures,

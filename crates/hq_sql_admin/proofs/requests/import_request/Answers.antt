@@ -4,21 +4,21 @@ use Rattle.hq_settings.proofs.Failing.{failed}
 use Rattle.hq_sql_admin.proofs.requests.import_request.Goals as goal
 
 pub returns-in_err-host : goal.returns-in_err-host
-returns-in_err-host c = (
+returns-in_err-host g c = (
   Err (Desk c.in_err-host.field-0.0),
   failed _ _ _ c.in_err-host.ensures,
   search rules,
 )
 
 pub returns-in_err-entry : goal.returns-in_err-entry
-returns-in_err-entry c = (
+returns-in_err-entry g c = (
   Ok c.in_ok-host.host,
   c.in_ok-host.ensures,
   (Err c.in_err-entry.field-0.0, c.in_err-entry.ensures, search rules),
 )
 
 pub returns-in_err-label : goal.returns-in_err-label
-returns-in_err-label c = (
+returns-in_err-label g c = (
   Ok c.in_ok-host.host,
   c.in_ok-host.ensures,
   (
@@ -29,7 +29,7 @@ returns-in_err-label c = (
 )
 
 pub returns-in_err-lines : goal.returns-in_err-lines
-returns-in_err-lines c = (
+returns-in_err-lines g c = (
   Ok c.in_ok-host.host,
   c.in_ok-host.ensures,
   (
@@ -44,7 +44,7 @@ returns-in_err-lines c = (
 )
 
 pub returns : goal.returns
-returns c = (
+returns g c = (
   Ok c.in_ok-host.host,
   c.in_ok-host.ensures,
   (
@@ -53,7 +53,7 @@ returns c = (
     (
       Ok c.in_ok-label.label,
       c.in_ok-label.ensures,
-      (Ok c.in_ok-lines.lines.items, tt, search rules),
+      (Ok c.in_ok-lines.lines.items, c.in_ok-lines.ensures, search rules),
     ),
   ),
 )

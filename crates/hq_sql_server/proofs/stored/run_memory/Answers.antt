@@ -1,6 +1,14 @@
-use Rattle.hq_sql_server.proofs.Memory.{memory_ends}
+use Rattle.std.specs.Prelude.{⊤}
+use Rattle.std.proofs.Common.{inl}
+use Rattle.hq_batch.specs.Runs.{ServesOver}
+use Rattle.hq_batch.proofs.Ends.{run_ends_as}
+use Rattle.hq_sql_server.specs.Stored.{memory, ServesFromEmpty}
+use Rattle.hq_sql_server.proofs.Memory.{serves}
 use Rattle.hq_sql_server.proofs.stored.run_memory.Goals as goal
 
 pub returns : goal.returns
-returns g c = memory_ends c.args.settings c.open_memory-opened.result _ _ _ c.run_opened.result
-    c.open_memory-opened.ensures.ours c.open_memory-opened.ensures.empty c.run_opened.ensures
+returns g c =
+    let shelf = c.in_ok-shelf.shelf in
+    inl (run_ends_as (ServesOver ⊤ memory c.args.settings shelf) (ServesFromEmpty c.args.settings)
+    (serves c.args.settings shelf c.in_ok-shelf.ensures.ours c.in_ok-shelf.ensures.empty) _ _
+    (λ same. (same.1, same.2)) _ _ c.run_batch.result c.run_batch.ensures)

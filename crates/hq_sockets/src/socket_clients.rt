@@ -1,0 +1,154 @@
+//! The clients of a listening socket.
+
+ghost use Rattle.std.specs.Prelude.{◌≡◌, [], IfSome};
+ghost use Rattle.hq_serve.specs.Connections.{response_of};
+ghost use Rattle.hq_wire.specs.Replies.{seen};
+ghost use Rattle.hq_sockets.specs.Held.{IsHistory};
+
+use crate::deadlines::Limits;
+use crate::listening::moment_now;
+use crate::talking::Listener;
+use crate::waiting::Waiting;
+use hq_http::write_response;
+use hq_memory::Memory;
+use hq_serve::{Came, Clients, Ready, end_of};
+use hq_values::Moment;
+use hq_wire::Reply;
+use mio::Poll;
+use std::alloc::Global;
+use std::io::Write;
+use std::rt::Clock;
+use std::time::Instant;
+
+/// A reply as a response; `None` if there is no memory for it.
+fn response_of(alloc: Global, reply: &Reply<'_>) -> Option<Vec<u8>>
+    ensures { IfSome result (λ bytes. bytes.items ≡ response_of (seen reply.now)) }
+{
+    let mut bytes = Vec::new(alloc);
+    match write_response(&mut bytes, reply.status, reply.body.as_bytes()) {
+        Ok(()) => Some(bytes),
+        Err(_) => None,
+    }
+}
+
+/// The clients of a listening socket, of which so many are to come. No client waits for another
+/// that is slow, or takes nothing: 256 at once at most are read and written as far as their sockets
+/// go. While responses hold 64 MB, no more requests are taken. A round waits up to 10 milliseconds
+/// for clients of the one before it, so that they share its commit. A client that fails, or exceeds
+/// a limit, is told in a line: `hq: input` while its request comes, and `hq: output` while its
+/// response leaves.
+///
+/// What is taken of a client is what its own bytes ask, however they are cut. What is sent to it is
+/// its own response, or a beginning of it, and nothing else.
+///
+/// After a response, further bytes of a client are thrown away until the client ends its side, for
+/// a second and 4,096 reads at most. Else the connection would be reset, and its response lost.
+#[derive(Drop)]
+pub struct SocketClients<'h, T, L, C, M> {
+    clock: &'h T,
+    waiting: Waiting<L, C, M>,
+    limits: Limits,
+    at: Moment,
+    now: Option<Instant>,
+}
+
+impl<'h, T: Clock + AllocGlobal, L: Listener + Drop, M: Memory> SocketClients<
+    'h,
+    T,
+    L,
+    L::Connection,
+    M,
+> {
+    /// Those of a socket, which `poll` watches, and which take room from `memory`; `None` if it
+    /// cannot be watched, or there is no room.
+    pub fn new(
+        clock: &'h T,
+        memory: M,
+        poll: Poll,
+        listener: L,
+        count: u32,
+        limits: Limits,
+    ) -> Option<SocketClients<'h, T, L, L::Connection, M>>
+        ensures history { IfSome result (λ clients. IsHistory M.refused L.Connection.talks
+            L.Connection.ends L.does
+            listener clients.waiting.connections.listener [] clients.waiting.slots.held.items) }
+        ensures left { IfSome result (λ clients. clients.waiting.connections.left ≡ count) }
+    {
+        match Waiting::new(clock.alloc(), memory, poll, listener, count) {
+            Some(waiting) => Some(SocketClients {
+                clock,
+                waiting,
+                limits,
+                at: Moment::no_later(0),
+                now: None,
+            }),
+            None => None,
+        }
+    }
+}
+
+impl<T: Clock + AllocGlobal, L: Listener + Drop, M: Memory> Clients
+    for SocketClients<'_, T, L, L::Connection, M> {
+    ghost use Rattle.hq_sockets.specs.Waiting.{waiting_does};
+    ghost use Rattle.hq_sockets.specs.Leads.{leads_nowhere, leads_on};
+    ghost use Rattle.std.proofs.Common.{refl};
+
+    ghost does = { λ old events new. waiting_does M.refused L.Connection.talks L.Connection.ends
+        L.does old.waiting
+        events new.waiting };
+
+    ghost none_does = { λ state. leads_nowhere M.refused L.Connection.talks L.Connection.ends L.does
+        state.waiting.connections.listener state.waiting.slots.held.items };
+
+    ghost does_on = { λ old mid new events more p q. leads_on M.refused L.Connection.talks
+        L.Connection.ends L.does
+        old.waiting.connections.listener mid.waiting.connections.listener
+        new.waiting.connections.listener old.waiting.slots.held.items mid.waiting.slots.held.items
+        new.waiting.slots.held.items events more _ refl p q };
+
+    ghost left = { λ clients. clients.waiting.connections.left };
+
+    fn left(&self) -> u32 {
+        self.waiting.left()
+    }
+
+    fn ready<E: Write>(&mut self, errors: &mut E) -> Ready {
+        self.now = Instant::now(self.clock).ok();
+        self.waiting.admit(self.limits, self.now, errors);
+        self.waiting.turn(self.limits, self.now, errors);
+        if self.waiting.is_over() {
+            return Ready::Over(end_of(self.waiting.left()));
+        }
+        if !self.waiting.is_ready(self.now) {
+            self.waiting.wait(self.now);
+            return Ready::Waits;
+        }
+        let Some(at) = moment_now(self.clock) else {
+            return Ready::NoMoment;
+        };
+        self.at = at;
+        Ready::Begins
+    }
+
+    fn next(&mut self, has_begun: bool) -> Option<Came> {
+        match self.waiting.next_asked(has_begun) {
+            Some((client, asked)) => Some(Came {
+                client,
+                at: self.at,
+                asked,
+            }),
+            None => None,
+        }
+    }
+
+    fn round_done(&mut self, calls: usize) {
+        let begun = self.now;
+        self.now = Instant::now(self.clock).ok();
+        self.waiting.round_done(calls, begun, self.now);
+    }
+
+    fn answer(&mut self, client: usize, reply: &Reply<'_>) {
+        let response = response_of(self.clock.alloc(), reply);
+        self.waiting.answer(client, response, self.limits, self.now);
+    }
+}

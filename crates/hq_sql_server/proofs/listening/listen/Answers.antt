@@ -1,0 +1,20 @@
+use Rattle.std.proofs.Common.{◌≡◌, ◌∷◌, [], Some, subst}
+use Rattle.hq_network.specs.Networks.{ended, listened}
+use Rattle.hq_sockets.specs.declared.deadlines.Limits.{Limits}
+use Rattle.hq_sql_server.specs.Listening.{limits_of}
+use Rattle.hq_sql_server.proofs.Untold.{untold_so}
+use Rattle.hq_sql_server.proofs.listening.listen.Goals as goal
+
+pub returns-in-Err : goal.returns-in-Err
+returns-in-Err g c =
+    let text = c.args.given.now.listen.now in
+    let limits = limits_of c.args.given.now in
+    untold_so g.N.Network.does text limits c.args.network.now c.end.new.self
+    (c.tell_place.new.output ≡ c.args.output.now) c.in-Some.clients
+    (g.N.Network.does_on c.args.network.now c.listen.new.self c.end.new.self
+    (listened text limits (Some c.in-Some.clients) ∷ []) (ended c.in-Some.clients ∷ [])
+    (subst (λ (l : Limits). g.N.Network.does c.args.network.now
+    (listened text l (Some c.in-Some.clients) ∷ []) c.listen.new.self) c.limits.ensures
+    c.in-Some.ensures.listened)
+    c.end.ensures)
+    c.in-Err.trouble c.in-Err.ensures

@@ -1,0 +1,1 @@
+"""Whose turn it is, who has something new, and who comes and goes."""

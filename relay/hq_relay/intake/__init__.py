@@ -1,0 +1,1 @@
+"""Mail comes in from Postfix, and is submitted to the desk."""

@@ -1,0 +1,1 @@
+"""Notices of the desk, and of deliveries, as mail."""

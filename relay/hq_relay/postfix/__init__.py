@@ -1,0 +1,1 @@
+"""Both instances of Postfix: their configuration, their queue, their log and their reports."""

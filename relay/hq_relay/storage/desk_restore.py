@@ -1,0 +1,112 @@
+"""The command `restored`, after the desk's store came back from a backup.
+
+The book is fitted to the desk, and lost mail is submitted again.
+"""
+from dataclasses import replace
+
+from hq_relay import log
+from hq_relay.desk.client import Desk, Refused
+from hq_relay.outcome import Outcome, Result
+from hq_relay.settings import Settings
+from hq_relay.storage.attempts import Attempts
+from hq_relay.storage.book import Book
+from hq_relay.storage.spool import Envelope, Spool
+from hq_relay.storage.spool_names import SpoolNames
+
+
+class DeskRestore:
+    """Intake and delivery are stopped meanwhile. It may be run again at any time."""
+
+    def __init__(self, settings: Settings, desk: Desk, spool: Spool, book: Book):
+        self.desk, self.spool, self.book = desk, spool, book
+        self.customers, self.attempts = settings.customers, Attempts(book)
+        self.names = SpoolNames(desk, spool, book)
+
+    def restore(self) -> None:
+        for customer in self.customers:
+            self.reset_notices(customer)
+            self.book.forget_messages(customer)
+            queued = {spool: id for id, spool in self.names.queued(customer).items()}
+            self.end_finished(customer, queued)
+            self.submit_lost(customer, queued)
+            self.move_reports(customer, queued)
+            self.move_attempts(customer, queued)
+
+    def reset_notices(self, customer: str) -> None:
+        """Numbers go on from the last one that the desk has."""
+        numbers = [*self.desk.notice_numbers(customer)]
+        greatest, mailed = max(numbers, default=0), self.book.last_notice(customer)
+        if mailed > greatest:
+            self.book.set_back(customer, greatest)
+            log.warning("notices numbered anew", customer=customer, mailed=mailed, now=greatest)
+
+    def end_finished(self, customer: str, queued: dict[str, str]) -> None:
+        """Ends messages that the desk has again, and that were finished since the backup."""
+        for spool, id in queued.items():
+            message = self.desk.message(customer, id)
+            if message and self.book.is_finished(spool):
+                outcomes = [Outcome(recipient, Result.DELIVERED) for recipient in message.pending]
+                self.desk.outcome(customer, id, message.attempts + 1, outcomes).reply()
+                log.warning("told as delivered", customer=customer, id=id, spool=spool,
+                            means="it was finished since the backup")
+            elif message:
+                log.warning("may come twice", customer=customer, id=id, spool=spool,
+                            sender=message.sender, means="if it was sent since the backup")
+
+    def submit_lost(self, customer: str, queued: dict[str, str]) -> None:
+        """Submits mail again that was taken, and that the desk does not have any more."""
+        for spool, known in self.book.uncleaned(customer).items():
+            if spool in queued or known.is_finished:
+                continue
+            with self.spool.opened(spool) as kept:
+                if not kept:
+                    continue
+            self.submit(customer, kept.envelope, spool, kept.size, queued)
+
+    def submit(self, customer: str, envelope: Envelope, spool: str, size: int,
+               queued: dict[str, str]) -> None:
+        """Submits a message again, and adds its queue ID. If it gets none, it is put aside."""
+        words = {"customer": customer, "spool": spool, "sender": envelope.sender,
+                 "recipient": envelope.recipient}
+        id = None
+        try:
+            reply = self.desk.submit(customer, spool, envelope.sender, envelope.recipient, size)
+            id, why = reply.id, reply.verdict
+        except Refused as refusal:
+            why = str(refusal)
+        if id:
+            queued[spool] = id
+            self.names.record(customer, id, spool)
+            means = "comes back if it had been deleted or had expired in the last day"
+            log.warning("submitted again", means=means, **words)
+        else:
+            self.spool.put_aside(spool)
+            log.error("put aside", why=why, means="tell its sender", **words)
+
+    def move_reports(self, customer: str, queued: dict[str, str]) -> None:
+        """Outcomes that the desk lacks go to the message of their name, as its next attempt."""
+        for spool in self.book.unreported(customer):
+            report = self.book.report(customer, spool)
+            if not report:
+                continue
+            message = self.desk.message(customer, queued[spool]) if spool in queued else None
+            if message:
+                moved = replace(report, id=message.id, attempt=message.attempts + 1)
+                self.book.moved(moved)
+            else:
+                self.book.reported(report)
+                log.warning("outcome dropped", customer=customer, id=report.id, spool=spool)
+
+    def move_attempts(self, customer: str, queued: dict[str, str]) -> None:
+        """Attempts under way go to the message of their name, as its next attempt."""
+        for attempt in self.attempts.under_way():
+            if attempt.customer != customer:
+                continue
+            id = queued.get(attempt.spool)
+            message = self.desk.message(customer, id) if id else None
+            if message:
+                self.attempts.moved(attempt, message.id, message.attempts + 1)
+            else:
+                self.attempts.resolved(attempt, [])
+                log.warning("attempt dropped", customer=customer, id=attempt.id,
+                            spool=attempt.spool)

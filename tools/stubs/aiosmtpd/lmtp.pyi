@@ -1,0 +1,3 @@
+from aiosmtpd.smtp import SMTP
+
+class LMTP(SMTP): ...
