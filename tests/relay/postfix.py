@@ -264,12 +264,16 @@ class Postfix(Instance):
             yield client
 
     def offer(self, sender, recipients, subject="tried", login=None):
-        """A client brings one message; the recipients that are refused in its session, and how."""
+        """A client brings one message; the recipients that are refused in its session, and how. A
+        message that is refused after its content, as one is that another took the room of, is refused
+        for each."""
         with self.session(login) as client:
             try:
                 return client.sendmail(sender, recipients, text_of(sender, recipients, subject))
             except smtplib.SMTPRecipientsRefused as error:
                 return error.recipients
+            except smtplib.SMTPDataError as error:
+                return dict.fromkeys(recipients, (error.smtp_code, error.smtp_error))
 
     def take(self, sender, recipients, subject="tried", login=None):
         """Takes one message in."""

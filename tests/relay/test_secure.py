@@ -178,12 +178,16 @@ def test_over_tls(tried):
 def test_falls_back(tried):
     """A host whose STARTTLS fails gets the mail in plain text, at the second attempt, with one
     report; nothing comes back before."""
+    # (Postfix sends in plain text at once what waited for so long before its first attempt, as mail
+    # may on a machine that has much to do)
+    tried.instance.set(minimal_backoff_time="10s")
     envelope = tried.hand_over("bob@broken.example")
     tried.expect_outcome(envelope, "delivered", "taken")
     expect(tried.arrived("broken.example") == CONTENT, "it got", tried.hosts["broken.example"].mail)
     over_tls = tried.hosts["broken.example"].over_tls
     expect(over_tls == [False], "over TLS came", over_tls)
     expect("status=deferred (Cannot start TLS" in tried.instance.told(), "no attempt was by TLS")
+    tried.instance.set(minimal_backoff_time="1s")
 
 
 def test_wanted_by_policy(tried):
