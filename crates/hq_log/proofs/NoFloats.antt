@@ -17,8 +17,9 @@ shown_no_float : (t : Option (List ℕ)) → has_float (shown_or_null t) ≡ fal
 shown_no_float None = refl
 shown_no_float (Some t) = refl
 
-pub members_have_no_float : (e : LogEntry) → has_float (log_members e) ≡ false
+pub members_have_no_float : (e : LogEntry) (milliseconds : Option ℕ) →
+    has_float (log_members e milliseconds) ≡ false
 unfolding log_members
-members_have_no_float e = rw (number_no_float e.at) (rw (text_no_float (customer_in e.whose))
+members_have_no_float e milliseconds = rw (number_no_float e.at) (rw (text_no_float (customer_in e.whose))
     (rw (number_no_float (error_told e.status e.body)) (rw (shown_no_float e.method)
-    (rw (number_no_float e.milliseconds) (rw (shown_no_float e.path) refl)))))
+    (rw (number_no_float milliseconds) (rw (shown_no_float e.path) refl)))))

@@ -13,7 +13,7 @@ use Rattle.hq_requests.specs.Directories.{Whose}
 use Rattle.hq_requests.specs.Named.{whose_told}
 use Rattle.hq_log.specs.declared.entry.ExchangeEntry.{ExchangeEntry}
 
--- What is told of an exchange.
+-- What is told of an exchange, but for how long it took.
 pub record LogEntry : Type 0 where
   pub at : Option ℕ
   pub whose : Option Whose
@@ -21,7 +21,6 @@ pub record LogEntry : Type 0 where
   pub path : Option (List ℕ)
   pub status : ℕ
   pub body : List ℕ
-  pub milliseconds : Option ℕ
 
 -- as the code has it
 abbrev pub entry_seen : ExchangeEntry → LogEntry
@@ -32,7 +31,6 @@ entry_seen e = record {
   path = option_map (λ p. p.now) e.path;
   status = e.reply.now.status;
   body = body_bytes e.reply.now.body;
-  milliseconds = e.milliseconds;
 }
 
 abbrev pub number_or_null : Option ℕ → Data
@@ -69,14 +67,14 @@ customer_in = option_map (λ whose. whose.customer)
 abbrev pub key_name_in : Option Whose → Option (List ℕ)
 key_name_in = option_and_then (λ whose. whose.key)
 
--- No key stands here, and no body.
-unfoldable pub log_members : LogEntry → Data
-log_members e = having (
+-- with how long it took: no key stands here, and no body
+unfoldable pub log_members : LogEntry → Option ℕ → Data
+log_members e milliseconds = having (
     (codes "at", number_or_null e.at) ∷
     (codes "customer", text_or_null (customer_in e.whose)) ∷
     (codes "error", number_or_null (error_told e.status e.body)) ∷
     (codes "method", shown_or_null e.method) ∷
-    (codes "milliseconds", number_or_null e.milliseconds) ∷
+    (codes "milliseconds", number_or_null milliseconds) ∷
     (codes "path", shown_or_null e.path) ∷
     (codes "status", count e.status) ∷
     [])
@@ -115,14 +113,14 @@ abbrev pub sweep_told : LogEntry → List ℕ → List ℕ
 sweep_told e object = if is_sweep_of_all e then
     with_last (codes ",\"told\":") e.body (codes "}") object else object
 
-abbrev pub log_text : LogEntry → List ℕ
-log_text e = sweep_told e (cut_told e
-    (key_told (key_name_in e.whose) (compact_text (log_members e))))
+abbrev pub log_text : LogEntry → Option ℕ → List ℕ
+log_text e milliseconds = sweep_told e (cut_told e
+    (key_told (key_name_in e.whose) (compact_text (log_members e milliseconds))))
 
-abbrev pub log_line : LogEntry → List ℕ
-log_line e = log_text e ++ 10 ∷ []
+abbrev pub log_line : LogEntry → Option ℕ → List ℕ
+log_line e milliseconds = log_text e milliseconds ++ 10 ∷ []
 
--- behind lines that were lost, of which a part may stand there, it begins with LF
-abbrev pub log_line_behind : Bool → LogEntry → List ℕ
-log_line_behind true e = 10 ∷ log_line e
-log_line_behind false e = log_line e
+-- after a line that was lost, of which a part may be there, it begins with LF
+abbrev pub log_line_after : Bool → LogEntry → Option ℕ → List ℕ
+log_line_after true e milliseconds = 10 ∷ log_line e milliseconds
+log_line_after false e milliseconds = log_line e milliseconds

@@ -142,7 +142,8 @@ impl ExchangeEntry<'_> {
     /// All but that something is cut, and what was told of a sweep of all.
     #[tactic(auto, unfolding(crate::specs::Lines::log_members))]
     fn members(&self, alloc: Global) -> Result<Value, AllocError>
-        ensures { IfOk result (λ v. view v ≡ lines.log_members (lines.entry_seen self.now)) }
+        ensures { IfOk result (λ v. view v
+            ≡ lines.log_members (lines.entry_seen self.now) self.now.milliseconds) }
     {
         let at = number_value(self.at.map(|at| at.get()));
         let customer = text_value(alloc, customer_told(self.reply))?;
@@ -160,14 +161,15 @@ impl ExchangeEntry<'_> {
     #[tactic(auto, using(crate::proofs::NoFloats::members_have_no_float))]
     fn members_text(&self, alloc: Global) -> Result<Vec<u8>, AllocError>
         ensures { IfOk result (λ bytes. bytes.items
-            ≡ compact_text (lines.log_members (lines.entry_seen self.now))) }
+            ≡ compact_text (lines.log_members (lines.entry_seen self.now) self.now.milliseconds)) }
     {
         self.members(alloc)?.to_vec(alloc)
     }
 
     /// The line, with its line feed; or want of memory.
     pub fn line(&self, alloc: Global) -> Result<Vec<u8>, AllocError>
-        ensures { IfOk result (λ bytes. bytes.items ≡ lines.log_line (lines.entry_seen self.now)) }
+        ensures { IfOk result (λ bytes. bytes.items
+            ≡ lines.log_line (lines.entry_seen self.now) self.now.milliseconds) }
     {
         let mut line = self.members_text(alloc)?;
         if let Some(name) = key_told(self.reply) {
@@ -181,5 +183,20 @@ impl ExchangeEntry<'_> {
         }
         line.push(b'\n')?;
         Ok(line)
+    }
+
+    /// The line, after a line feed if the line before was lost; or want of memory.
+    pub(crate) fn line_after(&self, is_losing: bool, alloc: Global) -> Result<Vec<u8>, AllocError>
+        ensures { IfOk result (λ bytes. bytes.items
+            ≡ lines.log_line_after is_losing (lines.entry_seen self.now) self.now.milliseconds) }
+    {
+        let line = self.line(alloc)?;
+        if !is_losing {
+            return Ok(line);
+        }
+        let mut after = Vec::new(alloc);
+        after.push(b'\n')?;
+        after.extend_from_slice(line.as_slice())?;
+        Ok(after)
     }
 }

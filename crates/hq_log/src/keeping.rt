@@ -19,51 +19,60 @@ pub struct Answered<'e> {
     pub reply: &'e Reply<'e>,
 }
 
-/// What keeps a log of exchanges. Nothing of a desk and of a reply depends on it.
+/// What keeps a log of exchanges. Nothing of a desk and of a reply depends on it. What it was told
+/// is a fact of this value alone: it is obtained by telling it, and by nothing else.
 pub trait Log {
-    ghost use Rattle.std.specs.Prelude.{List, ℕ, Option, Bool, ◌≡◌, false};
-    ghost use Rattle.hq_log.specs.Entries.{IsTold};
+    ghost use Rattle.std.specs.Prelude.{List, [], ◌∷◌, ◌++◌};
+    ghost use Rattle.hq_log.specs.Entries.{Telling, answered_entry};
+    ghost use Rattle.hq_log.specs.Lines.{LogEntry};
 
-    /// What it holds, where that is known.
-    ghost contents: { Self → Option (List ℕ) };
+    // from one state to another it was told this, in this order, and nothing else
+    ghost tells: { Telling Self };
 
-    /// Whether lines are lost.
-    ghost is_losing: { Self → Bool };
+    // nothing was
+    ghost none_told: { (log : Self) → tells log [] log };
+
+    // one after another
+    ghost told_on: { (old mid new : Self) (told more : List LogEntry) → tells old told mid
+        → tells mid more new → tells old (told ++ more) new };
 
     /// An exchange begins: its time counts from here.
     fn begin(&mut self)
-        ensures contents { contents self.new ≡ contents self.old }
-        ensures losing { is_losing self.new ≡ is_losing self.old };
+        ensures { tells self.old [] self.new };
 
-    /// One was replied to: it is told in a line, or lines are lost.
+    /// One was replied to: it is told.
     fn replied(&mut self, answered: &Answered<'_>)
-        ensures { is_losing self.new ≡ false → IsTold answered.now (is_losing self.old)
-            (contents self.old) (contents self.new) };
+        ensures { tells self.old (answered_entry answered.now ∷ []) self.new };
 }
 
-/// No log: every line is lost.
+/// No log: what it is told is lost.
 #[derive(Clone, Copy, Debug)]
 pub struct NoLog;
 
 impl Log for NoLog {
-    ghost use Rattle.std.specs.Prelude.{None, true};
+    ghost use Rattle.std.specs.Prelude.{⊤};
 
-    ghost contents = { λ _. None };
+    ghost tells = { λ _ _ _. ⊤ };
 
-    ghost is_losing = { λ _. true };
+    ghost none_told = { λ _. tt };
+
+    ghost told_on = { λ _ _ _ _ _ _ _. tt };
 
     fn begin(&mut self) {}
 
     fn replied(&mut self, _answered: &Answered<'_>) {}
 }
 
-/// A log that may be there: without one, every line is lost.
+/// A log that may be there: without one, what it is told is lost.
 impl<L: Log> Log for Option<L> {
-    ghost use Rattle.hq_log.specs.Entries.{of_some, loses_all};
+    ghost use Rattle.hq_log.specs.Entries.{tells_some};
+    ghost use Rattle.hq_log.specs.InOrder.{some_none, some_on};
 
-    ghost contents = { of_some L.contents };
+    ghost tells = { tells_some L.tells };
 
-    ghost is_losing = { loses_all L.is_losing };
+    ghost none_told = { some_none L.tells L.none_told };
+
+    ghost told_on = { some_on L.tells L.told_on };
 
     fn begin(&mut self) {
         if let Some(log) = self {
@@ -80,7 +89,8 @@ impl<L: Log> Log for Option<L> {
 
 /// What a line tells of an exchange that took so long.
 pub(crate) fn entry_of<'e>(answered: &Answered<'e>, milliseconds: Option<u64>) -> ExchangeEntry<'e>
-    ensures { lines.entry_seen result ≡ entries.answered_entry answered.now milliseconds }
+    ensures entry { lines.entry_seen result ≡ entries.answered_entry answered.now }
+    ensures time { result.milliseconds ≡ milliseconds }
 {
     let Answered { at, asked, reply } = *answered;
     let (mut method, mut path) = (None, None);

@@ -1,8 +1,7 @@
 //! A log that is written in lines.
 
-ghost use Rattle.std.specs.Prelude.{◌≡◌, OnOk, true};
-ghost use Rattle.std.specs.Io.KnownBytes.{Appends};
-ghost use Rattle.hq_log.specs.Lines as lines;
+ghost use Rattle.hq_log.specs.Files.{LineEnds, line_state};
+ghost use Rattle.hq_log.specs.Lines.{entry_seen};
 
 use crate::entry::ExchangeEntry;
 use crate::keeping::{Answered, Log, entry_of};
@@ -13,24 +12,38 @@ use std::time::Instant;
 /// What is told where a line is lost.
 const LOST: &[u8] = b"hq: log\n";
 
-/// Writes a line for each exchange. One that cannot be written is lost, and the first of those that
-/// are lost in turn is told on the errors in a line, `hq: log`. A line behind lost ones begins with
-/// a line feed, since a part of one may stand before it.
+/// The file of a log. What was appended to it is a fact of this value alone: it is obtained by
+/// appending it, and by nothing else.
+pub trait LogFile {
+    ghost use Rattle.std.specs.Prelude.{◌∷◌, []};
+    ghost use Rattle.hq_log.specs.Files.{Appending, appending};
+
+    // from one state to another this was done, in this order, and nothing else
+    ghost does: { Appending Self };
+
+    /// Appends bytes. At an error a part of them may be there.
+    fn append(&mut self, bytes: &[u8]) -> io::Result<()>
+        ensures { does self.old (appending bytes.now result ∷ []) self.new };
+}
+
+/// Appends a line for each exchange to a file. One that cannot be appended is lost, and the first
+/// of those that are lost in turn is told on the errors in a line, `hq: log`. A line after lost
+/// ones begins with a line feed, since a part of one may be before it.
 #[derive(Drop)]
-pub struct LineLog<'h, C, W, E> {
+pub struct LineLog<'h, C, F, E> {
     clock: &'h C,
-    writer: W,
+    file: F,
     errors: E,
     begun: Option<Instant>,
     is_losing: bool,
 }
 
-impl<'h, C: Clock + AllocGlobal, W: Write, E: Write> LineLog<'h, C, W, E> {
-    /// A log that is written to a writer, with its own way to tell of lines that are lost.
-    pub fn new(clock: &'h C, writer: W, errors: E) -> LineLog<'h, C, W, E> {
+impl<'h, C: Clock + AllocGlobal, F: LogFile, E: Write> LineLog<'h, C, F, E> {
+    /// A log of a file, with its own way to tell of lines that are lost.
+    pub fn new(clock: &'h C, file: F, errors: E) -> LineLog<'h, C, F, E> {
         LineLog {
             clock,
-            writer,
+            file,
             errors,
             begun: None,
             is_losing: false,
@@ -43,35 +56,35 @@ impl<'h, C: Clock + AllocGlobal, W: Write, E: Write> LineLog<'h, C, W, E> {
         u64::try_from(now.duration_since(self.begun?).as_millis()).ok()
     }
 
-    /// Writes the line of an entry, and flushes.
-    fn write(&mut self, entry: &ExchangeEntry<'_>) -> io::Result<()>
-        ensures written { OnOk result (Appends (W.contents self.old.writer)
-            (W.contents self.new.writer)
-            (lines.log_line_behind self.old.is_losing (lines.entry_seen entry.now))) }
+    /// Appends the line of an entry. Whether it was lost.
+    fn append(&mut self, entry: &ExchangeEntry<'_>) -> bool
+        ensures lost { LineEnds F.does (line_state self.old.file self.old.is_losing)
+            (entry_seen entry.now) self.new.file result }
+        ensures losing { self.new.is_losing ≡ self.old.is_losing }
     {
-        let line = entry.line(self.clock.alloc())?;
-        if self.is_losing {
-            self.writer.write_all(b"\n")?;
+        match entry.line_after(self.is_losing, self.clock.alloc()) {
+            Err(_) => true,
+            Ok(line) => match self.file.append(line.as_slice()) {
+                Ok(()) => false,
+                Err(_) => true,
+            },
         }
-        self.writer.write_all(line.as_slice())?;
-        self.writer.flush()
-    }
-
-    /// A line is lost, which is told where the one before was not.
-    fn lose(&mut self)
-        ensures { self.new.is_losing ≡ true }
-    {
-        if !self.is_losing {
-            let _told = self.errors.write_all(LOST);
-        }
-        self.is_losing = true;
     }
 }
 
-impl<C: Clock + AllocGlobal, W: Write, E: Write> Log for LineLog<'_, C, W, E> {
-    ghost contents = { λ log. W.contents log.writer };
+impl<C: Clock + AllocGlobal, F: LogFile, E: Write> Log for LineLog<'_, C, F, E> {
+    ghost use Rattle.std.specs.Prelude.{refl};
+    ghost use Rattle.hq_log.specs.Files.{TellsLines, line_state};
+    ghost use Rattle.hq_log.specs.InOrder.{lines_on};
 
-    ghost is_losing = { λ log. log.is_losing };
+    ghost tells = { λ old told new. TellsLines F.does (line_state old.file old.is_losing) told
+        (line_state new.file new.is_losing) };
+
+    ghost none_told = { λ log. refl };
+
+    ghost told_on = { λ old mid new told more. lines_on F.does
+        (line_state old.file old.is_losing) (line_state mid.file mid.is_losing)
+        (line_state new.file new.is_losing) told more };
 
     fn begin(&mut self) {
         self.begun = Instant::now(self.clock).ok();
@@ -79,9 +92,10 @@ impl<C: Clock + AllocGlobal, W: Write, E: Write> Log for LineLog<'_, C, W, E> {
 
     fn replied(&mut self, answered: &Answered<'_>) {
         let entry = entry_of(answered, self.milliseconds());
-        match self.write(&entry) {
-            Ok(()) => self.is_losing = false,
-            Err(_) => self.lose(),
+        let is_lost = self.append(&entry);
+        if is_lost && !self.is_losing {
+            let _told = self.errors.write_all(LOST);
         }
+        self.is_losing = is_lost;
     }
 }

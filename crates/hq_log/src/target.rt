@@ -1,7 +1,7 @@
 //! Where a log goes, by its name.
 
 use crate::keeping::Log;
-use crate::line_log::LineLog;
+use crate::line_log::{LineLog, LogFile};
 use std::fs::OpenOptions;
 use std::io::{self, Write};
 use std::os::unix::fs::OpenOptionsExt;
@@ -11,7 +11,8 @@ use std::rt::Stderr;
 const OWNER_ALONE: u32 = 0o600;
 
 /// Standard error for `-`; and else the end of the file of this name, which is opened for each
-/// write, and made where it is missing. So a log that is moved away is begun anew.
+/// line, and made if it is missing. So a log that is moved away is begun anew. Of what happens to
+/// it no contract says anything.
 #[derive(Clone, Copy, Drop)]
 pub struct LogTarget<'h> {
     host: &'h HostRuntime,
@@ -25,41 +26,84 @@ impl<'h> LogTarget<'h> {
     }
 }
 
-impl Write for LogTarget<'_> {
-    fn write(&mut self, bytes: &[u8]) -> io::Result<usize> {
+impl LogFile for LogTarget<'_> {
+    ghost use Rattle.std.specs.Prelude.{⊤};
+
+    ghost does = { λ _ _ _. ⊤ };
+
+    fn append(&mut self, bytes: &[u8]) -> io::Result<()> {
         match self.name {
-            "-" => self.host.stderr().write(bytes),
+            "-" => self.host.stderr().write_all(bytes),
             path => OpenOptions::new()
                 .append(true)
                 .create(true)
                 .mode(OWNER_ALONE)
                 .open(self.host, path)?
-                .write(bytes),
+                .write_all(bytes),
         }
-    }
-
-    fn flush(&mut self) -> io::Result<()> {
-        Ok(())
     }
 }
 
 /// The log of a program: lines to a target, and lost ones told on standard error.
 pub type HostLog<'h> = LineLog<'h, HostRuntime, LogTarget<'h>, Stderr>;
 
-/// What opens the logs that words name.
+/// What opens the logs that words name. Which logs were opened, and how each was closed, are facts
+/// of this value alone: they are obtained by its methods, and by nothing else.
 pub trait Logs<'h> {
+    ghost use Rattle.std.specs.Prelude.{List, [], ◌∷◌, ◌++◌, option_map};
+    ghost use Rattle.hq_log.specs.Logs.{LogEvent, Logging, log_closed, log_opened};
+
     /// A log.
     type Log: Log + Drop;
 
+    // from one state to another this was done, in this order, and nothing else
+    ghost does: { Logging Self Self.Log };
+
+    // nothing was
+    ghost none_does: { (state : Self) → does state [] state };
+
+    // one after another
+    ghost does_on: { (old mid new : Self) (events more : List (LogEvent Self.Log))
+        → does old events mid → does mid more new → does old (events ++ more) new };
+
     /// The log of this name; without a name, one that keeps nothing.
-    fn log(&'h self, name: Option<&'h str>) -> Self::Log;
+    fn open(&mut self, name: Option<&'h str>) -> Self::Log
+        ensures { does self.old (log_opened (option_map (λ n. n.now) name.entry) result ∷ [])
+            self.new };
+
+    /// Ends with a log.
+    fn close(&mut self, log: Self::Log)
+        ensures { does self.old (log_closed log ∷ []) self.new };
 }
 
-impl<'h> Logs<'h> for HostRuntime {
+/// The logs of the machine, of which no contract says anything.
+#[derive(Drop)]
+pub struct HostLogs<'h> {
+    host: &'h HostRuntime,
+}
+
+impl<'h> HostLogs<'h> {
+    /// Those of a machine.
+    pub fn new(host: &'h HostRuntime) -> HostLogs<'h> {
+        HostLogs { host }
+    }
+}
+
+impl<'h> Logs<'h> for HostLogs<'h> {
+    ghost use Rattle.std.specs.Prelude.{⊤};
+
     type Log = Option<HostLog<'h>>;
 
-    fn log(&'h self, name: Option<&'h str>) -> Option<HostLog<'h>> {
-        let target = LogTarget::new(self, name?);
-        Some(LineLog::new(self, target, self.stderr()))
+    ghost does = { λ _ _ _. ⊤ };
+
+    ghost none_does = { λ _. tt };
+
+    ghost does_on = { λ _ _ _ _ _ _ _. tt };
+
+    fn open(&mut self, name: Option<&'h str>) -> Option<HostLog<'h>> {
+        let target = LogTarget::new(self.host, name?);
+        Some(LineLog::new(self.host, target, self.host.stderr()))
     }
+
+    fn close(&mut self, _log: Option<HostLog<'h>>) {}
 }

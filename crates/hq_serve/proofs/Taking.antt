@@ -1,11 +1,16 @@
 -- Clients that are taken and replied to, one more at a time.
 use Rattle.std.proofs.Common.{◌≡◌, ◌⊎◌, inl, inr, ◌≤◌, ◌+◌, ℕ, zero, suc, List, [], ◌∷◌, ◌++◌}
 use Rattle.std.proofs.Common.{length, map, refl, sym, ap, ◌∙◌, arith}
-use Rattle.std.proofs.Common.{subst, append-nil, length-append, take}
+use Rattle.std.proofs.Common.{subst, append-nil, length-append, take, drop, slice_index_or, Option, None, Some}
+use Rattle.std.specs.Prelude.{string_bytes}
 use Rattle.std.proofs.lemmas.List.Concat.{flat_map-append}
 use Rattle.std.specs.List.{AllZip, flat_map}
 use Rattle.hq_values.specs.Refusals.{no_memory}
+use Rattle.hq_log.specs.Entries.{Telling}
+use Rattle.hq_log.specs.Lines.{LogEntry}
 use Rattle.hq_requests.specs.Calls.{call_from}
+use Rattle.hq_requests.specs.Directories.{Whose}
+use Rattle.hq_requests.specs.Named.{whose_exchange, whose_told}
 use Rattle.hq_requests.specs.declared.directory.Directory.{Directory}
 use Rattle.hq_requests.specs.declared.exchanges.Exchange.{Exchange}
 use Rattle.hq_requests.specs.declared.reply.Reply.{Reply}
@@ -15,9 +20,11 @@ use Rattle.hq_together.proofs.Wanted.{wants}
 use Rattle.hq_http.specs.Requests.{Request}
 use Rattle.hq_http.specs.Responses.{response_text}
 use Rattle.hq_serve.specs.Coming.{ClientEvent, Serving, Taken, HaveOutcomes, came, came_of, sent}
-use Rattle.hq_serve.specs.Coming.{asks_of, client_of, events_of, sent_each, sent_of, sent_to}
+use Rattle.hq_serve.specs.Coming.{asks_of, at_once, client_of, each_with, events_of, in_round}
+use Rattle.hq_serve.specs.Coming.{sent_each, sent_of}
+use Rattle.hq_serve.specs.Logged.{timed_of, told_each, told_of}
 use Rattle.hq_serve.specs.Steps.{IsOfRequest}
-use Rattle.hq_serve.specs.Taking.{IsTakenInto, Takes, wants_of}
+use Rattle.hq_serve.specs.Taking.{IsTakenInto, Takes, reply_entry, timed, wants_of}
 use Rattle.hq_serve.specs.declared.coming.Came.{Came}
 use Rattle.hq_serve.specs.declared.rounds.Round.{Round}
 
@@ -51,30 +58,47 @@ ask_is d x at q is = λ i. record {
   called = call_from d (is.1 i) (is.2 i) (is.3 i) (is.4 i);
 }
 
--- to one client more, if there are as many replies as clients
-pub sent_one : (clients : List ℕ) (rs : List SeenReply) (client : ℕ) (r : SeenReply) →
-    length clients ≡ length rs → sent_each (clients ++ client ∷ []) (rs ++ r ∷ [])
-    ≡ sent_each clients rs ++ sent_to client r ∷ []
-sent_one [] [] client r e = refl
-sent_one [] (s ∷ rs) client r e = absurd (omega (arith, e))
-sent_one (other ∷ clients) [] client r e = absurd (omega (arith, e))
-sent_one (other ∷ clients) (s ∷ rs) client r e =
-    ap (λ l. sent_to other s ∷ l) (sent_one clients rs client r (omega (arith, e)))
+pub timed_is : (x : Exchange) (at : ℕ) (q : Request) → IsOfRequest x at q →
+    timed x ≡ record { at = at; request = q }
+timed_is x at q is = λ i. record {
+  at = is.0 i;
+  request = record { method = is.1 i; path = is.2 i; key = is.3 i; body = is.4 i };
+}
 
--- to all, once either of them has no more
-pub sent_short : (k : ℕ) (clients : List ℕ) (rs : List SeenReply) →
-    (length clients ≤ k) ⊎ (length rs ≤ k) →
-    sent_each (take k clients) (take k rs) ≡ sent_each clients rs
-sent_short zero [] rs h = refl
-sent_short zero (client ∷ clients) [] h = refl
-sent_short zero (client ∷ clients) (r ∷ rs) (inl h) = absurd (omega (arith, h))
-sent_short zero (client ∷ clients) (r ∷ rs) (inr h) = absurd (omega (arith, h))
-sent_short (suc k) [] rs h = refl
-sent_short (suc k) (client ∷ clients) [] h = refl
-sent_short (suc k) (client ∷ clients) (r ∷ rs) (inl h) =
-    ap (λ l. sent_to client r ∷ l) (sent_short k clients rs (inl (omega (arith, h))))
-sent_short (suc k) (client ∷ clients) (r ∷ rs) (inr h) =
-    ap (λ l. sent_to client r ∷ l) (sent_short k clients rs (inr (omega (arith, h))))
+-- what is told of what is no request, of this customer
+abbrev pub at_once_entry : ℕ → Option Whose → SeenReply → LogEntry
+at_once_entry at whose r = record {
+  at = Some at;
+  whose = whose;
+  method = None;
+  path = None;
+  status = r.status;
+  body = r.body;
+}
+
+module _ {A B C : Type 0} (f : A → B → C) where
+  -- of one more, if there are as many of both
+  pub each_one : (as : List A) (bs : List B) (a : A) (b : B) → length as ≡ length bs →
+      each_with f (as ++ a ∷ []) (bs ++ b ∷ []) ≡ each_with f as bs ++ f a b ∷ []
+  each_one [] [] a b e = refl
+  each_one [] (y ∷ bs) a b e = absurd (omega (arith, e))
+  each_one (x ∷ as) [] a b e = absurd (omega (arith, e))
+  each_one (x ∷ as) (y ∷ bs) a b e =
+      ap (λ l. f x y ∷ l) (each_one as bs a b (omega (arith, e)))
+
+  -- of all, once either of them has no more
+  pub each_short : (k : ℕ) (as : List A) (bs : List B) → (length as ≤ k) ⊎ (length bs ≤ k) →
+      each_with f (take k as) (take k bs) ≡ each_with f as bs
+  each_short zero [] bs h = refl
+  each_short zero (x ∷ as) [] h = refl
+  each_short zero (x ∷ as) (y ∷ bs) (inl h) = absurd (omega (arith, h))
+  each_short zero (x ∷ as) (y ∷ bs) (inr h) = absurd (omega (arith, h))
+  each_short (suc k) [] bs h = refl
+  each_short (suc k) (x ∷ as) [] h = refl
+  each_short (suc k) (x ∷ as) (y ∷ bs) (inl h) =
+      ap (λ l. f x y ∷ l) (each_short k as bs (inl (omega (arith, h))))
+  each_short (suc k) (x ∷ as) (y ∷ bs) (inr h) =
+      ap (λ l. f x y ∷ l) (each_short k as bs (inr (omega (arith, h))))
 
 -- the same want of memory for each exchange
 pub wants_so : (d : Directory) (exchanges : List Exchange) →
@@ -82,47 +106,86 @@ pub wants_so : (d : Directory) (exchanges : List Exchange) →
 wants_so d [] = refl
 wants_so d (x ∷ exchanges) = ap (λ l. reply_of_fault no_memory ∷ l) (wants_so d exchanges)
 
-module _ {K : Type 0} (does : Serving K)
-    (on : (old mid new : K) (events more : List ClientEvent) → does old events mid →
+-- what is told of replies, by what is known of them
+pub told_so : (d : Directory) (xs : List Exchange) (replies : List Reply) (told : List SeenReply) →
+    AllZip IsSent replies told → map whose_told replies ≡ map (whose_exchange d) xs →
+    each_with reply_entry xs replies ≡ told_each d (map timed xs) told
+told_so d [] replies told sent whose = refl
+told_so d (x ∷ xs) [] [] sent whose = refl
+told_so d (x ∷ xs) [] (r ∷ told) sent whose = absurd sent
+told_so d (x ∷ xs) (reply ∷ replies) [] sent whose = absurd sent
+told_so d (x ∷ xs) (reply ∷ replies) (r ∷ told) sent whose = λ i. record {
+    at = Some x.at;
+    whose = ap (λ ws. slice_index_or ws 0 (whose_exchange d x)) whose i;
+    method = Some (string_bytes x.method);
+    path = Some (string_bytes x.path);
+    status = sym sent.0.0 i;
+    body = sym sent.0.1 i;
+  } ∷ told_so d xs replies told sent.1 (ap (drop 1) whose) i
+
+-- there are as many clients in a round as requests
+pub are_even : (taken : List Taken) →
+    length (flat_map client_of taken) ≡ length (flat_map timed_of taken)
+are_even [] = refl
+are_even (at_once one r ∷ taken) = are_even taken
+are_even (in_round one q ∷ taken) = ap suc (are_even taken)
+
+-- this is done one after another, and nothing is done by none
+module _ {S E : Type 0} (does : S → List E → S → Type 0)
+    (on : (old mid new : S) (events more : List E) → does old events mid →
     does mid more new → does old (events ++ more) new) where
-  -- more came, or was sent
-  pub did_more : (old mid new : K) (events more all : List ClientEvent) → all ≡ events ++ more →
+  -- more was done
+  pub did_more : (old mid new : S) (events more all : List E) → all ≡ events ++ more →
       does old events mid → does mid more new → does old all new
   did_more old mid new events more all is p q =
       subst (λ es. does old es new) (sym is) (on old mid new events more p q)
 
-  -- nobody came, and nobody was sent anything
-  pub idle : (old mid new : K) (events : List ClientEvent) → does old events mid →
+  -- and then nothing
+  pub idle : (old mid new : S) (events : List E) → does old events mid →
       does mid [] new → does old events new
   idle old mid new events p q = did_more old mid new events [] events (sym (append-nil events)) p q
 
+module _ {K L : Type 0} (does : Serving K)
+    (on : (old mid new : K) (events more : List ClientEvent) → does old events mid →
+    does mid more new → does old (events ++ more) new) (tells : Telling L)
+    (told_on : (old mid new : L) (told more : List LogEntry) → tells old told mid →
+    tells mid more new → tells old (told ++ more) new) (refused : Type 0) where
   -- nobody was taken meanwhile
-  pub none_taken : (refused : Type 0) (start mid end : K) (round : Round) →
-      Takes refused does start mid round → does mid [] end → Takes refused does start end round
-  none_taken refused start mid end round t none = record {
+  pub none_taken : (start mid end : K) (log_old log_new : L) (round : Round) →
+      Takes refused does tells start mid log_old log_new round → does mid [] end →
+      Takes refused does tells start end log_old log_new round
+  none_taken start mid end log_old log_new round t none = record {
     taken = t.taken;
     are_taken = t.are_taken;
-    did = idle start mid end (flat_map events_of t.taken) t.did none;
+    did = idle does on start mid end (flat_map events_of t.taken) t.did none;
+    told = t.told;
     counted = t.counted;
     clients = t.clients;
     exchanges = t.exchanges;
+    requests = t.requests;
   }
 
   -- one more was taken into a round
-  pub one_taken : (refused : Type 0) (start before after end : K) (old mid new : Round)
-      (one : Came) → new.taken ≡ old.taken + 1 → new.clients.items ≡ mid.clients.items →
-      new.exchanges.items ≡ mid.exchanges.items → Takes refused does start before old →
-      does before (came one ∷ []) after → IsTakenInto refused does one after end old mid →
-      Takes refused does start end new
-  one_taken refused start before after end old mid new one counted clients exchanges t next it =
+  pub one_taken : (start before after end : K) (log_old log_mid log_new : L)
+      (old mid new : Round) (one : Came) → new.taken ≡ old.taken + 1 →
+      new.clients.items ≡ mid.clients.items → new.exchanges.items ≡ mid.exchanges.items →
+      Takes refused does tells start before log_old log_mid old →
+      does before (came one ∷ []) after →
+      IsTakenInto refused does tells one after end log_mid log_new old mid →
+      Takes refused does tells start end log_old log_new new
+  one_taken start before after end log_old log_mid log_new old mid new one counted clients
+      exchanges t next it =
       let comes = subst (λ c. does before (came c ∷ []) after) (sym it.is_of) next in
       record {
         taken = t.taken ++ it.taken ∷ [];
         are_taken = taken_on refused t.taken (it.taken ∷ []) t.are_taken (it.is_taken, tt);
-        did = did_more start before end (flat_map events_of t.taken) (events_of it.taken)
+        did = did_more does on start before end (flat_map events_of t.taken) (events_of it.taken)
             (flat_map events_of (t.taken ++ it.taken ∷ [])) (flat_one events_of t.taken it.taken)
             t.did
             (on before after end (came (came_of it.taken) ∷ []) (sent_of it.taken) comes it.sent);
+        told = did_more tells told_on log_old log_mid log_new (flat_map told_of t.taken)
+            (told_of it.taken) (flat_map told_of (t.taken ++ it.taken ∷ []))
+            (flat_one told_of t.taken it.taken) t.told it.told;
         counted = counted ∙ ap (λ n. n + 1) t.counted
             ∙ sym (length-append t.taken (it.taken ∷ []));
         clients = clients ∙ it.clients ∙ ap (λ l. l ++ client_of it.taken) t.clients
@@ -130,4 +193,7 @@ module _ {K : Type 0} (does : Serving K)
         exchanges = λ d. ap (map (ask_of d)) exchanges ∙ it.exchanges d
             ∙ ap (λ l. l ++ asks_of d it.taken) (t.exchanges d)
             ∙ sym (flat_one (asks_of d) t.taken it.taken);
+        requests = ap (map timed) exchanges ∙ it.requests
+            ∙ ap (λ l. l ++ timed_of it.taken) t.requests
+            ∙ sym (flat_one timed_of t.taken it.taken);
       }

@@ -32,10 +32,14 @@ pub data ClientEvent : Type 0 where
 abbrev pub sent_to : ℕ → SeenReply → ClientEvent
 sent_to client r = sent (record { client = client; response = response_of r })
 
--- to each client the reply beside it, in order
+-- of each with the one beside it, in order
+abbrev pub each_with : {A B C : Type 0} → (A → B → C) → List A → List B → List C
+each_with f (a ∷ as) (b ∷ bs) = f a b ∷ each_with f as bs
+each_with f _ _ = []
+
+-- to each client the reply beside it
 abbrev pub sent_each : List ℕ → List SeenReply → List ClientEvent
-sent_each (client ∷ clients) (r ∷ rs) = sent_to client r ∷ sent_each clients rs
-sent_each _ _ = []
+sent_each = each_with sent_to
 
 -- from one state of all clients to another this came and was sent, in this order, and nothing else
 abbrev pub Serving : Type 0 → Type 1

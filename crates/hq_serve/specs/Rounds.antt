@@ -3,6 +3,7 @@ use Rattle.std.specs.Prelude.{◌≡◌, ◌≤◌, ◌<◌, ◌+◌, ℕ, List,
 use Rattle.hq_values.specs.Turns.{InTurn}
 use Rattle.hq_tables.specs.Shelves.{OnOpenSound}
 use Rattle.hq_rules.specs.Desks.{DeskSight}
+use Rattle.hq_log.specs.Entries.{Telling}
 use Rattle.hq_requests.specs.declared.directory.Directory.{Directory}
 use Rattle.hq_wire.specs.Exchanges.{with_refusals}
 use Rattle.hq_wire.specs.Runs.{AllReplied, Alone}
@@ -10,6 +11,7 @@ use Rattle.hq_together.specs.Sessions.{all_in}
 use Rattle.hq_together.specs.Together.{ServedInRound}
 use Rattle.hq_serve.specs.Coming.{Serving, HaveOutcomes, RoundDone, round_taken, round_replies}
 use Rattle.hq_serve.specs.Coming.{round_asks, round_events}
+use Rattle.hq_serve.specs.Logged.{round_told}
 use Rattle.hq_serve.specs.declared.coming.ServiceEnd.{ServiceEnd}
 use Rattle.hq_serve.specs.declared.coming.ServiceEnd.TheVariants.{Done, Network, Clock}
 
@@ -34,15 +36,16 @@ IsOver Network came left taken = 0 < left
 IsOver Clock came left taken = taken < came
 
 -- The clients that came in these rounds are all that came, in order. Each is replied to once, to
--- what it asked itself, and nobody else is sent anything. The desk does their exchanges, and
--- nothing else. Of the connections that were to come some came, with one request each at most, and
--- the others are left.
-pub record ServesRounds {K D : Type 0} (refused : Type 0) (sight : DeskSight D) (d : Directory)
-    (does : Serving K) (coming left : ℕ) (why : ServiceEnd) (clients_old clients_new : K)
-    (old new : D) : Type 0 where
+-- what it asked itself, and nobody else is sent anything. The log is told each reply, with what it
+-- replies to, and nothing else. The desk does their exchanges, and nothing else. Of the connections
+-- that were to come some came, with one request each at most, and the others are left.
+pub record ServesRounds {K L D : Type 0} (refused : Type 0) (sight : DeskSight D) (d : Directory)
+    (does : Serving K) (tells : Telling L) (coming left : ℕ) (why : ServiceEnd)
+    (clients_old clients_new : K) (log_old log_new : L) (old new : D) : Type 0 where
   pub rounds : List RoundDone
   pub are_taken : HaveOutcomes refused (flat_map round_taken rounds)
   pub clients : does clients_old (flat_map round_events rounds) clients_new
+  pub told : tells log_old (flat_map (round_told d) rounds) log_new
   pub desk : DoesRounds (with_refusals refused sight) d rounds old new
   pub came : ℕ
   pub counted : came + left ≡ coming

@@ -1,13 +1,16 @@
 //! The clients of a server, served several at once, and by rounds: exchanges whose requests have
 //! come share one commit.
 
-ghost use Rattle.std.specs.Prelude.{◌≡◌, ◌≤◌, ◌∷◌, [], map};
+ghost use Rattle.std.specs.Prelude.{◌≡◌, ◌≤◌, ◌∷◌, [], map, option_map};
 ghost use Rattle.hq_desk.specs.Desks.{on};
+ghost use Rattle.hq_log.specs.Entries.{exchange_entry};
 ghost use Rattle.hq_wire.specs.Exchanges.{with_refusals};
 ghost use Rattle.hq_wire.specs.Replies.{seen};
-ghost use Rattle.hq_serve.specs.Coming.{EndsWith, sent_each, sent_to};
+ghost use Rattle.hq_serve.specs.Coming.{EndsWith, each_with, sent_each, sent_to};
+ghost use Rattle.hq_serve.specs.Logged.{told_each};
 ghost use Rattle.hq_serve.specs.Rounds.{ServesRounds};
-ghost use Rattle.hq_serve.specs.Taking.{AddsExchange, IsTakenInto, Takes, RepliesToRound, wants_of};
+ghost use Rattle.hq_serve.specs.Taking.{AddsExchange, IsEven, IsTakenInto, Takes, RepliesToRound};
+ghost use Rattle.hq_serve.specs.Taking.{reply_entry, timed, wants_of};
 
 use crate::coming::{Asked, Came, Clients, Ready, ServiceEnd};
 use crate::serving::exchange_of;
@@ -15,6 +18,7 @@ use hq_bodies::JsonMemory;
 use hq_desk::Desk;
 use hq_log::{Answered, Log};
 use hq_memory::Memory;
+use hq_requests::caller_named;
 use hq_rounds::Rounds;
 use hq_together::{round, takes_long};
 use hq_values::{Fault, Moment};
@@ -71,7 +75,7 @@ impl Round {
     }
 }
 
-/// Logs a reply, and sends it to a client.
+/// Tells the log of a reply, and sends it to a client.
 fn send<K: Clients, L: Log>(
     clients: &mut K,
     log: &mut L,
@@ -81,6 +85,8 @@ fn send<K: Clients, L: Log>(
     reply: &Reply<'_>,
 )
     ensures sent { K.does clients.old (sent_to client (seen reply.now) ∷ []) clients.new }
+    ensures told { L.tells log.old
+        (exchange_entry at (option_map (λ x. x.now) asked.entry) reply.now ∷ []) log.new }
     ensures left { K.left clients.new ≡ K.left clients.old }
 {
     log.replied(&Answered { at, asked, reply });
@@ -95,7 +101,8 @@ fn take_one<K: Clients, L: Log, M: JsonMemory>(
     round: &mut Round,
     came: Came,
 )
-    ensures taken { IsTakenInto M.refused K.does came clients.old clients.new round.old round.new }
+    ensures taken { IsTakenInto M.refused K.does L.tells came clients.old clients.new log.old
+        log.new round.old round.new }
     ensures left { K.left clients.new ≡ K.left clients.old }
 {
     let Came { client, at, asked } = came;
@@ -127,7 +134,7 @@ fn take_round<K: Clients, L: Log, M: JsonMemory>(
     log: &mut L,
     most: usize,
 ) -> Round
-    ensures taken { Takes M.refused K.does clients.old clients.new result }
+    ensures taken { Takes M.refused K.does L.tells clients.old clients.new log.old log.new result }
     ensures few { result.taken ≤ most }
     ensures left { K.left clients.new ≡ K.left clients.old }
 {
@@ -151,6 +158,8 @@ fn take_round<K: Clients, L: Log, M: JsonMemory>(
 fn send_all<K: Clients, L: Log>(clients: &mut K, log: &mut L, round: &Round, replies: &[Reply<'_>])
     ensures sent { K.does clients.old (sent_each round.now.clients.items (map seen replies.now))
         clients.new }
+    ensures told { IsEven round.now → L.tells log.old
+        (each_with reply_entry round.now.exchanges.items replies.now) log.new }
     ensures left { K.left clients.new ≡ K.left clients.old }
 {
     for (place, client) in round.clients.iter().enumerate() {
@@ -164,24 +173,26 @@ fn send_all<K: Clients, L: Log>(clients: &mut K, log: &mut L, round: &Round, rep
 }
 
 /// Sends each client of a round that memory was wanted.
-fn send_wants<K: Clients, L: Log>(clients: &mut K, log: &mut L, round: &Round)
+fn send_wants<K: Clients, L: Log>(
+    clients: &mut K,
+    log: &mut L,
+    directory: &Directory,
+    round: &Round,
+)
     ensures sent { K.does clients.old (sent_each round.now.clients.items
         (wants_of round.now.exchanges.items)) clients.new }
+    ensures told { IsEven round.now → L.tells log.old
+        (told_each directory.now (map timed round.now.exchanges.items)
+        (wants_of round.now.exchanges.items)) log.new }
     ensures left { K.left clients.new ≡ K.left clients.old }
 {
-    let want = fault_reply(None, Fault::WantOfMemory);
     for (place, exchange) in round.exchanges.iter().enumerate() {
         let Some(client) = round.clients.get(place) else {
             break;
         };
-        send(
-            clients,
-            log,
-            *client,
-            Some(exchange.at),
-            Some(exchange),
-            &want,
-        );
+        let want = fault_reply(caller_named(directory, exchange), Fault::WantOfMemory);
+        let at = Some(exchange.at);
+        send(clients, log, *client, at, Some(exchange), &want);
     }
 }
 
@@ -195,14 +206,14 @@ fn do_round<K: Clients, S: Rounds, L: Log, M: JsonMemory>(
     round_of: &Round,
 ) -> Desk<S>
     ensures replies { RepliesToRound (with_refusals M.refused (on S.sight)) directory.now K.does
-        round_of.now clients.old clients.new desk result }
+        L.tells round_of.now clients.old clients.new log.old log.new desk result }
     ensures left { K.left clients.new ≡ K.left clients.old }
 {
     let (replies, desk) = round(memory, desk, directory, round_of.exchanges.as_slice());
     clients.round_done(round_of.short_calls());
     match replies {
         Ok(replies) => send_all(clients, log, round_of, replies.as_slice()),
-        Err(_) => send_wants(clients, log, round_of),
+        Err(_) => send_wants(clients, log, directory, round_of),
     }
     desk
 }
@@ -224,7 +235,8 @@ pub fn end_of(left: u32) -> ServiceEnd
 /// Each client that came is sent the reply to its own request, and no other. All exchanges are one
 /// run, at the moments at which they were taken. Each customer gets the replies, and keeps the
 /// records, that it would have alone. The desk does nothing for bytes that are no request. Requests
-/// and replies take room from `memory`. The log has each reply, and may lose it.
+/// and replies take room from `memory`. The log is told each reply, with what it replies to, and
+/// nothing else.
 ///
 /// It ends with `Done` once all have come and been served, and not before. It ends with `Network`
 /// once one could not be accepted, and those that came have been served. It ends with `Clock` if
@@ -237,8 +249,9 @@ pub fn serve_rounds<K: Clients, S: Rounds, E: Write, L: Log, M: JsonMemory>(
     errors: &mut E,
     log: &mut L,
 ) -> (ServiceEnd, Desk<S>)
-    ensures { ServesRounds M.refused (on S.sight) directory.now K.does (K.left clients.old)
-        (K.left clients.new) result.0 clients.old clients.new desk result.1 }
+    ensures { ServesRounds M.refused (on S.sight) directory.now K.does L.tells
+        (K.left clients.old) (K.left clients.new) result.0 clients.old clients.new log.old log.new
+        desk result.1 }
 {
     let coming = clients.left() as usize;
     let mut desk = desk;

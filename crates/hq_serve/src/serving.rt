@@ -1,7 +1,7 @@
 //! One connection with the desk.
 
 ghost use Rattle.hq_wire.specs.Exchanges.{with_refusals};
-ghost use Rattle.std.specs.Prelude.{◌≡◌, false, List, ℕ, Option, IfOk, IfErr};
+ghost use Rattle.std.specs.Prelude.{◌≡◌, List, ℕ, Option, IfOk, IfErr};
 ghost use Rattle.hq_http.specs.Stages.{request_seen, InputIs, LeavesOpen};
 ghost use Rattle.hq_lines.specs.Written.{GoesOut};
 ghost use Rattle.hq_wire.specs.Replies.{seen};
@@ -114,7 +114,7 @@ fn write_reply<W: Write>(writer: &mut W, reply: &Reply<'_>) -> io::Result<()>
 /// machine of one customer, started from its own state and given its share of the calls alone; a
 /// call that is replied to with 503 does not count.
 ///
-/// The log has one line of the reply, unless it loses lines, and changes nothing of all this.
+/// The log is told the reply, with what was read, and nothing else.
 ///
 /// An error is `Read` or `TooManyReads`: no head had ended, or the body of one was not whole, and
 /// nothing was done and nothing written; or `Write`: what was asked was done, and a beginning of
@@ -132,11 +132,10 @@ pub fn serve_one<R: Read, W: Write, D: Acts, L: Log, M: JsonMemory>(
         (record { input = R.remaining reader.old; output = W.contents writer.old })
         (record { input = R.remaining reader.new; output = W.contents writer.new })
         (writer.new ≡ writer.old) desk.old desk.new result }
-    ensures logged { L.is_losing log.new ≡ false → LogEnds (with_refusals M.refused D.sight)
-        directory.now at
+    ensures logged { LogEnds (with_refusals M.refused D.sight) directory.now at
         (record { input = R.remaining reader.old; output = W.contents writer.old })
         (record { input = R.remaining reader.new; output = W.contents writer.new })
-        desk.old desk.new (L.is_losing log.old) (L.contents log.old) (L.contents log.new) result }
+        desk.old desk.new L.tells log.old log.new result }
 {
     let input = match read_input(memory, reader) {
         Ok(input) => input,

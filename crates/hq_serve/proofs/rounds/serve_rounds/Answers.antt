@@ -9,7 +9,8 @@ pub loop-init : goal.loop-init
 loop-init g c = (
   omega arith,
   none_done g.M.Memory.refused (on g.S.Shelf.sight) c.args.directory.now g.K.Clients.does
-      c.args.clients.now c.args.desk (g.K.Clients.none_does c.args.clients.now),
+      g.L.Log.tells c.args.clients.now c.args.log.now c.args.desk
+      (g.K.Clients.none_does c.args.clients.now) (g.L.Log.none_told c.args.log.now),
 )
 
 pub returns-in-Over : goal.returns-in-Over
@@ -17,12 +18,14 @@ returns-in-Over g c =
     let few = c.loop.invariant.0 in
     let fewer = c.ready-ready.ensures.fewer in
     ends g.M.Memory.refused (on g.S.Shelf.sight) c.args.directory.now g.K.Clients.does
+    g.L.Log.tells
     (g.K.Clients.left c.args.clients.now) (g.K.Clients.left c.ready-ready.new.self) c.loop.done
-    c.in-Over.end c.args.clients.now c.ready-ready.new.self c.args.desk c.loop.desk
+    c.in-Over.end c.args.clients.now c.ready-ready.new.self c.args.log.now c.loop.log c.args.desk
+    c.loop.desk
     (omega (arith, few, fewer))
     (waited g.M.Memory.refused (on g.S.Shelf.sight) c.args.directory.now g.K.Clients.does
-    g.K.Clients.does_on c.loop.done c.args.clients.now c.loop.clients c.ready-ready.new.self
-    c.args.desk c.loop.desk c.loop.invariant.1 c.ready-ready.ensures.nothing)
+    g.L.Log.tells g.K.Clients.does_on g.L.Log.told_on c.loop.done c.args.clients.now
+    c.loop.clients c.ready-ready.new.self c.args.log.now c.loop.log c.args.desk c.loop.desk c.loop.invariant.1 c.ready-ready.ensures.nothing)
     (λ came counted. is_over (g.K.Clients.left c.ready-ready.new.self) c.in-Over.end came
     c.loop.done (rw c.in-Over.is at c.ready-ready.ensures.ready))
 
@@ -32,8 +35,8 @@ loop-preserved-then-most-eq0 g c =
     let fewer = c.ready-ready.ensures.fewer in (
       omega (arith, few, fewer),
       waited g.M.Memory.refused (on g.S.Shelf.sight) c.args.directory.now g.K.Clients.does
-          g.K.Clients.does_on c.loop.done c.args.clients.now c.loop.clients
-          c.ready-ready.new.self c.args.desk c.loop.desk c.loop.invariant.1
+          g.L.Log.tells g.K.Clients.does_on g.L.Log.told_on c.loop.done c.args.clients.now
+          c.loop.clients c.ready-ready.new.self c.args.log.now c.loop.log c.args.desk c.loop.desk c.loop.invariant.1
           c.ready-ready.ensures.nothing,
     )
 
@@ -47,12 +50,14 @@ returns-then-eq-2 g c =
     let most = c.saturating_sub-most.ensures in
     let some = c.if-most-eq0.false in
     ends g.M.Memory.refused (on g.S.Shelf.sight) c.args.directory.now g.K.Clients.does
+    g.L.Log.tells
     (g.K.Clients.left c.args.clients.now) (g.K.Clients.left c.ready-ready.new.self) c.loop.done
-    Clock c.args.clients.now c.ready-ready.new.self c.args.desk c.loop.desk
+    Clock c.args.clients.now c.ready-ready.new.self c.args.log.now c.loop.log c.args.desk
+    c.loop.desk
     (omega (arith, few, fewer))
     (waited g.M.Memory.refused (on g.S.Shelf.sight) c.args.directory.now g.K.Clients.does
-    g.K.Clients.does_on c.loop.done c.args.clients.now c.loop.clients c.ready-ready.new.self
-    c.args.desk c.loop.desk c.loop.invariant.1 c.ready-ready.ensures.nothing)
+    g.L.Log.tells g.K.Clients.does_on g.L.Log.told_on c.loop.done c.args.clients.now
+    c.loop.clients c.ready-ready.new.self c.args.log.now c.loop.log c.args.desk c.loop.desk c.loop.invariant.1 c.ready-ready.ensures.nothing)
     (λ all counted. omega (arith, few, fewer, coming, left, came, most, some, counted))
 
 pub loop-preserved : goal.loop-preserved
@@ -72,12 +77,15 @@ loop-preserved g c =
     omega (arith, few, fewer, coming, left, came, most, bound, sum, limit) in (
       omega (arith, few, fewer, coming, left, came, most, bound, is, stays, stayed),
       one_more g.M.Memory.refused (on g.S.Shelf.sight) c.args.directory.now g.K.Clients.does
-          g.K.Clients.does_on c.loop.done c.saturating_add-done.result c.args.clients.now
-          c.ready-ready.new.self c.take_round-round_of.new.clients c.do_round-desk.new.clients
+          g.L.Log.tells g.K.Clients.does_on g.L.Log.told_on c.loop.done
+          c.saturating_add-done.result c.args.clients.now c.ready-ready.new.self
+          c.take_round-round_of.new.clients c.do_round-desk.new.clients c.args.log.now c.loop.log
+          c.take_round-round_of.new.log c.do_round-desk.new.log
           c.take_round-round_of.result c.args.desk c.loop.desk c.do_round-desk.result is
           (waited g.M.Memory.refused (on g.S.Shelf.sight) c.args.directory.now g.K.Clients.does
-          g.K.Clients.does_on c.loop.done c.args.clients.now c.loop.clients
-          c.ready-ready.new.self c.args.desk c.loop.desk c.loop.invariant.1
+          g.L.Log.tells g.K.Clients.does_on g.L.Log.told_on c.loop.done c.args.clients.now
+          c.loop.clients c.ready-ready.new.self c.args.log.now c.loop.log c.args.desk
+          c.loop.desk c.loop.invariant.1
           c.ready-ready.ensures.nothing)
           c.take_round-round_of.ensures.taken c.do_round-desk.ensures.replies,
     )
@@ -85,8 +93,10 @@ loop-preserved g c =
 pub returns : goal.returns
 returns g c =
     ends g.M.Memory.refused (on g.S.Shelf.sight) c.args.directory.now g.K.Clients.does
+    g.L.Log.tells
     (g.K.Clients.left c.args.clients.now) (g.K.Clients.left c.loop.clients) c.loop.done
-    c.end_of.result c.args.clients.now c.loop.clients c.args.desk c.loop.desk
+    c.end_of.result c.args.clients.now c.loop.clients c.args.log.now c.loop.log c.args.desk
+    c.loop.desk
     c.loop.invariant.0 c.loop.invariant.1
     (λ came counted. is_over (g.K.Clients.left c.loop.clients) c.end_of.result came c.loop.done
     (subst (λ n. EndsWith n c.end_of.result) c.left-2.ensures c.end_of.ensures))

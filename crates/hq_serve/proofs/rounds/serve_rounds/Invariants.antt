@@ -7,5 +7,5 @@ use Rattle.hq_serve.proofs.rounds.serve_rounds.Given as goal
 abbrev pub invariant-loop : goal.invariant-loop
 invariant-loop g l =
     (l.done + g.K.Clients.left l.clients ≤ g.K.Clients.left l.fn.clients)
-    × RoundsDone g.M.Memory.refused (on g.S.Shelf.sight) l.directory g.K.Clients.does l.done
-    l.fn.clients l.clients l.fn.desk l.desk
+    × RoundsDone g.M.Memory.refused (on g.S.Shelf.sight) l.directory g.K.Clients.does
+    g.L.Log.tells l.done l.fn.clients l.clients l.fn.log l.log l.fn.desk l.desk

@@ -11,8 +11,9 @@ loop-preserved g c =
     let sum = c.saturating_add.ensures in
     let counted : c.saturating_add.result ≡ c.loop.round.taken + 1 =
     omega (arith, few, more, end, same, sum) in (
-      one_taken g.K.Clients.does g.K.Clients.does_on g.M.Memory.refused c.args.clients.now
-          c.loop.clients c.next.new.self c.take_one.new.clients c.loop.round
+      one_taken g.K.Clients.does g.K.Clients.does_on g.L.Log.tells g.L.Log.told_on
+          g.M.Memory.refused c.args.clients.now c.loop.clients c.next.new.self
+          c.take_one.new.clients c.args.log.now c.loop.log c.take_one.new.log c.loop.round
           c.take_one.new.round
           (record {
             taken = c.saturating_add.result;
@@ -27,8 +28,9 @@ loop-preserved g c =
 
 pub returns-in_default-clause-taken : goal.returns-in_default-clause-taken
 returns-in_default-clause-taken g c =
-    none_taken g.K.Clients.does g.K.Clients.does_on g.M.Memory.refused c.args.clients.now
-    c.loop.clients c.next.new.self c.loop.round c.loop.invariant.0 c.in_default.ensures.none
+    none_taken g.K.Clients.does g.K.Clients.does_on g.L.Log.tells g.L.Log.told_on
+    g.M.Memory.refused c.args.clients.now c.loop.clients c.next.new.self c.args.log.now c.loop.log
+    c.loop.round c.loop.invariant.0 c.in_default.ensures.none
 
 pub returns-then-takes_long-clause-taken : goal.returns-then-takes_long-clause-taken
 returns-then-takes_long-clause-taken g c =
@@ -39,8 +41,9 @@ returns-then-takes_long-clause-taken g c =
     let sum = c.saturating_add.ensures in
     let counted : c.saturating_add.result ≡ c.loop.round.taken + 1 =
     omega (arith, few, more, end, same, sum) in
-    one_taken g.K.Clients.does g.K.Clients.does_on g.M.Memory.refused c.args.clients.now
-    c.loop.clients c.next.new.self c.take_one.new.clients c.loop.round c.take_one.new.round
+    one_taken g.K.Clients.does g.K.Clients.does_on g.L.Log.tells g.L.Log.told_on
+    g.M.Memory.refused c.args.clients.now c.loop.clients c.next.new.self c.take_one.new.clients
+    c.args.log.now c.loop.log c.take_one.new.log c.loop.round c.take_one.new.round
     (record {
       taken = c.saturating_add.result;
       clients = c.take_one.new.round.clients;

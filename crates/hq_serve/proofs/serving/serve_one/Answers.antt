@@ -1,5 +1,5 @@
 use Rattle.hq_wire.specs.Exchanges.{with_refusals}
-use Rattle.std.proofs.Common.{inr}
+use Rattle.std.proofs.Common.{inl, inr}
 use Rattle.std.proofs.KnownBytes.{Keeps-refl}
 use Rattle.hq_serve.proofs.Logging.{logged_as}
 use Rattle.hq_serve.proofs.Connected.{broken_off, part_as, written}
@@ -27,15 +27,20 @@ returns-clause-ends g c =
     broken_off sight c.args.directory.now c.args.at _ _ c.args.desk.now c.reply_to.new.desk _ _
     reply so.reply so.sent (so.asked, so.answered) c.in-Err-write_reply.ensures
 
+pub returns-in-None-clause-logged : goal.returns-in-None-clause-logged
+returns-in-None-clause-logged g c = inl (Keeps-refl _, c.begin.ensures)
+
+pub returns-in-Err-clause-logged : goal.returns-in-Err-clause-logged
+returns-in-Err-clause-logged g c = g.L.Log.none_told c.args.log.now
+
 pub returns-in-Ok-write_reply-clause-logged : goal.returns-in-Ok-write_reply-clause-logged
-returns-in-Ok-write_reply-clause-logged g c = λ keeps.
+returns-in-Ok-write_reply-clause-logged g c =
     let sight = with_refusals g.M.Memory.refused g.D.Acts.sight in
     let so = c.in-Some.ensures _ _ c.in-Ok.ensures.told in
-    let line = logged_as sight c.args.directory.now
-    c.args.at _ _ c.args.desk.now
-    c.reply_to.new.desk _ _ _ so.asked c.in-Some.replied c.answered.result so.reply _ _ so.sent
-    so.answered so.holds so.whose c.answered.ensures c.begin.ensures.losing
-    c.begin.ensures.contents (c.replied.ensures keeps) in
+    let line = logged_as sight c.args.directory.now c.args.at _ _ c.args.desk.now
+    c.reply_to.new.desk g.L.Log.tells g.L.Log.told_on _ _ _ so.asked c.in-Some.replied
+    c.answered.result so.reply so.sent so.answered so.holds so.whose c.answered.ensures
+    c.begin.ensures c.replied.ensures in
     inr (
       line.0,
       written_as _ _ c.in-Some.replied.reply line.0 line.1 c.in-Ok-write_reply.ensures,
@@ -43,14 +48,13 @@ returns-in-Ok-write_reply-clause-logged g c = λ keeps.
     )
 
 pub returns-clause-logged : goal.returns-clause-logged
-returns-clause-logged g c = λ keeps.
+returns-clause-logged g c =
     let sight = with_refusals g.M.Memory.refused g.D.Acts.sight in
     let so = c.in-Some.ensures _ _ c.in-Ok.ensures.told in
-    let line = logged_as sight c.args.directory.now
-    c.args.at _ _ c.args.desk.now
-    c.reply_to.new.desk _ _ _ so.asked c.in-Some.replied c.answered.result so.reply _ _ so.sent
-    so.answered so.holds so.whose c.answered.ensures c.begin.ensures.losing
-    c.begin.ensures.contents (c.replied.ensures keeps) in (
+    let line = logged_as sight c.args.directory.now c.args.at _ _ c.args.desk.now
+    c.reply_to.new.desk g.L.Log.tells g.L.Log.told_on _ _ _ so.asked c.in-Some.replied
+    c.answered.result so.reply so.sent so.answered so.holds so.whose c.answered.ensures
+    c.begin.ensures c.replied.ensures in (
       line.0,
       part_as _ _ c.in-Some.replied.reply line.0 line.1 c.in-Err-write_reply.ensures,
       line.2,
