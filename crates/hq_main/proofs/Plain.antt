@@ -10,6 +10,7 @@ use Rattle.hq_tables.specs.Tables.{no_tables}
 use Rattle.hq_lists.specs.declared.list_rows.ListRows.{ListRows}
 use Rattle.hq_tables.proofs.Empty.{empty_sound}
 use Rattle.hq_desk.specs.Desks.{host_of, on, shelf_of}
+use Rattle.hq_log.specs.Entries.{Telling}
 use Rattle.hq_wire.specs.Exchanges.{with_refusals}
 use Rattle.hq_wire.specs.Runs.{AllReplied, Alone}
 use Rattle.hq_wire.proofs.Serving.{all_replied}
@@ -35,11 +36,11 @@ plain = record {
   goes_back = λ _ _. ⊤;
 }
 
-pub serves : (set : Settings) → settings_seen set ≡ settings → (shelf : ListRows) →
+pub serves : {L : Type 0} (tells : Telling L) (log_old log_new : L) (set : Settings) → settings_seen set ≡ settings → (shelf : ListRows) →
     tables_of shelf ≡ no_tables
     → (asked : List (Option LineRequest)) (lines : List (List ℕ)) →
-    ServesOver ⊤ plain set shelf asked lines → ServesBuiltin asked lines
-serves set builtin shelf none asked lines it =
+    ServesOver ⊤ plain set tells log_old log_new shelf asked lines → ServesBuiltin asked lines
+serves tells log_old log_new set builtin shelf none asked lines it =
     let d = set.directory in
     let old = it.old in
     let new = it.new in

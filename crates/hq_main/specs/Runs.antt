@@ -1,6 +1,6 @@
 -- What the program does: with lines of the built-in customers, from an empty desk in memory; with
 -- lines, or connections, of those of a directory; and with its words.
-use Rattle.std.specs.Prelude.{◌≡◌, ◌≤◌, ⊤, ℕ, [], List, map, Option, option_map, Result, Ok, Err}
+use Rattle.std.specs.Prelude.{◌≡◌, ◌≤◌, ⊤, ℕ, [], ◌∷◌, List, map, Option, option_map, Result, Ok, Err}
 use Rattle.std.specs.Prelude.{◌⊎◌, IfOk, string_bytes}
 use Rattle.std.specs.Io.KnownBytes.{Appends}
 use Rattle.std.specs.declared.alloc.AllocError.{AllocError}
@@ -8,6 +8,8 @@ use Rattle.hq_values.specs.Refusals.{no_memory}
 use Rattle.hq_values.specs.declared.failure.Fault.{Fault}
 use Rattle.hq_tables.specs.Shelves.{Sight}
 use Rattle.hq_tables.specs.Tables.{Tables, no_tables}
+use Rattle.hq_log.specs.Entries.{Telling}
+use Rattle.hq_log.specs.Logs.{Logging, log_closed, log_opened}
 use Rattle.hq_wire.specs.Replies.{SeenReply, store_faults}
 use Rattle.hq_wire.specs.Runs.{AllReplied, Alone}
 use Rattle.hq_settings.specs.Seen.{settings_seen}
@@ -61,21 +63,31 @@ pub record ServesBuiltin (asked : List (Option LineRequest)) (lines : List (List
       tables
   pub no_faults : store_faults replies ≡ 0
 
-module _ {K S : Type 0} (reads : Reading) (sight : Sight S) (does : Doing K S)
-    (stores_old stores_new : K) where
-  -- How a batch ends with the settings that its words name: with the trouble of these, and then
-  -- nothing is read or written, or done to a store; or as its store has it.
-  abbrev pub SetBatchEnds : Option (List ℕ) → Type 0 → Streams → Streams →
-      Result Settings Trouble → Result ⊤ Trouble → Type 0
-  SetBatchEnds store untouched old new (Err trouble) result = untouched
-      × (stores_new ≡ stores_old) × (result ≡ Err trouble)
-  SetBatchEnds store untouched old new (Ok set) result =
-      StoreEnds sight does store stores_old stores_new set untouched old new result
+module _ {G L K S : Type 0} (reads : Reading) (logs : Logging G L) (tells : Telling L)
+    (logs_old logs_new : G) (sight : Sight S) (does : Doing K S) (stores_old stores_new : K) where
+  -- How a batch ends with these settings: as its store has it. The log that words name is told of
+  -- its lines, and is closed as it was told; nothing else is done with a log.
+  pub record LogsBatch (given : BatchGiven) (untouched : Type 0) (old new : Streams)
+      (set : Settings) (result : Result ⊤ Trouble) : Type 0 where
+    pub log_before : L
+    pub log_after : L
+    pub logged : logs logs_old (log_opened given.log log_before ∷ log_closed log_after ∷ []) logs_new
+    pub ends : StoreEnds tells log_before log_after sight does given.store stores_old stores_new
+        set (untouched × (log_after ≡ log_before)) old new result
+
+  -- With the settings that its words name; or with the trouble of these, and then nothing is read or
+  -- written, or done to a store or with a log.
+  abbrev pub SetBatchEnds : BatchGiven → Type 0 → Streams → Streams → Result Settings Trouble →
+      Result ⊤ Trouble → Type 0
+  SetBatchEnds given untouched old new (Err trouble) result = untouched
+      × (stores_new ≡ stores_old) × (logs_new ≡ logs_old) × (result ≡ Err trouble)
+  SetBatchEnds given untouched old new (Ok set) result =
+      LogsBatch given untouched old new set result
 
   abbrev pub BatchEnds : BatchGiven → Type 0 → Streams → Streams → Result ⊤ Trouble → Type 0
   BatchEnds given untouched old new result = (set : Result Settings Trouble)
       × SetsUp reads given.host given.relay_key given.directory given.keys set
-      × SetBatchEnds given.store untouched old new set result
+      × SetBatchEnds given untouched old new set result
 
 -- one call, or a migration, and how it is printed; nothing is read
 abbrev pub Prints : (Result Rendered Trouble → Type 0) → Type 0 → Type 0 → Streams → Streams → ℕ →
@@ -93,20 +105,32 @@ abbrev pub UnlessServed : Result Words AllocError → Type 0 → Type 0
 UnlessServed (Ok (OfWord asked)) it = UnlessServe asked it
 UnlessServed _ it = it
 
+-- these words have a log, or this is so
+abbrev pub UnlessLogs : Word → Type 0 → Type 0
+UnlessLogs (Serve given) it = ⊤
+UnlessLogs (Batch given) it = ⊤
+UnlessLogs _ it = it
+
+abbrev pub UnlessLogged : Result Words AllocError → Type 0 → Type 0
+UnlessLogged (Ok (OfWord asked)) it = UnlessLogs asked it
+UnlessLogged _ it = it
+
 -- What the program has of its machine: what it reads; what is done at the network, from one
--- state of it to another, and with clients; how many connections are left; what is seen of a store;
--- and what is done to stores, from one state of these to another.
-module _ {N C K S : Type 0} (reads : Reading) (networks : Networking N C) (serves : Serving C)
-    (connections : C → ℕ) (net_old net_new : N) (sight : Sight S) (does : Doing K S)
-    (stores_old stores_new : K) where
+-- state of it to another, and with clients; how many connections are left; what is done with logs,
+-- from one state of these to another, and what one is told; what is seen of a store; and what is
+-- done to stores, from one state of these to another.
+module _ {N C G L K S : Type 0} (reads : Reading) (networks : Networking N C) (serves : Serving C)
+    (connections : C → ℕ) (net_old net_new : N) (logs : Logging G L) (tells : Telling L)
+    (logs_old logs_new : G) (sight : Sight S) (does : Doing K S) (stores_old stores_new : K) where
   -- what is done for a word
   abbrev pub DoesWord : Word → Type 0 → Type 0 → Streams → Streams → ℕ → Type 0
   DoesWord (Serve given) unread unwritten old new status =
-      unread × Exits (ServeEnds reads networks serves connections net_old net_new sight does
-      stores_old stores_new given unwritten old.output new.output) status
+      unread × Exits (ServeEnds reads networks serves connections net_old net_new logs tells
+      logs_old logs_new sight does stores_old stores_new given unwritten old.output new.output)
+      status
   DoesWord (Batch given) unread unwritten old new status =
-      Exits (BatchEnds reads sight does stores_old stores_new (given_of given)
-      (unread × unwritten) old new) status
+      Exits (BatchEnds reads logs tells logs_old logs_new sight does stores_old stores_new
+      (given_of given) (unread × unwritten) old new) status
   DoesWord (Check given) unread unwritten old new status =
       unread × (stores_new ≡ stores_old)
       × Checks (CheckEnds reads (check_of given)) unwritten old.output new.output status
@@ -155,7 +179,7 @@ module _ {N C K S : Type 0} (reads : Reading) (networks : Networking N C) (serve
       × (stores_new ≡ stores_old) × (status ≡ 1)
 
   -- The program does what its words ask for. Nothing is done at the network for words that serve no
-  -- clients.
+  -- clients, and nothing with a log for words that have none.
   pub record Commands (words : List (List ℕ)) (unread unwritten : Type 0) (old new : Streams)
       (status : ℕ) : Type 0 where
     pub asked : Result Words AllocError
@@ -163,3 +187,4 @@ module _ {N C K S : Type 0} (reads : Reading) (networks : Networking N C) (serve
     pub none : words ≡ [] → asked ≡ Ok Builtin
     pub does_so : Does asked unread unwritten old new status
     pub network : UnlessServed asked (net_new ≡ net_old)
+    pub unlogged : UnlessLogged asked (logs_new ≡ logs_old)

@@ -4,16 +4,15 @@ ghost use Rattle.std.specs.Prelude.{◌≡◌, [], map as map_list, string_bytes
 ghost use Rattle.hq_batch.specs.Runs.{RunEnds, Exits};
 ghost use Rattle.hq_words.specs.Asked.{given_of};
 ghost use Rattle.hq_main.specs.Runs.{ServesBuiltin, BatchEnds, DoesWord, Commands};
-ghost use Rattle.hq_main.specs.Runs.{UnlessServe};
+ghost use Rattle.hq_main.specs.Runs.{UnlessLogs, UnlessServe};
 
 use crate::rounds::{do_sweep, print_round_over};
 use crate::stores::{print_over, tell_over};
-use crate::world::World;
 use hq_batch::{check, refuse, run_batch, show, tell};
 use hq_lists::ListShelf;
-use hq_log::NoLog;
+use hq_log::{Logs, NoLog};
 use hq_network::Network;
-use hq_settings::{Trouble, builtin_settings, set_up};
+use hq_settings::{Files, Trouble, builtin_settings, set_up};
 use hq_sql_admin::{delete, history, hold, import, migrate, queue, release, usage};
 use hq_sql_server::{run_stored, serve_http};
 use hq_sql_shelf::Stores;
@@ -39,21 +38,23 @@ fn run_builtin<R: Read, W: Write>(
 
 /// Replies to the lines of an input for the customers of a directory, over a store in memory or at
 /// a path.
-fn run_given<'w, T: World<'w>, K: Stores, R: Read, W: Write>(
-    rt: &'w T,
+fn run_given<'w, F: Files, G: Logs<'w>, K: Stores, R: Read, W: Write>(
+    rt: &F,
+    logs: &mut G,
     stores: &mut K,
     batch: &Batch<'w>,
     input: &mut R,
     output: &mut W,
 ) -> Result<(), Trouble>
-    ensures { BatchEnds (T.reads rt.now) K.Store.sight K.does stores.old stores.new
-        (given_of batch.now) ((input.new ≡ input.old) × (output.new ≡ output.old))
+    ensures { BatchEnds (F.reads rt.now) G.does G.Log.tells logs.old logs.new K.Store.sight K.does
+        stores.old stores.new (given_of batch.now)
+        ((input.new ≡ input.old) × (output.new ≡ output.old))
         (record { input = R.remaining input.old; output = W.contents output.old })
         (record { input = R.remaining input.new; output = W.contents output.new }) result }
 {
     let settings = set_up(rt, batch.host, batch.relay_key, batch.directory, batch.keys)?;
-    let mut log = rt.log(batch.log);
-    run_stored(
+    let mut log = logs.open(batch.log);
+    let ended = run_stored(
         rt.alloc(),
         stores,
         batch.store,
@@ -61,13 +62,16 @@ fn run_given<'w, T: World<'w>, K: Stores, R: Read, W: Write>(
         input,
         output,
         &mut log,
-    )
+    );
+    logs.close(log);
+    ended
 }
 
 /// Does what a word of the program asks for, and answers the exit status.
-fn do_word<'w, T: World<'w>, N: Network, K: Stores, R: Read, W: Write, E: Write>(
-    rt: &'w T,
+fn do_word<'w, F: Files, N: Network, G: Logs<'w>, K: Stores, R: Read, W: Write, E: Write>(
+    rt: &F,
     network: &mut N,
+    logs: &mut G,
     stores: &mut K,
     asked: &Word<'w>,
     input: &mut R,
@@ -75,19 +79,21 @@ fn do_word<'w, T: World<'w>, N: Network, K: Stores, R: Read, W: Write, E: Write>
     errors: &mut E,
 ) -> u8
     ensures network { UnlessServe asked.now (network.new ≡ network.old) }
-    ensures does { DoesWord (T.reads rt.now) N.does N.Clients.does N.Clients.left network.old
-        network.new K.Store.sight K.does stores.old stores.new asked.now
+    ensures logs { UnlessLogs asked.now (logs.new ≡ logs.old) }
+    ensures does { DoesWord (F.reads rt.now) N.does N.Clients.does N.Clients.left network.old
+        network.new G.does G.Log.tells logs.old logs.new K.Store.sight K.does stores.old stores.new
+        asked.now
         (input.new ≡ input.old) (output.new ≡ output.old)
         (record { input = R.remaining input.old; output = W.contents output.old })
         (record { input = R.remaining input.new; output = W.contents output.new }) result }
 {
     match asked {
         Word::Serve(given) => {
-            let served = serve_http(rt, network, stores, given, output, errors);
+            let served = serve_http(rt, network, logs, stores, given, output, errors);
             tell_over(&*stores, given.store, served, errors)
         }
         Word::Batch(batch) => {
-            let ended = run_given(rt, stores, batch, input, output);
+            let ended = run_given(rt, logs, stores, batch, input, output);
             tell_over(&*stores, batch.store, ended, errors)
         }
         Word::Check(given) => check(rt, given, output, errors),
@@ -132,16 +138,17 @@ fn do_word<'w, T: World<'w>, N: Network, K: Stores, R: Read, W: Write, E: Write>
 /// done and printed, or help or the version was shown; 1 for a refusal or a fault; 2 for words that
 /// are not taken. Each of the last two is told on `errors`, where that can be written.
 ///
-/// `rt`, `network` and `stores` are all that it has of the machine: what it reads, whom it serves
-/// and what it does to stores are as its words name them. It does nothing else to a store or at the
-/// network.
+/// `rt`, `network`, `logs` and `stores` are all that it has of the machine: what it reads, whom it
+/// serves, what it logs and what it does to stores are as its words name them. It does nothing else
+/// to a store, at the network or with a log.
 ///
 /// After a failed input the whole lines before are replied to; after a failed output the exchanges
 /// of the first lines, or the calls, are done; where the desk could not begin, nothing is read or
 /// written.
-pub fn command<'w, T: World<'w>, N: Network, K: Stores, R: Read, W: Write, E: Write>(
-    rt: &'w T,
+pub fn command<'w, F: Files, N: Network, G: Logs<'w>, K: Stores, R: Read, W: Write, E: Write>(
+    rt: &F,
     network: &mut N,
+    logs: &mut G,
     stores: &mut K,
     words: &'w [String],
     input: &mut R,
@@ -152,9 +159,9 @@ pub fn command<'w, T: World<'w>, N: Network, K: Stores, R: Read, W: Write, E: Wr
         ((input.new ≡ input.old) × (output.new ≡ output.old))
         (record { input = R.remaining input.old; output = W.contents output.old })
         (record { input = R.remaining input.new; output = W.contents output.new })) result
-        × (stores.new ≡ stores.old) × (network.new ≡ network.old) }
-    ensures words { Commands (T.reads rt.now) N.does N.Clients.does N.Clients.left network.old
-        network.new K.Store.sight K.does stores.old stores.new
+        × (stores.new ≡ stores.old) × (network.new ≡ network.old) × (logs.new ≡ logs.old) }
+    ensures words { Commands (F.reads rt.now) N.does N.Clients.does N.Clients.left network.old
+        network.new G.does G.Log.tells logs.old logs.new K.Store.sight K.does stores.old stores.new
         (map_list string_bytes words.entry.now) (input.new ≡ input.old) (output.new ≡ output.old)
         (record { input = R.remaining input.old; output = W.contents output.old })
         (record { input = R.remaining input.new; output = W.contents output.new }) result }
@@ -164,7 +171,7 @@ pub fn command<'w, T: World<'w>, N: Network, K: Stores, R: Read, W: Write, E: Wr
             let ended = run_builtin(rt.alloc(), input, output);
             tell(ended, errors)
         }
-        Ok(Words::Word(asked)) => do_word(rt, network, stores, &asked, input, output, errors),
+        Ok(Words::Word(asked)) => do_word(rt, network, logs, stores, &asked, input, output, errors),
         Ok(Words::Shown(text)) => show(text.as_str(), output, errors),
         Ok(Words::Refused(text)) => refuse(text.as_str(), errors),
         Err(_) => tell(Err(Trouble::from(Fault::WantOfMemory)), errors),

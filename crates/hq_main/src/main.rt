@@ -7,23 +7,24 @@
 mod command;
 mod rounds;
 mod stores;
-mod world;
 
 use command::command;
 use hq_batch::{not_begun, words};
+use hq_log::HostLogs;
 use hq_network::HostNetwork;
 use hq_sql_shelf::{Disk, DiskStores, HostDisk};
 use std::io::{self, BufWriter};
 use std::process::ExitCode;
 
-/// Runs the program over the process's input and outputs, its network, and the stores of a disk. A
-/// reply is gathered, and written at once when it is whole.
+/// Runs the program over the process's input and outputs, its network and logs, and the stores of a
+/// disk. A reply is gathered, and written at once when it is whole.
 fn run<D: Disk + Drop>(rt: &HostRuntime, disk: D) -> io::Result<u8> {
     let words = words(rt)?;
     let mut output = BufWriter::new(rt.alloc(), rt.stdout())?;
     Ok(command(
         rt,
         &mut HostNetwork::new(rt),
+        &mut HostLogs::new(rt),
         &mut DiskStores::new(disk),
         words.as_slice(),
         &mut rt.stdin(),

@@ -17,6 +17,7 @@ use Rattle.hq_sql_open.specs.declared.transaction.Standing.TheVariants.{Open, Go
 use Rattle.hq_sql_open.specs.declared.transaction.Standing.TheVariants.{Unasked, Lost}
 use Rattle.hq_sql_shelf.specs.Shelf.{IsOurs, Stands}
 use Rattle.hq_sql_shelf.specs.declared.shelf.SqlShelf.{SqlShelf}
+use Rattle.hq_log.specs.Entries.{Telling}
 use Rattle.hq_desk.specs.Desks.{on, host_of, shelf_of}
 use Rattle.hq_desk.specs.declared.desk.Desk.{Desk}
 use Rattle.hq_settings.specs.declared.settings.Settings.{Settings}
@@ -74,12 +75,13 @@ from_empty settings shelf ours none old new named is asks replies together apart
           (subst (λ t. Alone (host_of old) d asks replies t after) empty alone);
     }
 
-pub serves : (settings : Settings) (shelf : SqlShelf MemStore Global)
-    → IsOurs (state over_memory shelf.conn) →
+pub serves : {L : Type 0} (tells : Telling L) (log_old log_new : L) (settings : Settings)
+    (shelf : SqlShelf MemStore Global) → IsOurs (state over_memory shelf.conn) →
     tables_in (state over_memory shelf.conn).committed ≡ no_tables
     → (asked : List (Option LineRequest)) (lines : List (List ℕ)) →
-    ServesOver ⊤ memory settings shelf asked lines → ServesFromEmpty settings asked lines
-serves settings shelf ours none asked lines it = record {
+    ServesOver ⊤ memory settings tells log_old log_new shelf asked lines →
+    ServesFromEmpty tells log_old log_new settings asked lines
+serves tells log_old log_new settings shelf ours none asked lines it = record {
   shelf = shelf;
   over = it;
   from_empty = from_empty settings shelf ours none it.old it.new it.host_is it.shelf_is

@@ -10,6 +10,8 @@ use Rattle.hq_sql.specs.Tables.{tables_in}
 use Rattle.hq_sql_shelf.specs.Shelf.{IsOurs}
 use Rattle.hq_sql_shelf.specs.declared.shelf.SqlShelf.{SqlShelf}
 use Rattle.hq_serve.specs.Coming.{Serving, round_asks, round_replies}
+use Rattle.hq_log.specs.Entries.{Telling}
+use Rattle.hq_log.specs.Logs.{Logging}
 use Rattle.hq_together.specs.Sessions.{all_in}
 use Rattle.hq_settings.specs.declared.settings.Settings.{Settings}
 use Rattle.hq_settings.specs.declared.trouble.Trouble.{Trouble}
@@ -19,15 +21,16 @@ use Rattle.hq_sql_server.specs.Stored.{memory}
 use Rattle.hq_sql_server.specs.Runs.{IsUnheard, ServedEnds, ServesEmpty, ServesPlace}
 use Rattle.hq_sql_server.proofs.Memory.{from_empty}
 
-module _ {N K : Type 0} (does : Networking N K) (serves : Serving K) (connections : K → ℕ)
-    (net_old net_new : N) (settings : Settings) (given : Serve) (out_old out_new : Option (List ℕ))
+module _ {N K G L : Type 0} (does : Networking N K) (serves : Serving K) (connections : K → ℕ)
+    (net_old net_new : N) (logs : Logging G L) (tells : Telling L) (logs_old logs_new : G)
+    (settings : Settings) (given : Serve) (out_old out_new : Option (List ℕ))
     (result : Result ⊤ Trouble) (shelf left : SqlShelf MemStore Global)
     (ours : IsOurs (state over_memory shelf.conn))
     (none : tables_in (state over_memory shelf.conn).committed ≡ no_tables) where
   -- clients are served from empty tables
-  serves_empty : ServesPlace does serves connections net_old net_new memory settings given out_old
+  serves_empty : ServesPlace does serves connections net_old net_new logs tells logs_old logs_new memory settings given out_old
       out_new result shelf left →
-      ServesEmpty does serves connections net_old net_new settings given out_old out_new result
+      ServesEmpty does serves connections net_old net_new logs tells logs_old logs_new settings given out_old out_new result
   serves_empty it = record {
     shelf = shelf;
     left = left;
@@ -39,9 +42,9 @@ module _ {N K : Type 0} (does : Networking N K) (serves : Serving K) (connection
 
   -- however a server ends over it
   pub memory_ends : (unwritten : Type 0) →
-      ServedEnds does serves connections net_old net_new memory settings given unwritten out_old
+      ServedEnds does serves connections net_old net_new logs tells logs_old logs_new memory settings given unwritten out_old
       out_new result shelf left →
-      IsUnheard does serves connections net_old net_new given unwritten result
-      ⊎ ServesEmpty does serves connections net_old net_new settings given out_old out_new result
+      IsUnheard does serves connections net_old net_new logs tells logs_old logs_new given unwritten result
+      ⊎ ServesEmpty does serves connections net_old net_new logs tells logs_old logs_new settings given out_old out_new result
   memory_ends unwritten (inl unheard) = inl unheard.0
   memory_ends unwritten (inr served) = inr (serves_empty served)

@@ -12,6 +12,7 @@ use Rattle.hq_sql_shelf.specs.Opened.{OverMemory}
 use Rattle.hq_sql_shelf.specs.Stores.{Doing, OverStore}
 use Rattle.hq_sql_shelf.specs.Shelf.{sight_over}
 use Rattle.hq_sql_shelf.specs.declared.shelf.SqlShelf.{SqlShelf}
+use Rattle.hq_log.specs.Entries.{Telling}
 use Rattle.hq_desk.specs.Desks.{on}
 use Rattle.hq_desk.specs.declared.desk.Desk.{Desk}
 use Rattle.hq_settings.specs.declared.settings.Settings.{Settings}
@@ -30,12 +31,13 @@ abbrev pub IsUnopened : Type 0 → Fault → Result ⊤ Trouble → Type 0
 IsUnopened untouched fault result = untouched × (result ≡ Err (OfDesk (AsFault fault)))
 
 -- How a batch ends over the store of a path, which is left as the last round left it: its lines are
--- those of a batch in rounds over it; or it could not be opened.
-abbrev pub BatchStoreEnds : {K S : Type 0} → Sight S → Doing K S → List ℕ → K → K → Settings →
-    Type 0 → Streams → Streams → Result ⊤ Trouble → Type 0
-BatchStoreEnds sight does path stores_old stores_new settings untouched old new result =
-    OverStore sight does path stores_old stores_new
-    (λ shelf left. RoundsRunEnd (ServesInRounds ⊤ sight settings shelf left)
+-- those of a batch in rounds over it, and the log is told of them; or it could not be opened.
+abbrev pub BatchStoreEnds : {L K S : Type 0} → Telling L → L → L → Sight S → Doing K S → List ℕ →
+    K → K → Settings → Type 0 → Streams → Streams → Result ⊤ Trouble → Type 0
+BatchStoreEnds tells log_old log_new sight does path stores_old stores_new settings untouched old
+    new result = OverStore sight does path stores_old stores_new
+    (λ shelf left. RoundsRunEnd
+    (ServesInRounds ⊤ sight settings tells log_old log_new shelf left)
     (untouched × (left ≡ shelf)) old new result)
     (λ fault. IsUnopened untouched fault result)
 
@@ -57,24 +59,27 @@ pub record FromEmpty (settings : Settings) (asks : List Ask) (replies : List See
 
 -- Lines are replied to as a batch of these customers over a shelf in memory, which began with empty
 -- tables.
-pub record ServesFromEmpty (settings : Settings) (asked : List (Option LineRequest))
-    (lines : List (List ℕ)) : Type 0 where
+pub record ServesFromEmpty {L : Type 0} (tells : Telling L) (log_old log_new : L)
+    (settings : Settings) (asked : List (Option LineRequest)) (lines : List (List ℕ)) : Type 0 where
   pub shelf : SqlShelf MemStore Global
-  pub over : ServesOver ⊤ memory settings shelf asked lines
+  pub over : ServesOver ⊤ memory settings tells log_old log_new shelf asked lines
   pub from_empty : FromEmpty settings (map (ask_in settings.directory) asked) over.replied.0
       over.new
 
-abbrev pub MemoryEnds : Settings → Type 0 → Streams → Streams → Result ⊤ Trouble → Type 0
-MemoryEnds settings untouched old new result = OverMemory
-    (RunEnds (ServesFromEmpty settings) untouched old new result)
+abbrev pub MemoryEnds : {L : Type 0} → Telling L → L → L → Settings → Type 0 → Streams → Streams →
+    Result ⊤ Trouble → Type 0
+MemoryEnds tells log_old log_new settings untouched old new result = OverMemory
+    (RunEnds (ServesFromEmpty tells log_old log_new settings) untouched old new result)
     (λ fault. IsUnopened untouched fault result)
 
 -- ---- in memory, or over the store of a path
 
 -- Without a path the store is in memory, and nothing is done to any other.
-abbrev pub StoreEnds : {K S : Type 0} → Sight S → Doing K S → Option (List ℕ) → K → K → Settings →
-    Type 0 → Streams → Streams → Result ⊤ Trouble → Type 0
-StoreEnds sight does None stores_old stores_new settings untouched old new result =
-    MemoryEnds settings untouched old new result × (stores_new ≡ stores_old)
-StoreEnds sight does (Some path) stores_old stores_new settings untouched old new result =
-    BatchStoreEnds sight does path stores_old stores_new settings untouched old new result
+abbrev pub StoreEnds : {L K S : Type 0} → Telling L → L → L → Sight S → Doing K S →
+    Option (List ℕ) → K → K → Settings → Type 0 → Streams → Streams → Result ⊤ Trouble → Type 0
+StoreEnds tells log_old log_new sight does None stores_old stores_new settings untouched old new
+    result = MemoryEnds tells log_old log_new settings untouched old new result
+    × (stores_new ≡ stores_old)
+StoreEnds tells log_old log_new sight does (Some path) stores_old stores_new settings untouched old
+    new result = BatchStoreEnds tells log_old log_new sight does path stores_old stores_new settings
+    untouched old new result

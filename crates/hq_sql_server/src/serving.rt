@@ -13,6 +13,7 @@ use hq_serve::{ServiceEnd, serve_rounds};
 use hq_settings::{Files, Settings, Trouble, set_up};
 use hq_sql_shelf::{SqlShelf, Stores};
 use hq_words::Serve;
+use std::alloc::Global;
 use std::io::Write;
 
 /// Why a server ends, as the program tells it.
@@ -27,55 +28,61 @@ fn ended(end: ServiceEnd) -> Result<(), Trouble>
 }
 
 /// Serves the connections of a place over a shelf, and gives it back.
-fn serve_over<'h, R: Logs<'h> + AllocGlobal, N: Network, S: Rounds, W: Write, E: Write>(
-    rt: &'h R,
+fn serve_over<'h, N: Network, G: Logs<'h>, S: Rounds, W: Write, E: Write>(
+    memory: Global,
     network: &mut N,
+    logs: &mut G,
     shelf: S,
     settings: Settings,
     given: &Serve<'h>,
     output: &mut W,
     errors: &mut E,
 ) -> (Result<(), Trouble>, S)
-    ensures { ServedEnds N.does N.Clients.does N.Clients.left network.old network.new S.sight
-        settings given.now (output.new ≡ output.old) (W.contents output.old)
+    ensures { ServedEnds N.does N.Clients.does N.Clients.left network.old network.new G.does
+        G.Log.tells logs.old logs.new S.sight settings given.now (output.new ≡ output.old)
+        (W.contents output.old)
         (W.contents output.new) result.0 shelf result.1 }
 {
-    let memory = rt.alloc();
     let mut clients = match listen(memory, network, given, output) {
         Ok(clients) => clients,
         Err(trouble) => return (Err(trouble), shelf),
     };
     let Settings { host, directory } = settings;
     let desk = Desk::new(shelf, host);
-    let mut log = rt.log(given.log);
+    let mut log = logs.open(given.log);
     let (end, desk) = serve_rounds(memory, &mut clients, desk, &directory, errors, &mut log);
+    logs.close(log);
     network.end(clients);
     (ended(end), desk.into_shelf())
 }
 
 /// Serves the connections of a place from an empty desk, whose store stands in memory.
-fn serve_memory<'h, R: Logs<'h> + AllocGlobal, N: Network, W: Write, E: Write>(
-    rt: &'h R,
+fn serve_memory<'h, N: Network, G: Logs<'h>, W: Write, E: Write>(
+    memory: Global,
     network: &mut N,
+    logs: &mut G,
     settings: Settings,
     given: &Serve<'h>,
     output: &mut W,
     errors: &mut E,
 ) -> Result<(), Trouble>
-    ensures { MemoryServerEnds N.does N.Clients.does N.Clients.left network.old network.new
-        settings given.now (output.new ≡ output.old) (W.contents output.old)
+    ensures { MemoryServerEnds N.does N.Clients.does N.Clients.left network.old network.new G.does
+        G.Log.tells logs.old logs.new settings given.now (output.new ≡ output.old)
+        (W.contents output.old)
         (W.contents output.new) result }
 {
-    let shelf = SqlShelf::open_memory(rt.alloc())?;
-    let (ended, _shelf) = serve_over(rt, network, shelf, settings, given, output, errors);
+    let shelf = SqlShelf::open_memory(memory)?;
+    let (ended, _shelf) =
+        serve_over(memory, network, logs, shelf, settings, given, output, errors);
     ended
 }
 
 /// Serves the connections of a place over the store of a path, which is made if it is missing, and
 /// leaves it. If it cannot be opened, the fault is told, and nothing is listened on.
-fn serve_store<'h, R: Logs<'h> + AllocGlobal, N: Network, K: Stores, W: Write, E: Write>(
-    rt: &'h R,
+fn serve_store<'h, N: Network, G: Logs<'h>, K: Stores, W: Write, E: Write>(
+    memory: Global,
     network: &mut N,
+    logs: &mut G,
     stores: &mut K,
     path: &str,
     settings: Settings,
@@ -83,12 +90,14 @@ fn serve_store<'h, R: Logs<'h> + AllocGlobal, N: Network, K: Stores, W: Write, E
     output: &mut W,
     errors: &mut E,
 ) -> Result<(), Trouble>
-    ensures { StoreServerEnds N.does N.Clients.does N.Clients.left network.old network.new
-        K.Store.sight K.does path.now stores.old stores.new settings given.now
+    ensures { StoreServerEnds N.does N.Clients.does N.Clients.left network.old network.new G.does
+        G.Log.tells logs.old logs.new K.Store.sight K.does path.now stores.old stores.new settings
+        given.now
         (output.new ≡ output.old) (W.contents output.old) (W.contents output.new) result }
 {
     let store = stores.open(path)?;
-    let (ended, store) = serve_over(rt, network, store, settings, given, output, errors);
+    let (ended, store) =
+        serve_over(memory, network, logs, store, settings, given, output, errors);
     stores.leave(store);
     ended
 }
@@ -108,22 +117,27 @@ fn serve_store<'h, R: Logs<'h> + AllocGlobal, N: Network, K: Stores, W: Write, E
 /// Each client is sent the reply to its own request, and nothing else. Without a store the desk
 /// stands in memory and is empty at first: to every customer its replies, and what is kept of it,
 /// are those that it would have alone on the desk. The store of a path is left as the last request
-/// left it.
-pub fn serve_http<'h, R: Files + Logs<'h>, N: Network, K: Stores, W: Write, E: Write>(
-    rt: &'h R,
+/// left it. The log that is named is told each reply, and nothing else.
+pub fn serve_http<'h, F: Files, N: Network, G: Logs<'h>, K: Stores, W: Write, E: Write>(
+    rt: &F,
     network: &mut N,
+    logs: &mut G,
     stores: &mut K,
     given: &Serve<'h>,
     output: &mut W,
     errors: &mut E,
 ) -> Result<(), Trouble>
-    ensures { ServeEnds (R.reads rt.now) N.does N.Clients.does N.Clients.left network.old
-        network.new K.Store.sight K.does stores.old stores.new given.now (output.new ≡ output.old)
-        (W.contents output.old) (W.contents output.new) result }
+    ensures { ServeEnds (F.reads rt.now) N.does N.Clients.does N.Clients.left network.old
+        network.new G.does G.Log.tells logs.old logs.new K.Store.sight K.does stores.old stores.new
+        given.now (output.new ≡ output.old) (W.contents output.old) (W.contents output.new)
+        result }
 {
     let settings = set_up(rt, given.host, given.relay_key, given.directory, given.keys)?;
+    let memory = rt.alloc();
     match given.store {
-        None => serve_memory(rt, network, settings, given, output, errors),
-        Some(path) => serve_store(rt, network, stores, path, settings, given, output, errors),
+        None => serve_memory(memory, network, logs, settings, given, output, errors),
+        Some(path) => serve_store(
+            memory, network, logs, stores, path, settings, given, output, errors,
+        ),
     }
 }

@@ -19,7 +19,8 @@ fn run_memory<R: Read, W: Write, L: Log>(
     output: &mut W,
     log: &mut L,
 ) -> Result<(), Trouble>
-    ensures { MemoryEnds settings ((input.new ≡ input.old) × (output.new ≡ output.old))
+    ensures { MemoryEnds L.tells log.old log.new settings
+        ((input.new ≡ input.old) × (output.new ≡ output.old) × (log.new ≡ log.old))
         (record { input = R.remaining input.old; output = W.contents output.old })
         (record { input = R.remaining input.new; output = W.contents output.new }) result }
 {
@@ -39,8 +40,9 @@ fn run_store<K: Stores, R: Read, W: Write, L: Log>(
     output: &mut W,
     log: &mut L,
 ) -> Result<(), Trouble>
-    ensures { BatchStoreEnds K.Store.sight K.does path.now stores.old stores.new settings
-        ((input.new ≡ input.old) × (output.new ≡ output.old))
+    ensures { BatchStoreEnds L.tells log.old log.new K.Store.sight K.does path.now stores.old
+        stores.new settings
+        ((input.new ≡ input.old) × (output.new ≡ output.old) × (log.new ≡ log.old))
         (record { input = R.remaining input.old; output = W.contents output.old })
         (record { input = R.remaining input.new; output = W.contents output.new }) result }
 {
@@ -53,7 +55,7 @@ fn run_store<K: Stores, R: Read, W: Write, L: Log>(
 /// Replies to the lines of an input for the customers of these settings, over the store of a path,
 /// which is made where it is missing, or without a path over an empty one in memory. A store that
 /// cannot be opened is told as 90, 91, 92 or 93; then, and where there is no memory to begin with,
-/// nothing is read or written. Each reply is told in the log. Over the store of a path, lines that
+/// nothing is read, written or told. The log is told each reply, and nothing else. Over the store of a path, lines that
 /// are there together share a commit, as `run_batch_in_rounds` says, and it is left as the last
 /// line left it.
 pub fn run_stored<K: Stores, R: Read, W: Write, L: Log>(
@@ -65,8 +67,9 @@ pub fn run_stored<K: Stores, R: Read, W: Write, L: Log>(
     output: &mut W,
     log: &mut L,
 ) -> Result<(), Trouble>
-    ensures { StoreEnds K.Store.sight K.does (option_map (λ s. s.now) store.entry) stores.old
-        stores.new settings ((input.new ≡ input.old) × (output.new ≡ output.old))
+    ensures { StoreEnds L.tells log.old log.new K.Store.sight K.does
+        (option_map (λ s. s.now) store.entry) stores.old stores.new settings
+        ((input.new ≡ input.old) × (output.new ≡ output.old) × (log.new ≡ log.old))
         (record { input = R.remaining input.old; output = W.contents output.old })
         (record { input = R.remaining input.new; output = W.contents output.new }) result }
 {

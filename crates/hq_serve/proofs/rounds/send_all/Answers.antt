@@ -4,7 +4,7 @@ use Rattle.std.proofs.lemmas.Grind.{common_steps}
 use Rattle.std.proofs.lemmas.List.{length-map, length-take-le, map_more, take-map, take_more}
 use Rattle.hq_wire.specs.Replies.{seen}
 use Rattle.hq_serve.specs.Coming.{sent_each, sent_to}
-use Rattle.hq_serve.proofs.Taking.{did_more, sent_one, sent_short}
+use Rattle.hq_serve.proofs.Taking.{did_more, each_one, each_short}
 use Rattle.hq_serve.proofs.rounds.send_all.Goals as goal
 
 pub loop-place-preserved : goal.loop-place-preserved
@@ -30,12 +30,12 @@ loop-place-preserved g c =
           c.send.new.clients (sent_each (take k clients) (take k told))
           (sent_to client (seen reply) ∷ []) (sent_each (take (k + 1) clients) (take (k + 1) told))
           ((λ i. sent_each (is_client i) (is_reply i))
-          ∙ sent_one (take k clients) (take k told) client (seen reply) even)
+          ∙ each_one sent_to (take k clients) (take k told) client (seen reply) even)
           c.loop-place.invariant.0
           (subst (λ l. g.K.Clients.does c.loop-place.clients
           (sent_to (slice_index_or l k 0) (seen reply) ∷ []) c.send.new.clients)
           c.deref-client-items.ensures.value c.send.ensures.sent),
-      c.send.ensures.left ∙ c.loop-place.invariant.1,
+      c.send.ensures.left ∙ c.loop-place.invariant.2,
     )
 
 pub returns-after-loop-place-clause-sent : goal.returns-after-loop-place-clause-sent
@@ -45,7 +45,7 @@ returns-after-loop-place-clause-sent g c =
     let replies = map seen c.args.replies.now in
     let all : length clients ≤ k = grind (arith, common_steps) in
     subst (λ s. g.K.Clients.does c.args.clients.now s c.loop-place.clients)
-    (sent_short k clients replies (inl all)) c.loop-place.invariant.0
+    (each_short sent_to k clients replies (inl all)) c.loop-place.invariant.0
 
 pub returns-in_default-clause-sent : goal.returns-in_default-clause-sent
 returns-in_default-clause-sent g c =
@@ -54,4 +54,4 @@ returns-in_default-clause-sent g c =
     let replies = map seen c.args.replies.now in
     let all : length replies ≤ k = grind (arith, common_steps) in
     subst (λ s. g.K.Clients.does c.args.clients.now s c.loop-place.clients)
-    (sent_short k clients replies (inr all)) c.loop-place.invariant.0
+    (each_short sent_to k clients replies (inr all)) c.loop-place.invariant.0

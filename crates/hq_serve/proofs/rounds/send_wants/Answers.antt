@@ -7,7 +7,7 @@ use Rattle.hq_requests.specs.declared.exchanges.Exchange.{Exchange}
 use Rattle.hq_wire.specs.Replies.{SeenReply, reply_of_fault}
 use Rattle.hq_serve.specs.Coming.{sent_each, sent_to}
 use Rattle.hq_serve.specs.Taking.{wants_of}
-use Rattle.hq_serve.proofs.Taking.{did_more, sent_one, sent_short}
+use Rattle.hq_serve.proofs.Taking.{did_more, each_one, each_short}
 use Rattle.hq_serve.proofs.rounds.send_wants.Goals as goal
 use Rattle.hq_serve.proofs.rounds.send_wants.Goals.{else-loop-place-test}
 use Rattle.hq_serve.proofs.rounds.send_wants.Goals.{then-loop-place-test+in_default}
@@ -37,11 +37,11 @@ loop-place-preserved g c =
           (sent_to client (reply_of_fault no_memory) ∷ [])
           (sent_each (take (k + 1) clients) (take (k + 1) wants))
           ((λ i. sent_each (is_client i) (is_want i))
-          ∙ sent_one (take k clients) (take k wants) client (reply_of_fault no_memory) even)
+          ∙ each_one sent_to (take k clients) (take k wants) client (reply_of_fault no_memory) even)
           c.loop-place.invariant.0
           (subst (λ r. g.K.Clients.does c.loop-place.clients (sent_to client r ∷ [])
           c.send.new.clients) c.fault_reply-want.ensures.told c.send.ensures.sent),
-      c.send.ensures.left ∙ c.loop-place.invariant.1,
+      c.send.ensures.left ∙ c.loop-place.invariant.2,
     )
 
 pub returns-clause-sent : goal.returns-clause-sent
@@ -53,9 +53,9 @@ returns-clause-sent g c =
       | else-loop-place-test w ↦
           let all : length wants ≤ k = grind (arith, common_steps) in
           subst (λ s. g.K.Clients.does c.args.clients.now s c.loop-place.clients)
-          (sent_short k clients wants (inr all)) c.loop-place.invariant.0
+          (each_short sent_to k clients wants (inr all)) c.loop-place.invariant.0
       | then-loop-place-test+in_default w ↦
           let all : length clients ≤ k = grind (arith, common_steps) in
           subst (λ s. g.K.Clients.does c.args.clients.now s c.loop-place.clients)
-          (sent_short k clients wants (inl all)) c.loop-place.invariant.0
+          (each_short sent_to k clients wants (inl all)) c.loop-place.invariant.0
     ]
