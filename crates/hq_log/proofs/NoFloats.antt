@@ -20,6 +20,7 @@ shown_no_float (Some t) = refl
 pub members_have_no_float : (e : LogEntry) (milliseconds : Option ℕ) →
     has_float (log_members e milliseconds) ≡ false
 unfolding log_members
-members_have_no_float e milliseconds = rw (number_no_float e.at) (rw (text_no_float (customer_in e.whose))
+members_have_no_float e milliseconds = rw (number_no_float e.at)
+    (rw (text_no_float (customer_in e.whose))
     (rw (number_no_float (error_told e.status e.body)) (rw (shown_no_float e.method)
     (rw (number_no_float milliseconds) (rw (shown_no_float e.path) refl)))))

@@ -36,7 +36,8 @@ plain = record {
   goes_back = λ _ _. ⊤;
 }
 
-pub serves : {L : Type 0} (tells : Telling L) (log_old log_new : L) (set : Settings) → settings_seen set ≡ settings → (shelf : ListRows) →
+pub serves : {L : Type 0} (tells : Telling L) (log_old log_new : L) (set : Settings) →
+    settings_seen set ≡ settings → (shelf : ListRows) →
     tables_of shelf ≡ no_tables
     → (asked : List (Option LineRequest)) (lines : List (List ℕ)) →
     ServesOver ⊤ plain set tells log_old log_new shelf asked lines → ServesBuiltin asked lines

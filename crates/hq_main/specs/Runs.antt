@@ -1,7 +1,7 @@
 -- What the program does: with lines of the built-in customers, from an empty desk in memory; with
 -- lines, or connections, of those of a directory; and with its words.
-use Rattle.std.specs.Prelude.{◌≡◌, ◌≤◌, ⊤, ℕ, [], ◌∷◌, List, map, Option, option_map, Result, Ok, Err}
-use Rattle.std.specs.Prelude.{◌⊎◌, IfOk, string_bytes}
+use Rattle.std.specs.Prelude.{◌≡◌, ◌≤◌, ⊤, ℕ, [], ◌∷◌, List, map, Option, option_map, Result, Ok}
+use Rattle.std.specs.Prelude.{Err, ◌⊎◌, IfOk, string_bytes}
 use Rattle.std.specs.Io.KnownBytes.{Appends}
 use Rattle.std.specs.declared.alloc.AllocError.{AllocError}
 use Rattle.hq_values.specs.Refusals.{no_memory}
@@ -71,12 +71,13 @@ module _ {G L K S : Type 0} (reads : Reading) (logs : Logging G L) (tells : Tell
       (set : Settings) (result : Result ⊤ Trouble) : Type 0 where
     pub log_before : L
     pub log_after : L
-    pub logged : logs logs_old (log_opened given.log log_before ∷ log_closed log_after ∷ []) logs_new
+    pub logged : logs logs_old (log_opened given.log log_before ∷ log_closed log_after ∷ [])
+        logs_new
     pub ends : StoreEnds tells log_before log_after sight does given.store stores_old stores_new
         set (untouched × (log_after ≡ log_before)) old new result
 
-  -- With the settings that its words name; or with the trouble of these, and then nothing is read or
-  -- written, or done to a store or with a log.
+  -- With the settings that its words name; or with the trouble of these, and then nothing is read
+  -- or written, or done to a store or with a log.
   abbrev pub SetBatchEnds : BatchGiven → Type 0 → Streams → Streams → Result Settings Trouble →
       Result ⊤ Trouble → Type 0
   SetBatchEnds given untouched old new (Err trouble) result = untouched
@@ -116,16 +117,16 @@ UnlessLogged (Ok (OfWord asked)) it = UnlessLogs asked it
 UnlessLogged _ it = it
 
 -- What the program has of its machine: what it reads; what is done at the network, from one
--- state of it to another, and with clients; how many connections are left; what is done with logs,
--- from one state of these to another, and what one is told; what is seen of a store; and what is
--- done to stores, from one state of these to another.
+-- state of it to another, and with clients; that nobody came yet; how many connections are left;
+-- what is done with logs, from one state of these to another, and what one is told; what is seen of
+-- a store; and what is done to stores, from one state of these to another.
 module _ {N C G L K S : Type 0} (reads : Reading) (networks : Networking N C) (serves : Serving C)
-    (connections : C → ℕ) (net_old net_new : N) (logs : Logging G L) (tells : Telling L)
-    (logs_old logs_new : G) (sight : Sight S) (does : Doing K S) (stores_old stores_new : K) where
+    (begins : C → Type 0) (connections : C → ℕ) (net_old net_new : N) (logs : Logging G L)
+    (tells : Telling L) (logs_old logs_new : G) (sight : Sight S) (does : Doing K S) (stores_old stores_new : K) where
   -- what is done for a word
   abbrev pub DoesWord : Word → Type 0 → Type 0 → Streams → Streams → ℕ → Type 0
   DoesWord (Serve given) unread unwritten old new status =
-      unread × Exits (ServeEnds reads networks serves connections net_old net_new logs tells
+      unread × Exits (ServeEnds reads networks serves begins connections net_old net_new logs tells
       logs_old logs_new sight does stores_old stores_new given unwritten old.output new.output)
       status
   DoesWord (Batch given) unread unwritten old new status =

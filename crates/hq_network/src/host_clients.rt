@@ -27,7 +27,9 @@ impl<'h> HostClients<'h> {
         count: u32,
         limits: Limits,
     ) -> Option<HostClients<'h>>
-        ensures { IfSome result (λ it. it.clients.waiting.connections.left ≡ count) }
+        ensures begins { IfSome result (λ it.
+            ⟦<OfSockets<'h> as Clients>⟧.begins it.clients) }
+        ensures left { IfSome result (λ it. it.clients.waiting.connections.left ≡ count) }
     {
         let poll = Poll::new(rt).ok()?;
         match SocketClients::new(rt, rt.alloc(), poll, listener, count, limits) {
@@ -40,6 +42,8 @@ impl<'h> HostClients<'h> {
 impl<'h> Clients for HostClients<'h> {
     ghost does = { λ old events new.
         ⟦<OfSockets<'h> as Clients>⟧.does old.clients events new.clients };
+
+    ghost begins = { λ it. ⟦<OfSockets<'h> as Clients>⟧.begins it.clients };
 
     ghost none_does = { λ state.
         ⟦<OfSockets<'h> as Clients>⟧.none_does state.clients };

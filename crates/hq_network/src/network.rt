@@ -35,6 +35,7 @@ pub trait Network {
     ) -> Option<(Self::Clients, Place<'p>)>
         ensures place { IfSome result (λ bound. IsPlaceOf text.now bound.1) }
         ensures count { IfSome result (λ bound. Self.Clients.left bound.0 ≡ count) }
+        ensures begins { IfSome result (λ bound. Self.Clients.begins bound.0) }
         ensures listened { does self.old
             (listened text.now limits (option_map (λ bound. bound.0) result) ∷ []) self.new };
 

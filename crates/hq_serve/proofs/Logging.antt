@@ -1,5 +1,6 @@
 -- What the log is told of what was read and replied.
-use Rattle.std.proofs.Common.{◌≡◌, ◌∙◌, ℕ, List, [], ◌∷◌, ◌++◌, Option, None, Some, refl, sym, subst}
+use Rattle.std.proofs.Common.{◌≡◌, ◌∙◌, ℕ, List, [], ◌∷◌, ◌++◌, Option, None, Some, refl, sym}
+use Rattle.std.proofs.Common.{subst}
 use Rattle.hq_http.specs.Requests.{Wanted, nothing, refused, request}
 use Rattle.hq_log.specs.Entries.{Telling, answered_entry}
 use Rattle.hq_log.specs.Lines.{LogEntry}

@@ -86,7 +86,7 @@ told_of (in_round one q) = []
 abbrev pub told_each : Directory → List TimedRequest → List SeenReply → List LogEntry
 told_each d = each_with (λ q r. request_entry d q.at q.request r)
 
--- Those of a round that are replied to at once are told, and then each request with the reply to it.
+-- Those of a round that are replied to at once are told, and then each request with its reply.
 abbrev pub round_told : Directory → RoundDone → List LogEntry
 round_told d round = flat_map told_of round.taken
     ++ told_each d (flat_map timed_of round.taken) round.replies

@@ -30,7 +30,7 @@ impl Asked {
 /// What came from one client.
 #[derive(Drop)]
 pub struct Came {
-    /// The number of the client. No other has it until this one is replied to or gone.
+    /// The number of the client. No other has it until this one is replied to.
     pub client: usize,
     /// When it is taken.
     pub at: Moment,
@@ -74,6 +74,9 @@ pub trait Clients {
     // from one state of all clients to another this came and was sent, in this order, and nothing
     // else
     ghost does: { Serving Self };
+
+    // nobody came yet
+    ghost begins: { Self → Type 0 };
 
     // nobody came, and nobody was sent anything
     ghost none_does: { (state : Self) → does state [] state };

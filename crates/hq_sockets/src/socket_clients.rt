@@ -89,13 +89,16 @@ impl<'h, T: Clock + AllocGlobal, L: Listener + Drop, M: Memory> SocketClients<
 
 impl<T: Clock + AllocGlobal, L: Listener + Drop, M: Memory> Clients
     for SocketClients<'_, T, L, L::Connection, M> {
-    ghost use Rattle.hq_sockets.specs.Waiting.{waiting_does};
+    ghost use Rattle.hq_sockets.specs.Waiting.{waiting_begins, waiting_does};
     ghost use Rattle.hq_sockets.specs.Leads.{leads_nowhere, leads_on};
     ghost use Rattle.std.proofs.Common.{refl};
 
     ghost does = { λ old events new. waiting_does M.refused L.Connection.talks L.Connection.ends
         L.does old.waiting
         events new.waiting };
+
+    ghost begins = { λ clients. waiting_begins M.refused L.Connection.talks L.Connection.ends L.does
+        clients.waiting };
 
     ghost none_does = { λ state. leads_nowhere M.refused L.Connection.talks L.Connection.ends L.does
         state.waiting.connections.listener state.waiting.slots.held.items };

@@ -21,16 +21,18 @@ use Rattle.hq_sql_server.specs.Stored.{memory}
 use Rattle.hq_sql_server.specs.Runs.{IsUnheard, ServedEnds, ServesEmpty, ServesPlace}
 use Rattle.hq_sql_server.proofs.Memory.{from_empty}
 
-module _ {N K G L : Type 0} (does : Networking N K) (serves : Serving K) (connections : K → ℕ)
+module _ {N K G L : Type 0} (does : Networking N K) (serves : Serving K) (begins : K → Type 0)
+    (connections : K → ℕ)
     (net_old net_new : N) (logs : Logging G L) (tells : Telling L) (logs_old logs_new : G)
     (settings : Settings) (given : Serve) (out_old out_new : Option (List ℕ))
     (result : Result ⊤ Trouble) (shelf left : SqlShelf MemStore Global)
     (ours : IsOurs (state over_memory shelf.conn))
     (none : tables_in (state over_memory shelf.conn).committed ≡ no_tables) where
   -- clients are served from empty tables
-  serves_empty : ServesPlace does serves connections net_old net_new logs tells logs_old logs_new memory settings given out_old
-      out_new result shelf left →
-      ServesEmpty does serves connections net_old net_new logs tells logs_old logs_new settings given out_old out_new result
+  serves_empty : ServesPlace does serves begins connections net_old net_new logs tells logs_old
+      logs_new memory settings given out_old out_new result shelf left →
+      ServesEmpty does serves begins connections net_old net_new logs tells logs_old logs_new
+      settings given out_old out_new result
   serves_empty it = record {
     shelf = shelf;
     left = left;
@@ -42,9 +44,11 @@ module _ {N K G L : Type 0} (does : Networking N K) (serves : Serving K) (connec
 
   -- however a server ends over it
   pub memory_ends : (unwritten : Type 0) →
-      ServedEnds does serves connections net_old net_new logs tells logs_old logs_new memory settings given unwritten out_old
-      out_new result shelf left →
-      IsUnheard does serves connections net_old net_new logs tells logs_old logs_new given unwritten result
-      ⊎ ServesEmpty does serves connections net_old net_new logs tells logs_old logs_new settings given out_old out_new result
+      ServedEnds does serves begins connections net_old net_new logs tells logs_old logs_new memory
+      settings given unwritten out_old out_new result shelf left →
+      IsUnheard does serves begins connections net_old net_new logs tells logs_old logs_new given
+      unwritten result
+      ⊎ ServesEmpty does serves begins connections net_old net_new logs tells logs_old logs_new
+      settings given out_old out_new result
   memory_ends unwritten (inl unheard) = inl unheard.0
   memory_ends unwritten (inr served) = inr (serves_empty served)

@@ -30,14 +30,15 @@ abbrev pub TellsPlace : Type 0 → Type 0 → Result ⊤ Trouble → Type 0
 TellsPlace unwritten told (Ok _) = told
 TellsPlace unwritten told (Err trouble) = IsUntold unwritten trouble
 
--- So many clients come to a place that the text names, within these limits, and its line is
--- written. Nothing else is done at the network.
-pub record IsListening {N K : Type 0} (does : Networking N K) (left : K → ℕ) (text : List ℕ)
-    (count : ℕ) (limits : Limits) (net_old net_new : N) (old new : Option (List ℕ)) (clients : K)
-    : Type 0 where
+-- So many clients are to come to a place that the text names, within these limits, of which nobody
+-- came yet, and its line is written. Nothing else is done at the network.
+pub record IsListening {N K : Type 0} (does : Networking N K) (begins : K → Type 0) (left : K → ℕ)
+    (text : List ℕ) (count : ℕ) (limits : Limits) (net_old net_new : N)
+    (old new : Option (List ℕ)) (clients : K) : Type 0 where
   pub place : Place
   pub named : IsPlaceOf text place
   pub listened_so : does net_old (listened text limits (Some clients) ∷ []) net_new
+  pub begun : begins clients
   pub counted : left clients ≡ count
   pub told : IsPlaceTold place old new
 
@@ -52,9 +53,9 @@ IsUnbound {K = K} does text limits net_old net_new unwritten trouble = IsUntold 
     net_new)
 
 -- Either of that is so.
-abbrev pub ListenEnds : {N K : Type 0} → Networking N K → (K → ℕ) → List ℕ → ℕ → Limits → N → N →
-    Type 0 → Option (List ℕ) → Option (List ℕ) → Result K Trouble → Type 0
-ListenEnds does left text count limits net_old net_new unwritten old new (Ok clients) =
-    IsListening does left text count limits net_old net_new old new clients
-ListenEnds does left text count limits net_old net_new unwritten old new (Err trouble) =
+abbrev pub ListenEnds : {N K : Type 0} → Networking N K → (K → Type 0) → (K → ℕ) → List ℕ → ℕ →
+    Limits → N → N → Type 0 → Option (List ℕ) → Option (List ℕ) → Result K Trouble → Type 0
+ListenEnds does begins left text count limits net_old net_new unwritten old new (Ok clients) =
+    IsListening does begins left text count limits net_old net_new old new clients
+ListenEnds does begins left text count limits net_old net_new unwritten old new (Err trouble) =
     IsUnbound does text limits net_old net_new unwritten trouble

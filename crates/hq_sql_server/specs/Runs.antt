@@ -40,10 +40,11 @@ abbrev pub log_named : Serve → Option (List ℕ)
 log_named given = option_map (λ l. l.now) given.log
 
 -- What the program has of its network: what is done at it, from one state to another; what is done
--- with clients; and how many connections are left. What it has of its logs: what is done with them,
--- from one state to another, and what one is told.
-module _ {N K G L : Type 0} (does : Networking N K) (serves : Serving K) (connections : K → ℕ)
-    (net_old net_new : N) (logs : Logging G L) (tells : Telling L) (logs_old logs_new : G) where
+-- with clients; that nobody came yet; and how many connections are left. What it has of its logs:
+-- what is done with them, from one state to another, and what one is told.
+module _ {N K G L : Type 0} (does : Networking N K) (serves : Serving K)
+    (begins : K → Type 0) (connections : K → ℕ) (net_old net_new : N) (logs : Logging G L)
+    (tells : Telling L) (logs_old logs_new : G) where
   -- nothing is done at the network, or with a log
   abbrev pub IsQuiet : Type 0
   IsQuiet = (net_new ≡ net_old) × (logs_new ≡ logs_old)
@@ -62,8 +63,8 @@ module _ {N K G L : Type 0} (does : Networking N K) (serves : Serving K) (connec
     where
       pub clients : K
       pub net : N
-      pub listening : IsListening does connections given.listen.now given.count (limits_of given)
-          net_old net out_old out_new clients
+      pub listening : IsListening does begins connections given.listen.now given.count
+          (limits_of given) net_old net out_old out_new clients
       pub clients_after : K
       pub stopped : does net (ended clients_after ∷ []) net_new
       pub log : L
@@ -139,12 +140,12 @@ module _ {N K G L : Type 0} (does : Networking N K) (serves : Serving K) (connec
         result
 
 -- how a server ends for its words
-abbrev pub ServeEnds : {N K G L M S : Type 0} → Reading → Networking N K → Serving K → (K → ℕ) →
-    N → N → Logging G L → Telling L → G → G → Sight S → Doing M S → M → M → Serve → Type 0 →
-    Option (List ℕ) → Option (List ℕ) → Result ⊤ Trouble → Type 0
-ServeEnds reads does serves connections net_old net_new logs tells logs_old logs_new sight opens old
-    new given unwritten out_old out_new result = (set : Result Settings Trouble)
+abbrev pub ServeEnds : {N K G L M S : Type 0} → Reading → Networking N K → Serving K →
+    (K → Type 0) → (K → ℕ) → N → N → Logging G L → Telling L → G → G → Sight S → Doing M S → M →
+    M → Serve → Type 0 → Option (List ℕ) → Option (List ℕ) → Result ⊤ Trouble → Type 0
+ServeEnds reads does serves begins connections net_old net_new logs tells logs_old logs_new sight
+    opens old new given unwritten out_old out_new result = (set : Result Settings Trouble)
     × SetsUp reads given.host.now (key_given given.relay_key) given.directory.now
     (option_map (λ k. k.now) given.keys) set
-    × SetServerEnds does serves connections net_old net_new logs tells logs_old logs_new sight opens
-    old new given unwritten out_old out_new set result
+    × SetServerEnds does serves begins connections net_old net_new logs tells logs_old logs_new
+    sight opens old new given unwritten out_old out_new set result

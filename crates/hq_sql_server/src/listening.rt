@@ -41,8 +41,8 @@ pub(crate) fn listen<N: Network, W: Write>(
     given: &Serve,
     output: &mut W,
 ) -> Result<N::Clients, Trouble>
-    ensures { ListenEnds N.does N.Clients.left given.now.listen.now given.now.count
-        (limits_of given.now) network.old network.new (output.new ≡ output.old)
+    ensures { ListenEnds N.does N.Clients.begins N.Clients.left given.now.listen.now
+        given.now.count (limits_of given.now) network.old network.new (output.new ≡ output.old)
         (W.contents output.old) (W.contents output.new) result }
 {
     match network.listen(given.listen, given.count, limits(given)) {

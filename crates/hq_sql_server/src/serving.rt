@@ -38,8 +38,8 @@ fn serve_over<'h, N: Network, G: Logs<'h>, S: Rounds, W: Write, E: Write>(
     output: &mut W,
     errors: &mut E,
 ) -> (Result<(), Trouble>, S)
-    ensures { ServedEnds N.does N.Clients.does N.Clients.left network.old network.new G.does
-        G.Log.tells logs.old logs.new S.sight settings given.now (output.new ≡ output.old)
+    ensures { ServedEnds N.does N.Clients.does N.Clients.begins
+        N.Clients.left network.old network.new G.does G.Log.tells logs.old logs.new S.sight settings given.now (output.new ≡ output.old)
         (W.contents output.old)
         (W.contents output.new) result.0 shelf result.1 }
 {
@@ -66,8 +66,8 @@ fn serve_memory<'h, N: Network, G: Logs<'h>, W: Write, E: Write>(
     output: &mut W,
     errors: &mut E,
 ) -> Result<(), Trouble>
-    ensures { MemoryServerEnds N.does N.Clients.does N.Clients.left network.old network.new G.does
-        G.Log.tells logs.old logs.new settings given.now (output.new ≡ output.old)
+    ensures { MemoryServerEnds N.does N.Clients.does N.Clients.begins
+        N.Clients.left network.old network.new G.does G.Log.tells logs.old logs.new settings given.now (output.new ≡ output.old)
         (W.contents output.old)
         (W.contents output.new) result }
 {
@@ -90,8 +90,8 @@ fn serve_store<'h, N: Network, G: Logs<'h>, K: Stores, W: Write, E: Write>(
     output: &mut W,
     errors: &mut E,
 ) -> Result<(), Trouble>
-    ensures { StoreServerEnds N.does N.Clients.does N.Clients.left network.old network.new G.does
-        G.Log.tells logs.old logs.new K.Store.sight K.does path.now stores.old stores.new settings
+    ensures { StoreServerEnds N.does N.Clients.does N.Clients.begins
+        N.Clients.left network.old network.new G.does G.Log.tells logs.old logs.new K.Store.sight K.does path.now stores.old stores.new settings
         given.now
         (output.new ≡ output.old) (W.contents output.old) (W.contents output.new) result }
 {
@@ -127,8 +127,8 @@ pub fn serve_http<'h, F: Files, N: Network, G: Logs<'h>, K: Stores, W: Write, E:
     output: &mut W,
     errors: &mut E,
 ) -> Result<(), Trouble>
-    ensures { ServeEnds (F.reads rt.now) N.does N.Clients.does N.Clients.left network.old
-        network.new G.does G.Log.tells logs.old logs.new K.Store.sight K.does stores.old stores.new
+    ensures { ServeEnds (F.reads rt.now) N.does N.Clients.does N.Clients.begins
+        N.Clients.left network.old network.new G.does G.Log.tells logs.old logs.new K.Store.sight K.does stores.old stores.new
         given.now (output.new ≡ output.old) (W.contents output.old) (W.contents output.new)
         result }
 {

@@ -55,7 +55,8 @@ fn run_store<K: Stores, R: Read, W: Write, L: Log>(
 /// Replies to the lines of an input for the customers of these settings, over the store of a path,
 /// which is made where it is missing, or without a path over an empty one in memory. A store that
 /// cannot be opened is told as 90, 91, 92 or 93; then, and where there is no memory to begin with,
-/// nothing is read, written or told. The log is told each reply, and nothing else. Over the store of a path, lines that
+/// nothing is read, written or told. The log is told each reply, and nothing else. Over the store
+/// of a path, lines that
 /// are there together share a commit, as `run_batch_in_rounds` says, and it is left as the last
 /// line left it.
 pub fn run_stored<K: Stores, R: Read, W: Write, L: Log>(

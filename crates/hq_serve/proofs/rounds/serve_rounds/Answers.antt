@@ -25,7 +25,8 @@ returns-in-Over g c =
     (omega (arith, few, fewer))
     (waited g.M.Memory.refused (on g.S.Shelf.sight) c.args.directory.now g.K.Clients.does
     g.L.Log.tells g.K.Clients.does_on g.L.Log.told_on c.loop.done c.args.clients.now
-    c.loop.clients c.ready-ready.new.self c.args.log.now c.loop.log c.args.desk c.loop.desk c.loop.invariant.1 c.ready-ready.ensures.nothing)
+    c.loop.clients c.ready-ready.new.self c.args.log.now c.loop.log c.args.desk c.loop.desk
+    c.loop.invariant.1 c.ready-ready.ensures.nothing)
     (λ came counted. is_over (g.K.Clients.left c.ready-ready.new.self) c.in-Over.end came
     c.loop.done (rw c.in-Over.is at c.ready-ready.ensures.ready))
 
@@ -36,7 +37,8 @@ loop-preserved-then-most-eq0 g c =
       omega (arith, few, fewer),
       waited g.M.Memory.refused (on g.S.Shelf.sight) c.args.directory.now g.K.Clients.does
           g.L.Log.tells g.K.Clients.does_on g.L.Log.told_on c.loop.done c.args.clients.now
-          c.loop.clients c.ready-ready.new.self c.args.log.now c.loop.log c.args.desk c.loop.desk c.loop.invariant.1
+          c.loop.clients c.ready-ready.new.self c.args.log.now c.loop.log c.args.desk c.loop.desk
+          c.loop.invariant.1
           c.ready-ready.ensures.nothing,
     )
 
@@ -57,7 +59,8 @@ returns-then-eq-2 g c =
     (omega (arith, few, fewer))
     (waited g.M.Memory.refused (on g.S.Shelf.sight) c.args.directory.now g.K.Clients.does
     g.L.Log.tells g.K.Clients.does_on g.L.Log.told_on c.loop.done c.args.clients.now
-    c.loop.clients c.ready-ready.new.self c.args.log.now c.loop.log c.args.desk c.loop.desk c.loop.invariant.1 c.ready-ready.ensures.nothing)
+    c.loop.clients c.ready-ready.new.self c.args.log.now c.loop.log c.args.desk c.loop.desk
+    c.loop.invariant.1 c.ready-ready.ensures.nothing)
     (λ all counted. omega (arith, few, fewer, coming, left, came, most, some, counted))
 
 pub loop-preserved : goal.loop-preserved

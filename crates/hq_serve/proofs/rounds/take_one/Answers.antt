@@ -53,7 +53,8 @@ returns-in-Err-clause-taken g c =
       is_of = refl;
       sent = c.send-in-Err.ensures.sent;
       told = subst (λ w. g.L.Log.tells c.args.log.now (at_once_entry c.args.came.at w r ∷ [])
-          c.send-in-Err.new.log) c.fault_reply-reply-in-Err.ensures.whose c.send-in-Err.ensures.told;
+          c.send-in-Err.new.log) c.fault_reply-reply-in-Err.ensures.whose
+          c.send-in-Err.ensures.told;
       uncounted = none.1;
       clients = none.2 ∙ sym (append-nil c.args.round.now.clients.items);
       exchanges = λ d. ap (map (ask_of d)) none.3
