@@ -8,7 +8,7 @@ use hq_sockets::Limits;
 /// What listens for clients. At which places it listened, and how the clients ended that came
 /// there, are facts of this value alone: they are obtained by its methods, and by nothing else.
 pub trait Network {
-    ghost use Rattle.std.specs.Prelude.{◌≡◌, ◌∷◌, ◌++◌, [], List, IfSome, option_map};
+    ghost use Rattle.std.specs.Prelude.{◌≡◌, ◌∷◌, ◌++◌, [], List, IfSome};
     ghost use Rattle.hq_network.specs.Networks.{NetworkEvent, Networking, ended, listened};
     ghost use Rattle.hq_network.specs.Places.{IsPlaceOf};
 
@@ -37,7 +37,7 @@ pub trait Network {
         ensures count { IfSome result (λ bound. Self.Clients.left bound.0 ≡ count) }
         ensures begins { IfSome result (λ bound. Self.Clients.begins bound.0) }
         ensures listened { does self.old
-            (listened text.now limits (option_map (λ bound. bound.0) result) ∷ []) self.new };
+            (listened text.now limits result ∷ []) self.new };
 
     /// Ends with these clients: those that are left are closed.
     fn end(&mut self, clients: Self::Clients)

@@ -37,7 +37,7 @@ pub record IsListening {N K : Type 0} (does : Networking N K) (begins : K → Ty
     (old new : Option (List ℕ)) (clients : K) : Type 0 where
   pub place : Place
   pub named : IsPlaceOf text place
-  pub listened_so : does net_old (listened text limits (Some clients) ∷ []) net_new
+  pub listened_so : does net_old (listened text limits (Some (clients, place)) ∷ []) net_new
   pub begun : begins clients
   pub counted : left clients ≡ count
   pub told : IsPlaceTold place old new
@@ -49,8 +49,8 @@ abbrev pub IsUnbound : {N K : Type 0} → Networking N K → List ℕ → Limits
 IsUnbound does text limits net_old net_new unwritten Network = unwritten
     × does net_old (listened text limits None ∷ []) net_new
 IsUnbound {K = K} does text limits net_old net_new unwritten trouble = IsUntold unwritten trouble
-    × ((clients : K) × does net_old (listened text limits (Some clients) ∷ ended clients ∷ [])
-    net_new)
+    × ((clients : K) × (place : Place)
+    × does net_old (listened text limits (Some (clients, place)) ∷ ended clients ∷ []) net_new)
 
 -- Either of that is so.
 abbrev pub ListenEnds : {N K : Type 0} → Networking N K → (K → Type 0) → (K → ℕ) → List ℕ → ℕ →

@@ -10,11 +10,11 @@ returns-in-Err g c =
     let text = c.args.given.now.listen.now in
     let limits = limits_of c.args.given.now in
     untold_so g.N.Network.does text limits c.args.network.now c.end.new.self
-    (c.tell_place.new.output ≡ c.args.output.now) c.in-Some.clients
+    (c.tell_place.new.output ≡ c.args.output.now) c.in-Some.clients c.in-Some.place
     (g.N.Network.does_on c.args.network.now c.listen.new.self c.end.new.self
-    (listened text limits (Some c.in-Some.clients) ∷ []) (ended c.in-Some.clients ∷ [])
+    (listened text limits (Some (c.in-Some.clients, c.in-Some.place)) ∷ []) (ended c.in-Some.clients ∷ [])
     (subst (λ (l : Limits). g.N.Network.does c.args.network.now
-    (listened text l (Some c.in-Some.clients) ∷ []) c.listen.new.self) c.limits.ensures
+    (listened text l (Some (c.in-Some.clients, c.in-Some.place)) ∷ []) c.listen.new.self) c.limits.ensures
     c.in-Some.ensures.listened)
     c.end.ensures)
     c.in-Err.trouble c.in-Err.ensures
