@@ -1,4 +1,5 @@
 pub mod Clients
+pub mod Counted
 pub mod Held
 pub mod Leads
 pub mod Listening

@@ -1,7 +1,7 @@
 //! The connections that are still to come to a listening socket.
 
 ghost use Rattle.std.specs.Prelude.{◌≡◌, ◌∷◌, []};
-ghost use Rattle.hq_sockets.specs.Listening.{Accepts};
+ghost use Rattle.hq_sockets.specs.Listening.{Accepts, counting};
 ghost use Rattle.hq_sockets.specs.Talks.{closed};
 
 use crate::talking::Listener;
@@ -54,16 +54,8 @@ impl<L: Listener> Connections<L> {
 
     /// Closes a connection that was accepted.
     pub fn close(&mut self, connection: L::Connection)
-        ensures closed { L.does self.old.listener (closed connection ∷ []) self.new.listener }
-        ensures left { self.new.left ≡ self.old.left }
+        ensures { counting L.does self.old (closed connection ∷ []) self.new }
     {
         self.listener.close(connection);
-    }
-
-    /// The socket.
-    pub fn listener(&self) -> &L
-        ensures { result.now ≡ self.now.listener }
-    {
-        &self.listener
     }
 }

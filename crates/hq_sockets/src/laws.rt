@@ -3,22 +3,23 @@
 
 ghost use Rattle.std.specs.Prelude.{[], List};
 ghost use Rattle.hq_serve.specs.Coming.{ClientEvent};
-ghost use Rattle.hq_sockets.specs.Held.{IsHistory};
+ghost use Rattle.hq_sockets.specs.Listening.{counting};
 ghost use Rattle.hq_sockets.specs.Slots.{ServesClients};
-ghost use Rattle.hq_sockets.specs.Waiting.{waiting_does};
+ghost use Rattle.hq_sockets.specs.Waiting.{waiting_begins_at, waiting_does};
+ghost use Rattle.hq_sockets.specs.declared.connections.Connections.{Connections};
 ghost use Rattle.hq_sockets.specs.declared.waiting.Waiting.{Waiting};
 
 use crate::talking::Listener;
 use hq_memory::Memory;
 
 /// What `SocketClients` does from its beginning on: each client that comes to the listening socket
-/// is served by what its own bytes ask, and is sent its own response or a beginning of it.
+/// is served by what its own bytes ask, and is sent its own response or a beginning of it. So many
+/// less are still to come as were accepted.
 pub fn clients_are_served<L: Listener, M: Memory>()
-    ensures { (start : L) (old new : Waiting L L.Connection M) (events : List ClientEvent)
-        → IsHistory M.refused L.Connection.talks L.Connection.ends L.does start
-        old.connections.listener []
-        old.slots.held.items
+    ensures { (start : Connections L) (old new : Waiting L L.Connection M)
+        (events : List ClientEvent)
+        → waiting_begins_at M.refused L.Connection.talks L.Connection.ends L.does start old
         → waiting_does M.refused L.Connection.talks L.Connection.ends L.does old events new
-        → ServesClients M.refused L.Connection.talks L.Connection.ends L.does start
-        new.connections.listener events }
+        → ServesClients M.refused L.Connection.talks L.Connection.ends (counting L.does) start
+        new.connections events }
 {}

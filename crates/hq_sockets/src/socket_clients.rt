@@ -1,9 +1,10 @@
 //! The clients of a listening socket.
 
-ghost use Rattle.std.specs.Prelude.{◌≡◌, [], IfSome};
+ghost use Rattle.std.specs.Prelude.{◌≡◌, IfSome};
 ghost use Rattle.hq_serve.specs.Connections.{response_of};
 ghost use Rattle.hq_wire.specs.Replies.{seen};
-ghost use Rattle.hq_sockets.specs.Held.{IsHistory};
+ghost use Rattle.hq_sockets.specs.Waiting.{waiting_begins_at};
+ghost use Rattle.hq_sockets.specs.declared.connections.Connections.{Connections};
 
 use crate::deadlines::Limits;
 use crate::listening::moment_now;
@@ -69,9 +70,10 @@ impl<'h, T: Clock + AllocGlobal, L: Listener + Drop, M: Memory> SocketClients<
         count: u32,
         limits: Limits,
     ) -> Option<SocketClients<'h, T, L, L::Connection, M>>
-        ensures history { IfSome result (λ clients. IsHistory M.refused L.Connection.talks
-            L.Connection.ends L.does
-            listener clients.waiting.connections.listener [] clients.waiting.slots.held.items) }
+        ensures begins { IfSome result (λ clients. (start : Connections L)
+            × (start.listener ≡ listener) × (start.left ≡ count)
+            × waiting_begins_at M.refused L.Connection.talks L.Connection.ends L.does start
+            clients.waiting) }
         ensures left { IfSome result (λ clients. clients.waiting.connections.left ≡ count) }
     {
         match Waiting::new(clock.alloc(), memory, poll, listener, count) {
@@ -91,6 +93,7 @@ impl<T: Clock + AllocGlobal, L: Listener + Drop, M: Memory> Clients
     for SocketClients<'_, T, L, L::Connection, M> {
     ghost use Rattle.hq_sockets.specs.Waiting.{waiting_begins, waiting_does};
     ghost use Rattle.hq_sockets.specs.Leads.{leads_nowhere, leads_on};
+    ghost use Rattle.hq_sockets.specs.Listening.{counting};
     ghost use Rattle.std.proofs.Common.{refl};
 
     ghost does = { λ old events new. waiting_does M.refused L.Connection.talks L.Connection.ends
@@ -100,13 +103,12 @@ impl<T: Clock + AllocGlobal, L: Listener + Drop, M: Memory> Clients
     ghost begins = { λ clients. waiting_begins M.refused L.Connection.talks L.Connection.ends L.does
         clients.waiting };
 
-    ghost none_does = { λ state. leads_nowhere M.refused L.Connection.talks L.Connection.ends L.does
-        state.waiting.connections.listener state.waiting.slots.held.items };
+    ghost none_does = { λ state. leads_nowhere M.refused L.Connection.talks L.Connection.ends
+        (counting L.does) state.waiting.connections state.waiting.slots.held.items };
 
     ghost does_on = { λ old mid new events more p q. leads_on M.refused L.Connection.talks
-        L.Connection.ends L.does
-        old.waiting.connections.listener mid.waiting.connections.listener
-        new.waiting.connections.listener old.waiting.slots.held.items mid.waiting.slots.held.items
+        L.Connection.ends (counting L.does) old.waiting.connections mid.waiting.connections
+        new.waiting.connections old.waiting.slots.held.items mid.waiting.slots.held.items
         new.waiting.slots.held.items events more _ refl p q };
 
     ghost left = { λ clients. clients.waiting.connections.left };

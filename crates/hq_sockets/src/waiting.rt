@@ -2,8 +2,9 @@
 
 ghost use Rattle.std.specs.Prelude.{◌≡◌, ◌≤◌, ◌∷◌, [], IfSome, IfNone, IfOk, ℕ, List};
 ghost use Rattle.hq_serve.specs.Coming.{came, sent};
-ghost use Rattle.hq_sockets.specs.Held.{IsHistory, IsVacant};
-ghost use Rattle.hq_sockets.specs.Waiting.{waiting_does};
+ghost use Rattle.hq_sockets.specs.Held.{IsVacant};
+ghost use Rattle.hq_sockets.specs.Waiting.{waiting_begins_at, waiting_does};
+ghost use Rattle.hq_sockets.specs.declared.connections.Connections.{Connections};
 
 use crate::clients::{Client, Turned};
 use crate::connections::Connections;
@@ -77,9 +78,10 @@ impl<L: Listener + Drop, M: Memory> Waiting<L, L::Connection, M> {
         listener: L,
         count: u32,
     ) -> Option<Waiting<L, L::Connection, M>>
-        ensures history { IfSome result (λ waiting. IsHistory M.refused L.Connection.talks
-            L.Connection.ends L.does
-            listener waiting.connections.listener [] waiting.slots.held.items) }
+        ensures begins { IfSome result (λ waiting. (start : Connections L)
+            × (start.listener ≡ listener) × (start.left ≡ count)
+            × waiting_begins_at M.refused L.Connection.talks L.Connection.ends L.does start
+            waiting) }
         ensures left { IfSome result (λ waiting. waiting.connections.left ≡ count) }
     {
         if !watch_listener(&poll, &listener) {
