@@ -1,6 +1,7 @@
 -- What a log is told one after another.
 -- Inner: it serves proofs alone, and no promise rests on it.
-use Rattle.std.proofs.Common.{◌≡◌, List, [], ◌∷◌, ◌++◌, Option, None, Some, refl, subst}
+use Rattle.std.proofs.Common.{List, [], ◌∷◌, ◌++◌, Option, None, Some, refl, subst, sym}
+use Rattle.std.proofs.lemmas.Option.{none-some}
 use Rattle.hq_log.specs.Entries.{Telling, tells_some}
 use Rattle.hq_log.specs.Files.{Appending, LineState, TellsLines}
 use Rattle.hq_log.specs.Lines.{LogEntry}
@@ -26,7 +27,7 @@ module _ {L : Type 0} (tells : Telling L) where
       tells_some tells mid more new → tells_some tells old (told ++ more) new
   some_on on None None None told more first second = refl
   some_on on None None (Some new) told more first second = second
-  some_on on None (Some mid) new told more first second = absurd (none-some first)
+  some_on on None (Some mid) new told more first second = absurd (none-some mid (sym first))
   some_on on (Some old) None new told more first second = absurd first
   some_on on (Some old) (Some mid) None told more first second = absurd second
   some_on on (Some old) (Some mid) (Some new) told more first second =

@@ -1,5 +1,6 @@
 //! A log that is written in lines.
 
+ghost use Rattle.std.specs.Prelude.{◌≡◌};
 ghost use Rattle.hq_log.specs.Files.{LineEnds, line_state};
 ghost use Rattle.hq_log.specs.Lines.{entry_seen};
 
@@ -70,6 +71,17 @@ impl<'h, C: Clock + AllocGlobal, F: LogFile, E: Write> LineLog<'h, C, F, E> {
             },
         }
     }
+
+    /// The last line was lost, or was not. The first that is lost is told.
+    fn note(&mut self, is_lost: bool)
+        ensures file { self.new.file ≡ self.old.file }
+        ensures losing { self.new.is_losing ≡ is_lost }
+    {
+        if is_lost && !self.is_losing {
+            let _told = self.errors.write_all(LOST);
+        }
+        self.is_losing = is_lost;
+    }
 }
 
 impl<C: Clock + AllocGlobal, F: LogFile, E: Write> Log for LineLog<'_, C, F, E> {
@@ -93,9 +105,6 @@ impl<C: Clock + AllocGlobal, F: LogFile, E: Write> Log for LineLog<'_, C, F, E> 
     fn replied(&mut self, answered: &Answered<'_>) {
         let entry = entry_of(answered, self.milliseconds());
         let is_lost = self.append(&entry);
-        if is_lost && !self.is_losing {
-            let _told = self.errors.write_all(LOST);
-        }
-        self.is_losing = is_lost;
+        self.note(is_lost);
     }
 }
