@@ -5,5 +5,7 @@ pub mod Leads
 pub mod Listening
 pub mod Slots
 pub mod Talks
+pub mod Times
+pub mod Timing
 pub mod Tries
 pub mod Waiting

@@ -15,5 +15,6 @@ mod tries;
 mod waiting;
 
 pub use deadlines::Limits;
+pub use listening::Moments;
 pub use socket_clients::SocketClients;
 pub use talking::{Connection, Listener};

@@ -1,13 +1,13 @@
 //! The clients of a listening socket.
 
-ghost use Rattle.std.specs.Prelude.{◌≡◌, IfSome};
+ghost use Rattle.std.specs.Prelude.{◌≡◌, IfSome, None};
 ghost use Rattle.hq_serve.specs.Connections.{response_of};
 ghost use Rattle.hq_wire.specs.Replies.{seen};
 ghost use Rattle.hq_sockets.specs.Waiting.{waiting_begins_at};
 ghost use Rattle.hq_sockets.specs.declared.connections.Connections.{Connections};
 
 use crate::deadlines::Limits;
-use crate::listening::moment_now;
+use crate::listening::Moments;
 use crate::talking::Listener;
 use crate::waiting::Waiting;
 use hq_http::write_response;
@@ -40,7 +40,8 @@ fn response_of(alloc: Global, reply: &Reply<'_>) -> Option<Vec<u8>>
 /// response leaves.
 ///
 /// What is taken of a client is what its own bytes ask, however they are cut. What is sent to it is
-/// its own response, or a beginning of it, and nothing else.
+/// its own response, or a beginning of it, and nothing else. It is taken at the moment that the clock
+/// told for its round.
 ///
 /// After a response, further bytes of a client are thrown away until the client ends its side, for
 /// a second and 4,096 reads at most. Else the connection would be reset, and its response lost.
@@ -49,11 +50,12 @@ pub struct SocketClients<'h, T, L, C, M> {
     clock: &'h T,
     waiting: Waiting<L, C, M>,
     limits: Limits,
-    at: Moment,
+    /// The moment of the round; `None` before the first one.
+    at: Option<Moment>,
     now: Option<Instant>,
 }
 
-impl<'h, T: Clock + AllocGlobal, L: Listener + Drop, M: Memory> SocketClients<
+impl<'h, T: Clock + Moments + AllocGlobal, L: Listener + Drop, M: Memory> SocketClients<
     'h,
     T,
     L,
@@ -74,6 +76,7 @@ impl<'h, T: Clock + AllocGlobal, L: Listener + Drop, M: Memory> SocketClients<
             × (start.listener ≡ listener) × (start.left ≡ count)
             × waiting_begins_at M.refused L.Connection.talks L.Connection.ends L.does start
             clients.waiting) }
+        ensures untimed { IfSome result (λ clients. clients.at ≡ None) }
         ensures left { IfSome result (λ clients. clients.waiting.connections.left ≡ count) }
     {
         match Waiting::new(clock.alloc(), memory, poll, listener, count) {
@@ -81,7 +84,7 @@ impl<'h, T: Clock + AllocGlobal, L: Listener + Drop, M: Memory> SocketClients<
                 clock,
                 waiting,
                 limits,
-                at: Moment::no_later(0),
+                at: None,
                 now: None,
             }),
             None => None,
@@ -89,27 +92,37 @@ impl<'h, T: Clock + AllocGlobal, L: Listener + Drop, M: Memory> SocketClients<
     }
 }
 
-impl<T: Clock + AllocGlobal, L: Listener + Drop, M: Memory> Clients
+impl<T: Clock + Moments + AllocGlobal, L: Listener + Drop, M: Memory> Clients
     for SocketClients<'_, T, L, L::Connection, M> {
     ghost use Rattle.hq_sockets.specs.Waiting.{waiting_begins, waiting_does};
     ghost use Rattle.hq_sockets.specs.Leads.{leads_nowhere, leads_on};
     ghost use Rattle.hq_sockets.specs.Listening.{counting};
+    ghost use Rattle.hq_sockets.specs.Times.{IsTimed, StaysTimed, clock_state};
+    ghost use Rattle.hq_sockets.specs.Timing.{timed_none, timed_on};
     ghost use Rattle.std.proofs.Common.{refl};
 
     ghost does = { λ old events new. waiting_does M.refused L.Connection.talks L.Connection.ends
-        L.does old.waiting
-        events new.waiting };
+        L.does old.waiting events new.waiting
+        × StaysTimed T.tells (clock_state old.clock.now old.at) events
+        (clock_state new.clock.now new.at) };
 
     ghost begins = { λ clients. waiting_begins M.refused L.Connection.talks L.Connection.ends L.does
-        clients.waiting };
+        clients.waiting × IsTimed T.tells (clock_state clients.clock.now clients.at) };
 
-    ghost none_does = { λ state. leads_nowhere M.refused L.Connection.talks L.Connection.ends
-        (counting L.does) state.waiting.connections state.waiting.slots.held.items };
+    ghost none_does = { λ state. (
+        leads_nowhere M.refused L.Connection.talks L.Connection.ends (counting L.does)
+        state.waiting.connections state.waiting.slots.held.items,
+        timed_none T.tells (clock_state state.clock.now state.at)
+    ) };
 
-    ghost does_on = { λ old mid new events more p q. leads_on M.refused L.Connection.talks
-        L.Connection.ends (counting L.does) old.waiting.connections mid.waiting.connections
-        new.waiting.connections old.waiting.slots.held.items mid.waiting.slots.held.items
-        new.waiting.slots.held.items events more _ refl p q };
+    ghost does_on = { λ old mid new events more p q. (
+        leads_on M.refused L.Connection.talks L.Connection.ends (counting L.does)
+        old.waiting.connections mid.waiting.connections new.waiting.connections
+        old.waiting.slots.held.items mid.waiting.slots.held.items new.waiting.slots.held.items
+        events more _ refl p.0 q.0,
+        timed_on T.tells (clock_state old.clock.now old.at) (clock_state mid.clock.now mid.at)
+        (clock_state new.clock.now new.at) events more p.1 q.1
+    ) };
 
     ghost left = { λ clients. clients.waiting.connections.left };
 
@@ -128,20 +141,17 @@ impl<T: Clock + AllocGlobal, L: Listener + Drop, M: Memory> Clients
             self.waiting.wait(self.now);
             return Ready::Waits;
         }
-        let Some(at) = moment_now(self.clock) else {
+        let Some(at) = self.clock.moment() else {
             return Ready::NoMoment;
         };
-        self.at = at;
+        self.at = Some(at);
         Ready::Begins
     }
 
     fn next(&mut self, has_begun: bool) -> Option<Came> {
+        let at = self.at?;
         match self.waiting.next_asked(has_begun) {
-            Some((client, asked)) => Some(Came {
-                client,
-                at: self.at,
-                asked,
-            }),
+            Some((client, asked)) => Some(Came { client, at, asked }),
             None => None,
         }
     }
