@@ -80,12 +80,11 @@ fn do_word<'w, F: Files, N: Network, G: Logs<'w>, K: Stores, R: Read, W: Write, 
 ) -> u8
     ensures network { UnlessServe asked.now (network.new ≡ network.old) }
     ensures logs { UnlessLogs asked.now (logs.new ≡ logs.old) }
-    ensures does { DoesWord (F.reads rt.now) N.does N.Clients.does N.Clients.begins
-        N.Clients.left network.old network.new G.does G.Log.tells logs.old logs.new K.Store.sight K.does stores.old stores.new
-        asked.now
-        (input.new ≡ input.old) (output.new ≡ output.old)
-        (record { input = R.remaining input.old; output = W.contents output.old })
-        (record { input = R.remaining input.new; output = W.contents output.new }) result }
+    ensures does { DoesWord (F.reads rt.now) N.does N.Clients.does N.Clients.begins N.Clients.left
+        network.old network.new G.does G.Log.tells logs.old logs.new K.Store.sight K.does stores.old
+        stores.new asked.now (input.new ≡ input.old) (output.new ≡ output.old) (record { input =
+        R.remaining input.old; output = W.contents output.old }) (record { input = R.remaining
+        input.new; output = W.contents output.new }) result }
 {
     match asked {
         Word::Serve(given) => {
@@ -160,10 +159,10 @@ pub fn command<'w, F: Files, N: Network, G: Logs<'w>, K: Stores, R: Read, W: Wri
         (record { input = R.remaining input.old; output = W.contents output.old })
         (record { input = R.remaining input.new; output = W.contents output.new })) result
         × (stores.new ≡ stores.old) × (network.new ≡ network.old) × (logs.new ≡ logs.old) }
-    ensures words { Commands (F.reads rt.now) N.does N.Clients.does N.Clients.begins
-        N.Clients.left network.old network.new G.does G.Log.tells logs.old logs.new K.Store.sight K.does stores.old stores.new
-        (map_list string_bytes words.entry.now) (input.new ≡ input.old) (output.new ≡ output.old)
-        (record { input = R.remaining input.old; output = W.contents output.old })
+    ensures words { Commands (F.reads rt.now) N.does N.Clients.does N.Clients.begins N.Clients.left
+        network.old network.new G.does G.Log.tells logs.old logs.new K.Store.sight K.does stores.old
+        stores.new (map_list string_bytes words.entry.now) (input.new ≡ input.old) (output.new ≡
+        output.old) (record { input = R.remaining input.old; output = W.contents output.old })
         (record { input = R.remaining input.new; output = W.contents output.new }) result }
 {
     match read_words(rt.alloc(), words) {

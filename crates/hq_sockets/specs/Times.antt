@@ -24,8 +24,8 @@ clock_state clock at = record { clock = clock; at = at }
 abbrev pub IsTimed : {T : Type 0} → Clocking T → ClockState T → Type 0
 IsTimed tells state = IfSome state.at (tells state.clock)
 
--- It is the same clock. If its last moment was told, requests came at moments that were told, and so
--- was the last one then.
+-- It is the same clock. If its last moment was told, requests came at moments that were told, and
+-- so was the last one then.
 abbrev pub StaysTimed : {T : Type 0} → Clocking T → ClockState T → List ClientEvent → ClockState T →
     Type 0
 StaysTimed tells old events new = (new.clock ≡ old.clock)

@@ -38,10 +38,9 @@ fn serve_over<'h, N: Network, G: Logs<'h>, S: Rounds, W: Write, E: Write>(
     output: &mut W,
     errors: &mut E,
 ) -> (Result<(), Trouble>, S)
-    ensures { ServedEnds N.does N.Clients.does N.Clients.begins
-        N.Clients.left network.old network.new G.does G.Log.tells logs.old logs.new S.sight settings given.now (output.new ≡ output.old)
-        (W.contents output.old)
-        (W.contents output.new) result.0 shelf result.1 }
+    ensures { ServedEnds N.does N.Clients.does N.Clients.begins N.Clients.left network.old
+        network.new G.does G.Log.tells logs.old logs.new S.sight settings given.now (output.new ≡
+        output.old) (W.contents output.old) (W.contents output.new) result.0 shelf result.1 }
 {
     let mut clients = match listen(memory, network, given, output) {
         Ok(clients) => clients,
@@ -66,10 +65,9 @@ fn serve_memory<'h, N: Network, G: Logs<'h>, W: Write, E: Write>(
     output: &mut W,
     errors: &mut E,
 ) -> Result<(), Trouble>
-    ensures { MemoryServerEnds N.does N.Clients.does N.Clients.begins
-        N.Clients.left network.old network.new G.does G.Log.tells logs.old logs.new settings given.now (output.new ≡ output.old)
-        (W.contents output.old)
-        (W.contents output.new) result }
+    ensures { MemoryServerEnds N.does N.Clients.does N.Clients.begins N.Clients.left network.old
+        network.new G.does G.Log.tells logs.old logs.new settings given.now (output.new ≡
+        output.old) (W.contents output.old) (W.contents output.new) result }
 {
     let shelf = SqlShelf::open_memory(memory)?;
     let (ended, _shelf) =
@@ -90,10 +88,10 @@ fn serve_store<'h, N: Network, G: Logs<'h>, K: Stores, W: Write, E: Write>(
     output: &mut W,
     errors: &mut E,
 ) -> Result<(), Trouble>
-    ensures { StoreServerEnds N.does N.Clients.does N.Clients.begins
-        N.Clients.left network.old network.new G.does G.Log.tells logs.old logs.new K.Store.sight K.does path.now stores.old stores.new settings
-        given.now
-        (output.new ≡ output.old) (W.contents output.old) (W.contents output.new) result }
+    ensures { StoreServerEnds N.does N.Clients.does N.Clients.begins N.Clients.left network.old
+        network.new G.does G.Log.tells logs.old logs.new K.Store.sight K.does path.now stores.old
+        stores.new settings given.now (output.new ≡ output.old) (W.contents output.old) (W.contents
+        output.new) result }
 {
     let store = stores.open(path)?;
     let (ended, store) =
@@ -127,10 +125,10 @@ pub fn serve_http<'h, F: Files, N: Network, G: Logs<'h>, K: Stores, W: Write, E:
     output: &mut W,
     errors: &mut E,
 ) -> Result<(), Trouble>
-    ensures { ServeEnds (F.reads rt.now) N.does N.Clients.does N.Clients.begins
-        N.Clients.left network.old network.new G.does G.Log.tells logs.old logs.new K.Store.sight K.does stores.old stores.new
-        given.now (output.new ≡ output.old) (W.contents output.old) (W.contents output.new)
-        result }
+    ensures { ServeEnds (F.reads rt.now) N.does N.Clients.does N.Clients.begins N.Clients.left
+        network.old network.new G.does G.Log.tells logs.old logs.new K.Store.sight K.does stores.old
+        stores.new given.now (output.new ≡ output.old) (W.contents output.old) (W.contents
+        output.new) result }
 {
     let settings = set_up(rt, given.host, given.relay_key, given.directory, given.keys)?;
     let memory = rt.alloc();

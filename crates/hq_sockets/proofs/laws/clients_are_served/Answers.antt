@@ -7,5 +7,6 @@ pub returns : goal.returns
 returns g c = λ start old new events begun leads_so.
     are_served g.M.Memory.refused g.L.Connection.Connection.talks g.L.Connection.Connection.ends
     (counting g.L.Listener.does)
-    (counting_none g.L.Listener.does g.L.Listener.none_does) (counting_on g.L.Listener.does g.L.Listener.does_on) start old.connections
+    (counting_none g.L.Listener.does g.L.Listener.none_does)
+    (counting_on g.L.Listener.does g.L.Listener.does_on) start old.connections
     new.connections old.slots.held.items new.slots.held.items events begun leads_so

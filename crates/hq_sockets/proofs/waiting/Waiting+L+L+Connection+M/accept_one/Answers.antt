@@ -12,7 +12,8 @@ returns-in-Ok-None-clause-does g c =
     let so = rw c.in-Ok-None.field-0-is at c.in-Ok-None.ensures in
     leads_still g.M.Memory.refused g.L.Connection.Connection.talks g.L.Connection.Connection.ends
     (counting g.L.Listener.does)
-    (counting_none g.L.Listener.does g.L.Listener.none_does) (counting_on g.L.Listener.does g.L.Listener.does_on) here.connections
+    (counting_none g.L.Listener.does g.L.Listener.none_does)
+    (counting_on g.L.Listener.does g.L.Listener.does_on) here.connections
     c.accept.new.self here.slots.held.items so
 
 pub returns-in-Err-clause-does : goal.returns-in-Err-clause-does
@@ -20,7 +21,8 @@ returns-in-Err-clause-does g c =
     let here = c.args.self.now in
     leads_still g.M.Memory.refused g.L.Connection.Connection.talks g.L.Connection.Connection.ends
     (counting g.L.Listener.does)
-    (counting_none g.L.Listener.does g.L.Listener.none_does) (counting_on g.L.Listener.does g.L.Listener.does_on) here.connections
+    (counting_none g.L.Listener.does g.L.Listener.none_does)
+    (counting_on g.L.Listener.does g.L.Listener.does_on) here.connections
     c.accept.new.self here.slots.held.items c.in-Err.ensures.1
 
 pub returns-then-watch-clause-does : goal.returns-then-watch-clause-does
@@ -29,7 +31,8 @@ returns-then-watch-clause-does g c =
     let so = rw c.in-Ok-Some.field-0-is at c.in-Ok-Some.ensures in
     fills_so g.M.Memory.refused g.L.Connection.Connection.talks g.L.Connection.Connection.ends
     (counting g.L.Listener.does)
-    (counting_none g.L.Listener.does g.L.Listener.none_does) (counting_on g.L.Listener.does g.L.Listener.does_on) here.connections
+    (counting_none g.L.Listener.does g.L.Listener.none_does)
+    (counting_on g.L.Listener.does g.L.Listener.does_on) here.connections
     c.accept.new.self here.slots.held.items c.put.new.self.held.items c.args.number
     c.new-client.result (accepts c.in-Ok-Some.stream ∷ []) (asking c.in-Ok-Some.stream) so.1
     c.requires c.put.ensures (asking c.in-Ok-Some.stream, refl, refl) c.new-client.ensures
@@ -41,7 +44,8 @@ returns-else-watch-clause-does g c =
     let so = rw c.in-Ok-Some.field-0-is at c.in-Ok-Some.ensures in
     passes_so g.M.Memory.refused g.L.Connection.Connection.talks g.L.Connection.Connection.ends
     (counting g.L.Listener.does)
-    (counting_none g.L.Listener.does g.L.Listener.none_does) (counting_on g.L.Listener.does g.L.Listener.does_on) here.connections
+    (counting_none g.L.Listener.does g.L.Listener.none_does)
+    (counting_on g.L.Listener.does g.L.Listener.does_on) here.connections
     c.close.new.self here.slots.held.items c.args.number
     (accepts stream ∷ closes stream ∷ [])
     ((counting_on g.L.Listener.does g.L.Listener.does_on) here.connections c.accept.new.self

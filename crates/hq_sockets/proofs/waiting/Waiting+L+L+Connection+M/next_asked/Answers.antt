@@ -8,7 +8,8 @@ returns-in-Some-take_asked-clause-came g c = λ at.
     let here = c.args.self.now in
     asked_so g.M.Memory.refused g.L.Connection.Connection.talks g.L.Connection.Connection.ends
     (counting g.L.Listener.does)
-    (counting_none g.L.Listener.does g.L.Listener.none_does) (counting_on g.L.Listener.does g.L.Listener.does_on) here.connections here.slots.held.items
+    (counting_none g.L.Listener.does g.L.Listener.none_does)
+    (counting_on g.L.Listener.does g.L.Listener.does_on) here.connections here.slots.held.items
     c.take_asked.new.self.held.items c.match-asked_from.number at c.in-Some-take_asked.asked
     c.in-Some-take_asked.ensures
 
@@ -17,5 +18,6 @@ returns-in-None-take_asked-clause-none g c =
     let here = c.args.self.now in
     unasked_so g.M.Memory.refused g.L.Connection.Connection.talks g.L.Connection.Connection.ends
     (counting g.L.Listener.does)
-    (counting_none g.L.Listener.does g.L.Listener.none_does) (counting_on g.L.Listener.does g.L.Listener.does_on) here.connections here.slots.held.items
+    (counting_none g.L.Listener.does g.L.Listener.none_does)
+    (counting_on g.L.Listener.does g.L.Listener.does_on) here.connections here.slots.held.items
     c.take_asked.new.self.held.items c.match-asked_from.number c.in-None-take_asked.ensures

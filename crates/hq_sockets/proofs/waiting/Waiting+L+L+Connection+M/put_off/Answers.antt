@@ -17,7 +17,8 @@ loop-number-preserved g c =
           c.loop-number.invariant.0
           (later_so g.M.Memory.refused g.L.Connection.Connection.talks
           g.L.Connection.Connection.ends (counting g.L.Listener.does)
-          (counting_none g.L.Listener.does g.L.Listener.none_does) (counting_on g.L.Listener.does g.L.Listener.does_on) mid.connections
+          (counting_none g.L.Listener.does g.L.Listener.none_does)
+          (counting_on g.L.Listener.does g.L.Listener.does_on) mid.connections
           mid.slots.held.items c.put_off.new.self.held.items c.loop-number.number
           c.put_off.ensures),
       c.loop-number.invariant.1,

@@ -16,9 +16,11 @@ returns-in-Waits-clause-does g c =
     let here = c.args.self.now in
     swaps_so g.M.Memory.refused g.L.Connection.Connection.talks g.L.Connection.Connection.ends
     (counting g.L.Listener.does)
-    (counting_none g.L.Listener.does g.L.Listener.none_does) (counting_on g.L.Listener.does g.L.Listener.does_on) here.connections
+    (counting_none g.L.Listener.does g.L.Listener.none_does)
+    (counting_on g.L.Listener.does g.L.Listener.does_on) here.connections
     here.connections here.slots.held.items c.put.new.self.held.items c.args.number
-    c.in-Some.client c.in-Waits.client [] ((counting_none g.L.Listener.does g.L.Listener.none_does) here.connections)
+    c.in-Some.client c.in-Waits.client [] ((counting_none g.L.Listener.does g.L.Listener.none_does)
+    here.connections)
     (swapped here.slots.held.items c.take.new.self.held.items c.put.new.self.held.items
     c.args.number c.in-Some.client c.in-Waits.client c.take.result c.take.ensures.taken
     c.in-Some.is c.take.ensures.left c.put.ensures)
@@ -35,7 +37,8 @@ returns-clause-does g c =
       | in-GoesOn w ↦ subst so (sym w.self-is)
           (swaps_so g.M.Memory.refused g.L.Connection.Connection.talks
           g.L.Connection.Connection.ends (counting g.L.Listener.does)
-          (counting_none g.L.Listener.does g.L.Listener.none_does) (counting_on g.L.Listener.does g.L.Listener.does_on) here.connections
+          (counting_none g.L.Listener.does g.L.Listener.none_does)
+          (counting_on g.L.Listener.does g.L.Listener.does_on) here.connections
           here.connections here.slots.held.items w.put-in-GoesOn.new.self.held.items
           c.args.number c.in-Some.client w.in-GoesOn.client []
           ((counting_none g.L.Listener.does g.L.Listener.none_does) here.connections)
@@ -47,7 +50,8 @@ returns-clause-does g c =
       | in-Left w ↦ subst so (sym w.self-is)
           (leaves_so g.M.Memory.refused g.L.Connection.Connection.talks
           g.L.Connection.Connection.ends (counting g.L.Listener.does)
-          (counting_none g.L.Listener.does g.L.Listener.none_does) (counting_on g.L.Listener.does g.L.Listener.does_on) here.connections
+          (counting_none g.L.Listener.does g.L.Listener.none_does)
+          (counting_on g.L.Listener.does g.L.Listener.does_on) here.connections
           w.close.new.self here.slots.held.items c.take.new.self.held.items
           c.args.number c.in-Some.client (closes w.in-Left.stream ∷ []) w.close.ensures
           (sym c.take.ensures.taken ∙ c.in-Some.is) c.take.ensures.left
@@ -57,7 +61,8 @@ returns-clause-does g c =
       | in-Failed w ↦ subst so (sym w.self-is)
           (leaves_so g.M.Memory.refused g.L.Connection.Connection.talks
           g.L.Connection.Connection.ends (counting g.L.Listener.does)
-          (counting_none g.L.Listener.does g.L.Listener.none_does) (counting_on g.L.Listener.does g.L.Listener.does_on) here.connections
+          (counting_none g.L.Listener.does g.L.Listener.none_does)
+          (counting_on g.L.Listener.does g.L.Listener.does_on) here.connections
           w.close-in-Failed.new.self here.slots.held.items c.take.new.self.held.items
           c.args.number c.in-Some.client (closes w.in-Failed.stream ∷ [])
           w.close-in-Failed.ensures (sym c.take.ensures.taken ∙ c.in-Some.is)
