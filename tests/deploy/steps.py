@@ -48,7 +48,7 @@ class Place:
         self.of_worker = []
         # (the program is called `hq`, as the package has it, and an upgrade writes over it)
         there = {"/etc/hq": folder, "/var/lib/hqdesk": folder, "/usr/libexec/hq-desk": DEPLOY, "/usr/bin/hq": program,
-                 "apt-get install -y \"$NEW\"": f"install -m 755 \"$NEW\" {program}", "hq-as hqdesk ": "",
+                 "apt-get install -y \"${NEW:?}\"": f"install -m 755 \"$NEW\" {program}", "hq-as hqdesk ": "",
                  "hq-as --input hqdesk ": "", " -g hqdesk": "",
                  "hq-customers ": f"{DEPLOY}/hq-customers --folder {folder} --store {folder} "}
         # (what another user is to do is done by this one, and no unit runs)

@@ -209,6 +209,15 @@ def test_refused_files(place):
     expect(ended.returncode == 1 and "desk-maps refuses" in ended.stderr and place.files() == before, "two desks:", ended)
 
 
+def test_two_desks_of_one_address(place):
+    """Of two desks with one address only one can listen there, and it has no customers of the other: nothing is changed."""
+    place.desk("south", 825, ACME.replace("acme,", "fir,").replace("acmekey", "firkeys"))
+    before = place.files()
+    ended = place.run("add", "birch", "--desk", "south")
+    expect(ended.returncode == 1 and "south.csv" in ended.stderr and "has the address" in ended.stderr, "two desks:", ended)
+    expect(place.files() == before, "files were changed")
+
+
 def test_full_disk(folder, program):
     """With each size of room that is left all is as it was, or all is written."""
     place = None

@@ -142,7 +142,7 @@ def test_restored_elsewhere(service):
     wanted = {it.name: it.read_bytes() for it in service.own.iterdir()}
     service.as_service("sh", "-c", f"rm {service.own}/north.db*")
     lines = [it for it in lines_of("Restore") if it.startswith(("tar ", "hq-as hqdesk ", "hq-as --input hqdesk "))]
-    expect(len(lines) == 3, "the lines are", lines)
+    expect(len(lines) == 4, "the lines are", lines)
     for it in lines:
         expect(service.step(it, BACKUP=str(service.backup)) == 0, "it fails:", it)
     expect({it.name: it.read_bytes() for it in service.own.iterdir()} == wanted, "it is another store")

@@ -7,7 +7,7 @@ from hq_relay.notices import mailer as notices
 import pytest
 from hq_relay.storage.notice_records import MOST_WAITING, OwnNotice
 from hq_relay.storage.book import OLD_NAMES, Book, Report
-from hq_relay.storage.spool_cleaning import SpoolCleaning
+from hq_relay.storage.spool_cleaning import SPARE, SpoolCleaning
 from hq_relay.desk.client import QUOTA_BYTES, QUOTA_MESSAGES, Refused
 from hq_relay.desk.replies import ListedMessage, OutcomeReply
 from hq_relay.storage.attempts import Attempt, Attempts
@@ -51,7 +51,7 @@ def used(book):
     book.attempted(GONE)
     book.moved(GONE)
     for it in (lambda: book.answer("s1"), lambda: book.spool_of("acme", "1"), lambda: book.all_mailed("acme"), lambda: book.is_finished("s1"),
-               lambda: book.uncleaned("acme"), lambda: book.kept_bytes("acme"), lambda: book.gone(["s1"], 5), lambda: book.cleaned(["s1"]),
+               lambda: book.uncleaned("acme"), lambda: book.kept("acme"), lambda: book.gone(["s1"], 5), lambda: book.cleaned(["s1"]),
                lambda: book.report("acme", "s1"), lambda: book.unreported("acme"), book.all_unreported, lambda: book.reported(GONE),
                lambda: book.last_notice("acme"), lambda: book.mailing("acme", 3), lambda: book.begun("acme"), lambda: book.mailed("acme", 3),
                lambda: book.set_aside("acme", 4, "q@a.example", b"x"), lambda: book.waiting("acme"), lambda: book.content_of("acme/4"),
@@ -89,9 +89,9 @@ def test_a_book_of_before(folder):
     old.close()
     book = Book(folder)
     book.taken("acme", "s2", "2", "250", 40)
-    expect(book.answer("s1") == "250 ok" and book.kept_bytes("acme") == 40 and len(book.uncleaned("acme")) == 2, book.uncleaned("acme"))
+    expect(book.answer("s1") == "250 ok" and book.kept("acme").bytes == 40 and len(book.uncleaned("acme")) == 2, book.uncleaned("acme"))
     book.close()
-    expect(Book(folder).kept_bytes("acme") == 40, "a second start loses it")
+    expect(Book(folder).kept("acme").bytes == 40, "a second start loses it")
 
 
 # ---- what cannot be written is not mailed
@@ -283,7 +283,7 @@ def test_what_is_deleted_and_kept(folder, customer_bytes, left):
     now = int(time.time())
     settings, book, spool = kept(folder, customer_bytes, a=now - 400, b=now - 300, c=now - 200, d=now - 100, queued=None)
     SpoolCleaning(settings, spool, book, Queued("queued")).clean("acme", set())
-    expect(spool.names() == [*left, "queued"] and book.kept_bytes("acme") == 100 * (len(left) + 1), "left are", spool.names())
+    expect(spool.names() == [*left, "queued"] and book.kept("acme") == (len(left) + 1, 100 * (len(left) + 1)), "left are", spool.names())
 
 
 def test_too_much_is_kept(folder):
@@ -297,6 +297,47 @@ def test_too_much_is_kept(folder):
         intake.expect_room("acme", 100)
     settings.customers["birch"] = Customer("birch", 10, 1, 10)
     intake.expect_room("birch", 100)
+
+
+def test_too_many_are_kept(folder):
+    """However small its mail is, the intake takes no more of a customer of whom more than twice its messages are kept, with some
+    to spare; and a clean-up removes those that left first, down to once that."""
+    settings, book, spool = kept(folder, 1_000_000)
+    settings.processes, settings.connections, settings.policy = 1, 50, None
+    settings.customers["acme"] = Customer("acme", 10, 1_000_000, 10)
+    intake = Intake(settings, None, spool, book, set())
+    for number in range(MOST_KEPT * (10 + SPARE)):
+        book.taken("acme", f"s{number:05}", str(number), "250", 1)
+    intake.expect_room("acme", 1)
+    book.taken("acme", "one-more", "0", "250", 1)
+    with pytest.raises(NotTaken, match="^452 4.2.2 "):
+        intake.expect_room("acme", 1)
+    cleaning = SpoolCleaning(settings, spool, book, Queued())
+    cleaning.clean("acme", set())
+    expect(book.kept("acme") == (10 + SPARE, 10 + SPARE), "kept are", book.kept("acme"))
+    intake.expect_room("acme", 1)
+
+
+def test_sums_of_what_is_kept(folder):
+    """What is kept is added up, however names come and go, also of a book that was begun before there were sums."""
+    book = Book(folder)
+    for number in range(5):
+        book.taken("acme", f"s{number}", str(number), "250", 10 + number)
+    book.taken("acme", "s0", "0", "250", 999)
+    book.taken("birch", "b", None, "550", 7)
+    book.cleaned(["s1"])
+    with book.writing() as database:
+        database.execute("UPDATE names SET finished = 2 WHERE spool = 's2'")
+    expect(book.kept("acme") == (3, 10 + 13 + 14) and book.kept("birch") == (0, 0), book.kept("acme"), book.kept("birch"))
+    with book.writing() as database:
+        for it in ("insert", "delete", "before", "after"):
+            database.execute(f"DROP TRIGGER sums_{it}")
+        database.execute("DROP TABLE sums")
+    book.close()
+    again = Book(folder)
+    expect(again.kept("acme") == (3, 37), "a book of before has", again.kept("acme"))
+    again.cleaned(["s0", "s3", "s4"])
+    expect(again.kept("acme") == (0, 0), "then it has", again.kept("acme"))
 
 
 @pytest.mark.parametrize("number, name, sizes", [(QUOTA_MESSAGES, "QuotaMessages", {0: False, 10: False, 500: False}),

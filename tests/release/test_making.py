@@ -1,7 +1,9 @@
 """What ./release makes and tells, of a program that is a script, where only what stands around the program is tried."""
 import os
+import re
 import shutil
 import sys
+from importlib.machinery import SourceFileLoader
 
 import needs
 from releasing import ROOT, copied, run, stand_in
@@ -17,6 +19,21 @@ def test_not_proved(folder, releases):
     expect(ended.returncode == 0 and ended.stderr == told, "./release:", ended)
     told = (folder / "made/PROVED").read_text()
     expect("Nothing is said of a proof." in told and "The kit proved" not in told, "of a stand-in PROVED says", told)
+
+
+def test_sums_of_crates(folder, releases, monkeypatch):
+    """Of the program that was proved, PROVED names each crate whose proof carries the headline, with the sum that its line
+    prints."""
+    script = SourceFileLoader("release_script", str(ROOT / "release")).load_module()
+    monkeypatch.setattr(script, "is_proved", lambda program: True)
+    told = script.evidence(stand_in(folder, releases.version), releases.version)
+    line = re.search(r"(?m)^  (git ls-files .*)$", told).group(1)
+    listed = dict(re.findall(r"(?m)^([0-9a-f]{64})  (hq_\w+)$", told))
+    names = {name: its_sum for its_sum, name in listed.items()}
+    expect({"hq_main", "hq_laws", "hq_sql_across", "hq_values"} <= {*names} and "hq_trial" not in names, "it names", names)
+    for name in ("hq_laws", "hq_sql_across"):
+        printed = run("bash", "-c", line.replace("NAME", name), cwd=ROOT).stdout.split()[0]
+        expect(names[name] == printed, name, "has", names[name], "and the line prints", printed)
 
 
 def test_same_to_the_byte(folder, releases):

@@ -24,11 +24,13 @@ from hq_relay.settings import Settings
 from hq_relay.settings_tables import DOMAIN, LOGIN
 from hq_relay.storage.book import Book
 from hq_relay.storage.spool import Draft, Envelope, Spool
+from hq_relay.storage.spool_cleaning import SPARE
 from hq_relay.storage.spool_names import SpoolNames
 from hq_relay.storage.wakeups import WakeupSender
 
-# The spool keeps at most so many times the bytes of a customer's quota. Beside queued mail it has
-# mail that is gone, and that may be wanted after a restore (`spool_cleaning.py`).
+# The spool keeps at most so many times the bytes of a customer's quota, and the messages with some
+# to spare. Beside queued mail it has mail that is gone, and that may be wanted after a restore
+# (`spool_cleaning.py`).
 MOST_KEPT = 2
 # For so many seconds a full quota counts as full, so that mail without room is not written first.
 FULL_FOR = 1.0
@@ -136,12 +138,17 @@ class Intake:
         self.expect_little_kept(customer)
 
     def expect_little_kept(self, customer: str) -> None:
-        """Raises NotTaken if the spool keeps too much of a customer.
+        """Raises NotTaken if the spool keeps too much of a customer: bytes, or contents.
 
-        Mail that a customer deletes stays for a while, and counts in no quota of the desk.
+        Mail that a customer deletes stays for a while, and counts in no quota of the desk. Each
+        content takes an inode of a disk, however small it is.
         """
         limits = self.settings.customers.get(customer)
-        if limits and self.book.kept_bytes(customer) > MOST_KEPT * limits.bytes:
+        if not limits:
+            return
+        kept = self.book.kept(customer)
+        if (kept.bytes > MOST_KEPT * limits.bytes
+                or kept.contents > MOST_KEPT * (limits.messages + SPARE)):
             log.warning("too much is kept", customer=customer)
             raise NotTaken("452 4.2.2 too much deleted mail is kept, try later")
 

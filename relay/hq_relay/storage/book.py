@@ -47,6 +47,13 @@ class Uncleaned(NamedTuple):
     size: int
 
 
+class Kept(NamedTuple):
+    """How many contents are kept, and their bytes."""
+
+    contents: int
+    bytes: int
+
+
 class Book(NoticeRecords):
     """The tables `names`, `messages` and `journal`, and with them those of notices."""
 
@@ -97,11 +104,10 @@ class Book(NoticeRecords):
     def is_finished(self, spool: str) -> bool:
         return bool(self.number("SELECT finished = 1 OR cleaned FROM names WHERE spool = ?", spool))
 
-    def kept_bytes(self, customer: str) -> int:
-        """The bytes of contents that are queued, or gone without a last outcome."""
-        query = ("SELECT TOTAL(size) FROM names "
-                 "WHERE customer = ? AND finished = 0 AND NOT cleaned")
-        return self.number(query, customer) or 0
+    def kept(self, customer: str) -> Kept:
+        """How much is kept of contents that are queued, or gone without a last outcome."""
+        return Kept(*(self.number(f"SELECT {sum_} FROM sums WHERE customer = ?", customer) or 0
+                      for sum_ in Kept._fields))
 
     def uncleaned(self, customer: str) -> dict[str, Uncleaned]:
         """The customer's names whose content was not cleaned away."""

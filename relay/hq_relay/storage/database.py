@@ -10,6 +10,8 @@ content.
 `notices` has the number of the last notice of each customer that was mailed, or set aside.
 `mailing` has the number of a notice of each customer whose mailing was begun.
 `waiting` has the notices that were set aside, whole, because nobody takes them now.
+`sums` has how many contents are kept of each customer that are queued, or gone without a last
+outcome, and their bytes. Triggers keep it, so that no call counts rows.
 """
 import fcntl
 import sqlite3
@@ -58,6 +60,21 @@ CREATE INDEX IF NOT EXISTS waiting_of ON waiting (customer);
 """
 KEPT = ("CREATE INDEX IF NOT EXISTS kept ON names (customer, finished, size) "
         "WHERE NOT cleaned")
+COUNTED = "{row}.finished = 0 AND NOT {row}.cleaned"
+ADDED = ("INSERT INTO sums VALUES (NEW.customer, 1, NEW.size) ON CONFLICT (customer) DO UPDATE "
+         "SET contents = contents + 1, bytes = bytes + excluded.bytes")
+TAKEN_AWAY = ("UPDATE sums SET contents = contents - 1, bytes = bytes - OLD.size "
+              "WHERE customer = OLD.customer")
+SUMS = [
+    "CREATE TABLE sums (customer TEXT PRIMARY KEY, contents INTEGER NOT NULL, "
+    "bytes INTEGER NOT NULL)",
+    "INSERT INTO sums SELECT customer, COUNT(*), SUM(size) FROM names "
+    f"WHERE {COUNTED.format(row='names')} GROUP BY customer",
+    *(f"CREATE TRIGGER {name} AFTER {change} ON names WHEN {COUNTED.format(row=row)} "
+      f"BEGIN {action}; END"
+      for name, change, row, action in (
+          ("sums_insert", "INSERT", "NEW", ADDED), ("sums_delete", "DELETE", "OLD", TAKEN_AWAY),
+          ("sums_before", "UPDATE", "OLD", TAKEN_AWAY), ("sums_after", "UPDATE", "NEW", ADDED)))]
 # How many seconds a thread waits until another one has written.
 LONGEST_WAIT = 60
 
@@ -84,6 +101,9 @@ class Database:
             if "size" not in columns:
                 database.execute("ALTER TABLE names ADD COLUMN size INTEGER NOT NULL DEFAULT 0")
             database.execute(KEPT)
+            if not database.execute("PRAGMA table_info (sums)").fetchone():
+                for statement in SUMS:
+                    database.execute(statement)
 
     def database(self) -> sqlite3.Connection:
         """The connection of this thread."""

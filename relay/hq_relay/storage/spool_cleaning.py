@@ -9,8 +9,10 @@ from hq_relay.storage.spool_names import SpoolNames
 
 # How many seconds the content stays of a message that left the queue without a last outcome. It was
 # deleted or has expired, or the desk has lost it by a restore of which the worker does not know. It
-# stays for less time if a customer deletes more bytes than its quota has.
+# stays for less time if a customer deletes more bytes than its quota has, or more messages than
+# that with so many to spare.
 KEPT_GONE = 86400
+SPARE = 1_000
 DAY = 86400
 
 
@@ -43,16 +45,18 @@ class SpoolCleaning:
         self.book.forget(customer, set(queued), now - self.settings.keep_days * DAY)
 
     def beyond(self, gone: dict[str, Uncleaned], customer: str) -> list[str]:
-        """The names that left first, of as many bytes as there are beyond a customer's quota."""
-        quota = self.settings.customers[customer].bytes
-        excess = sum(name.size for name in gone.values()) - quota
+        """The names that left first: as many, and of as many bytes, as are beyond the quota."""
+        quota = self.settings.customers[customer]
+        bytes_beyond = sum(name.size for name in gone.values()) - quota.bytes
+        beyond = len(gone) - quota.messages - SPARE
         now = time.time()
         first: list[str] = []
         for spool, name in sorted(gone.items(), key=lambda item: item[1].gone or now):
-            if excess <= 0:
+            if bytes_beyond <= 0 and beyond <= 0:
                 break
             first.append(spool)
-            excess -= name.size
+            bytes_beyond -= name.size
+            beyond -= 1
         return first
 
     def clean_unknown(self, customers: list[str]) -> None:

@@ -1,0 +1,60 @@
+"""Lines of pages that have a value of the operator's, typed where that is empty; and that a copy is on the disk when it is named."""
+import os
+import re
+import subprocess
+
+import pytest
+from deploying import DEPLOY
+from serving import LONGEST, expect
+from steps import lines_of, scripts_in
+
+
+def lines_of_nginx(folder):
+    """The lines of "nginx" that write what they are given, in a folder that stands for /etc/hq."""
+    page = (DEPLOY.parent / "docs/PRODUCTION.md").read_text()
+    block = re.search(r"(?ms)^### nginx$.*?^```\n(.*?)^```$", page).group(1)
+    return [it.replace("/etc/hq", str(folder / "etc")) for it in block.split("\n") if it.startswith("test -e /etc/hq/")]
+
+
+def test_empty_values(folder):
+    """Where the name of the host and the folder of the pair are empty, each line ends and writes nothing; typed again with both, the
+    lines do what they are to do."""
+    (folder / "etc").mkdir()
+    (folder / "pair").mkdir()
+    for it in ("tls.key", "tls.crt"):
+        (folder / "pair" / it).write_text(it)
+    lines = lines_of_nginx(folder)
+    expect(len(lines) == 3, "the page has other lines:", lines)
+    for name, pair in (("", ""), ("desk.example", str(folder / "pair"))):
+        for line in lines:
+            ended = subprocess.run(["bash", "-c", line], env={**os.environ, "NAME": name, "TLS": pair}, capture_output=True, text=True,
+                                   timeout=LONGEST)
+            expect((ended.returncode == 0) == bool(name), line, "with", name, "ended with", ended)
+        made = {it.name: it.read_text() for it in (folder / "etc").iterdir()}
+        wanted = {"nginx-name.conf": "server_name desk.example;\n", "tls.key": "tls.key", "tls.crt": "tls.crt"} if name else {}
+        expect(made == wanted, "with", name, "there is", made)
+
+
+@pytest.mark.parametrize("is_synced", [True, False])
+def test_copies_are_on_the_disk(folder, is_synced):
+    """desk-backup syncs the copy, its folder and the one above before it prints a name, and fails where that fails."""
+    (folder / "etc").mkdir()
+    for it in ("etc/north.env", "north.db", "north.db-wal"):
+        (folder / it).write_text(it)
+    scripts = scripts_in(folder / "scripts", {"/etc/hq": folder / "etc", "/var/lib/hqdesk": folder, "hq-as hqdesk ": ""})
+    (scripts / "sync").write_text(f'#!/bin/sh\necho "$@" >>{folder}/synced\nexit {int(not is_synced)}\n')
+    (scripts / "sync").chmod(0o755)
+    ended = subprocess.run([scripts / "desk-backup", folder / "copies", "north"], capture_output=True, text=True, timeout=LONGEST)
+    synced = (folder / "synced").read_text().split()
+    expect(synced == ["--", f"{folder}/copies/north.tar", f"{folder}/copies", str(folder)], "it syncs", synced)
+    if is_synced:
+        expect((ended.returncode, ended.stdout) == (0, "north.db\nnorth.db-wal\n"), "it ended with", ended)
+    else:
+        expect(ended.returncode == 1 and not ended.stdout and "not whole" in ended.stderr, "it ended with", ended)
+
+
+def test_a_restore_is_on_the_disk():
+    """The lines of Restore sync what they write before they let anybody serve it."""
+    lines = lines_of("Restore")
+    written = next(at for at, it in enumerate(lines) if "tar -x" in it)
+    expect("sync /var/lib/hqdesk/north.db* /var/lib/hqdesk" in lines[written + 1], "the lines are", lines)
