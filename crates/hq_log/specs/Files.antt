@@ -35,7 +35,7 @@ module _ {F : Type 0} (does : Appending F) where
       ⊎ (file ≡ old.file)
 
   -- each exchange has its line, or that is lost, in order
-  abbrev pub TellsLines : LineState F → List LogEntry → LineState F → Type 0
-  TellsLines old [] new = new ≡ old
-  TellsLines old (e ∷ told) new = (next : LineState F) × LineEnds old e next.file next.is_losing
-      × TellsLines next told new
+  abbrev pub AppendsLines : LineState F → List LogEntry → LineState F → Type 0
+  AppendsLines old [] new = new ≡ old
+  AppendsLines old (e ∷ told) new = (next : LineState F) × LineEnds old e next.file next.is_losing
+      × AppendsLines next told new

@@ -3,15 +3,15 @@
 use Rattle.std.proofs.Common.{List, [], ◌∷◌, ◌++◌, Option, None, Some, refl, subst, sym}
 use Rattle.std.proofs.lemmas.Option.{none-some}
 use Rattle.hq_log.specs.Entries.{Telling, tells_some}
-use Rattle.hq_log.specs.Files.{Appending, LineState, TellsLines}
+use Rattle.hq_log.specs.Files.{Appending, LineState, AppendsLines}
 use Rattle.hq_log.specs.Lines.{LogEntry}
 
 -- in lines
 pub lines_on : {F : Type 0} (does : Appending F) (old mid new : LineState F)
-    (told more : List LogEntry) → TellsLines does old told mid → TellsLines does mid more new →
-    TellsLines does old (told ++ more) new
+    (told more : List LogEntry) → AppendsLines does old told mid → AppendsLines does mid more new →
+    AppendsLines does old (told ++ more) new
 lines_on does old mid new [] more first second =
-    subst (λ state. TellsLines does state more new) first second
+    subst (λ state. AppendsLines does state more new) first second
 lines_on does old mid new (e ∷ told) more first second =
     (first.0, first.1, lines_on does first.0 mid new told more first.2 second)
 

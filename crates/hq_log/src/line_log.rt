@@ -86,10 +86,10 @@ impl<'h, C: Clock + AllocGlobal, F: LogFile, E: Write> LineLog<'h, C, F, E> {
 
 impl<C: Clock + AllocGlobal, F: LogFile, E: Write> Log for LineLog<'_, C, F, E> {
     ghost use Rattle.std.specs.Prelude.{refl};
-    ghost use Rattle.hq_log.specs.Files.{TellsLines, line_state};
+    ghost use Rattle.hq_log.specs.Files.{AppendsLines, line_state};
     ghost use Rattle.hq_log.specs.InOrder.{lines_on};
 
-    ghost tells = { λ old told new. TellsLines F.does (line_state old.file old.is_losing) told
+    ghost tells = { λ old told new. AppendsLines F.does (line_state old.file old.is_losing) told
         (line_state new.file new.is_losing) };
 
     ghost none_told = { λ log. refl };

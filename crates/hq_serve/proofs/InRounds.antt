@@ -15,7 +15,7 @@ use Rattle.hq_together.proofs.InRounds.{alone_as_one, replied_as_one}
 use Rattle.hq_serve.specs.Coming.{ClientEvent, Serving, EndsWith, HaveOutcomes, RoundDone}
 use Rattle.hq_serve.specs.Coming.{client_of, events_of, round_asks, round_events, round_replies}
 use Rattle.hq_serve.specs.Coming.{round_taken, sent_each}
-use Rattle.hq_serve.specs.Logged.{round_told, timed_of, told_each, told_of}
+use Rattle.hq_serve.specs.Logged.{round_told, timed_of, told_each, told_at_once}
 use Rattle.hq_serve.specs.Rounds.{DoesRounds, IsOver, ServesRounds}
 use Rattle.hq_serve.specs.Taking.{IsEven, Takes, RepliesToRound, timed}
 use Rattle.hq_serve.specs.declared.coming.ServiceEnd.{ServiceEnd}
@@ -89,11 +89,11 @@ module _ {K L D : Type 0} (refused : Type 0) (sight : DeskSight D) (d : Director
         (p : RepliesToRound (with_refusals refused sight) d does tells round after end log_after
         log_end old new) →
         tells log_before
-        (flat_map told_of t.taken ++ told_each d (flat_map timed_of t.taken) p.replies) log_end
+        (flat_map told_at_once t.taken ++ told_each d (flat_map timed_of t.taken) p.replies) log_end
     told_in_round before after end log_before log_after log_end round old new t p =
         let even : IsEven round = ap length t.clients ∙ are_even t.taken
         ∙ sym (ap length t.requests) ∙ length-map round.exchanges.items timed in
-        told_on log_before log_after log_end (flat_map told_of t.taken)
+        told_on log_before log_after log_end (flat_map told_at_once t.taken)
         (told_each d (flat_map timed_of t.taken) p.replies) t.told
         (subst (λ qs. tells log_after (told_each d qs p.replies) log_end) t.requests (p.told even))
 

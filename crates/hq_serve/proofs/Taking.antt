@@ -23,7 +23,7 @@ use Rattle.hq_http.specs.Responses.{response_text}
 use Rattle.hq_serve.specs.Coming.{ClientEvent, Serving, Taken, HaveOutcomes, came, came_of, sent}
 use Rattle.hq_serve.specs.Coming.{asks_of, at_once, client_of, each_with, events_of, in_round}
 use Rattle.hq_serve.specs.Coming.{sent_each, sent_of}
-use Rattle.hq_serve.specs.Logged.{timed_of, told_each, told_of}
+use Rattle.hq_serve.specs.Logged.{timed_of, told_each, told_at_once}
 use Rattle.hq_serve.specs.Steps.{IsOfRequest}
 use Rattle.hq_serve.specs.Taking.{IsTakenInto, Takes, reply_entry, timed, wants_of}
 use Rattle.hq_serve.specs.declared.coming.Came.{Came}
@@ -184,9 +184,9 @@ module _ {K L : Type 0} (does : Serving K)
             (flat_map events_of (t.taken ++ it.taken ∷ [])) (flat_one events_of t.taken it.taken)
             t.did
             (on before after end (came (came_of it.taken) ∷ []) (sent_of it.taken) comes it.sent);
-        told = did_more tells told_on log_old log_mid log_new (flat_map told_of t.taken)
-            (told_of it.taken) (flat_map told_of (t.taken ++ it.taken ∷ []))
-            (flat_one told_of t.taken it.taken) t.told it.told;
+        told = did_more tells told_on log_old log_mid log_new (flat_map told_at_once t.taken)
+            (told_at_once it.taken) (flat_map told_at_once (t.taken ++ it.taken ∷ []))
+            (flat_one told_at_once t.taken it.taken) t.told it.told;
         counted = counted ∙ ap (λ n. n + 1) t.counted
             ∙ sym (length-append t.taken (it.taken ∷ []));
         clients = clients ∙ it.clients ∙ ap (λ l. l ++ client_of it.taken) t.clients

@@ -78,9 +78,9 @@ timed_of (at_once one r) = []
 timed_of (in_round one q) = record { at = one.at; request = q } ∷ []
 
 -- what is told of one that is replied to at once
-abbrev pub told_of : Taken → List LogEntry
-told_of (at_once one r) = unread_entry one.at r ∷ []
-told_of (in_round one q) = []
+abbrev pub told_at_once : Taken → List LogEntry
+told_at_once (at_once one r) = unread_entry one.at r ∷ []
+told_at_once (in_round one q) = []
 
 -- of each request with its reply
 abbrev pub told_each : Directory → List TimedRequest → List SeenReply → List LogEntry
@@ -88,5 +88,5 @@ told_each d = each_with (λ q r. request_entry d q.at q.request r)
 
 -- Those of a round that are replied to at once are told, and then each request with its reply.
 abbrev pub round_told : Directory → RoundDone → List LogEntry
-round_told d round = flat_map told_of round.taken
+round_told d round = flat_map told_at_once round.taken
     ++ told_each d (flat_map timed_of round.taken) round.replies

@@ -14,7 +14,7 @@ use Rattle.hq_wire.specs.Replies.{SeenReply, reply_of_fault}
 use Rattle.hq_together.specs.Together.{ServedInRound}
 use Rattle.hq_serve.specs.Coming.{Serving, Taken, HasOutcome, HaveOutcomes, came_of, sent_of}
 use Rattle.hq_serve.specs.Coming.{asks_of, client_of, events_of, sent_each}
-use Rattle.hq_serve.specs.Logged.{TimedRequest, timed_of, told_each, told_of}
+use Rattle.hq_serve.specs.Logged.{TimedRequest, timed_of, told_each, told_at_once}
 use Rattle.hq_serve.specs.declared.coming.Came.{Came}
 use Rattle.hq_serve.specs.declared.rounds.Round.{Round}
 
@@ -51,7 +51,7 @@ pub record IsTakenInto {K L : Type 0} (refused : Type 0) (does : Serving K) (tel
   pub is_taken : HasOutcome refused taken
   pub is_of : came_of taken ≡ came
   pub sent : does clients_old (sent_of taken) clients_new
-  pub told : tells log_old (told_of taken) log_new
+  pub told : tells log_old (told_at_once taken) log_new
   pub uncounted : new.taken ≡ old.taken
   pub clients : new.clients.items ≡ old.clients.items ++ client_of taken
   pub exchanges : (d : Directory) → map (ask_of d) new.exchanges.items
@@ -64,7 +64,7 @@ pub record Takes {K L : Type 0} (refused : Type 0) (does : Serving K) (tells : T
   pub taken : List Taken
   pub are_taken : HaveOutcomes refused taken
   pub did : does clients_old (flat_map events_of taken) clients_new
-  pub told : tells log_old (flat_map told_of taken) log_new
+  pub told : tells log_old (flat_map told_at_once taken) log_new
   pub counted : round.taken ≡ length taken
   pub clients : round.clients.items ≡ flat_map client_of taken
   pub exchanges : (d : Directory) → map (ask_of d) round.exchanges.items

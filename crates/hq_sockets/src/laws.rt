@@ -1,14 +1,16 @@
-//! A law over the clients of a socket, with no program in it: an empty function whose contract is
-//! the law.
+//! Laws over the clients of a socket, with no program in them: empty functions whose contracts are
+//! the laws.
 
 ghost use Rattle.std.specs.Prelude.{[], List};
 ghost use Rattle.hq_serve.specs.Coming.{ClientEvent};
 ghost use Rattle.hq_sockets.specs.Listening.{counting};
 ghost use Rattle.hq_sockets.specs.Slots.{ServesClients};
+ghost use Rattle.hq_sockets.specs.Times.{AreTimed, ClockState, IsTimed, StaysTimed};
 ghost use Rattle.hq_sockets.specs.Waiting.{waiting_begins_at, waiting_does};
 ghost use Rattle.hq_sockets.specs.declared.connections.Connections.{Connections};
 ghost use Rattle.hq_sockets.specs.declared.waiting.Waiting.{Waiting};
 
+use crate::listening::Moments;
 use crate::talking::Listener;
 use hq_memory::Memory;
 
@@ -22,4 +24,11 @@ pub fn clients_are_served<L: Listener, M: Memory>()
         → waiting_does M.refused L.Connection.talks L.Connection.ends L.does old events new
         → ServesClients M.refused L.Connection.talks L.Connection.ends (counting L.does) start
         new.connections events }
+{}
+
+/// Each request is taken at a moment that the clock told: so it is from the beginning on, at which
+/// it had told none.
+pub fn requests_are_timed<T: Moments>()
+    ensures { (old new : ClockState T) (events : List ClientEvent) → IsTimed T.tells old
+        → StaysTimed T.tells old events new → AreTimed (T.tells old.clock) events }
 {}

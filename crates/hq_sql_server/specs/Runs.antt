@@ -46,8 +46,8 @@ module _ {N K G L : Type 0} (does : Networking N K) (serves : Serving K)
     (begins : K → Type 0) (connections : K → ℕ) (net_old net_new : N) (logs : Logging G L)
     (tells : Telling L) (logs_old logs_new : G) where
   -- nothing is done at the network, or with a log
-  abbrev pub IsQuiet : Type 0
-  IsQuiet = (net_new ≡ net_old) × (logs_new ≡ logs_old)
+  abbrev pub IsIdle : Type 0
+  IsIdle = (net_new ≡ net_old) × (logs_new ≡ logs_old)
 
   -- no clients are served, for this reason
   abbrev pub IsUnheard : Serve → Type 0 → Result ⊤ Trouble → Type 0
@@ -96,7 +96,7 @@ module _ {N K G L : Type 0} (does : Networking N K) (serves : Serving K)
   StoreServerEnds sight opens path old new settings given unwritten out_old out_new result =
       OverStore sight opens path old new
       (ServedEnds sight settings given unwritten out_old out_new result)
-      (λ fault. IsUnopened unwritten fault result × IsQuiet)
+      (λ fault. IsUnopened unwritten fault result × IsIdle)
 
   -- ---- in memory
 
@@ -115,7 +115,7 @@ module _ {N K G L : Type 0} (does : Networking N K) (serves : Serving K)
       Result ⊤ Trouble → Type 0
   MemoryServerEnds settings given unwritten out_old out_new result = OverMemory
       (IsUnheard given unwritten result ⊎ ServesEmpty settings given out_old out_new result)
-      (λ fault. IsUnopened unwritten fault result × IsQuiet)
+      (λ fault. IsUnopened unwritten fault result × IsIdle)
 
   -- ---- as words have it
 
@@ -134,7 +134,7 @@ module _ {N K G L : Type 0} (does : Networking N K) (serves : Serving K)
     abbrev pub SetServerEnds : Serve → Type 0 → Option (List ℕ) → Option (List ℕ) →
         Result Settings Trouble → Result ⊤ Trouble → Type 0
     SetServerEnds given unwritten out_old out_new (Err trouble) result = unwritten × (new ≡ old)
-        × IsQuiet × (result ≡ Err trouble)
+        × IsIdle × (result ≡ Err trouble)
     SetServerEnds given unwritten out_old out_new (Ok set) result =
         PathServerEnds (option_map (λ s. s.now) given.store) set given unwritten out_old out_new
         result
