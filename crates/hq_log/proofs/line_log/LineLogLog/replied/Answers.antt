@@ -13,5 +13,5 @@ returns g c =
           (λ i. (sym c.note.ensures.file i, sym c.note.ensures.losing i))
           (subst (λ e. LineEnds g.F.LogFile.does old e c.append-is_lost.new.self.file
           c.append-is_lost.result) c.entry_of-entry.ensures.entry c.append-is_lost.ensures.lost),
-      refl,
+      refl {a = next},
     )
