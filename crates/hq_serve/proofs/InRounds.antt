@@ -32,6 +32,12 @@ is_over left Clock came done h = absurd h
 
 module _ {K L D : Type 0} (refused : Type 0) (sight : DeskSight D) (d : Directory)
     (does : Serving K) (tells : Telling L) where
+  -- each exchange of a round has its client
+  pub even : (start now : K) (log_start log_now : L) (round : Round) →
+      Takes refused does tells start now log_start log_now round → IsEven round
+  even start now log_start log_now round t = ap length t.clients ∙ are_even t.taken
+      ∙ sym (ap length t.requests) ∙ length-map round.exchanges.items timed
+
   -- so far so many were taken, in these rounds
   pub record RoundsDone (done : ℕ) (start now : K) (log_start log_now : L) (old new : D) : Type 0
     where
@@ -91,11 +97,9 @@ module _ {K L D : Type 0} (refused : Type 0) (sight : DeskSight D) (d : Director
         tells log_before
         (flat_map told_at_once t.taken ++ told_each d (flat_map timed_of t.taken) p.replies) log_end
     told_in_round before after end log_before log_after log_end round old new t p =
-        let even : IsEven round = ap length t.clients ∙ are_even t.taken
-        ∙ sym (ap length t.requests) ∙ length-map round.exchanges.items timed in
         told_on log_before log_after log_end (flat_map told_at_once t.taken)
         (told_each d (flat_map timed_of t.taken) p.replies) t.told
-        (subst (λ qs. tells log_after (told_each d qs p.replies) log_end) t.requests (p.told even))
+        (subst (λ qs. tells log_after (told_each d qs p.replies) log_end) t.requests p.told)
 
     -- one round more
     pub one_more : (done more : ℕ) (start before after end : K)

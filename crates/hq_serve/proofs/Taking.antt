@@ -23,7 +23,7 @@ use Rattle.hq_http.specs.Responses.{response_text}
 use Rattle.hq_serve.specs.Coming.{ClientEvent, Serving, Taken, HaveOutcomes, came, came_of, sent}
 use Rattle.hq_serve.specs.Coming.{asks_of, at_once, client_of, each_with, events_of, in_round}
 use Rattle.hq_serve.specs.Coming.{sent_each, sent_of}
-use Rattle.hq_serve.specs.Logged.{timed_of, told_each, told_at_once}
+use Rattle.hq_serve.specs.Logged.{request_entry, timed_of, told_each, told_at_once}
 use Rattle.hq_serve.specs.Steps.{IsOfRequest}
 use Rattle.hq_serve.specs.Taking.{IsTakenInto, Takes, reply_entry, timed, wants_of}
 use Rattle.hq_serve.specs.declared.coming.Came.{Came}
@@ -79,27 +79,27 @@ at_once_entry at whose r = record {
 
 module _ {A B C : Type 0} (f : A → B → C) where
   -- of one more, if there are as many of both
-  pub each_one : (as : List A) (bs : List B) (a : A) (b : B) → length as ≡ length bs →
-      each_with f (as ++ a ∷ []) (bs ++ b ∷ []) ≡ each_with f as bs ++ f a b ∷ []
-  each_one [] [] a b e = refl
-  each_one [] (y ∷ bs) a b e = absurd (omega (arith, e))
-  each_one (x ∷ as) [] a b e = absurd (omega (arith, e))
-  each_one (x ∷ as) (y ∷ bs) a b e =
-      ap (λ l. f x y ∷ l) (each_one as bs a b (omega (arith, e)))
+  pub each_one : (xs : List A) (ys : List B) (x : A) (y : B) → length xs ≡ length ys →
+      each_with f (xs ++ x ∷ []) (ys ++ y ∷ []) ≡ each_with f xs ys ++ f x y ∷ []
+  each_one [] [] x y e = refl
+  each_one [] (q ∷ ys) x y e = absurd (omega (arith, e))
+  each_one (p ∷ xs) [] x y e = absurd (omega (arith, e))
+  each_one (p ∷ xs) (q ∷ ys) x y e =
+      ap (λ l. f p q ∷ l) (each_one xs ys x y (omega (arith, e)))
 
   -- of all, once either of them has no more
-  pub each_short : (k : ℕ) (as : List A) (bs : List B) → (length as ≤ k) ⊎ (length bs ≤ k) →
-      each_with f (take k as) (take k bs) ≡ each_with f as bs
-  each_short zero [] bs h = refl
-  each_short zero (x ∷ as) [] h = refl
-  each_short zero (x ∷ as) (y ∷ bs) (inl h) = absurd (omega (arith, h))
-  each_short zero (x ∷ as) (y ∷ bs) (inr h) = absurd (omega (arith, h))
-  each_short (suc k) [] bs h = refl
-  each_short (suc k) (x ∷ as) [] h = refl
-  each_short (suc k) (x ∷ as) (y ∷ bs) (inl h) =
-      ap (λ l. f x y ∷ l) (each_short k as bs (inl (omega (arith, h))))
-  each_short (suc k) (x ∷ as) (y ∷ bs) (inr h) =
-      ap (λ l. f x y ∷ l) (each_short k as bs (inr (omega (arith, h))))
+  pub each_short : (k : ℕ) (xs : List A) (ys : List B) → (length xs ≤ k) ⊎ (length ys ≤ k) →
+      each_with f (take k xs) (take k ys) ≡ each_with f xs ys
+  each_short zero [] ys h = refl
+  each_short zero (p ∷ xs) [] h = refl
+  each_short zero (p ∷ xs) (q ∷ ys) (inl h) = absurd (omega (arith, h))
+  each_short zero (p ∷ xs) (q ∷ ys) (inr h) = absurd (omega (arith, h))
+  each_short (suc k) [] ys h = refl
+  each_short (suc k) (p ∷ xs) [] h = refl
+  each_short (suc k) (p ∷ xs) (q ∷ ys) (inl h) =
+      ap (λ l. f p q ∷ l) (each_short k xs ys (inl (omega (arith, h))))
+  each_short (suc k) (p ∷ xs) (q ∷ ys) (inr h) =
+      ap (λ l. f p q ∷ l) (each_short k xs ys (inr (omega (arith, h))))
 
 -- the same want of memory for each exchange
 pub wants_so : (d : Directory) (exchanges : List Exchange) →
@@ -111,18 +111,30 @@ wants_so d (x ∷ exchanges) = ap (λ l. reply_of_fault no_memory ∷ l) (wants_
 pub told_so : (d : Directory) (xs : List Exchange) (replies : List Reply) (told : List SeenReply) →
     AllZip IsSent replies told → map whose_told replies ≡ map (whose_exchange d) xs →
     each_with reply_entry xs replies ≡ told_each d (map timed xs) told
-told_so d [] replies told sent whose = refl
-told_so d (x ∷ xs) [] [] sent whose = refl
-told_so d (x ∷ xs) [] (r ∷ told) sent whose = absurd sent
-told_so d (x ∷ xs) (reply ∷ replies) [] sent whose = absurd sent
-told_so d (x ∷ xs) (reply ∷ replies) (r ∷ told) sent whose = λ i. record {
+told_so d [] replies told are whose = refl
+told_so d (x ∷ xs) [] [] are whose = refl
+told_so d (x ∷ xs) [] (r ∷ told) are whose = absurd are
+told_so d (x ∷ xs) (reply ∷ replies) [] are whose = absurd are
+told_so d (x ∷ xs) (reply ∷ replies) (r ∷ told) are whose = λ i. record {
     at = Some x.at;
     whose = ap (λ ws. slice_index_or ws 0 (whose_exchange d x)) whose i;
     method = Some (string_bytes x.method);
     path = Some (string_bytes x.path);
-    status = sym sent.0.0 i;
-    body = sym sent.0.1 i;
-  } ∷ told_so d xs replies told sent.1 (ap (drop 1) whose) i
+    status = sym are.0.0 i;
+    body = sym are.0.1 i;
+  } ∷ told_so d xs replies told are.1 (ap (drop 1) whose) i
+
+pub entry_is : (d : Directory) (x : Exchange) (reply : Reply) (r : SeenReply) → seen reply ≡ r →
+    whose_told reply ≡ whose_exchange d x →
+    reply_entry x reply ≡ request_entry d x.at (timed x).request r
+entry_is d x reply r is whose = λ i. record {
+  at = Some x.at;
+  whose = whose i;
+  method = Some (string_bytes x.method);
+  path = Some (string_bytes x.path);
+  status = (is i).status;
+  body = (is i).body;
+}
 
 -- there are as many clients in a round as requests
 pub are_even : (taken : List Taken) →

@@ -34,7 +34,7 @@ sent_to client r = sent (record { client = client; response = response_of r })
 
 -- of each with the one beside it, in order
 abbrev pub each_with : {A B C : Type 0} → (A → B → C) → List A → List B → List C
-each_with f (a ∷ as) (b ∷ bs) = f a b ∷ each_with f as bs
+each_with f (x ∷ xs) (y ∷ ys) = f x y ∷ each_with f xs ys
 each_with f _ _ = []
 
 -- to each client the reply beside it

@@ -87,5 +87,4 @@ pub record RepliesToRound {K L D : Type 0} (sight : DeskSight D) (d : Directory)
   pub replies : List SeenReply
   pub served : ServedInRound sight d old (map (ask_of d) round.exchanges.items) replies new
   pub sent : does clients_old (sent_each round.clients.items replies) clients_new
-  pub told : IsEven round
-      → tells log_old (told_each d (map timed round.exchanges.items) replies) log_new
+  pub told : tells log_old (told_each d (map timed round.exchanges.items) replies) log_new

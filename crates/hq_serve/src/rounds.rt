@@ -156,9 +156,10 @@ fn take_round<K: Clients, L: Log, M: JsonMemory>(
 
 /// Sends the replies of a round, to each client its own.
 fn send_all<K: Clients, L: Log>(clients: &mut K, log: &mut L, round: &Round, replies: &[Reply<'_>])
+    requires { IsEven round.now }
     ensures sent { K.does clients.old (sent_each round.now.clients.items (map seen replies.now))
         clients.new }
-    ensures told { IsEven round.now → L.tells log.old
+    ensures told { L.tells log.old
         (each_with reply_entry round.now.exchanges.items replies.now) log.new }
     ensures left { K.left clients.new ≡ K.left clients.old }
 {
@@ -166,9 +167,10 @@ fn send_all<K: Clients, L: Log>(clients: &mut K, log: &mut L, round: &Round, rep
         let Some(reply) = replies.get(place) else {
             break;
         };
-        let asked = round.exchanges.get(place);
-        let at = asked.map(|exchange| exchange.at);
-        send(clients, log, *client, at, asked, reply);
+        let Some(asked) = round.exchanges.get(place) else {
+            break;
+        };
+        send(clients, log, *client, Some(asked.at), Some(asked), reply);
     }
 }
 
@@ -179,10 +181,10 @@ fn send_wants<K: Clients, L: Log>(
     directory: &Directory,
     round: &Round,
 )
+    requires { IsEven round.now }
     ensures sent { K.does clients.old (sent_each round.now.clients.items
         (wants_of round.now.exchanges.items)) clients.new }
-    ensures told { IsEven round.now → L.tells log.old
-        (told_each directory.now (map timed round.now.exchanges.items)
+    ensures told { L.tells log.old (told_each directory.now (map timed round.now.exchanges.items)
         (wants_of round.now.exchanges.items)) log.new }
     ensures left { K.left clients.new ≡ K.left clients.old }
 {
@@ -196,7 +198,7 @@ fn send_wants<K: Clients, L: Log>(
     }
 }
 
-/// Does the exchanges of a round, and sends its clients the replies.
+/// Does the exchanges of a round, each of which has its client, and sends the replies.
 fn do_round<K: Clients, S: Rounds, L: Log, M: JsonMemory>(
     memory: M,
     clients: &mut K,
@@ -205,6 +207,7 @@ fn do_round<K: Clients, S: Rounds, L: Log, M: JsonMemory>(
     directory: &Directory,
     round_of: &Round,
 ) -> Desk<S>
+    requires { IsEven round_of.now }
     ensures replies { RepliesToRound (with_refusals M.refused (on S.sight)) directory.now K.does
         L.tells round_of.now clients.old clients.new log.old log.new desk result }
     ensures left { K.left clients.new ≡ K.left clients.old }

@@ -31,10 +31,10 @@ returns-in-Ok-clause-replies g c =
       sent = subst (λ s. g.K.Clients.does c.args.clients.now s c.send_all.new.clients)
           (ap (λ rs. sent_each clients (map seen rs)) c.as_slice-in-Ok.ensures.value
           ∙ sent_as clients c.in-Ok.replies.items so.told so.sent) sent;
-      told = λ even. subst (λ es. g.L.Log.tells c.args.log.now es c.send_all.new.log)
+      told = subst (λ es. g.L.Log.tells c.args.log.now es c.send_all.new.log)
           (ap (each_with reply_entry xs) c.as_slice-in-Ok.ensures.value
           ∙ told_so d xs c.in-Ok.replies.items so.told so.sent whose)
-          (c.send_all.ensures.told even);
+          c.send_all.ensures.told;
     }
 
 pub returns-in-Err-clause-replies : goal.returns-in-Err-clause-replies

@@ -2,7 +2,7 @@ use Rattle.std.proofs.Common.{◌≡◌, ◌+◌, arith, subst}
 use Rattle.hq_desk.specs.Desks.{on}
 use Rattle.hq_serve.specs.Coming.{EndsWith}
 use Rattle.hq_serve.specs.declared.coming.ServiceEnd.TheVariants.{Clock}
-use Rattle.hq_serve.proofs.InRounds.{ends, is_over, none_done, one_more, waited}
+use Rattle.hq_serve.proofs.InRounds.{ends, even, is_over, none_done, one_more, waited}
 use Rattle.hq_serve.proofs.rounds.serve_rounds.Goals as goal
 
 pub loop-init : goal.loop-init
@@ -103,3 +103,10 @@ returns g c =
     c.loop.invariant.0 c.loop.invariant.1
     (λ came counted. is_over (g.K.Clients.left c.loop.clients) c.end_of.result came c.loop.done
     (subst (λ n. EndsWith n c.end_of.result) c.left-2.ensures c.end_of.ensures))
+
+pub do_round-desk-requires : goal.do_round-desk-requires
+do_round-desk-requires g c =
+    even g.M.Memory.refused (on g.S.Shelf.sight) c.args.directory.now g.K.Clients.does
+    g.L.Log.tells c.ready-ready.new.self c.take_round-round_of.new.clients c.loop.log
+    c.take_round-round_of.new.log c.take_round-round_of.result
+    c.take_round-round_of.ensures.taken

@@ -30,9 +30,6 @@ returns-clause-ends g c =
 pub returns-in-None-clause-logged : goal.returns-in-None-clause-logged
 returns-in-None-clause-logged g c = inl (Keeps-refl _, c.begin.ensures)
 
-pub returns-in-Err-clause-logged : goal.returns-in-Err-clause-logged
-returns-in-Err-clause-logged g c = g.L.Log.none_told c.args.log.now
-
 pub returns-in-Ok-write_reply-clause-logged : goal.returns-in-Ok-write_reply-clause-logged
 returns-in-Ok-write_reply-clause-logged g c =
     let sight = with_refusals g.M.Memory.refused g.D.Acts.sight in
