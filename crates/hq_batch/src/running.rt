@@ -22,8 +22,9 @@ use hq_wire::Directory;
 use std::io::{Read, Write};
 
 /// Replies to the lines of an input for the customers of these settings, over a shelf that is
-/// dropped when the input has ended, and tells each in the log. It ends in want of memory only
-/// where `memory` refused a request; then nothing is read or written.
+/// dropped when the input has ended. The log is told each reply, with what it replies to, and
+/// nothing else. It ends in want of memory only where `memory` refused a request; then nothing is
+/// read, written or told.
 pub fn run_batch<S: MovesMessages + Drop, R: Read, W: Write, L: Log, M: JsonMemory>(
     memory: M,
     shelf: S,
@@ -32,8 +33,8 @@ pub fn run_batch<S: MovesMessages + Drop, R: Read, W: Write, L: Log, M: JsonMemo
     output: &mut W,
     log: &mut L,
 ) -> Result<(), Trouble>
-    ensures { RunEnds (ServesOver M.refused S.sight settings shelf)
-        (M.refused × (input.new ≡ input.old) × (output.new ≡ output.old))
+    ensures { RunEnds (ServesOver M.refused S.sight settings L.tells log.old log.new shelf)
+        (M.refused × (input.new ≡ input.old) × (output.new ≡ output.old) × (log.new ≡ log.old))
         (record { input = R.remaining input.old; output = W.contents output.old })
         (record { input = R.remaining input.new; output = W.contents output.new }) result }
 {
@@ -52,9 +53,10 @@ fn serve_in_rounds<S: Rounds, R: Read, W: Write, L: Log, M: JsonMemory>(
     output: &mut W,
     log: &mut L,
 ) -> (Result<(), EngineFault>, Desk<S>)
-    ensures { RoundsEnd (RepliedBy (with_refusals M.refused (on S.sight)) directory.now desk
-        result.1)
-        (M.refused × (input.new ≡ input.old) × (output.new ≡ output.old) × (result.1 ≡ desk))
+    ensures { RoundsEnd (RepliedBy (with_refusals M.refused (on S.sight)) directory.now L.tells
+        log.old log.new desk result.1)
+        (M.refused × (input.new ≡ input.old) × (output.new ≡ output.old) × (log.new ≡ log.old)
+        × (result.1 ≡ desk))
         (record { input = R.remaining input.old; output = W.contents output.old })
         (record { input = R.remaining input.new; output = W.contents output.new }) result.0 }
 {
@@ -80,8 +82,9 @@ fn serve_in_rounds<S: Rounds, R: Read, W: Write, L: Log, M: JsonMemory>(
 /// a commit, 64 of them at most, and no reply leaves before it. It gives the shelf back as the last
 /// line left it.
 ///
-/// After a fault of writing the lines are done up to those of the round whose replies could not be
-/// written, and no other; the replies of the rounds before went out whole.
+/// The log is told each reply of each round, with what it replies to, and nothing else. After a
+/// fault of writing the lines are done, and told, up to those of the round whose replies could not
+/// be written, and no other; the replies of the rounds before went out whole.
 pub fn run_batch_in_rounds<S: Rounds, R: Read, W: Write, L: Log, M: JsonMemory>(
     memory: M,
     shelf: S,
@@ -90,8 +93,10 @@ pub fn run_batch_in_rounds<S: Rounds, R: Read, W: Write, L: Log, M: JsonMemory>(
     output: &mut W,
     log: &mut L,
 ) -> (Result<(), Trouble>, S)
-    ensures { RoundsRunEnd (ServesInRounds M.refused S.sight settings shelf result.1)
-        (M.refused × (input.new ≡ input.old) × (output.new ≡ output.old) × (result.1 ≡ shelf))
+    ensures { RoundsRunEnd (ServesInRounds M.refused S.sight settings L.tells log.old log.new
+        shelf result.1)
+        (M.refused × (input.new ≡ input.old) × (output.new ≡ output.old) × (log.new ≡ log.old)
+        × (result.1 ≡ shelf))
         (record { input = R.remaining input.old; output = W.contents output.old })
         (record { input = R.remaining input.new; output = W.contents output.new }) result.0 }
 {

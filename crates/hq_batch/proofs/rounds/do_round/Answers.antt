@@ -12,8 +12,10 @@ returns g c =
     let sight = with_refusals g.M.Memory.refused (on g.S.Shelf.sight) in
     let told = c.tell_round-told in
     round_told sight c.args.directory.now c.args.desk c.round-replies.result.1 c.args.asked.now
-    c.requires.some c.requires.few (g.W.Write.contents c.args.writer.now)
+    c.requires.some c.requires.few g.L.Log.tells g.L.Log.told_on c.args.log.now
+    c.begin.new.self told.new.log (g.W.Write.contents c.args.writer.now)
     (g.W.Write.contents told.new.writer) told.result g.M.Memory.refused
     (λ why. (wanted g.M.Memory.refused (on g.S.Shelf.sight) (reply_of_fault no_memory) why refl).0)
-    (λ v. v.items) c.round-replies.result.0 c.round-replies.ensures.served
-    c.round-replies.ensures.none told.ensures.replied told.ensures.wanted
+    (λ v. v.items) c.round-replies.result.0 c.begin.ensures c.round-replies.ensures.served
+    c.round-replies.ensures.whose c.round-replies.ensures.none told.ensures.replied
+    told.ensures.wanted told.ensures.told told.ensures.untold
