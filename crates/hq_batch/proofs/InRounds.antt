@@ -162,30 +162,30 @@ module _ {D : Type 0} (sight : DeskSight D) (d : Directory) (old new : D)
       × GoesOut wo wn (concat lines) result
   round_told tells on log_old begun log_new wo wn result refused may items (Ok rs) begins so whose
       none out no_out told untold = (
-    _,
-    record {
-      done = answered (items rs) so;
-      told = (
-        replied_entries asked (items rs),
-        entries_of_replies d asked (items rs) so.told so.sent whose,
-        on log_old begun log_new [] (replied_entries asked (items rs)) begins told,
-      );
-    },
-    out,
-  )
+        _,
+        record {
+          done = answered (items rs) so;
+          told = (
+            replied_entries asked (items rs),
+            entries_of_replies d asked (items rs) so.told so.sent whose,
+            on log_old begun log_new [] (replied_entries asked (items rs)) begins told,
+          );
+        },
+        out,
+      )
   round_told tells on log_old begun log_new wo wn result refused may items (Err e) begins so whose
       none no_out out told untold = (
-    _,
-    record {
-      done = wanted_all (may none.0) none.1;
-      told = (
-        map (wanted_entry d) asked,
-        entries_of_wants d asked,
-        on log_old begun log_new [] (map (wanted_entry d) asked) begins untold,
-      );
-    },
-    out,
-  )
+        _,
+        record {
+          done = wanted_all (may none.0) none.1;
+          told = (
+            map (wanted_entry d) asked,
+            entries_of_wants d asked,
+            on log_old begun log_new [] (map (wanted_entry d) asked) begins untold,
+          );
+        },
+        out,
+      )
 
 pub of_same : {D L : Type 0} (sight : DeskSight D) (d : Directory) (tells : Telling L)
     (old new : DeskAndLog D L) (xs ys : List Exchange) (lines : List (List ℕ)) → xs ≡ ys →
@@ -277,11 +277,12 @@ one_round sight tells old new before after asked lines there back same same_log 
 
 -- nothing is done
 pub as_it_was : {S L M : Type 0} (sight : DeskSight (Desk S)) (tells : Telling L)
-    (front : RoundFront S L M) → AnswersInRounds sight tells front [] [] front
-as_it_was sight tells front = record {
-  directory = refl;
-  same_log = refl;
-  run = λ before is. (before, is, refl);
+    (old new : RoundFront S L M) → new.directory ≡ old.directory → new.log ≡ old.log →
+    new.desk ≡ old.desk → AnswersInRounds sight tells old [] [] new
+as_it_was sight tells old new directory log desk = record {
+  directory = directory;
+  same_log = ap (λ l. l.ghost_name) log;
+  run = λ before is. (before, desk ∙ is, ap (λ l. record { desk = before; log = l.now }) log);
 }
 
 -- ---- one after another
@@ -299,7 +300,7 @@ module _ {S L M : Type 0} (sight : DeskSight (Desk S)) (tells : Telling L) where
   First {E} came old new wo wn result = DoesFirst {E = E} Does wait came old new wo wn result
 
   does_none : (front : RoundFront S L M) → Does front [] [] front
-  does_none = as_it_was sight tells
+  does_none front = as_it_was sight tells front front refl refl refl
 
   does_more : (old mid new : RoundFront S L M) (asked more : List (List (Option LineRequest)))
       (replies others : List (List (List ℕ))) → Does old asked replies mid →

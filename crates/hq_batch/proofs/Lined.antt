@@ -151,7 +151,8 @@ one_replied asked replies n x reply less fewer is_x is_reply =
     (omega (arith, less, fewer, length-zip asked replies)))
     ∙ map-append pair_entry (take n (zip asked replies))
     (slice_index_or (zip asked replies) n (x, reply) ∷ [])
-    ∙ ap (λ (p : Exchange × Reply). map pair_entry (take n (zip asked replies)) ++ pair_entry p ∷ [])
+    ∙ ap (λ (p : Exchange × Reply). map pair_entry (take n (zip asked replies))
+    ++ pair_entry p ∷ [])
     (get_or-zip asked replies n (x, reply) less fewer ∙ (λ i. (sym is_x i, sym is_reply i)))
 
 -- of all, once either of them has no more

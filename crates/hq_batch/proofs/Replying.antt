@@ -20,7 +20,7 @@ use Rattle.hq_batch.specs.Batches.{Replied, TellsLinesOf, ask_in, reply_line}
 use Rattle.hq_batch.specs.Steps.{LineStep}
 use Rattle.hq_batch.specs.declared.front.Front.{Front}
 
-module _ {D L M : Type 0} (sight : DeskSight D) (tells : Telling L) where
+module _ {D L : Type 0} (sight : DeskSight D) (tells : Telling L) where
   -- what the lines got one after the other, as the replies of exchanges, and what was told
   record Turns (d : Directory) (log_old log_new : L) (old : D) (asked : List (Option LineRequest))
       (lines : List (List ℕ)) (new : D) : Type 0 where
@@ -29,12 +29,14 @@ module _ {D L M : Type 0} (sight : DeskSight D) (tells : Telling L) where
     pub run : InTurn (Exchanged sight d) old (map (ask_in d) asked) replies new
     pub told : TellsLinesOf d tells log_old log_new asked replies
 
+module _ {D L M : Type 0} (sight : DeskSight D) (tells : Telling L) where
   module _ (none : (log : L) → tells log [] log) (on : (old mid new : L)
       (told more : List LogEntry) → tells old told mid → tells mid more new →
       tells old (told ++ more) new) where
     turns : (old new : Front D L M) (asked : List (Option LineRequest)) (lines : List (List ℕ)) →
         InTurn (LineStep sight tells) old asked lines new →
-        Turns old.directory.now old.log.now new.log.now old.desk.now asked lines new.desk.now
+        Turns sight tells old.directory.now old.log.now new.log.now old.desk.now asked lines
+        new.desk.now
     turns old new [] [] p = record {
       replies = [];
       lines_are = refl;
@@ -49,8 +51,8 @@ module _ {D L M : Type 0} (sight : DeskSight D) (tells : Telling L) where
     turns old new (q ∷ asked) [] p = absurd p
     turns old new (q ∷ asked) (line ∷ lines) p =
         let it = p.1.answered in
-        let rest = subst (λ (d : Bor Directory). Turns d.now p.0.log.now new.log.now p.0.desk.now
-        asked lines new.desk.now) p.1.directory (turns p.0 new asked lines p.2) in
+        let rest = subst (λ (d : Bor Directory). Turns sight tells d.now p.0.log.now new.log.now
+        p.0.desk.now asked lines new.desk.now) p.1.directory (turns p.0 new asked lines p.2) in
         record {
           replies = it.reply ∷ rest.replies;
           lines_are = λ i. it.line_is i ∷ rest.lines_are i;

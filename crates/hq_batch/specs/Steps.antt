@@ -111,7 +111,7 @@ pub record RoundTold {D L : Type 0} (sight : DeskSight D) (d : Directory) (tells
 abbrev pub front_with : {S L M : Type 0} → Desk S → RoundFront S L M → DeskAndLog (Desk S) L
 front_with desk front = record { desk = desk; log = front.log.now }
 
--- Rounds one after another; the directory stays, and so does the log that is lent; and the desk that
+-- Rounds one after another. The directory stays, and so does the log that is lent. The desk that
 -- was there is there again.
 pub record AnswersInRounds {S L M : Type 0} (sight : DeskSight (Desk S)) (tells : Telling L)
     (old : RoundFront S L M) (asked : List (List (Option LineRequest)))

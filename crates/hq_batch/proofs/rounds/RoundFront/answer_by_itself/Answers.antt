@@ -20,7 +20,8 @@ returns g c =
     let q = request_in c.args.line.now in
     let told = c.answer_alone-told.ensures in
     does_round (AnswersInRounds sight g.L.Log.tells)
-    (λ f. lines_waiting f.waiting.exchanges.items) (q ∷ []) (q ∷ []) (told.0 ∷ []) c.args.self.now _ _ _ c.answer_alone-told.result
+    (λ f. lines_waiting f.waiting.exchanges.items) (q ∷ []) (q ∷ []) (told.0 ∷ [])
+    c.args.self.now _ _ _ c.answer_alone-told.result
     (ap (λ l. lines_waiting l ++ q ∷ []) c.requires) (ap lines_waiting c.requires)
     (one_round sight g.L.Log.tells _ _ c.in-Some.desk c.answer_alone-told.new.desk _ _
     (sym c.take.ensures.value ∙ c.in-Some.is) refl refl refl

@@ -11,7 +11,8 @@ pub returns-then-is_empty-clause-answered : goal.returns-then-is_empty-clause-an
 returns-then-is_empty-clause-answered g c = only_waits
     (AnswersInRounds (with_refusals g.M.Memory.refused (on g.S.Shelf.sight)) g.L.Log.tells)
     (λ f. lines_waiting f.waiting.exchanges.items) [] _ _ _
-    (as_it_was (with_refusals g.M.Memory.refused (on g.S.Shelf.sight)) g.L.Log.tells _)
+    (as_it_was (with_refusals g.M.Memory.refused (on g.S.Shelf.sight)) g.L.Log.tells _ _ refl refl
+    refl)
     (sym (append-nil _))
 
 pub returns-in_default-clause-answered : goal.returns-in_default-clause-answered
@@ -25,8 +26,8 @@ returns-clause-answered g c =
     let sight = with_refusals g.M.Memory.refused (on g.S.Shelf.sight) in
     let asks = lines_waiting c.args.self.now.waiting.exchanges.items in
     let told = c.do_round-told.ensures in
-    does_round (AnswersInRounds sight g.L.Log.tells) (λ f. lines_waiting f.waiting.exchanges.items) []
-    asks told.0 c.args.self.now _ _ _ c.do_round-told.result.0 (append-nil asks)
+    does_round (AnswersInRounds sight g.L.Log.tells)
+    (λ f. lines_waiting f.waiting.exchanges.items) [] asks told.0 c.args.self.now _ _ _ c.do_round-told.result.0 (append-nil asks)
     (ap lines_waiting c.clear-2.ensures)
     (one_round sight g.L.Log.tells _ _ c.in-Some.desk c.do_round-told.result.1 _ _
     (sym c.take.ensures.value ∙ c.in-Some.is) refl refl refl
