@@ -160,6 +160,7 @@ module _ {D : Type 0} (sight : DeskSight D) (d : Directory) (old new : D)
       (lines : List (List ℕ)) × RoundTold sight d tells (record { desk = old; log = log_old })
       (lines_waiting asked) lines (record { desk = new; log = log_new })
       × GoesOut wo wn (concat lines) result
+  unfolding answered wanted_all
   round_told tells on log_old begun log_new wo wn result refused may items (Ok rs) begins so whose
       none out no_out told untold = (
         _,
@@ -230,14 +231,16 @@ same_some {A} {x} {y} h = ap (λ (o : Option A). elim o as (λ _. A) [
 
 pub away : {S L M E : Type 0} (sight : DeskSight (Desk S)) (tells : Telling L)
     (waiting : RoundFront S L M → List (Option LineRequest)) (came : List (Option LineRequest))
-    (old new : RoundFront S L M) (w : Option (List ℕ)) (e : E) → old.desk ≡ None →
-    new.directory ≡ old.directory → new.log.ghost_name ≡ old.log.ghost_name →
+    (old new : RoundFront S L M) (w : Option (List ℕ)) (e : E) → old.desk.now ≡ None →
+    new.directory ≡ old.directory → new.desk.ghost_name ≡ old.desk.ghost_name →
+    new.log.ghost_name ≡ old.log.ghost_name →
     DoesFirst (AnswersInRounds sight tells) waiting came old new w w (Err e)
-away sight tells waiting came old new w e none same same_log = record {
+away sight tells waiting came old new w e none same same_desk same_log = record {
   asked = [] ∷ [];
   replies = [] ∷ [];
   run = record {
     directory = same;
+    same_desk = same_desk;
     same_log = same_log;
     run = λ before is. absurd (none_some before (sym none ∙ is));
   };
@@ -256,12 +259,14 @@ away sight tells waiting came old new w e none same same_log = record {
 -- where it is there, one round is done
 pub one_round : {S L M : Type 0} (sight : DeskSight (Desk S)) (tells : Telling L)
     (old new : RoundFront S L M) (before after : Desk S) (asked : List (Option LineRequest))
-    (lines : List (List ℕ)) → old.desk ≡ Some before → new.desk ≡ Some after →
-    new.directory ≡ old.directory → new.log.ghost_name ≡ old.log.ghost_name →
+    (lines : List (List ℕ)) → old.desk.now ≡ Some before → new.desk.now ≡ Some after →
+    new.directory ≡ old.directory → new.desk.ghost_name ≡ old.desk.ghost_name →
+    new.log.ghost_name ≡ old.log.ghost_name →
     RoundTold sight old.directory.now tells (front_with before old) asked lines
     (front_with after new) → AnswersInRounds sight tells old (asked ∷ []) (lines ∷ []) new
-one_round sight tells old new before after asked lines there back same same_log p = record {
+one_round sight tells old new before after asked lines there back same same_desk same_log p = record {
   directory = same;
+  same_desk = same_desk;
   same_log = same_log;
   run = λ desk is. (
     after,
@@ -281,8 +286,9 @@ pub as_it_was : {S L M : Type 0} (sight : DeskSight (Desk S)) (tells : Telling L
     new.desk ≡ old.desk → AnswersInRounds sight tells old [] [] new
 as_it_was sight tells old new directory log desk = record {
   directory = directory;
+  same_desk = ap (λ d. d.ghost_name) desk;
   same_log = ap (λ l. l.ghost_name) log;
-  run = λ before is. (before, desk ∙ is, ap (λ l. record { desk = before; log = l.now }) log);
+  run = λ before is. (before, ap (λ d. d.now) desk ∙ is, ap (λ l. record { desk = before; log = l.now }) log);
 }
 
 -- ---- one after another
@@ -293,7 +299,7 @@ module _ {S L M : Type 0} (sight : DeskSight (Desk S)) (tells : Telling L) where
   Does = AnswersInRounds sight tells
 
   abbrev wait : RoundFront S L M → List (Option LineRequest)
-  wait front = lines_waiting front.waiting.exchanges.items
+  wait front = lines_waiting front.waiting.now.exchanges.items
 
   abbrev First : {E : Type 0} → List (Option LineRequest) → RoundFront S L M →
       RoundFront S L M → Option (List ℕ) → Option (List ℕ) → Result ⊤ E → Type 0
@@ -307,6 +313,7 @@ module _ {S L M : Type 0} (sight : DeskSight (Desk S)) (tells : Telling L) where
       Does mid more others new → Does old (asked ++ more) (replies ++ others) new
   does_more old mid new asked more replies others p q = record {
     directory = q.directory ∙ p.directory;
+    same_desk = q.same_desk ∙ p.same_desk;
     same_log = q.same_log ∙ p.same_log;
     run = λ before is.
         let first = p.run before is in
@@ -323,7 +330,7 @@ module _ {S L M : Type 0} (sight : DeskSight (Desk S)) (tells : Telling L) where
   -- behind what was left as it was, nothing waits any more
   pub left_first : {E : Type 0} (a b c : RoundFront S L M) (wo wn : Option (List ℕ))
       (result : Result ⊤ E) → Does a [] [] b →
-      b.waiting.exchanges.items ≡ a.waiting.exchanges.items → First {E = E} [] b c wo wn result →
+      b.waiting.now.exchanges.items ≡ a.waiting.now.exchanges.items → First {E = E} [] b c wo wn result →
       First {E = E} [] a c wo wn result
   left_first {E} a b c wo wn result same left p = steps_on Does does_none does_more wait [] [] a b c
       wo wo wn result (only_waits Does wait {E = E} [] a b wo same
@@ -341,17 +348,17 @@ module _ {S L M : Type 0} (sight : DeskSight (Desk S)) (tells : Telling L) where
   pub one_waits : {E : Type 0} (request : Option LineRequest) (x : Exchange)
       (a b : RoundFront S L M) (w : Option (List ℕ)) → Does a [] [] b → request ≡ Some (line_asked
       x) →
-      b.waiting.exchanges.items ≡ a.waiting.exchanges.items ++ x ∷ [] →
+      b.waiting.now.exchanges.items ≡ a.waiting.now.exchanges.items ++ x ∷ [] →
       First {E = E} (request ∷ []) a b w w (Ok tt)
   one_waits request x a b w same is more = only_waits Does wait (request ∷ []) a b w same
       (ap lines_waiting more
-      ∙ map-append (λ (x : Exchange). Some (line_asked x)) a.waiting.exchanges.items (x ∷ [])
+      ∙ map-append (λ (x : Exchange). Some (line_asked x)) a.waiting.now.exchanges.items (x ∷ [])
       ∙ ap (λ q. wait a ++ q ∷ []) (sym is))
 
   -- which is answered by itself, where it was left
   pub one_alone : {E : Type 0} (request : Option LineRequest) (a b c : RoundFront S L M)
       (wo wn : Option (List ℕ)) (result : Result ⊤ E) → Does a [] [] b →
-      b.waiting.exchanges.items ≡ a.waiting.exchanges.items →
+      b.waiting.now.exchanges.items ≡ a.waiting.now.exchanges.items →
       First {E = E} (request ∷ []) b c wo wn result →
       First {E = E} (request ∷ []) a c wo wn result
   one_alone {E} request a b c wo wn result same left p = steps_on Does does_none does_more wait []

@@ -111,15 +111,16 @@ pub record RoundTold {D L : Type 0} (sight : DeskSight D) (d : Directory) (tells
 abbrev pub front_with : {S L M : Type 0} → Desk S → RoundFront S L M → DeskAndLog (Desk S) L
 front_with desk front = record { desk = desk; log = front.log.now }
 
--- Rounds one after another. The directory stays, and so does the log that is lent. The desk that
--- was there is there again.
+-- Rounds one after another. The directory stays, and so do the desk and the log that are lent. The
+-- desk that was there is there again.
 pub record AnswersInRounds {S L M : Type 0} (sight : DeskSight (Desk S)) (tells : Telling L)
     (old : RoundFront S L M) (asked : List (List (Option LineRequest)))
     (lines : List (List (List ℕ))) (new : RoundFront S L M) : Type 0 where
   pub directory : new.directory ≡ old.directory
+  pub same_desk : new.desk.ghost_name ≡ old.desk.ghost_name
   pub same_log : new.log.ghost_name ≡ old.log.ghost_name
-  pub run : (before : Desk S) → old.desk ≡ Some before → (after : Desk S)
-      × (new.desk ≡ Some after)
+  pub run : (before : Desk S) → old.desk.now ≡ Some before → (after : Desk S)
+      × (new.desk.now ≡ Some after)
       × InTurn (RoundTold sight old.directory.now tells) (front_with before old) asked lines
       (front_with after new)
 
@@ -129,4 +130,4 @@ abbrev pub DoesLines : {S L M E : Type 0} → DeskSight (Desk S) → Telling L �
     Option (List ℕ) → Result ⊤ E → Type 0
 DoesLines {L = L} {M = M} {E = E} sight tells came old new write_old write_new result =
     DoesFirst {E = E} (AnswersInRounds {L = L} {M = M} sight tells)
-    (λ front. lines_waiting front.waiting.exchanges.items) came old new write_old write_new result
+    (λ front. lines_waiting front.waiting.now.exchanges.items) came old new write_old write_new result

@@ -1,7 +1,7 @@
 //! The desk as what answers the lines of a batch in rounds: those that are there together share one
 //! commit.
 
-ghost use Rattle.std.specs.Prelude.{◌≡◌, ◌≤◌, ◌<◌, ◌∷◌, [], ℕ, List, map, length, IfOk, OnErr};
+ghost use Rattle.std.specs.Prelude.{◌≡◌, ◌<◌, ◌∷◌, [], ℕ, List, map, length, IfOk, OnErr};
 ghost use Rattle.std.specs.List.{concat};
 ghost use Rattle.hq_values.specs.Refusals.{no_memory};
 ghost use Rattle.hq_desk.specs.Desks.{on};
@@ -10,7 +10,6 @@ ghost use Rattle.hq_wire.specs.Replies.{reply_of_fault, seen};
 ghost use Rattle.hq_lines.specs.Fields.{request_in};
 ghost use Rattle.hq_lines.specs.Written.{GoesOut};
 ghost use Rattle.hq_batch.specs.Batches.{reply_line};
-ghost use Rattle.hq_batch.specs.InRounds.{most_lines_together};
 ghost use Rattle.hq_batch.specs.Steps.{AnswersInRounds, DoesLines, RoundTold};
 ghost use Rattle.hq_batch.specs.Steps.{replied_entries, wanted_entry};
 ghost use Rattle.hq_batch.specs.Waiting.{lines_waiting};
@@ -111,49 +110,51 @@ fn tell_round<L: Log, W: Write>(
     }
 }
 
-/// Does a round of a desk: tells the log what it replied, and writes its replies. At an error a
-/// beginning of them went out.
+/// Does the lines that wait in a round of a desk: tells the log what it replied, and writes its
+/// replies. At an error a beginning of them went out.
 fn do_round<S: Rounds, L: Log, M: JsonMemory, W: Write>(
     memory: M,
     desk: Desk<S>,
     directory: &Directory,
     log: &mut L,
-    asked: &[Exchange],
+    waiting: &Waiting,
     writer: &mut W,
 ) -> (io::Result<()>, Desk<S>)
-    requires some { 0 < length asked.now }
-    requires few { length asked.now ≤ most_lines_together }
+    requires { 0 < length waiting.now.exchanges.items }
     ensures { (lines : List (List ℕ)) × RoundTold (with_refusals M.refused (on S.sight))
-        directory.now L.tells (record { desk = desk; log = log.old }) (lines_waiting asked.now)
-        lines (record { desk = result.1; log = log.new })
+        directory.now L.tells (record { desk = desk; log = log.old })
+        (lines_waiting waiting.now.exchanges.items) lines
+        (record { desk = result.1; log = log.new })
         × GoesOut (W.contents writer.old) (W.contents writer.new) (concat lines) result.0 }
 {
     log.begin();
+    let asked = waiting.exchanges.as_slice();
     let (replies, desk) = round(memory, desk, directory, asked);
     let told = tell_round(log, directory, asked, replies, writer);
     (told, desk)
 }
 
 /// A desk with the directory of its customers, a log, and the memory that requests and replies
-/// take: it replies to lines in rounds. The memory is lent, as that of a `Front`.
+/// take: it replies to lines in rounds. The desk and the lines that wait are lent too, as the memory
+/// of a `Front` is: a value that owns memory might hold a part of the log.
 #[derive(Drop)]
-pub struct RoundFront<'d, 'l, 'm, S, L, M> {
+pub struct RoundFront<'d, 'l, 'm, 'w, S, L, M> {
     pub memory: &'m M,
     /// None only while a round is done, which takes it by value.
-    pub desk: Option<Desk<S>>,
+    pub desk: &'d mut Option<Desk<S>>,
     pub directory: &'d Directory,
     pub log: &'l mut L,
-    pub waiting: Waiting,
+    pub waiting: &'w mut Waiting,
 }
 
-impl<S: Rounds, L: Log, M: JsonMemory> RoundFront<'_, '_, '_, S, L, M> {
+impl<S: Rounds, L: Log, M: JsonMemory> RoundFront<'_, '_, '_, '_, S, L, M> {
     /// Answers the lines that wait, in one round.
     fn answer_round<W: Write>(&mut self, writer: &mut W) -> io::Result<()>
         ensures answered { DoesLines (with_refusals M.refused (on S.sight)) L.tells [] self.old
             self.new (W.contents writer.old) (W.contents writer.new) result }
-        ensures none_wait { self.new.waiting.exchanges.items ≡ [] }
+        ensures none_wait { self.new.waiting.now.exchanges.items ≡ [] }
     {
-        if self.waiting.exchanges.is_empty() {
+        if self.waiting.is_empty() {
             return Ok(());
         }
         // (it is there: every round gives it back)
@@ -166,17 +167,17 @@ impl<S: Rounds, L: Log, M: JsonMemory> RoundFront<'_, '_, '_, S, L, M> {
             desk,
             self.directory,
             self.log,
-            self.waiting.exchanges.as_slice(),
+            self.waiting,
             writer,
         );
-        self.desk = Some(desk);
+        *self.desk = Some(desk);
         self.waiting.clear();
         told
     }
 
     /// Answers a line by itself, where none waits.
     fn answer_by_itself<W: Write>(&mut self, line: &[u8], writer: &mut W) -> io::Result<()>
-        requires { self.old.waiting.exchanges.items ≡ [] }
+        requires { self.old.waiting.now.exchanges.items ≡ [] }
         ensures { DoesLines (with_refusals M.refused (on S.sight)) L.tells
             (request_in line.now ∷ []) self.old self.new (W.contents writer.old)
             (W.contents writer.new) result }
@@ -192,12 +193,12 @@ impl<S: Rounds, L: Log, M: JsonMemory> RoundFront<'_, '_, '_, S, L, M> {
             line,
             writer,
         );
-        self.desk = Some(desk);
+        *self.desk = Some(desk);
         told
     }
 }
 
-impl<S: Rounds, L: Log, M: JsonMemory> Answers for RoundFront<'_, '_, '_, S, L, M> {
+impl<S: Rounds, L: Log, M: JsonMemory> Answers for RoundFront<'_, '_, '_, '_, S, L, M> {
     ghost use Rattle.std.proofs.Common.{Bor, refl, subst, ◌∙◌};
     ghost use Rattle.hq_values.specs.Turns.{InTurn};
     ghost use Rattle.hq_values.proofs.Turns.{turns_on};
@@ -206,16 +207,18 @@ impl<S: Rounds, L: Log, M: JsonMemory> Answers for RoundFront<'_, '_, '_, S, L, 
 
     ghost does = { AnswersInRounds (with_refusals M.refused (on S.sight)) L.tells };
 
-    ghost waiting = { λ front. lines_waiting front.waiting.exchanges.items };
+    ghost waiting = { λ front. lines_waiting front.waiting.now.exchanges.items };
 
     ghost none_does = { λ front. record {
       directory = refl;
+      same_desk = refl;
       same_log = refl;
       run = λ before is. (before, is, refl);
     } };
 
     ghost does_on = { λ old mid new asked more replies others p q. record {
       directory = q.directory ∙ p.directory;
+      same_desk = q.same_desk ∙ p.same_desk;
       same_log = q.same_log ∙ p.same_log;
       run = λ before is.
           let first = p.run before is in

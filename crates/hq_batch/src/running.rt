@@ -1,10 +1,11 @@
 //! A batch over a shelf.
 
-ghost use Rattle.std.specs.Prelude.{◌≡◌};
+ghost use Rattle.std.specs.Prelude.{◌≡◌, []};
 ghost use Rattle.hq_desk.specs.Desks.{on};
 ghost use Rattle.hq_lines.specs.Ends.{RoundsEnd};
 ghost use Rattle.hq_wire.specs.Exchanges.{with_refusals};
 ghost use Rattle.hq_batch.specs.InRounds.{RepliedBy};
+ghost use Rattle.hq_batch.specs.Steps.{AnswersInRounds};
 ghost use Rattle.hq_batch.specs.Runs.{RoundsRunEnd, RunEnds, ServesInRounds, ServesOver};
 
 use crate::batch;
@@ -44,6 +45,25 @@ pub fn run_batch<S: MovesMessages + Drop, R: Read, W: Write, L: Log, M: JsonMemo
     Ok(())
 }
 
+/// Replies to the lines of an input in rounds, with the desk and the log of the front.
+fn answer_in_rounds<S: Rounds, R: Read, W: Write, L: Log, M: JsonMemory>(
+    input: &mut R,
+    output: &mut W,
+    front: &mut RoundFront<'_, '_, '_, '_, S, L, M>,
+) -> Result<(), EngineFault>
+    requires { front.old.waiting.now.exchanges.items ≡ [] }
+    ensures same_desk { front.new.desk.ghost_name ≡ front.old.desk.ghost_name }
+    ensures same_log { front.new.log.ghost_name ≡ front.old.log.ghost_name }
+    ensures ended { RoundsEnd (λ asked lines. AnswersInRounds
+        (with_refusals M.refused (on S.sight)) L.tells front.old asked lines front.new)
+        (M.refused × (input.new ≡ input.old) × (output.new ≡ output.old)
+        × (front.new ≡ front.old))
+        (record { input = R.remaining input.old; output = W.contents output.old })
+        (record { input = R.remaining input.new; output = W.contents output.new }) result }
+{
+    answer_lines(*front.memory, input, output, front)
+}
+
 /// Replies to the lines of an input in rounds, and gives the desk back.
 fn serve_in_rounds<S: Rounds, R: Read, W: Write, L: Log, M: JsonMemory>(
     memory: M,
@@ -60,18 +80,19 @@ fn serve_in_rounds<S: Rounds, R: Read, W: Write, L: Log, M: JsonMemory>(
         (record { input = R.remaining input.old; output = W.contents output.old })
         (record { input = R.remaining input.new; output = W.contents output.new }) result.0 }
 {
-    let Ok(waiting) = Waiting::new(memory) else {
+    let Ok(mut waiting) = Waiting::new(memory) else {
         return (Err(EngineFault::WantOfMemory), desk);
     };
+    let mut desk = Some(desk);
     let mut front = RoundFront {
         memory: &memory,
-        desk: Some(desk),
+        desk: &mut desk,
         directory,
         log,
-        waiting,
+        waiting: &mut waiting,
     };
-    let ended = answer_lines(memory, input, output, &mut front);
-    match front.desk.take() {
+    let ended = answer_in_rounds(input, output, &mut front);
+    match desk {
         Some(desk) => (ended, desk),
         // (every round gives it back)
         None => unreachable!(),
