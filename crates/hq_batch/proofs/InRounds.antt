@@ -264,21 +264,22 @@ pub one_round : {S L M : Type 0} (sight : DeskSight (Desk S)) (tells : Telling L
     new.log.ghost_name ≡ old.log.ghost_name →
     RoundTold sight old.directory.now tells (front_with before old) asked lines
     (front_with after new) → AnswersInRounds sight tells old (asked ∷ []) (lines ∷ []) new
-one_round sight tells old new before after asked lines there back same same_desk same_log p = record {
-  directory = same;
-  same_desk = same_desk;
-  same_log = same_log;
-  run = λ desk is. (
-    after,
-    back,
-    (
-      front_with after new,
-      subst (λ s. RoundTold sight old.directory.now tells (front_with s old) asked lines
-          (front_with after new)) (same_some (sym there ∙ is)) p,
-      refl,
-    ),
-  );
-}
+one_round sight tells old new before after asked lines there back same same_desk same_log p =
+    record {
+      directory = same;
+      same_desk = same_desk;
+      same_log = same_log;
+      run = λ desk is. (
+        after,
+        back,
+        (
+          front_with after new,
+          subst (λ s. RoundTold sight old.directory.now tells (front_with s old) asked lines
+              (front_with after new)) (same_some (sym there ∙ is)) p,
+          refl,
+        ),
+      );
+    }
 
 -- nothing is done
 pub as_it_was : {S L M : Type 0} (sight : DeskSight (Desk S)) (tells : Telling L)
@@ -288,7 +289,11 @@ as_it_was sight tells old new directory log desk = record {
   directory = directory;
   same_desk = ap (λ d. d.ghost_name) desk;
   same_log = ap (λ l. l.ghost_name) log;
-  run = λ before is. (before, ap (λ d. d.now) desk ∙ is, ap (λ l. record { desk = before; log = l.now }) log);
+  run = λ before is. (
+    before,
+    ap (λ d. d.now) desk ∙ is,
+    ap (λ l. record { desk = before; log = l.now }) log,
+  );
 }
 
 -- ---- one after another
@@ -330,7 +335,8 @@ module _ {S L M : Type 0} (sight : DeskSight (Desk S)) (tells : Telling L) where
   -- behind what was left as it was, nothing waits any more
   pub left_first : {E : Type 0} (a b c : RoundFront S L M) (wo wn : Option (List ℕ))
       (result : Result ⊤ E) → Does a [] [] b →
-      b.waiting.now.exchanges.items ≡ a.waiting.now.exchanges.items → First {E = E} [] b c wo wn result →
+      b.waiting.now.exchanges.items ≡ a.waiting.now.exchanges.items →
+      First {E = E} [] b c wo wn result →
       First {E = E} [] a c wo wn result
   left_first {E} a b c wo wn result same left p = steps_on Does does_none does_more wait [] [] a b c
       wo wo wn result (only_waits Does wait {E = E} [] a b wo same

@@ -130,4 +130,5 @@ abbrev pub DoesLines : {S L M E : Type 0} → DeskSight (Desk S) → Telling L �
     Option (List ℕ) → Result ⊤ E → Type 0
 DoesLines {L = L} {M = M} {E = E} sight tells came old new write_old write_new result =
     DoesFirst {E = E} (AnswersInRounds {L = L} {M = M} sight tells)
-    (λ front. lines_waiting front.waiting.now.exchanges.items) came old new write_old write_new result
+    (λ front. lines_waiting front.waiting.now.exchanges.items) came old new write_old write_new
+    result

@@ -92,9 +92,9 @@ fn tell_round<L: Log, W: Write>(
         (W.contents writer.new) (concat (map (λ r. reply_line (seen r)) rs.items)) result) }
     ensures wanted { OnErr replies.entry (GoesOut (W.contents writer.old) (W.contents writer.new)
         (concat (map (λ x. reply_line (reply_of_fault no_memory)) asked.now)) result) }
-    ensures told { IfOk replies.entry (λ rs. L.tells log.old
+    ensures told_replies { IfOk replies.entry (λ rs. L.tells log.old
         (replied_entries asked.now rs.items) log.new) }
-    ensures untold { OnErr replies.entry (L.tells log.old
+    ensures told_wants { OnErr replies.entry (L.tells log.old
         (map (wanted_entry directory.now) asked.now) log.new) }
 {
     match replies {
@@ -135,8 +135,8 @@ fn do_round<S: Rounds, L: Log, M: JsonMemory, W: Write>(
 }
 
 /// A desk with the directory of its customers, a log, and the memory that requests and replies
-/// take: it replies to lines in rounds. The desk and the lines that wait are lent too, as the memory
-/// of a `Front` is: a value that owns memory might hold a part of the log.
+/// take: it replies to lines in rounds. All of it is lent, since a value that owns memory might
+/// hold a part of the lent log.
 #[derive(Drop)]
 pub struct RoundFront<'d, 'l, 'm, 'w, S, L, M> {
     pub memory: &'m M,

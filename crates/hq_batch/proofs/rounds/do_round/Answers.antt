@@ -24,7 +24,7 @@ returns g c =
     (λ why. (wanted g.M.Memory.refused (on g.S.Shelf.sight) (reply_of_fault no_memory) why refl).0)
     (λ v. v.items) c.round-replies.result.0 c.begin.ensures c.round-replies.ensures.served
     c.round-replies.ensures.whose c.round-replies.ensures.none told.ensures.replied
-    told.ensures.wanted told.ensures.told told.ensures.untold in (
+    told.ensures.wanted told.ensures.told_replies told.ensures.told_wants in (
       so.0,
       of_same sight d g.L.Log.tells _ _ asked c.args.waiting.now.exchanges.items so.0 same so.1,
       so.2,

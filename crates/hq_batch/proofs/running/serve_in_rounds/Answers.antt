@@ -30,10 +30,14 @@ returns g c =
     × (c.answer_in_rounds-ended.new.input ≡ c.args.input.now)
     × (c.answer_in_rounds-ended.new.output ≡ c.args.output.now)
     × (front.log.now ≡ log_old) × (c.in-Some.desk ≡ c.args.desk))
-    (record { input = g.R.Read.remaining c.args.input.now;
-      output = g.W.Write.contents c.args.output.now; })
-    (record { input = g.R.Read.remaining c.answer_in_rounds-ended.new.input;
-      output = g.W.Write.contents c.answer_in_rounds-ended.new.output; })
+    (record {
+      input = g.R.Read.remaining c.args.input.now;
+      output = g.W.Write.contents c.args.output.now;
+    })
+    (record {
+      input = g.R.Read.remaining c.answer_in_rounds-ended.new.input;
+      output = g.W.Write.contents c.answer_in_rounds-ended.new.output;
+    })
     c.answer_in_rounds-ended.result = rounds_end_as _ done
     (λ asked lines p.
     let run = p.run c.args.desk refl in
