@@ -1,5 +1,5 @@
 -- What the log is told of a line of a batch.
-use Rattle.std.proofs.Common.{◌≡◌, ◌∙◌, List, [], ◌∷◌, ◌++◌, Option, None, Some, refl, sym, ap}
+use Rattle.std.proofs.Common.{◌∙◌, List, [], ◌∷◌, ◌++◌, Option, None, Some, refl, sym, ap}
 use Rattle.std.proofs.Common.{inl, inr, subst}
 use Rattle.hq_rules.specs.Desks.{DeskSight}
 use Rattle.hq_lines.specs.Fields.{LineRequest}

@@ -1,4 +1,4 @@
-use Rattle.std.proofs.Common.{◌≡◌, ◌+◌, ◌∙◌, [], ◌∷◌, ◌++◌, map, take, length, length-append, subst}
+use Rattle.std.proofs.Common.{◌∙◌, [], ◌∷◌, map, take, length, length-append, subst}
 use Rattle.std.proofs.Common.{Bor, ap, rules, sym}
 use Rattle.std.proofs.lemmas.Slice.Zip.{zip_end, zip_turn}
 use Rattle.std.specs.List.{zip}
