@@ -127,7 +127,7 @@ want_told d x want told whose = λ i. record {
   body = (told i).body;
 }
 
--- and of more
+-- entries, and then further ones
 pub entries_on : (d : Directory) (asked more : List (Option LineRequest))
     (replies others : List SeenReply) (told further : List LogEntry) →
     AreEntriesOf d asked replies told → AreEntriesOf d more others further →

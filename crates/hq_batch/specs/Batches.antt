@@ -33,8 +33,8 @@ reply_line r = three_digits r.status ++ 32 ∷ r.body ++ 10 ∷ []
 abbrev pub moment_of : Option LineRequest → Option ℕ
 moment_of request = option_map (λ (q : LineRequest). q.at) request
 
--- what is told of a line, by its moment and what is known of it, and of its reply; where nothing is
--- known, there is neither customer nor method nor path
+-- What is told of a line and its reply, by the line's moment and what is known of it. Without that
+-- there is neither customer nor method nor path.
 abbrev pub batch_entry : Directory → Option ℕ → Option LineRequest → SeenReply → LogEntry
 batch_entry d at known r = record {
   at = at;
@@ -51,7 +51,7 @@ abbrev pub IsEntryOf : Directory → Option LineRequest → SeenReply → LogEnt
 IsEntryOf d request r e = (e ≡ batch_entry d (moment_of request) request r)
     ⊎ ((r ≡ reply_of_fault no_memory) × (e ≡ batch_entry d (moment_of request) None r))
 
--- one entry is of each line and its reply, in order
+-- each line and its reply has its entry, in order
 abbrev pub AreEntriesOf : Directory → List (Option LineRequest) → List SeenReply →
     List LogEntry → Type 0
 AreEntriesOf d [] [] [] = ⊤

@@ -47,8 +47,8 @@ fn serve_front<R: Read, W: Write, D: Acts + Drop, L: Log, M: JsonMemory>(
 /// count.
 ///
 /// 90 `WantOfMemory` is told only where `memory` refused a request, or where the store may answer
-/// it. The log is told each reply, with what it replies to, and nothing else; of the replies and of
-/// what is kept nothing depends on it.
+/// it. The log is told each reply, with what it replies to, and nothing else. Neither the replies
+/// nor what is kept depend on the log.
 ///
 /// Room for a line is taken before the first read. The batch ends in want of memory only where
 /// `memory` refused a request; then nothing is read, written, done or told. At most 67,108,864
