@@ -1,6 +1,6 @@
 -- Rounds of lines, one after another.
 use Rattle.std.proofs.Common.{◌≡◌, ◌≤◌, ◌<◌, ℕ, List, [], ◌∷◌, ◌++◌, length, map, Option, Some}
-use Rattle.std.proofs.Common.{Bor, None, Result, Ok, Err, lit≤, lit<, refl, sym, ap, ◌∙◌, subst}
+use Rattle.std.proofs.Common.{None, Result, Ok, Err, lit≤, lit<, refl, sym, ap, ◌∙◌, subst}
 use Rattle.std.proofs.Common.{append-nil}
 use Rattle.std.specs.Bool.{⊤}
 use Rattle.std.specs.Prelude.{IfOk, OnErr}
@@ -12,12 +12,16 @@ use Rattle.hq_values.specs.Turns.{InTurn}
 use Rattle.hq_values.proofs.Turns.{turns_on}
 use Rattle.hq_desk.specs.declared.desk.Desk.{Desk}
 use Rattle.hq_rules.specs.Desks.{DeskSight}
+use Rattle.hq_log.specs.Entries.{Telling}
+use Rattle.hq_log.specs.Lines.{LogEntry}
+use Rattle.hq_requests.specs.Named.{whose_exchange, whose_told}
 use Rattle.hq_requests.specs.declared.directory.Directory.{Directory}
 use Rattle.hq_requests.specs.declared.exchanges.Exchange.{Exchange}
 use Rattle.hq_requests.specs.declared.reply.Reply.{Reply}
 use Rattle.hq_wire.specs.Exchanges.{Ask, ask_of}
 use Rattle.hq_wire.specs.Replies.{SeenReply, reply_of_fault, seen}
 use Rattle.hq_wire.proofs.Serving.{served}
+use Rattle.hq_together.specs.Sessions.{all_in}
 use Rattle.hq_together.specs.Together.{GoesBack, RoundSo, ServedInRound}
 use Rattle.hq_together.proofs.InRounds.{alone_as_one, replied_as_one}
 use Rattle.hq_together.proofs.Served.{each_by_itself, stayed, wanted}
@@ -27,50 +31,75 @@ use Rattle.hq_lines.specs.Rounds.{DoesFirst}
 use Rattle.hq_lines.specs.Written.{GoesOut}
 use Rattle.hq_lines.proofs.First.{only_waits, passed_over}
 use Rattle.hq_lines.proofs.Steps.{does_on as steps_on}
-use Rattle.hq_batch.specs.Batches.{ask_in, reply_line}
+use Rattle.hq_batch.specs.Batches.{TellsLinesOf, ask_in, reply_line}
 use Rattle.hq_batch.specs.InRounds.{RepliedInRounds, RoundReplied, most_lines_together}
-use Rattle.hq_batch.specs.Steps.{AnswersInRounds, LineAnswered, LogSeen}
+use Rattle.hq_batch.specs.Steps.{AnswersInRounds, DeskAndLog, LineAnswered, RoundTold}
+use Rattle.hq_batch.specs.Steps.{front_with, replied_entries, wanted_entry}
 use Rattle.hq_batch.specs.Waiting.{line_asked, lines_waiting}
 use Rattle.hq_batch.specs.declared.rounds.RoundFront.{RoundFront}
+use Rattle.hq_batch.proofs.Lined.{entries_of_replies, entries_of_wants, entries_on}
 use Rattle.hq_batch.proofs.Lined.{lines_asked, sent_lines, want_lines, want_replies}
 
 -- ---- all of it as one run
 
-module _ {D : Type 0} (sight : DeskSight D) (d : Directory) where
-  -- what the rounds replied
-  record AllOf (old : D) (asked : List (List (Option LineRequest)))
+module _ {D L : Type 0} (sight : DeskSight D) (d : Directory) (tells : Telling L)
+    (none : (log : L) → tells log [] log) (on : (old mid new : L) (told more : List LogEntry) →
+    tells old told mid → tells mid more new → tells old (told ++ more) new) where
+  -- what the rounds replied, and what was told
+  record AllOf (log_old log_new : L) (old : D) (asked : List (List (Option LineRequest)))
       (lines : List (List (List ℕ))) (new : D) : Type 0 where
+    pub rounds : InTurn (RoundReplied sight d) old asked lines new
     pub replied : List (List SeenReply)
     pub lines_are : lines ≡ map (map reply_line) replied
     pub served : InTurn (ServedInRound sight d) old (map (map (ask_in d)) asked) replied new
+    pub told : TellsLinesOf d tells log_old log_new (all_in asked) (all_in replied)
 
-  all_of : (old new : D) (asked : List (List (Option LineRequest)))
-      (lines : List (List (List ℕ))) → InTurn (RoundReplied sight d) old asked lines new →
-      AllOf old asked lines new
-  all_of old new [] [] p = record { replied = []; lines_are = refl; served = p }
+  all_of : (old new : DeskAndLog D L) (asked : List (List (Option LineRequest)))
+      (lines : List (List (List ℕ))) → InTurn (RoundTold sight d tells) old asked lines new →
+      AllOf old.log new.log old.desk asked lines new.desk
+  all_of old new [] [] p = record {
+    rounds = ap (λ s. s.desk) p;
+    replied = [];
+    lines_are = refl;
+    served = ap (λ s. s.desk) p;
+    told = (
+      [],
+      tt,
+      subst (λ (s : DeskAndLog D L). tells old.log [] s.log) (sym p) (none old.log),
+    );
+  }
   all_of old new [] (ls ∷ lines) p = absurd p
   all_of old new (qs ∷ asked) [] p = absurd p
   all_of old new (qs ∷ asked) (ls ∷ lines) p =
+      let one = p.1.done in
       let rest = all_of p.0 new asked lines p.2 in
       record {
-        replied = p.1.replies ∷ rest.replied;
-        lines_are = λ i. p.1.lines_are i ∷ rest.lines_are i;
-        served = (p.0, p.1.served, rest.served);
+        rounds = (p.0.desk, one, rest.rounds);
+        replied = one.replies ∷ rest.replied;
+        lines_are = λ i. one.lines_are i ∷ rest.lines_are i;
+        served = (p.0.desk, one.served, rest.served);
+        told = (
+          p.1.told.0 ++ rest.told.0,
+          entries_on d qs (all_in asked) one.replies (all_in rest.replied) p.1.told.0 rest.told.0
+              p.1.told.1 rest.told.1,
+          on old.log p.0.log new.log p.1.told.0 rest.told.0 p.1.told.2 rest.told.2,
+        );
       }
 
-  pub in_rounds : (old new : D) (asked : List (List (Option LineRequest)))
-      (lines : List (List (List ℕ))) → InTurn (RoundReplied sight d) old asked lines new →
-      RepliedInRounds sight d old asked lines new
+  pub in_rounds : (old new : DeskAndLog D L) (asked : List (List (Option LineRequest)))
+      (lines : List (List (List ℕ))) → InTurn (RoundTold sight d tells) old asked lines new →
+      RepliedInRounds sight d tells old.log new.log old.desk asked lines new.desk
   in_rounds old new asked lines p =
       let all = all_of old new asked lines p in
       let asks = map (map (ask_in d)) asked in
       record {
-        rounds = p;
+        rounds = all.rounds;
         replied = all.replied;
         lines_are = all.lines_are;
         served = all.served;
-        as_one = replied_as_one sight d old new asks all.replied all.served;
-        alone = alone_as_one sight d old new asks all.replied all.served;
+        as_one = replied_as_one sight d old.desk new.desk asks all.replied all.served;
+        alone = alone_as_one sight d old.desk new.desk asks all.replied all.served;
+        told = all.told;
       }
 
 -- ---- one round
@@ -114,43 +143,76 @@ module _ {D : Type 0} (sight : DeskSight D) (d : Directory) (old new : D)
   }
 
   -- whatever was told of it
-  pub round_told : {V A E : Type 0} (wo wn : Option (List ℕ)) (result : Result ⊤ E)
-      (refused : Type 0) (may : refused → sight.store.may_answer no_memory)
-      (items : V → List Reply) (replies : Result V A) →
+  pub round_told : {L V A E : Type 0} (tells : Telling L) (on : (old mid new : L)
+      (told more : List LogEntry) → tells old told mid → tells mid more new →
+      tells old (told ++ more) new) (log_old begun log_new : L) (wo wn : Option (List ℕ))
+      (result : Result ⊤ E) (refused : Type 0) (may : refused → sight.store.may_answer no_memory)
+      (items : V → List Reply) (replies : Result V A) → tells log_old [] begun →
       IfOk replies (λ rs. RoundSo sight d old (map (ask_of d) asked) (items rs) new) →
+      IfOk replies (λ rs. map whose_told (items rs) ≡ map (whose_exchange d) asked) →
       OnErr replies (refused × GoesBack sight d old (map (ask_of d) asked) new) →
       IfOk replies (λ rs. GoesOut wo wn (concat (map (λ (r : Reply). reply_line (seen r))
       (items rs))) result) →
       OnErr replies (GoesOut wo wn (concat (map (λ (x : Exchange).
       reply_line (reply_of_fault no_memory)) asked)) result) →
-      (lines : List (List ℕ)) × RoundReplied sight d old (lines_waiting asked) lines new
+      IfOk replies (λ rs. tells begun (replied_entries asked (items rs)) log_new) →
+      OnErr replies (tells begun (map (wanted_entry d) asked) log_new) →
+      (lines : List (List ℕ)) × RoundTold sight d tells (record { desk = old; log = log_old })
+      (lines_waiting asked) lines (record { desk = new; log = log_new })
       × GoesOut wo wn (concat lines) result
-  round_told wo wn result refused may items (Ok rs) so none out no_out =
-      (_, answered (items rs) so, out)
-  round_told wo wn result refused may items (Err e) so none no_out out =
-      (_, wanted_all (may none.0) none.1, out)
+  unfolding answered wanted_all
+  round_told tells on log_old begun log_new wo wn result refused may items (Ok rs) begins so whose
+      none out no_out told untold = (
+        _,
+        record {
+          done = answered (items rs) so;
+          told = (
+            replied_entries asked (items rs),
+            entries_of_replies d asked (items rs) so.told so.sent whose,
+            on log_old begun log_new [] (replied_entries asked (items rs)) begins told,
+          );
+        },
+        out,
+      )
+  round_told tells on log_old begun log_new wo wn result refused may items (Err e) begins so whose
+      none no_out out told untold = (
+        _,
+        record {
+          done = wanted_all (may none.0) none.1;
+          told = (
+            map (wanted_entry d) asked,
+            entries_of_wants d asked,
+            on log_old begun log_new [] (map (wanted_entry d) asked) begins untold,
+          );
+        },
+        out,
+      )
 
-pub of_same : {D : Type 0} (sight : DeskSight D) (d : Directory) (old new : D)
-    (xs ys : List Exchange) (lines : List (List ℕ)) → xs ≡ ys →
-    RoundReplied sight d old (lines_waiting xs) lines new →
-    RoundReplied sight d old (lines_waiting ys) lines new
-of_same sight d old new xs ys lines same p = subst
-    (λ zs. RoundReplied sight d old (lines_waiting zs) lines new) same p
+pub of_same : {D L : Type 0} (sight : DeskSight D) (d : Directory) (tells : Telling L)
+    (old new : DeskAndLog D L) (xs ys : List Exchange) (lines : List (List ℕ)) → xs ≡ ys →
+    RoundTold sight d tells old (lines_waiting xs) lines new →
+    RoundTold sight d tells old (lines_waiting ys) lines new
+of_same sight d tells old new xs ys lines same p = subst
+    (λ zs. RoundTold sight d tells old (lines_waiting zs) lines new) same p
 
 -- one line is a round by itself
-pub alone_in_round : {D : Type 0} (sight : DeskSight D) (d : Directory) (old new : D)
-    (log_old log_new : LogSeen) (request : Option LineRequest) (line : List ℕ) →
-    LineAnswered sight d old log_old request line new log_new →
-    RoundReplied sight d old (request ∷ []) (line ∷ []) new
-alone_in_round sight d old new log_old log_new request line p =
+pub alone_in_round : {D L : Type 0} (sight : DeskSight D) (d : Directory) (tells : Telling L)
+    (log_old log_new : L) (old new : D) (request : Option LineRequest) (line : List ℕ) →
+    LineAnswered sight d tells log_old log_new old request line new →
+    RoundTold sight d tells (record { desk = old; log = log_old }) (request ∷ []) (line ∷ [])
+    (record { desk = new; log = log_new })
+alone_in_round sight d tells log_old log_new old new request line p =
     let asks = ask_in d request ∷ [] in
     record {
-      replies = p.reply ∷ [];
-      lines_are = ap (λ l. l ∷ []) p.line_is;
-      some = lit< tt;
-      few = lit≤ tt;
-      served = each_by_itself sight d old old new asks (p.reply ∷ []) (stayed sight d old asks)
-          (served sight d old new asks (p.reply ∷ []) (new, p.done, refl));
+      done = record {
+        replies = p.reply ∷ [];
+        lines_are = ap (λ l. l ∷ []) p.line_is;
+        some = lit< tt;
+        few = lit≤ tt;
+        served = each_by_itself sight d old old new asks (p.reply ∷ []) (stayed sight d old asks)
+            (served sight d old new asks (p.reply ∷ []) (new, p.done, refl));
+      };
+      told = (p.entry ∷ [], (p.entry_is, tt), p.told);
     }
 
 -- ---- where the desk is away, which never is
@@ -167,15 +229,21 @@ same_some {A} {x} {y} h = ap (λ (o : Option A). elim o as (λ _. A) [
   | Some z ↦ z
 ]) h
 
-pub away : {S L M E : Type 0} (sight : DeskSight (Desk S))
+pub away : {S L M E : Type 0} (sight : DeskSight (Desk S)) (tells : Telling L)
     (waiting : RoundFront S L M → List (Option LineRequest)) (came : List (Option LineRequest))
-    (old new : RoundFront S L M) (w : Option (List ℕ)) (e : E) → old.desk ≡ None →
-    new.directory ≡ old.directory →
-    DoesFirst (AnswersInRounds sight) waiting came old new w w (Err e)
-away sight waiting came old new w e none same = record {
+    (old new : RoundFront S L M) (w : Option (List ℕ)) (e : E) → old.desk.now ≡ None →
+    new.directory ≡ old.directory → new.desk.ghost_name ≡ old.desk.ghost_name →
+    new.log.ghost_name ≡ old.log.ghost_name →
+    DoesFirst (AnswersInRounds sight tells) waiting came old new w w (Err e)
+away sight tells waiting came old new w e none same same_desk same_log = record {
   asked = [] ∷ [];
   replies = [] ∷ [];
-  run = (same, λ before is. absurd (none_some before (sym none ∙ is)));
+  run = record {
+    directory = same;
+    same_desk = same_desk;
+    same_log = same_log;
+    run = λ before is. absurd (none_some before (sym none ∙ is));
+  };
   rest = waiting old ++ came;
   all = refl;
   rest_waits = tt;
@@ -189,64 +257,86 @@ away sight waiting came old new w e none same = record {
 }
 
 -- where it is there, one round is done
-pub one_round : {S : Type 0} (sight : DeskSight (Desk S)) (old new : Bor Directory)
-    (desk_old desk_new : Option (Desk S)) (before after : Desk S)
-    (asked : List (Option LineRequest)) (lines : List (List ℕ)) → desk_old ≡ Some before →
-    desk_new ≡ Some after → new ≡ old → RoundReplied sight old.now before asked lines after →
-    (new ≡ old) × ((desk : Desk S) → desk_old ≡ Some desk → (behind : Desk S)
-    × (desk_new ≡ Some behind) × InTurn (RoundReplied sight old.now) desk (asked ∷ [])
-    (lines ∷ []) behind)
-one_round sight old new desk_old desk_new before after asked lines there back same p = (
-  same,
-  λ desk is. (
-    after,
-    back,
-    (
-      after,
-      subst (λ s. RoundReplied sight old.now s asked lines after) (same_some (sym there ∙ is)) p,
-      refl,
-    ),
-  ),
-)
+pub one_round : {S L M : Type 0} (sight : DeskSight (Desk S)) (tells : Telling L)
+    (old new : RoundFront S L M) (before after : Desk S) (asked : List (Option LineRequest))
+    (lines : List (List ℕ)) → old.desk.now ≡ Some before → new.desk.now ≡ Some after →
+    new.directory ≡ old.directory → new.desk.ghost_name ≡ old.desk.ghost_name →
+    new.log.ghost_name ≡ old.log.ghost_name →
+    RoundTold sight old.directory.now tells (front_with before old) asked lines
+    (front_with after new) → AnswersInRounds sight tells old (asked ∷ []) (lines ∷ []) new
+one_round sight tells old new before after asked lines there back same same_desk same_log p =
+    record {
+      directory = same;
+      same_desk = same_desk;
+      same_log = same_log;
+      run = λ desk is. (
+        after,
+        back,
+        (
+          front_with after new,
+          subst (λ s. RoundTold sight old.directory.now tells (front_with s old) asked lines
+              (front_with after new)) (same_some (sym there ∙ is)) p,
+          refl,
+        ),
+      );
+    }
+
+-- nothing is done
+pub as_it_was : {S L M : Type 0} (sight : DeskSight (Desk S)) (tells : Telling L)
+    (old new : RoundFront S L M) → new.directory ≡ old.directory → new.log ≡ old.log →
+    new.desk ≡ old.desk → AnswersInRounds sight tells old [] [] new
+as_it_was sight tells old new directory log desk = record {
+  directory = directory;
+  same_desk = ap (λ d. d.ghost_name) desk;
+  same_log = ap (λ l. l.ghost_name) log;
+  run = λ before is. (
+    before,
+    ap (λ d. d.now) desk ∙ is,
+    ap (λ l. record { desk = before; log = l.now }) log,
+  );
+}
 
 -- ---- one after another
 
-module _ {S L M : Type 0} (sight : DeskSight (Desk S)) where
+module _ {S L M : Type 0} (sight : DeskSight (Desk S)) (tells : Telling L) where
   abbrev Does : RoundFront S L M → List (List (Option LineRequest)) → List (List (List ℕ)) →
       RoundFront S L M → Type 0
-  Does = AnswersInRounds sight
+  Does = AnswersInRounds sight tells
 
   abbrev wait : RoundFront S L M → List (Option LineRequest)
-  wait front = lines_waiting front.waiting.exchanges.items
+  wait front = lines_waiting front.waiting.now.exchanges.items
 
   abbrev First : {E : Type 0} → List (Option LineRequest) → RoundFront S L M →
       RoundFront S L M → Option (List ℕ) → Option (List ℕ) → Result ⊤ E → Type 0
   First {E} came old new wo wn result = DoesFirst {E = E} Does wait came old new wo wn result
 
   does_none : (front : RoundFront S L M) → Does front [] [] front
-  does_none front = (refl, λ before is. (before, is, refl))
+  does_none front = as_it_was sight tells front front refl refl refl
 
   does_more : (old mid new : RoundFront S L M) (asked more : List (List (Option LineRequest)))
       (replies others : List (List (List ℕ))) → Does old asked replies mid →
       Does mid more others new → Does old (asked ++ more) (replies ++ others) new
-  does_more old mid new asked more replies others p q = (
-    q.0 ∙ p.0,
-    λ before is.
-        let first = p.1 before is in
-        let second = q.1 first.0 first.1 in (
+  does_more old mid new asked more replies others p q = record {
+    directory = q.directory ∙ p.directory;
+    same_desk = q.same_desk ∙ p.same_desk;
+    same_log = q.same_log ∙ p.same_log;
+    run = λ before is.
+        let first = p.run before is in
+        let second = q.run first.0 first.1 in (
           second.0,
           second.1,
-          turns_on (RoundReplied sight old.directory.now) before first.0 second.0 asked more
-              replies others first.2
-              (subst (λ d. InTurn (RoundReplied sight d.now) first.0 more others second.0) p.0
-              second.2),
-        ),
-  )
+          turns_on (RoundTold sight old.directory.now tells) (front_with before old)
+              (front_with first.0 mid) (front_with second.0 new) asked more replies others first.2
+              (subst (λ d. InTurn (RoundTold sight d.now tells) (front_with first.0 mid) more
+              others (front_with second.0 new)) p.directory second.2),
+        );
+  }
 
   -- behind what was left as it was, nothing waits any more
   pub left_first : {E : Type 0} (a b c : RoundFront S L M) (wo wn : Option (List ℕ))
       (result : Result ⊤ E) → Does a [] [] b →
-      b.waiting.exchanges.items ≡ a.waiting.exchanges.items → First {E = E} [] b c wo wn result →
+      b.waiting.now.exchanges.items ≡ a.waiting.now.exchanges.items →
+      First {E = E} [] b c wo wn result →
       First {E = E} [] a c wo wn result
   left_first {E} a b c wo wn result same left p = steps_on Does does_none does_more wait [] [] a b c
       wo wo wn result (only_waits Does wait {E = E} [] a b wo same
@@ -264,17 +354,17 @@ module _ {S L M : Type 0} (sight : DeskSight (Desk S)) where
   pub one_waits : {E : Type 0} (request : Option LineRequest) (x : Exchange)
       (a b : RoundFront S L M) (w : Option (List ℕ)) → Does a [] [] b → request ≡ Some (line_asked
       x) →
-      b.waiting.exchanges.items ≡ a.waiting.exchanges.items ++ x ∷ [] →
+      b.waiting.now.exchanges.items ≡ a.waiting.now.exchanges.items ++ x ∷ [] →
       First {E = E} (request ∷ []) a b w w (Ok tt)
   one_waits request x a b w same is more = only_waits Does wait (request ∷ []) a b w same
       (ap lines_waiting more
-      ∙ map-append (λ (x : Exchange). Some (line_asked x)) a.waiting.exchanges.items (x ∷ [])
+      ∙ map-append (λ (x : Exchange). Some (line_asked x)) a.waiting.now.exchanges.items (x ∷ [])
       ∙ ap (λ q. wait a ++ q ∷ []) (sym is))
 
   -- which is answered by itself, where it was left
   pub one_alone : {E : Type 0} (request : Option LineRequest) (a b c : RoundFront S L M)
       (wo wn : Option (List ℕ)) (result : Result ⊤ E) → Does a [] [] b →
-      b.waiting.exchanges.items ≡ a.waiting.exchanges.items →
+      b.waiting.now.exchanges.items ≡ a.waiting.now.exchanges.items →
       First {E = E} (request ∷ []) b c wo wn result →
       First {E = E} (request ∷ []) a c wo wn result
   one_alone {E} request a b c wo wn result same left p = steps_on Does does_none does_more wait []

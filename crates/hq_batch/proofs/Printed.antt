@@ -1,15 +1,21 @@
 -- Answers that are printed one after the other.
 use Rattle.std.proofs.Common.{◌≡◌, ◌≢◌, ◌==◌, ℕ, zero, suc, Bool, true, false, ◌&&◌, List, [], ◌∷◌}
-use Rattle.std.proofs.Common.{◌++◌, map, Option, Ok, max, refl, sym, ap, ap₂, ◌∙◌, subst}
-use Rattle.std.proofs.Common.{append-nil, if◌then◌else◌, ◌⊎◌, inl, inr, ⊎_elim, arith}
+use Rattle.std.proofs.Common.{◌++◌, map, Option, Result, Ok, Err, max, refl, sym, ap, ap₂, ◌∙◌}
+use Rattle.std.proofs.Common.{subst, append-nil, if◌then◌else◌, ◌⊎◌, inl, inr, ⊎_elim, arith}
 use Rattle.std.proofs.KnownBytes.{Appends-nil, Appends-trans}
 use Rattle.std.proofs.lemmas.Bool.{ne_eqb}
 use Rattle.std.proofs.lemmas.List.{map_push}
 use Rattle.std.proofs.lemmas.List.Folds.{concat-append, list_all-append}
 use Rattle.std.specs.Io.KnownBytes.{Appends}
+use Rattle.std.specs.Bool.{⊤}
 use Rattle.std.specs.List.{concat, list_all}
 use Rattle.hq_rules.specs.declared.render.Rendered.{Rendered}
-use Rattle.hq_batch.specs.Printing.{IsShown, answer_of, answers_of, is_answered, calls_status}
+use Rattle.hq_settings.specs.declared.trouble.Trouble.{Trouble}
+use Rattle.hq_lines.specs.Written.{AppendsPart}
+use Rattle.hq_lines.proofs.Written.{part_all}
+use Rattle.hq_batch.proofs.Lined.{broken_at}
+use Rattle.hq_batch.specs.Printing.{IsPut, IsShown, answer_of, answers_of, calls_status}
+use Rattle.hq_batch.specs.Printing.{is_answered}
 
 -- these were printed, with this status
 pub record SoFar (told : List Rendered) (old new : Option (List ℕ)) (exit_status : ℕ) : Type 0 where
@@ -84,3 +90,21 @@ done told = by_all (list_all is_answered told) where
   by_all : (b : Bool) → (if b then 0 else 1) ≡ max (if b then 0 else 1) 0
   by_all true = refl
   by_all false = refl
+
+-- ---- where the output fails
+
+-- all of a text, or a beginning of it, is a beginning of it
+pub begun : (text : List ℕ) (old new : Option (List ℕ)) (done : Result ⊤ Trouble) →
+    IsPut text old new done → AppendsPart old new text
+begun text old new (Ok x) p = part_all old new text p
+begun text old new (Err trouble) p = p.1
+
+-- behind the first answers, one is broken off
+pub broken_off : (first others : List Rendered) (rendered : Rendered) (unwritten : Type 0)
+    (old mid new : Option (List ℕ)) (s : ℕ) (trouble : Trouble) → SoFar first old mid s →
+    IsShown rendered unwritten mid new (Err trouble) →
+    AppendsPart old new (answers_of ((first ++ rendered ∷ []) ++ others))
+broken_off first others rendered unwritten old mid new s trouble before shown =
+    broken_at answer_of first rendered old mid new others before.written
+    (subst (λ (b : Bool). AppendsPart mid new (if b then rendered.bytes.items else []))
+    (sym (ap (λ n. n == 0) shown.0)) shown.2)

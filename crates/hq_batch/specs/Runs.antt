@@ -4,6 +4,7 @@ use Rattle.hq_wire.specs.Exchanges.{with_refusals}
 use Rattle.hq_tables.specs.Shelves.{Sight}
 use Rattle.hq_desk.specs.Desks.{host_of, on, shelf_of}
 use Rattle.hq_desk.specs.declared.desk.Desk.{Desk}
+use Rattle.hq_log.specs.Entries.{Telling}
 use Rattle.hq_settings.specs.declared.settings.Settings.{Settings}
 use Rattle.hq_lines.specs.Ends.{InputEnds, RoundsEnd}
 use Rattle.hq_lines.specs.Fields.{LineRequest}
@@ -15,15 +16,16 @@ use Rattle.hq_settings.specs.Troubles.{trouble_of}
 use Rattle.hq_settings.specs.declared.trouble.Trouble.{Trouble}
 
 -- What lines ask for is replied to as a batch of the customers of these settings, with a desk over
--- this shelf, by a memory that may have refused.
-pub record ServesOver {S : Type 0} (refused : Type 0) (sight : Sight S) (settings : Settings)
-    (shelf : S)
-    (asked : List (Option LineRequest)) (lines : List (List ℕ)) : Type 0 where
+-- this shelf, by a memory that may have refused; and the log is told.
+pub record ServesOver {S L : Type 0} (refused : Type 0) (sight : Sight S) (settings : Settings)
+    (tells : Telling L) (log_old log_new : L) (shelf : S) (asked : List (Option LineRequest))
+    (lines : List (List ℕ)) : Type 0 where
   pub old : Desk S
   pub host_is : host_of old ≡ settings.host
   pub shelf_is : shelf_of old ≡ shelf
   pub new : Desk S
-  pub replied : Replied (with_refusals refused (on sight)) settings.directory old asked lines new
+  pub replied : Replied (with_refusals refused (on sight)) settings.directory tells log_old log_new
+      old asked lines new
 
 -- how a run ends: as a batch does, with a fault of it told
 abbrev pub RunEnds : (List (Option LineRequest) → List (List ℕ) → Type 0) → Type 0 → Streams →
@@ -35,17 +37,18 @@ RunEnds done untouched old new (Err trouble) = (fault : EngineFault) × (trouble
 -- ---- in rounds
 
 -- What lines ask for is replied to in rounds, as a batch of the customers of these settings, with a
--- desk over this shelf, by a memory that may have refused; and `left` is the shelf after it.
-pub record ServesInRounds {S : Type 0} (refused : Type 0) (sight : Sight S) (settings : Settings)
-    (shelf left : S) (asked : List (List (Option LineRequest))) (lines : List (List (List ℕ)))
-    : Type 0 where
+-- desk over this shelf, by a memory that may have refused. The log is told, and `left` is the shelf
+-- after it.
+pub record ServesInRounds {S L : Type 0} (refused : Type 0) (sight : Sight S) (settings : Settings)
+    (tells : Telling L) (log_old log_new : L) (shelf left : S)
+    (asked : List (List (Option LineRequest))) (lines : List (List (List ℕ))) : Type 0 where
   pub old : Desk S
   pub host_is : host_of old ≡ settings.host
   pub shelf_is : shelf_of old ≡ shelf
   pub new : Desk S
   pub left_is : shelf_of new ≡ left
-  pub replied : RepliedInRounds (with_refusals refused (on sight)) settings.directory old asked
-      lines new
+  pub replied : RepliedInRounds (with_refusals refused (on sight)) settings.directory tells
+      log_old log_new old asked lines new
 
 -- how a run in rounds ends
 abbrev pub RoundsRunEnd : (List (List (Option LineRequest)) → List (List (List ℕ)) → Type 0) →

@@ -6,7 +6,6 @@ ghost use Rattle.hq_memory.specs.Making.{MadeIn};
 ghost use Rattle.hq_lines.specs.Fields.{request_in, line_request};
 ghost use Rattle.hq_lines.specs.Written.{GoesOut};
 ghost use Rattle.hq_batch.specs.Steps.{IsOfLine, IsLineToLog, LineAnswered, LineStep, SendsLine};
-ghost use Rattle.hq_batch.specs.Steps.{log_seen};
 
 use crate::writing::write_reply;
 use hq_bodies::JsonMemory;
@@ -103,8 +102,8 @@ fn line_reply<'d, D: Acts, M: JsonMemory>(
     }
 }
 
-/// Replies to a line by itself, tells the log, and writes the reply. At an error a beginning of the
-/// reply went out; all else is done.
+/// Replies to a line by itself, tells the log just that, and writes the reply. At an error a
+/// beginning of the reply went out; all else is done.
 pub(crate) fn answer_alone<D: Acts, L: Log, M: JsonMemory, W: Write>(
     memory: M,
     desk: &mut D,
@@ -114,9 +113,8 @@ pub(crate) fn answer_alone<D: Acts, L: Log, M: JsonMemory, W: Write>(
     writer: &mut W,
 ) -> io::Result<()>
     ensures { (reply : List ℕ)
-        × LineAnswered (with_refusals M.refused D.sight) directory.now desk.old
-        (log_seen L.is_losing L.contents log.old) (request_in line.now) reply desk.new
-        (log_seen L.is_losing L.contents log.new)
+        × LineAnswered (with_refusals M.refused D.sight) directory.now L.tells log.old log.new
+        desk.old (request_in line.now) reply desk.new
         × GoesOut (W.contents writer.old) (W.contents writer.new) reply result }
 {
     log.begin();
@@ -142,15 +140,13 @@ impl<D: Acts, L: Log, M: JsonMemory> Answers for Front<'_, '_, '_, D, L, M> {
     ghost use Rattle.hq_values.proofs.Turns.{turns_on};
     ghost use Rattle.hq_lines.specs.Rounds.{OneEach};
 
-    ghost does = { InTurn (OneEach (LineStep (with_refusals M.refused D.sight)
-        (log_seen L.is_losing L.contents))) };
+    ghost does = { InTurn (OneEach (LineStep (with_refusals M.refused D.sight) L.tells)) };
 
     ghost waiting = { λ _. [] };
 
     ghost none_does = { λ state. refl };
 
-    ghost does_on = { turns_on (OneEach (LineStep (with_refusals M.refused D.sight)
-        (log_seen L.is_losing L.contents))) };
+    ghost does_on = { turns_on (OneEach (LineStep (with_refusals M.refused D.sight) L.tells)) };
 
     fn take<W: Write>(&mut self, line: &[u8], writer: &mut W) -> io::Result<()> {
         answer_alone(

@@ -1,24 +1,26 @@
 //! What is printed: texts that words ask for, and how calls of an administrator are told.
 
-ghost use Rattle.std.specs.Prelude.{◌≡◌, ◌≤◌, OnOk};
+ghost use Rattle.std.specs.Prelude.{◌≡◌, ◌≤◌};
 ghost use Rattle.std.specs.Io.KnownBytes.{Appends};
+ghost use Rattle.hq_lines.specs.Written.{AppendsPart, GoesOut};
 ghost use Rattle.hq_batch.specs.Printing.{ArePrinted, AreShown, IsPrinted, IsPut, IsShown};
 
 use crate::telling::{DONE, FAILED, tell};
+use hq_lines::write_whole;
 use hq_rules::Rendered;
 use hq_settings::Trouble;
 use std::io::{self, Write};
 
-/// Writes a text to the output, and flushes.
+/// Writes a text to the output, and flushes. At an error a beginning of the text went out.
 fn write_out<W: Write>(text: &[u8], output: &mut W) -> io::Result<()>
-    ensures { OnOk result (Appends (W.contents output.old) (W.contents output.new) text.now) }
+    ensures { GoesOut (W.contents output.old) (W.contents output.new) text.now result }
 {
-    output.write_all(text)?;
+    write_whole(output, text)?;
     output.flush()
 }
 
-/// Writes a text to the output, and flushes; `Output` where either fails, and then how much of it
-/// was written is not told.
+/// Writes a text to the output, and flushes. Where either fails it is `Output`, and a beginning of
+/// the text went out.
 pub fn put<W: Write>(text: &[u8], output: &mut W) -> Result<(), Trouble>
     ensures { IsPut text.now (W.contents output.old) (W.contents output.new) result }
 {
@@ -29,11 +31,12 @@ pub fn put<W: Write>(text: &[u8], output: &mut W) -> Result<(), Trouble>
 }
 
 /// Writes a text to the output, and answers the exit status: 0, or 1 where it cannot be written,
-/// which is told.
+/// which is told. Then a beginning of the text went out.
 fn put_or_tell<W: Write, E: Write>(text: &[u8], output: &mut W, errors: &mut E) -> u8
     ensures status { result ≤ 1 }
     ensures shown { result ≡ 0
         → Appends (W.contents output.old) (W.contents output.new) text.now }
+    ensures begun { AppendsPart (W.contents output.old) (W.contents output.new) text.now }
 {
     let done = put(text, output);
     tell(done, errors)
@@ -47,11 +50,12 @@ fn tell_refused<E: Write>(text: &[u8], errors: &mut E) -> io::Result<()> {
 }
 
 /// Shows a text that was asked for, and answers the exit status: 0, or 1 where it cannot be
-/// written.
+/// written. Then a beginning of the text went out.
 pub fn show<W: Write, E: Write>(text: &str, output: &mut W, errors: &mut E) -> u8
     ensures status { result ≤ 1 }
     ensures shown { result ≡ 0
         → Appends (W.contents output.old) (W.contents output.new) text.now }
+    ensures begun { AppendsPart (W.contents output.old) (W.contents output.new) text.now }
 {
     put_or_tell(text.as_bytes(), output, errors)
 }

@@ -1,10 +1,11 @@
 //! A batch over a shelf.
 
-ghost use Rattle.std.specs.Prelude.{◌≡◌};
+ghost use Rattle.std.specs.Prelude.{◌≡◌, []};
 ghost use Rattle.hq_desk.specs.Desks.{on};
 ghost use Rattle.hq_lines.specs.Ends.{RoundsEnd};
 ghost use Rattle.hq_wire.specs.Exchanges.{with_refusals};
 ghost use Rattle.hq_batch.specs.InRounds.{RepliedBy};
+ghost use Rattle.hq_batch.specs.Steps.{AnswersInRounds};
 ghost use Rattle.hq_batch.specs.Runs.{RoundsRunEnd, RunEnds, ServesInRounds, ServesOver};
 
 use crate::batch;
@@ -22,8 +23,9 @@ use hq_wire::Directory;
 use std::io::{Read, Write};
 
 /// Replies to the lines of an input for the customers of these settings, over a shelf that is
-/// dropped when the input has ended, and tells each in the log. It ends in want of memory only
-/// where `memory` refused a request; then nothing is read or written.
+/// dropped when the input has ended. The log is told each reply, with what it replies to, and
+/// nothing else. It ends in want of memory only where `memory` refused a request; then nothing is
+/// read, written or told.
 pub fn run_batch<S: MovesMessages + Drop, R: Read, W: Write, L: Log, M: JsonMemory>(
     memory: M,
     shelf: S,
@@ -32,8 +34,8 @@ pub fn run_batch<S: MovesMessages + Drop, R: Read, W: Write, L: Log, M: JsonMemo
     output: &mut W,
     log: &mut L,
 ) -> Result<(), Trouble>
-    ensures { RunEnds (ServesOver M.refused S.sight settings shelf)
-        (M.refused × (input.new ≡ input.old) × (output.new ≡ output.old))
+    ensures { RunEnds (ServesOver M.refused S.sight settings L.tells log.old log.new shelf)
+        (M.refused × (input.new ≡ input.old) × (output.new ≡ output.old) × (log.new ≡ log.old))
         (record { input = R.remaining input.old; output = W.contents output.old })
         (record { input = R.remaining input.new; output = W.contents output.new }) result }
 {
@@ -41,6 +43,25 @@ pub fn run_batch<S: MovesMessages + Drop, R: Read, W: Write, L: Log, M: JsonMemo
     let mut desk = Desk::new(shelf, host);
     batch(memory, input, output, &mut desk, &directory, log)?;
     Ok(())
+}
+
+/// Replies to the lines of an input in rounds, with the desk and the log of the front.
+fn answer_in_rounds<S: Rounds, R: Read, W: Write, L: Log, M: JsonMemory>(
+    input: &mut R,
+    output: &mut W,
+    front: &mut RoundFront<'_, '_, '_, '_, S, L, M>,
+) -> Result<(), EngineFault>
+    requires { front.old.waiting.now.exchanges.items ≡ [] }
+    ensures same_desk { front.new.desk.ghost_name ≡ front.old.desk.ghost_name }
+    ensures same_log { front.new.log.ghost_name ≡ front.old.log.ghost_name }
+    ensures ended { RoundsEnd (λ asked lines. AnswersInRounds
+        (with_refusals M.refused (on S.sight)) L.tells front.old asked lines front.new)
+        (M.refused × (input.new ≡ input.old) × (output.new ≡ output.old)
+        × (front.new ≡ front.old))
+        (record { input = R.remaining input.old; output = W.contents output.old })
+        (record { input = R.remaining input.new; output = W.contents output.new }) result }
+{
+    answer_lines(*front.memory, input, output, front)
 }
 
 /// Replies to the lines of an input in rounds, and gives the desk back.
@@ -52,24 +73,26 @@ fn serve_in_rounds<S: Rounds, R: Read, W: Write, L: Log, M: JsonMemory>(
     output: &mut W,
     log: &mut L,
 ) -> (Result<(), EngineFault>, Desk<S>)
-    ensures { RoundsEnd (RepliedBy (with_refusals M.refused (on S.sight)) directory.now desk
-        result.1)
-        (M.refused × (input.new ≡ input.old) × (output.new ≡ output.old) × (result.1 ≡ desk))
+    ensures { RoundsEnd (RepliedBy (with_refusals M.refused (on S.sight)) directory.now L.tells
+        log.old log.new desk result.1)
+        (M.refused × (input.new ≡ input.old) × (output.new ≡ output.old) × (log.new ≡ log.old)
+        × (result.1 ≡ desk))
         (record { input = R.remaining input.old; output = W.contents output.old })
         (record { input = R.remaining input.new; output = W.contents output.new }) result.0 }
 {
-    let Ok(waiting) = Waiting::new(memory) else {
+    let Ok(mut waiting) = Waiting::new(memory) else {
         return (Err(EngineFault::WantOfMemory), desk);
     };
+    let mut desk = Some(desk);
     let mut front = RoundFront {
         memory: &memory,
-        desk: Some(desk),
+        desk: &mut desk,
         directory,
         log,
-        waiting,
+        waiting: &mut waiting,
     };
-    let ended = answer_lines(memory, input, output, &mut front);
-    match front.desk.take() {
+    let ended = answer_in_rounds(input, output, &mut front);
+    match desk {
         Some(desk) => (ended, desk),
         // (every round gives it back)
         None => unreachable!(),
@@ -80,8 +103,9 @@ fn serve_in_rounds<S: Rounds, R: Read, W: Write, L: Log, M: JsonMemory>(
 /// a commit, 64 of them at most, and no reply leaves before it. It gives the shelf back as the last
 /// line left it.
 ///
-/// After a fault of writing the lines are done up to those of the round whose replies could not be
-/// written, and no other; the replies of the rounds before went out whole.
+/// The log is told each reply of each round, with what it replies to, and nothing else. After a
+/// fault of writing the lines are done, and told, up to those of the round whose replies could not
+/// be written, and no other; the replies of the rounds before went out whole.
 pub fn run_batch_in_rounds<S: Rounds, R: Read, W: Write, L: Log, M: JsonMemory>(
     memory: M,
     shelf: S,
@@ -90,8 +114,10 @@ pub fn run_batch_in_rounds<S: Rounds, R: Read, W: Write, L: Log, M: JsonMemory>(
     output: &mut W,
     log: &mut L,
 ) -> (Result<(), Trouble>, S)
-    ensures { RoundsRunEnd (ServesInRounds M.refused S.sight settings shelf result.1)
-        (M.refused × (input.new ≡ input.old) × (output.new ≡ output.old) × (result.1 ≡ shelf))
+    ensures { RoundsRunEnd (ServesInRounds M.refused S.sight settings L.tells log.old log.new
+        shelf result.1)
+        (M.refused × (input.new ≡ input.old) × (output.new ≡ output.old) × (log.new ≡ log.old)
+        × (result.1 ≡ shelf))
         (record { input = R.remaining input.old; output = W.contents output.old })
         (record { input = R.remaining input.new; output = W.contents output.new }) result.0 }
 {

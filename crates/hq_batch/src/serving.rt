@@ -21,10 +21,12 @@ fn serve_front<R: Read, W: Write, D: Acts + Drop, L: Log, M: JsonMemory>(
     front: &mut Front<'_, '_, '_, D, L, M>,
 ) -> Result<(), EngineFault>
     ensures same_reference { front.new.desk.ghost_name ≡ front.old.desk.ghost_name }
+    ensures same_log { front.new.log.ghost_name ≡ front.old.log.ghost_name }
     ensures ended { InputEnds (λ asked lines. Replied (with_refusals M.refused D.sight)
-        front.old.directory.now front.old.desk.now asked lines front.new.desk.now)
+        front.old.directory.now L.tells front.old.log.now front.new.log.now front.old.desk.now
+        asked lines front.new.desk.now)
         (M.refused × (reader.new ≡ reader.old) × (writer.new ≡ writer.old)
-        × (front.new.desk.now ≡ front.old.desk.now))
+        × (front.new.log.now ≡ front.old.log.now) × (front.new.desk.now ≡ front.old.desk.now))
         (record { input = R.remaining reader.old; output = W.contents writer.old })
         (record { input = R.remaining reader.new; output = W.contents writer.new }) result }
 {
@@ -45,14 +47,15 @@ fn serve_front<R: Read, W: Write, D: Acts + Drop, L: Log, M: JsonMemory>(
 /// count.
 ///
 /// 90 `WantOfMemory` is told only where `memory` refused a request, or where the store may answer
-/// it. Each reply is told in the log, which changes nothing of this.
+/// it. The log is told each reply, with what it replies to, and nothing else. Neither the replies
+/// nor what is kept depend on the log.
 ///
 /// Room for a line is taken before the first read. The batch ends in want of memory only where
-/// `memory` refused a request; then nothing is read, written or done. At most 67,108,864 reads are
-/// made, an interrupted one counted. After a fault of reading the whole lines before it are replied
-/// to. After a fault of writing the exchanges of the first lines are done, up to that whose reply
-/// could not be written, and no other; the replies before went out whole, and of this one a
-/// beginning.
+/// `memory` refused a request; then nothing is read, written, done or told. At most 67,108,864
+/// reads are made, an interrupted one counted. After a fault of reading the whole lines before it
+/// are replied to. After a fault of writing the exchanges of the first lines are done, up to that
+/// whose reply could not be written, and no other; the replies before went out whole, and of this
+/// one a beginning.
 pub fn batch<R: Read, W: Write, D: Acts + Drop, L: Log, M: JsonMemory>(
     memory: M,
     reader: &mut R,
@@ -62,9 +65,9 @@ pub fn batch<R: Read, W: Write, D: Acts + Drop, L: Log, M: JsonMemory>(
     log: &mut L,
 ) -> Result<(), EngineFault>
     ensures { InputEnds (λ asked lines. Replied (with_refusals M.refused D.sight) directory.now
-        desk.old asked lines desk.new)
+        L.tells log.old log.new desk.old asked lines desk.new)
         (M.refused × (reader.new ≡ reader.old) × (writer.new ≡ writer.old)
-        × (desk.new ≡ desk.old))
+        × (log.new ≡ log.old) × (desk.new ≡ desk.old))
         (record { input = R.remaining reader.old; output = W.contents writer.old })
         (record { input = R.remaining reader.new; output = W.contents writer.new }) result }
 {

@@ -1,6 +1,6 @@
 //! The lines that wait for a round.
 
-ghost use Rattle.std.specs.Prelude.{◌≡◌, ◌≤◌, ◌∷◌, ◌++◌, [], Some, false, true, length};
+ghost use Rattle.std.specs.Prelude.{◌≡◌, ◌==◌, ◌≤◌, ◌∷◌, ◌++◌, [], Some, false, true, length};
 ghost use Rattle.hq_memory.specs.Making.{MadeIn};
 ghost use Rattle.hq_lines.specs.Fields.{request_in};
 ghost use Rattle.hq_requests.specs.declared.exchanges.Exchange.{Exchange};
@@ -32,6 +32,13 @@ impl Waiting {
     {
         let exchanges = memory.room(MOST_TOGETHER)?;
         Ok(Waiting { exchanges })
+    }
+
+    /// Whether no line waits.
+    pub fn is_empty(&self) -> bool
+        ensures { result ≡ (length self.now.exchanges.items == 0) }
+    {
+        self.exchanges.is_empty()
     }
 
     /// Has the exchange wait that a line asks for. It leaves all as it is where as many wait as a

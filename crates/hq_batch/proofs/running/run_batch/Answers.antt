@@ -14,15 +14,19 @@ returns-in_err-batch g c =
     let d = c.args.settings.directory in
     let old = c.new-desk.result in
     let new = c.batch.new.desk in
+    let log_old = c.args.log.now in
+    let log_new = c.batch.new.log in
     let less : g.M.Memory.refused × (c.batch.new.reader ≡ c.args.input.now)
-    × (c.batch.new.writer ≡ c.args.output.now) × (new ≡ old)
+    × (c.batch.new.writer ≡ c.args.output.now) × (log_new ≡ log_old) × (new ≡ old)
     → g.M.Memory.refused × (c.batch.new.reader ≡ c.args.input.now)
-    × (c.batch.new.writer ≡ c.args.output.now) = λ same. (same.0, same.1, same.2) in
+    × (c.batch.new.writer ≡ c.args.output.now) × (log_new ≡ log_old) =
+    λ same. (same.0, same.1, same.2, same.3) in
     rw (told.1, told.2) (
       c.in_err-batch.field-0.0,
       refl,
-      ends_as (λ asked lines. Replied sight d old asked lines new)
-          (ServesOver g.M.Memory.refused g.S.Shelf.sight c.args.settings c.args.shelf)
+      ends_as (λ asked lines. Replied sight d g.L.Log.tells log_old log_new old asked lines new)
+          (ServesOver g.M.Memory.refused g.S.Shelf.sight c.args.settings g.L.Log.tells log_old
+          log_new c.args.shelf)
           (λ asked lines p. record {
             old = old;
             host_is = c.new-desk.ensures.host;

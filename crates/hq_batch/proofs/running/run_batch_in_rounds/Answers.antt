@@ -13,15 +13,17 @@ returns g c =
     let d = c.args.settings.directory in
     let old = c.new-desk.result in
     let new = c.serve_in_rounds-ended.result.1 in
-    let serves = ServesInRounds g.M.Memory.refused g.S.Shelf.sight c.args.settings c.args.shelf
-    c.into_shelf.result in
+    let log_old = c.args.log.now in
+    let log_new = c.serve_in_rounds-ended.new.log in
+    let serves = ServesInRounds g.M.Memory.refused g.S.Shelf.sight c.args.settings g.L.Log.tells
+    log_old log_new c.args.shelf c.into_shelf.result in
     let told : c.match-ended.ended ≡ told_of c.serve_in_rounds-ended.result.0 =
     elim c.match-ended.branch [
       | in-Ok w ↦ w.ended-is ∙ sym (ap told_of w.in-Ok.is)
       | in-Err w ↦ w.ended-is ∙ ap (λ t. Err t) w.from.ensures ∙ sym (ap told_of w.in-Err.is)
     ] in
     subst (RoundsRunEnd serves _ _ _) (sym told)
-    (told_so (RepliedBy sight d old new) serves
+    (told_so (RepliedBy sight d g.L.Log.tells log_old log_new old new) serves
     (λ asked lines p. record {
       old = old;
       host_is = c.new-desk.ensures.host;
@@ -35,5 +37,6 @@ returns g c =
       same.0,
       same.1,
       same.2,
-      c.into_shelf.ensures ∙ ap shelf_of same.3 ∙ c.new-desk.ensures.shelf,
+      same.3,
+      c.into_shelf.ensures ∙ ap shelf_of same.4 ∙ c.new-desk.ensures.shelf,
     )) _ _ c.serve_in_rounds-ended.result.0 c.serve_in_rounds-ended.ensures)

@@ -5,13 +5,13 @@ use Rattle.hq_lines.specs.Fields.{request_in}
 use Rattle.hq_lines.specs.Rounds.{OneEach}
 use Rattle.hq_lines.specs.Written.{GoesOut}
 use Rattle.hq_lines.proofs.First.{does_round}
-use Rattle.hq_batch.specs.Steps.{LineStep, log_seen}
+use Rattle.hq_batch.specs.Steps.{LineStep}
 use Rattle.hq_batch.proofs.front.FrontAnswers.take.Goals as goal
 
 pub returns : goal.returns
 returns g c =
     let one = OneEach (LineStep (with_refusals g.M.Memory.refused g.D.Acts.sight)
-    (log_seen g.L.Log.is_losing g.L.Log.contents)) in
+    g.L.Log.tells) in
     let q = request_in c.args.line.now in
     let line = c.answer_alone.ensures.0 in
     does_round (InTurn one) (λ state. []) (q ∷ []) (q ∷ [])
@@ -20,6 +20,7 @@ returns g c =
       record {
         directory = refl;
         same_desk = refl;
+        same_log = refl;
         answered = c.answer_alone.ensures.1;
       },
       refl,
