@@ -7,14 +7,15 @@ use Rattle.hq_sockets.specs.declared.connections.Connections.{Connections}
 
 pub accepted_on : {C : Type 0} (events more : List (SocketEvent C)) →
     accepted_in (events ++ more) ≡ accepted_in events + accepted_in more
-accepted_on [] more = refl
-accepted_on (accepted one ∷ events) more = ap (λ n. 1 + n) (accepted_on events more)
+accepted_on [] more = omega arith
+accepted_on (accepted one ∷ events) more =
+    let rest = accepted_on events more in omega (arith, rest)
 accepted_on (closed one ∷ events) more = accepted_on events more
 
 module _ {L C : Type 0} (does : Listening L C) where
   pub counting_none : ((state : L) → does state [] state) → (state : Connections L) →
       counting does state [] state
-  counting_none none state = (none state.listener, refl)
+  counting_none none state = (none state.listener, omega arith)
 
   pub counting_on : ((old mid new : L) (events more : List (SocketEvent C)) →
       does old events mid → does mid more new → does old (events ++ more) new) →
