@@ -13,6 +13,7 @@
 
 mod entry;
 mod keeping;
+pub mod laws;
 mod line_log;
 mod target;
 

@@ -1,6 +1,6 @@
 //! A log that is written in lines.
 
-ghost use Rattle.std.specs.Prelude.{◌≡◌};
+ghost use Rattle.std.specs.Prelude.{◌≡◌, false};
 ghost use Rattle.hq_log.specs.Files.{LineEnds, line_state};
 ghost use Rattle.hq_log.specs.Lines.{entry_seen};
 
@@ -40,8 +40,11 @@ pub struct LineLog<'h, C, F, E> {
 }
 
 impl<'h, C: Clock + AllocGlobal, F: LogFile, E: Write> LineLog<'h, C, F, E> {
-    /// A log of a file, with its own way to tell of lines that are lost.
-    pub fn new(clock: &'h C, file: F, errors: E) -> LineLog<'h, C, F, E> {
+    /// A log of a file, with its own way to tell of lines that are lost. Nothing is done to the
+    /// file yet, and no line was lost.
+    pub fn new(clock: &'h C, file: F, errors: E) -> LineLog<'h, C, F, E>
+        ensures { line_state result.file result.is_losing ≡ line_state file false }
+    {
         LineLog {
             clock,
             file,

@@ -27,8 +27,12 @@ impl<'h> HostClients<'h> {
         count: u32,
         limits: Limits,
     ) -> Option<HostClients<'h>>
-        ensures begins { IfSome result (λ it.
-            ⟦<OfSockets<'h> as Clients>⟧.begins it.clients) }
+        ensures begins { IfSome result (λ it. (start : Connections HostListener)
+            × (start.listener ≡ listener) × (start.left ≡ count)
+            × waiting_begins_at ⟦<Global as Memory>⟧.refused ⟦<HostConnection as Connection>⟧.talks
+            ⟦<HostConnection as Connection>⟧.ends ⟦<HostListener as Listener>⟧.does start
+            it.clients.waiting) }
+        ensures untimed { IfSome result (λ it. it.clients.at ≡ None) }
         ensures left { IfSome result (λ it. it.clients.waiting.connections.left ≡ count) }
     {
         let poll = Poll::new(rt).ok()?;

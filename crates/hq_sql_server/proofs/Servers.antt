@@ -47,7 +47,7 @@ module _ {N K G L : Type 0} (does : Networking N K) (serves : Serving K) (begins
       ServedEnds does serves begins connections net_old net_new logs tells logs_old logs_new memory
       settings given unwritten out_old out_new result shelf left →
       IsUnheard does serves begins connections net_old net_new logs tells logs_old logs_new given
-      unwritten result
+      unwritten out_old out_new result
       ⊎ ServesEmpty does serves begins connections net_old net_new logs tells logs_old logs_new
       settings given out_old out_new result
   memory_ends unwritten (inl unheard) = inl unheard.0

@@ -1,21 +1,23 @@
 -- A place that is not told: its clients are ended as they came.
-use Rattle.std.proofs.Common.{List, [], ◌∷◌, ℕ, Some}
+use Rattle.std.proofs.Common.{List, [], ◌∷◌, ℕ, Option, Some}
 use Rattle.hq_values.specs.declared.failure.Fail.TheVariants as fail
 use Rattle.hq_settings.specs.declared.trouble.Trouble.{Trouble}
 use Rattle.hq_settings.specs.declared.trouble.Trouble.TheVariants as trouble
 use Rattle.hq_network.specs.Networks.{Networking, ended, listened}
 use Rattle.hq_network.specs.declared.places.Place.{Place}
+use Rattle.hq_network.specs.Places.{IsPlaceOf}
 use Rattle.hq_sockets.specs.declared.deadlines.Limits.{Limits}
 use Rattle.hq_sql_server.specs.Listening.{IsUnbound, IsUntold}
 
 module _ {N K : Type 0} (does : Networking N K) (text : List ℕ) (limits : Limits)
-    (net_old net_new : N) (unwritten : Type 0) (clients : K) (place : Place)
+    (net_old net_new : N) (old new : Option (List ℕ)) (unwritten : Type 0) (clients : K)
+    (place : Place) (named : IsPlaceOf text place)
     (done : does net_old (listened text limits (Some (clients, place)) ∷ ended clients ∷ []) net_new)
     where
-  pub untold_so : (why : Trouble) → IsUntold unwritten why →
-      IsUnbound does text limits net_old net_new unwritten why
-  untold_so trouble.Output h = (h, (clients, place, done))
-  untold_so (trouble.Desk (fail.Fault fault)) h = (h, (clients, place, done))
+  pub untold_so : (why : Trouble) → IsUntold place old new unwritten why →
+      IsUnbound does text limits net_old net_new unwritten old new why
+  untold_so trouble.Output h = (clients, place, named, h, done)
+  untold_so (trouble.Desk (fail.Fault fault)) h = (clients, place, named, h, done)
   untold_so (trouble.Desk (fail.Refused refusal)) h = absurd h
   untold_so trouble.File h = absurd h
   untold_so trouble.Input h = absurd h

@@ -50,10 +50,12 @@ module _ {N K G L : Type 0} (does : Networking N K) (serves : Serving K)
   IsIdle = (net_new ≡ net_old) × (logs_new ≡ logs_old)
 
   -- no clients are served, for this reason
-  abbrev pub IsUnheard : Serve → Type 0 → Result ⊤ Trouble → Type 0
-  IsUnheard given unwritten (Ok _) = ⊥
-  IsUnheard given unwritten (Err trouble) = (logs_new ≡ logs_old)
-      × IsUnbound does given.listen.now (limits_of given) net_old net_new unwritten trouble
+  abbrev pub IsUnheard : Serve → Type 0 → Option (List ℕ) → Option (List ℕ) → Result ⊤ Trouble →
+      Type 0
+  IsUnheard given unwritten out_old out_new (Ok _) = ⊥
+  IsUnheard given unwritten out_old out_new (Err trouble) = (logs_new ≡ logs_old)
+      × IsUnbound does given.listen.now (limits_of given) net_old net_new unwritten out_old out_new
+      trouble
 
   -- The clients of the place that words name are served by a desk over this shelf, and `left` is
   -- the shelf after them. The log that words name is told of it, and is closed as it was told.
@@ -86,7 +88,7 @@ module _ {N K G L : Type 0} (does : Networking N K) (serves : Serving K)
   abbrev pub ServedEnds : {S : Type 0} → Sight S → Settings → Serve → Type 0 → Option (List ℕ) →
       Option (List ℕ) → Result ⊤ Trouble → S → S → Type 0
   ServedEnds sight settings given unwritten out_old out_new result shelf left =
-      (IsUnheard given unwritten result × (left ≡ shelf))
+      (IsUnheard given unwritten out_old out_new result × (left ≡ shelf))
       ⊎ ServesPlace sight settings given out_old out_new result shelf left
 
   -- Over the store of a path, which is left as the last round left it; or it could not be opened,
@@ -114,7 +116,8 @@ module _ {N K G L : Type 0} (does : Networking N K) (serves : Serving K)
   abbrev pub MemoryServerEnds : Settings → Serve → Type 0 → Option (List ℕ) → Option (List ℕ) →
       Result ⊤ Trouble → Type 0
   MemoryServerEnds settings given unwritten out_old out_new result = OverMemory
-      (IsUnheard given unwritten result ⊎ ServesEmpty settings given out_old out_new result)
+      (IsUnheard given unwritten out_old out_new result
+      ⊎ ServesEmpty settings given out_old out_new result)
       (λ fault. IsUnopened unwritten fault result × IsIdle)
 
   -- ---- as words have it

@@ -1,7 +1,7 @@
 //! The place at which a server listens.
 
 ghost use Rattle.std.specs.Prelude.{◌≡◌};
-ghost use Rattle.hq_sql_server.specs.Listening.{IsPlaceTold, ListenEnds, TellsPlace, limits_of};
+ghost use Rattle.hq_sql_server.specs.Listening.{ListenEnds, TellsPlace, limits_of};
 
 use hq_batch::put;
 use hq_network::{Network, Place};
@@ -24,8 +24,8 @@ fn limits(given: &Serve) -> Limits
 
 /// Prints the place that was bound.
 fn tell_place<W: Write>(alloc: Global, place: Place<'_>, output: &mut W) -> Result<(), Trouble>
-    ensures { TellsPlace (output.new ≡ output.old)
-        (IsPlaceTold place.entry (W.contents output.old) (W.contents output.new)) result }
+    ensures { TellsPlace place.entry (W.contents output.old) (W.contents output.new)
+        (output.new ≡ output.old) result }
 {
     match place.line(alloc) {
         Ok(line) => put(line.as_bytes(), output),
