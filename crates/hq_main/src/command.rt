@@ -82,9 +82,15 @@ fn do_word<'w, F: Files, N: Network, G: Logs<'w>, K: Stores, R: Read, W: Write, 
     ensures logs { UnlessLogs asked.now (logs.new ≡ logs.old) }
     ensures does { DoesWord (F.reads rt.now) N.does N.Clients.does N.Clients.begins N.Clients.left
         network.old network.new G.does G.Log.tells logs.old logs.new K.Store.sight K.does stores.old
-        stores.new asked.now (input.new ≡ input.old) (output.new ≡ output.old) (record { input =
-        R.remaining input.old; output = W.contents output.old }) (record { input = R.remaining
-        input.new; output = W.contents output.new }) result }
+        stores.new asked.now (input.new ≡ input.old) (output.new ≡ output.old) (record {
+          input =
+              R.remaining input.old;
+          output = W.contents output.old;
+        }) (record {
+          input = R.remaining
+              input.new;
+          output = W.contents output.new;
+        }) result }
 {
     match asked {
         Word::Serve(given) => {

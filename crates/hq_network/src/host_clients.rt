@@ -1,10 +1,14 @@
 //! The clients of a listening socket of the machine.
 
-ghost use Rattle.std.specs.Prelude.{◌≡◌, IfSome};
+ghost use Rattle.std.specs.Prelude.{◌≡◌, IfSome, None};
+ghost use Rattle.hq_network.specs.declared.sockets.HostListener.{HostListener};
+ghost use Rattle.hq_sockets.specs.Waiting.{waiting_begins_at};
+ghost use Rattle.hq_sockets.specs.declared.connections.Connections.{Connections};
 
 use crate::sockets::{HostConnection, HostListener};
+use hq_memory::Memory;
 use hq_serve::{Came, Clients, Ready};
-use hq_sockets::{Limits, SocketClients};
+use hq_sockets::{Connection, Limits, Listener, SocketClients};
 use hq_wire::Reply;
 use mio::Poll;
 use std::alloc::Global;

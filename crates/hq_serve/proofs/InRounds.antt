@@ -41,13 +41,13 @@ module _ {K L D : Type 0} (refused : Type 0) (sight : DeskSight D) (d : Director
   -- so far so many were taken, in these rounds
   pub record RoundsDone (done : ℕ) (start now : K) (log_start log_now : L) (old new : D) : Type 0
     where
-    pub rounds : List RoundDone
-    pub are_taken : HaveOutcomes refused (flat_map round_taken rounds)
-    pub clients : does start (flat_map round_events rounds) now
-    pub told : tells log_start (flat_map (round_told d) rounds) log_now
-    pub counted : length (flat_map round_taken rounds) ≡ done
-    pub served : InTurn (ServedInRound (with_refusals refused sight) d) old
-        (map (round_asks d) rounds) (map round_replies rounds) new
+      pub rounds : List RoundDone
+      pub are_taken : HaveOutcomes refused (flat_map round_taken rounds)
+      pub clients : does start (flat_map round_events rounds) now
+      pub told : tells log_start (flat_map (round_told d) rounds) log_now
+      pub counted : length (flat_map round_taken rounds) ≡ done
+      pub served : InTurn (ServedInRound (with_refusals refused sight) d) old
+          (map (round_asks d) rounds) (map round_replies rounds) new
 
   pub none_done : (start : K) (log : L) (desk : D) → does start [] start → tells log [] log →
       RoundsDone 0 start start log log desk desk

@@ -116,13 +116,13 @@ told_so d (x ∷ xs) [] [] are whose = refl
 told_so d (x ∷ xs) [] (r ∷ told) are whose = absurd are
 told_so d (x ∷ xs) (reply ∷ replies) [] are whose = absurd are
 told_so d (x ∷ xs) (reply ∷ replies) (r ∷ told) are whose = λ i. record {
-    at = Some x.at;
-    whose = ap (λ ws. slice_index_or ws 0 (whose_exchange d x)) whose i;
-    method = Some (string_bytes x.method);
-    path = Some (string_bytes x.path);
-    status = sym are.0.0 i;
-    body = sym are.0.1 i;
-  } ∷ told_so d xs replies told are.1 (ap (drop 1) whose) i
+  at = Some x.at;
+  whose = ap (λ ws. slice_index_or ws 0 (whose_exchange d x)) whose i;
+  method = Some (string_bytes x.method);
+  path = Some (string_bytes x.path);
+  status = sym are.0.0 i;
+  body = sym are.0.1 i;
+} ∷ told_so d xs replies told are.1 (ap (drop 1) whose) i
 
 pub entry_is : (d : Directory) (x : Exchange) (reply : Reply) (r : SeenReply) → seen reply ≡ r →
     whose_told reply ≡ whose_exchange d x →

@@ -47,16 +47,16 @@ reply_entry x reply = exchange_entry (Some x.at) (Some x) reply
 pub record IsTakenInto {K L : Type 0} (refused : Type 0) (does : Serving K) (tells : Telling L)
     (came : Came) (clients_old clients_new : K) (log_old log_new : L) (old new : Round) : Type 0
   where
-  pub taken : Taken
-  pub is_taken : HasOutcome refused taken
-  pub is_of : came_of taken ≡ came
-  pub sent : does clients_old (sent_of taken) clients_new
-  pub told : tells log_old (told_at_once taken) log_new
-  pub uncounted : new.taken ≡ old.taken
-  pub clients : new.clients.items ≡ old.clients.items ++ client_of taken
-  pub exchanges : (d : Directory) → map (ask_of d) new.exchanges.items
-      ≡ map (ask_of d) old.exchanges.items ++ asks_of d taken
-  pub requests : map timed new.exchanges.items ≡ map timed old.exchanges.items ++ timed_of taken
+    pub taken : Taken
+    pub is_taken : HasOutcome refused taken
+    pub is_of : came_of taken ≡ came
+    pub sent : does clients_old (sent_of taken) clients_new
+    pub told : tells log_old (told_at_once taken) log_new
+    pub uncounted : new.taken ≡ old.taken
+    pub clients : new.clients.items ≡ old.clients.items ++ client_of taken
+    pub exchanges : (d : Directory) → map (ask_of d) new.exchanges.items
+        ≡ map (ask_of d) old.exchanges.items ++ asks_of d taken
+    pub requests : map timed new.exchanges.items ≡ map timed old.exchanges.items ++ timed_of taken
 
 -- These were taken into a round, which counts them and has the requests among them.
 pub record Takes {K L : Type 0} (refused : Type 0) (does : Serving K) (tells : Telling L)

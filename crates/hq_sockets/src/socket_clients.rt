@@ -110,18 +110,18 @@ impl<T: Clock + Moments + AllocGlobal, L: Listener + Drop, M: Memory> Clients
         clients.waiting × IsTimed T.tells (clock_state clients.clock.now clients.at) };
 
     ghost none_does = { λ state. (
-        leads_nowhere M.refused L.Connection.talks L.Connection.ends (counting L.does)
-        state.waiting.connections state.waiting.slots.held.items,
-        timed_none T.tells (clock_state state.clock.now state.at)
+      leads_nowhere M.refused L.Connection.talks L.Connection.ends (counting L.does)
+          state.waiting.connections state.waiting.slots.held.items,
+      timed_none T.tells (clock_state state.clock.now state.at),
     ) };
 
     ghost does_on = { λ old mid new events more p q. (
-        leads_on M.refused L.Connection.talks L.Connection.ends (counting L.does)
-        old.waiting.connections mid.waiting.connections new.waiting.connections
-        old.waiting.slots.held.items mid.waiting.slots.held.items new.waiting.slots.held.items
-        events more _ refl p.0 q.0,
-        timed_on T.tells (clock_state old.clock.now old.at) (clock_state mid.clock.now mid.at)
-        (clock_state new.clock.now new.at) events more p.1 q.1
+      leads_on M.refused L.Connection.talks L.Connection.ends (counting L.does)
+          old.waiting.connections mid.waiting.connections new.waiting.connections
+          old.waiting.slots.held.items mid.waiting.slots.held.items new.waiting.slots.held.items
+          events more _ refl p.0 q.0,
+      timed_on T.tells (clock_state old.clock.now old.at) (clock_state mid.clock.now mid.at)
+          (clock_state new.clock.now new.at) events more p.1 q.1,
     ) };
 
     ghost left = { λ clients. clients.waiting.connections.left };

@@ -13,14 +13,14 @@ module _ {N K : Type 0} (does : Networking N K) (text : List ℕ) (limits : Limi
     (net_old net_new : N) (old new : Option (List ℕ)) (unwritten : Type 0) (clients : K)
     (place : Place) (named : IsPlaceOf text place)
     (done : does net_old (listened text limits (Some (clients, place)) ∷ ended clients ∷ []) net_new)
-    where
-  pub untold_so : (why : Trouble) → IsUntold place old new unwritten why →
-      IsUnbound does text limits net_old net_new unwritten old new why
-  untold_so trouble.Output h = (clients, place, named, h, done)
-  untold_so (trouble.Desk (fail.Fault fault)) h = (clients, place, named, h, done)
-  untold_so (trouble.Desk (fail.Refused refusal)) h = absurd h
-  untold_so trouble.File h = absurd h
-  untold_so trouble.Input h = absurd h
-  untold_so trouble.Network h = absurd h
-  untold_so trouble.Clock h = absurd h
-  untold_so (trouble.Keys refusal) h = absurd h
+  where
+    pub untold_so : (why : Trouble) → IsUntold place old new unwritten why →
+        IsUnbound does text limits net_old net_new unwritten old new why
+    untold_so trouble.Output h = (clients, place, named, h, done)
+    untold_so (trouble.Desk (fail.Fault fault)) h = (clients, place, named, h, done)
+    untold_so (trouble.Desk (fail.Refused refusal)) h = absurd h
+    untold_so trouble.File h = absurd h
+    untold_so trouble.Input h = absurd h
+    untold_so trouble.Network h = absurd h
+    untold_so trouble.Clock h = absurd h
+    untold_so (trouble.Keys refusal) h = absurd h

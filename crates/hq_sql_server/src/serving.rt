@@ -70,8 +70,9 @@ fn serve_memory<'h, N: Network, G: Logs<'h>, W: Write, E: Write>(
         output.old) (W.contents output.old) (W.contents output.new) result }
 {
     let shelf = SqlShelf::open_memory(memory)?;
-    let (ended, _shelf) =
-        serve_over(memory, network, logs, shelf, settings, given, output, errors);
+    let (ended, _shelf) = serve_over(
+        memory, network, logs, shelf, settings, given, output, errors,
+    );
     ended
 }
 
@@ -94,8 +95,9 @@ fn serve_store<'h, N: Network, G: Logs<'h>, K: Stores, W: Write, E: Write>(
         output.new) result }
 {
     let store = stores.open(path)?;
-    let (ended, store) =
-        serve_over(memory, network, logs, store, settings, given, output, errors);
+    let (ended, store) = serve_over(
+        memory, network, logs, store, settings, given, output, errors,
+    );
     stores.leave(store);
     ended
 }
