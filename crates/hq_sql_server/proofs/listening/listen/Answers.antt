@@ -14,9 +14,11 @@ returns-in-Err g c =
     (c.tell_place.new.output ≡ c.args.output.now) c.in-Some.clients c.in-Some.place
     c.in-Some.ensures.place
     (g.N.Network.does_on c.args.network.now c.listen.new.self c.end.new.self
-    (listened text limits (Some (c.in-Some.clients, c.in-Some.place)) ∷ []) (ended c.in-Some.clients ∷ [])
+    (listened text limits (Some (c.in-Some.clients, c.in-Some.place)) ∷ []) (ended
+    c.in-Some.clients ∷ [])
     (subst (λ (l : Limits). g.N.Network.does c.args.network.now
-    (listened text l (Some (c.in-Some.clients, c.in-Some.place)) ∷ []) c.listen.new.self) c.limits.ensures
+    (listened text l (Some (c.in-Some.clients, c.in-Some.place)) ∷ []) c.listen.new.self)
+    c.limits.ensures
     c.in-Some.ensures.listened)
     c.end.ensures)
     c.in-Err.trouble c.in-Err.ensures
