@@ -9,6 +9,7 @@ import needs
 import pytest
 from deploying import DEPLOY, all_settings_of
 from serving import LONGEST, expect, free_address, listens, until
+from steps import lines_of
 
 # A desk that listens a second after systemctl has come back, unless its name is `bad`, or one of its unit's marks is there.
 SYSTEMCTL = """\
@@ -249,9 +250,34 @@ def test_nothing_to_copy(place):
     expect(run(place, "desk-backup", place / "again", "north").returncode == 0, "a store is cut")
 
 
+def test_worker(place):
+    """The worker is stopped and started so too: its mark stays until it is started, also where it is stopped again."""
+    for _ in range(2):
+        ended = run(place, "desk-stop", "relay")
+        expect((ended.returncode, [it.name for it in (place / "stopped").iterdir()]) == (0, ["relay"]), "it ended with", ended)
+        called = (place / "called").read_text().splitlines()
+        expect(called[-2:] == ["stop hq-relay-intake.service hq-relay-deliver.service",
+                               "is-active --quiet hq-relay-intake.service hq-relay-deliver.service"], "called is", called)
+    run(place, "desk-start", "relay")
+    called = (place / "called").read_text().splitlines()
+    expect(called[-1] == "start hq-relay-intake.service hq-relay-deliver.service" and not [*(place / "stopped").iterdir()], "called is", called)
+
+
+def test_order_of_a_restore():
+    """The worker is kept stopped before its desk, and is started last, by the lines of the page; so it is where they are begun anew."""
+    lines = [it.removeprefix("/usr/libexec/hq-desk/") for it in lines_of("Restore")]
+    first, last = lines.index("desk-stop relay"), lines.index("desk-start relay")
+    expect(first < lines.index("desk-stop north") and last == len(lines) - 1 and "restored" in lines[last - 1], "the lines are", lines)
+    page = (DEPLOY.parent / "docs/PROCEDURES.md").read_text()
+    expect("`/usr/libexec/hq-desk/desk-stop relay north`, and all lines from the first `rm` on" in page, "they begin anew otherwise")
+
+
 def test_stays_stopped():
     """A unit whose desk was stopped, or is being copied, starts neither behind a boot nor by retention; who starts one that was stopped is told."""
     stopped = "!/var/lib/hq-desk-stopped/%i"
+    for unit in ("hq-relay-intake.service", "hq-relay-deliver.service"):
+        found = all_settings_of(DEPLOY / unit).get("AssertPathExists")
+        expect(found == [stopped.replace("%i", "relay")], unit, "starts where", found)
     for unit, wanted in (("hq-desk@.service", ([stopped], None)), ("hq-desk-retain@.service", (None, [stopped]))):
         settings = all_settings_of(DEPLOY / unit)
         found = tuple(settings.get(it) for it in ("AssertPathExists", "ConditionPathExists"))

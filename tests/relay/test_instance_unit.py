@@ -1,7 +1,6 @@
 """The unit of the delivering instance, which from Debian 13 on somebody has to enable: `install` does, with stand-ins for systemd and
 Postfix."""
 from pathlib import Path
-from types import SimpleNamespace
 
 import pytest
 from hq_relay.postfix import instance_unit

@@ -190,14 +190,18 @@ def test_order(machine):
 
 
 def test_stopped_over_a_boot(machine):
-    """A desk that was stopped is started neither by a boot nor by systemctl, which tells that; it comes up once it is started."""
-    machine.run("/usr/libexec/hq-desk/desk-stop north; systemctl start multi-user.target")
-    told = machine.run("systemctl start hq-desk@north", status=1)
-    expect(machine.active("hq-desk@north") == ["inactive"] and "Assertion failed" in told, "it was started, or told is", told)
+    """A desk and a worker that were stopped are started neither by a boot nor by systemctl, which tells that; all else comes up, the
+    delivering Postfix too. They come up once they are started."""
+    machine.run("/usr/libexec/hq-desk/desk-stop relay north")
+    machine.boot_again()
+    for unit in ("hq-desk@north", "hq-relay-intake", "hq-relay-deliver"):
+        told = machine.run(f"systemctl start {unit}", status=1)
+        expect(machine.active(unit) == ["inactive"] and "Assertion failed" in told, "it was started, or told is", told)
+    until(lambda: machine.run("ss -ltnH 'sport = :822'"), "nobody listens at 822")
     machine.run("/usr/libexec/hq-desk/desk-backup /root/stopped north; hq-customers retain 90", longest=120)
     expect(machine.active("hq-desk@north") == ["inactive"], "a backup has started it")
-    machine.run("/usr/libexec/hq-desk/desk-start north", longest=120)
-    machine.until_active("hq-desk@north")
+    machine.run("/usr/libexec/hq-desk/desk-start north relay", longest=120)
+    machine.until_active(*OURS)
 
 
 def test_killed_copy(machine):
