@@ -7,7 +7,7 @@ import time
 
 import needs
 import pytest
-from deploying import DEPLOY, all_settings_of
+from deploying import DEPLOY, HEADER, all_settings_of
 from serving import LONGEST, expect, free_address, listens, until
 from steps import lines_of
 
@@ -46,12 +46,12 @@ exec "$@"
 def place(folder):
     needs.command("flock", "pkill")
     (folder / "bin").mkdir()
-    for name in ("desk-start", "desk-stop", "desk-backup", "desk-restart"):
+    for name in ("desk-start", "desk-stop", "desk-backup", "desk-restart", "desk_apart.py", "hq-ask"):
         text = (DEPLOY / name).read_text()
         for it, here in (("/var/lib/hq-desk-stopped", "stopped"), ("/etc/hq", ""), ("/var/lib/hqdesk", "stores"), ("/run/hq-desk", "run")):
             text = text.replace(it, str(folder / here) if here else str(folder))
         (folder / "bin" / name).write_text(text.replace("STAY, DRAIN, START = 10, 3, 30", "STAY, DRAIN, START = 10, 3, 10"))
-    (folder / "bin/desk_apart.py").write_text((DEPLOY / "desk_apart.py").read_text())
+    (folder / "bin/desk_files.py").write_text((DEPLOY / "desk_files.py").read_text())
     for name, text in (("systemctl", SYSTEMCTL), ("nft", "#!/bin/sh\nexit 1\n"), ("hq-as", HQ_AS)):
         (folder / "bin" / name).write_text(text.format(folder=folder))
     for it in (folder / "bin").iterdir():
@@ -175,6 +175,38 @@ def test_worked_at_while_it_is_copied(place):
     expect(status == 0 and text.endswith("north.db\n"), "the copy ended with", status, text)
     found = [told(it) for it in others]
     expect([it[0] for it in found] == [0, 0] and "worked\n" in found[0][1] and found[1][1].endswith("north.db\n"), "they ended with", found)
+
+
+def test_asked_while_it_is_copied(place):
+    """Who asks a desk that is stopped for its copy waits for that, and asks the desk behind it; who asks its store is waited for."""
+    needs.root()
+    is_set_up(place, "north")
+    (place / "north.csv").write_text(f"{HEADER}acme,acmekey000000001,9,9,9,9,9\n")
+    (place / "north.key").write_text("relaykey00000001\n")
+    # (what asks the store tells what else is under way)
+    (place / "bin/hq").write_text(f'#!/bin/sh\n[ -e {place}/run.copied/north ] && echo "a copy is under way" >&2 && exit 1\n'
+                                  f'echo $PPID >{place}/asks; while [ -e {place}/long ]; do sleep 0.05; done; echo "200 {{\\"held\\":1}}"\n')
+    (place / "bin/hq").chmod(0o755)
+    place.chmod(0o777)
+    ask = "hq-ask", "--folder", place, "--user", "nobody", "hold", "acme", "ALL"
+    copying = slow_copy(place)
+    asking = begin(place, *ask)
+    time.sleep(1)
+    expect(asking.poll() is None, "it asks a store that is being copied:", asking.poll() is not None and told(asking))
+    (place / "slow").unlink()
+    asking.kill()
+    asking.communicate(timeout=LONGEST)
+    expect(told(copying)[0] == 0, "the copy ended otherwise")
+    expect(run(place, "desk-stop", "north").returncode == 0, "it does not stop")
+    (place / "long").touch()
+    asking = begin(place, *ask)
+    until(lambda: (place / "asks").exists(), "the store is not asked")
+    copying = begin(place, "desk-backup", place / "second", "north")
+    time.sleep(1)
+    expect(copying.poll() is None and not (place / "second/north.tar").exists(), "it is copied while its store is asked")
+    (place / "long").unlink()
+    expect(told(asking) == (0, "held 1\n"), "the store is asked otherwise")
+    expect(told(copying)[0] == 0, "the second copy ended otherwise")
 
 
 def test_killed_copy(place):
