@@ -18,7 +18,10 @@ echo "$*" >>{folder}/called
 name=${{2#hq-desk@}} name=${{name%.service}}
 case $1 in
   is-active) [ "$2" = --quiet ] && shift; [ -e "{folder}/runs-${{name#--quiet}}" ]; exit ;;
-  stop) rm -f "{folder}/runs-$name"; pkill -F "{folder}/pid-$name" 2>/dev/null; exit 0 ;;
+  show) name=${{4#hq-desk@}}; cat "{folder}/pid-${{name%.service}}" 2>/dev/null; exit 0 ;;
+  stop) rm -f "{folder}/runs-$name"; pkill -F "{folder}/pid-$name" 2>/dev/null; rm -f "{folder}/pid-$name"; exit 0 ;;
+  start) ! kill -0 "$(cat "{folder}/pid-$name" 2>/dev/null)" 2>/dev/null || exit 0 ;;
+  restart) pkill -F "{folder}/pid-$name" 2>/dev/null ;;
 esac
 [ "$name" != bad ] || exit 1
 [ ! -e "{folder}/stopped/$name" ] || {{ echo "Assertion failed on job for $2." >&2; exit 1; }}
@@ -110,6 +113,17 @@ def test_one_does_not(place):
     """Where one does not come up the status says so, and the next is started all the same."""
     ended, found = started(place, "bad", "south")
     expect(ended.returncode == 1 and found == ["south"] and "bad: nobody listens" in ended.stderr, "there listen", found, ended)
+
+
+def test_another_listens(place):
+    """Where another desk listens at its address, a desk is not taken for one that listens, and that is told."""
+    for listen in ("%s:%d" % free_address(), f"unix:{place}/desk.sock"):
+        for name in ("north", "south"):
+            (place / f"{name}.env").write_text(f"HOST=relay.example\nLISTEN={listen}\n")
+        expect(run(place, "desk-start", "north").returncode == 0, "the first one does not start")
+        ended = run(place, "desk-start", "south")
+        expect(ended.returncode == 1 and "south: another process listens at " in ended.stderr, "the second one ended with", ended)
+        run(place, "desk-stop", "north")
 
 
 def test_listens_at_a_path(place):
