@@ -47,6 +47,16 @@ def test_postfix(purged, folder):
     expect(not (folder / STAMP).exists() and "senders and recipients" in told, "it tells", told)
 
 
+def test_drop_ins(purged, folder):
+    """What the lines of the pages have put beside units of others goes, and an empty folder with it; a file of somebody else's stays."""
+    units = "nginx.service", "logrotate.timer", "nftables.service", "postfix.service", "postfix@.service"
+    purged({f"etc/systemd/system/{it}.d/{name}": "" for it in units for name in (["hq-desk.conf", "mine.conf"] if it == "nginx.service" else
+                                                                                 ["hq-desk.conf"])})
+    left = sorted(str(it.relative_to(folder)) for it in (folder / "etc/systemd/system").glob("*.d/*"))
+    expect(left == ["etc/systemd/system/nginx.service.d/mine.conf"], "left are", left)
+    expect(len([*(folder / "etc/systemd/system").glob("*.d")]) == 1, "empty folders stay")
+
+
 def test_nothing(purged):
     """Where none of it was set up, none of it is told."""
     told = purged({})

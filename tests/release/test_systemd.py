@@ -187,6 +187,9 @@ def test_order(machine):
     for unit in ("hq-desk@north", "hq-desk-workers", "hq-relay-intake", "hq-relay-deliver"):
         told = machine.run(f"systemctl show -p After --value {unit}")
         expect({"network-online.target", "time-sync.target"} <= set(told.split()), unit, "waits for", told)
+    for unit in ("postfix", "postfix@-", "postfix@postfix-desk"):
+        told = machine.run(f"systemctl show -p After -p Wants --value {unit}")
+        expect(told.split().count("time-sync.target") == 2, unit, "waits for", told)
 
 
 def test_stopped_over_a_boot(machine):
