@@ -254,7 +254,8 @@ def test_cut_removal(machine, name, when):
 def test_killed_removal(machine):
     """Where dpkg is killed, as by a power loss, mail goes on once the worker starts, and the package is put back by the line of the page."""
     stands_in(machine, "systemctl", "stop hq-desk-workers", "kill -9 $PPID $(ps -o ppid= $PPID)")
-    machine.run("dpkg --remove hq-desk", status=137, longest=120)
+    # (the shell stays beside it, and tells by which signal it ended)
+    machine.run("dpkg --remove hq-desk || exit $?", status=137, longest=120)
     expect(machine.run("postconf -h defer_transports") == "desk\n", "it was killed too early")
     machine.run("systemctl start hq-relay-intake")
     until(lambda: machine.run("postconf -h defer_transports; ls /etc/postfix/desk-deferred 2>/dev/null || true") == "\n", "mail waits for ever")
