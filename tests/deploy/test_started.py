@@ -126,6 +126,17 @@ def test_another_listens(place):
         run(place, "desk-stop", "north")
 
 
+def test_nobody_may_look(place):
+    """Where root may not look at processes, as in some containers, whoever listens counts."""
+    needs.root()
+    is_set_up(place, "north")
+    expect(run(place, "desk-start", "north").returncode == 0, "it does not start")
+    words_of = words(place, "desk-restart", "north", "true")
+    words_of["args"] = ["setpriv", "--bounding-set=-sys_ptrace", *words_of["args"]]
+    ended = subprocess.run(capture_output=True, timeout=LONGEST, **words_of)
+    expect(ended.returncode == 0, "it ended with", ended)
+
+
 def test_listens_at_a_path(place):
     """A desk at a path is waited for too."""
     (place / "north.env").write_text(f"HOST=relay.example\nLISTEN=unix:{place}/desk.sock\n")
