@@ -1,12 +1,14 @@
 """What keeps root apart from the user of a service: who has taken over that user may have written whatever a command prints, and
-reads the environment of each process of its own. And a file of settings, as systemd reads it."""
+reads the environment of each process of its own. And a file of settings, as systemd reads it; and the lock of who works at a store."""
+import contextlib
+import fcntl
 import os
 import re
 import subprocess
 import sys
 import threading
 from pathlib import Path
-from typing import IO, Any, Dict, List, Optional
+from typing import IO, Any, Dict, Iterator, List, Optional
 
 # The folders of root's programs, which the path of cron, and of `su` without a login, does not name.
 OF_ROOT = "/usr/sbin", "/sbin"
@@ -72,6 +74,27 @@ def settings_of(path: Path) -> Dict[str, str]:
             raise ValueError(f"{path}: line {number}: {name} has a quote or a backslash within; write its value as it is")
         found[name] = value.strip() if not whole else whole[0] if whole[2] is None else whole[2]
     return found
+
+
+# The locks of who works at the store of a desk, and the marks of those that are being copied.
+LOCKS, COPIED = Path("/run/hq-desk.locks"), Path("/run/hq-desk.copied")
+
+
+@contextlib.contextmanager
+def alone(name: str, who: str) -> Iterator[None]:
+    """Nobody else starts the desk meanwhile, copies its store, or works at it. `who` tells where it waits. For root."""
+    # (whoever may open a file may lock it: nobody else opens these)
+    LOCKS.mkdir(mode=0o700, exist_ok=True)
+    LOCKS.chmod(0o700)
+    with open(LOCKS / name, "w") as file:
+        try:
+            fcntl.flock(file, fcntl.LOCK_EX | fcntl.LOCK_NB)
+        except BlockingIOError:
+            print(f"{who}: it waits for who works at the store of {name}", file=sys.stderr, flush=True)
+            fcntl.flock(file, fcntl.LOCK_EX)
+        # (of a copy that was killed)
+        (COPIED / name).unlink(missing_ok=True)
+        yield
 
 
 def find_programs() -> None:

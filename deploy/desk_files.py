@@ -249,8 +249,12 @@ class Folder:
         self.is_first = not (path / "relay.csv").exists()
         before = [] if self.is_first else [it[0] for it in rows_of(path / "relay.csv")[1:]]
         known = {it["name"] for desk in self.desks for it in desk.rows}
-        for name in (it for it in before if it not in known):
+        self.by_hand = [it for it in before if it not in known]
+        for name in self.by_hand:
             self.dropped.setdefault(name, ("by hand", datetime.now(timezone.utc).strftime("%Y-%m-%d")))
+        # (its logins and domains go too: the worker refuses tables in which nobody has them)
+        self.nobodys = {it: name for it, name in self.senders.items() if name not in known}
+        self.senders = {it: name for it, name in self.senders.items() if name in known}
 
     def since(self, sender: Tuple[str, str]) -> str:
         """Since when a login or domain is its customer's; nothing where nobody knows."""
@@ -279,6 +283,9 @@ class Folder:
         with contextlib.suppress(OSError):
             for it in self.closed:
                 print(f"{it} was open to others, who may know its keys; it is closed now", file=sys.stderr, flush=True)
+            for (kind, sender), name in sorted(self.nobodys.items()):
+                print(f"{name} is in no directory, so the {kind} {sender} is not its any more", file=sys.stderr, flush=True)
+        self.closed, self.nobodys = [], {}
 
     def rehearse(self, scripts: Path) -> None:
         """Tries all files, and leaves everything as it is."""

@@ -14,6 +14,8 @@ from serving import LONGEST, Wrong, expect
 SCRIPTS = "/usr/libexec/hq-desk"
 # The line with which a desk is away, until it is started.
 STOPS = re.compile(rf"{SCRIPTS}/desk-stop ")
+# What stops and starts the worker.
+OF_WORKER = re.compile(rf"{SCRIPTS}/desk-(?:stop|start) relay$")
 PAGE = Path(__file__).resolve().parents[2] / "docs/PROCEDURES.md"
 
 
@@ -64,7 +66,7 @@ class Place:
         """Runs a procedure; when the desks were stopped, and how long they were away."""
         stopped, paused = 0.0, 0.0
         for line in lines_of(title):
-            if "hq-relay" in line:
+            if "hq-relay" in line or OF_WORKER.match(line):
                 self.of_worker.append(line)
             elif STOPS.match(line):
                 stopped = time.monotonic()

@@ -60,3 +60,24 @@ def test_metrics_are_told():
     rules = "\n".join(re.findall(r"(?s)expr: (.*?)\n +(?:for|labels):", (DEPLOY / "prometheus-rules.yml").read_text()))
     asked = set(re.findall(r"\b(?:desk|node)_\w+", rules + "\n".join(expressions())))
     expect(len(asked) > 8 and not asked - told, "nobody tells", asked - told)
+
+
+def test_units(folder):
+    """Of the units that a boot starts it is told which run: those of Postfix too, and of each further instance that has one."""
+    wants = folder / "wants/multi-user.target.wants"
+    wants.mkdir(parents=True)
+    for it in ("postfix@desk.service", "postfix@the\\x2ddesk.service"):
+        (wants / it).symlink_to("/usr/lib/systemd/system/postfix@.service")
+    (folder / "north.env").write_text("LISTEN=127.0.0.1:825\n")
+    text = (DEPLOY / "desk-metrics").read_text()
+    for it, here in (("/etc/systemd/system", folder / "wants"), ("/etc/hq", folder), ("/usr/libexec/hq-desk/relay/metrics", "true")):
+        expect(it in text, "it has no", it)
+        text = text.replace(it, str(here))
+    # (all is enabled, and one does not run)
+    for name, script in (("systemctl", 'case "$*" in *is-active*postfix@desk*) exit 3 ;; esac'), ("metrics", text)):
+        (folder / name).write_text(script if script.startswith("#!") else f"#!/bin/sh\n{script}\n")
+        (folder / name).chmod(0o755)
+    subprocess.run([folder / "metrics", folder], env={"PATH": f"{folder}:/usr/bin:/bin"}, check=True, timeout=LONGEST)
+    told = (folder / "hq-desk-up.prom").read_text()
+    for unit, is_up in (("nginx", 1), ("postfix", 1), ("postfix@desk", 0), ("postfix@the\\\\x2ddesk", 1)):
+        expect(f'desk_unit_up{{unit="{unit}.service"}} {is_up}\n' in told, unit, "is told so:", told)

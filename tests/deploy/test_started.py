@@ -7,8 +7,9 @@ import time
 
 import needs
 import pytest
-from deploying import DEPLOY, all_settings_of
+from deploying import DEPLOY, HEADER, all_settings_of
 from serving import LONGEST, expect, free_address, listens, until
+from steps import lines_of
 
 # A desk that listens a second after systemctl has come back, unless its name is `bad`, or one of its unit's marks is there.
 SYSTEMCTL = """\
@@ -17,7 +18,10 @@ echo "$*" >>{folder}/called
 name=${{2#hq-desk@}} name=${{name%.service}}
 case $1 in
   is-active) [ "$2" = --quiet ] && shift; [ -e "{folder}/runs-${{name#--quiet}}" ]; exit ;;
-  stop) rm -f "{folder}/runs-$name"; pkill -F "{folder}/pid-$name" 2>/dev/null; exit 0 ;;
+  show) name=${{4#hq-desk@}}; cat "{folder}/pid-${{name%.service}}" 2>/dev/null; exit 0 ;;
+  stop) rm -f "{folder}/runs-$name"; pkill -F "{folder}/pid-$name" 2>/dev/null; rm -f "{folder}/pid-$name"; exit 0 ;;
+  start) ! kill -0 "$(cat "{folder}/pid-$name" 2>/dev/null)" 2>/dev/null || exit 0 ;;
+  restart) pkill -F "{folder}/pid-$name" 2>/dev/null ;;
 esac
 [ "$name" != bad ] || exit 1
 [ ! -e "{folder}/stopped/$name" ] || {{ echo "Assertion failed on job for $2." >&2; exit 1; }}
@@ -45,12 +49,12 @@ exec "$@"
 def place(folder):
     needs.command("flock", "pkill")
     (folder / "bin").mkdir()
-    for name in ("desk-start", "desk-stop", "desk-backup", "desk-restart"):
+    for name in ("desk-start", "desk-stop", "desk-backup", "desk-restart", "desk_apart.py", "hq-ask"):
         text = (DEPLOY / name).read_text()
         for it, here in (("/var/lib/hq-desk-stopped", "stopped"), ("/etc/hq", ""), ("/var/lib/hqdesk", "stores"), ("/run/hq-desk", "run")):
             text = text.replace(it, str(folder / here) if here else str(folder))
         (folder / "bin" / name).write_text(text.replace("STAY, DRAIN, START = 10, 3, 30", "STAY, DRAIN, START = 10, 3, 10"))
-    (folder / "bin/desk_apart.py").write_text((DEPLOY / "desk_apart.py").read_text())
+    (folder / "bin/desk_files.py").write_text((DEPLOY / "desk_files.py").read_text())
     for name, text in (("systemctl", SYSTEMCTL), ("nft", "#!/bin/sh\nexit 1\n"), ("hq-as", HQ_AS)):
         (folder / "bin" / name).write_text(text.format(folder=folder))
     for it in (folder / "bin").iterdir():
@@ -109,6 +113,28 @@ def test_one_does_not(place):
     """Where one does not come up the status says so, and the next is started all the same."""
     ended, found = started(place, "bad", "south")
     expect(ended.returncode == 1 and found == ["south"] and "bad: nobody listens" in ended.stderr, "there listen", found, ended)
+
+
+def test_another_listens(place):
+    """Where another desk listens at its address, a desk is not taken for one that listens, and that is told."""
+    for listen in ("%s:%d" % free_address(), f"unix:{place}/desk.sock"):
+        for name in ("north", "south"):
+            (place / f"{name}.env").write_text(f"HOST=relay.example\nLISTEN={listen}\n")
+        expect(run(place, "desk-start", "north").returncode == 0, "the first one does not start")
+        ended = run(place, "desk-start", "south")
+        expect(ended.returncode == 1 and "south: another process listens at " in ended.stderr, "the second one ended with", ended)
+        run(place, "desk-stop", "north")
+
+
+def test_nobody_may_look(place):
+    """Where root may not look at processes, as in some containers, whoever listens counts."""
+    needs.root()
+    is_set_up(place, "north")
+    expect(run(place, "desk-start", "north").returncode == 0, "it does not start")
+    words_of = words(place, "desk-restart", "north", "true")
+    words_of["args"] = ["setpriv", "--bounding-set=-sys_ptrace", *words_of["args"]]
+    ended = subprocess.run(capture_output=True, timeout=LONGEST, **words_of)
+    expect(ended.returncode == 0, "it ended with", ended)
 
 
 def test_listens_at_a_path(place):
@@ -174,6 +200,38 @@ def test_worked_at_while_it_is_copied(place):
     expect(status == 0 and text.endswith("north.db\n"), "the copy ended with", status, text)
     found = [told(it) for it in others]
     expect([it[0] for it in found] == [0, 0] and "worked\n" in found[0][1] and found[1][1].endswith("north.db\n"), "they ended with", found)
+
+
+def test_asked_while_it_is_copied(place):
+    """Who asks a desk that is stopped for its copy waits for that, and asks the desk behind it; who asks its store is waited for."""
+    needs.root()
+    is_set_up(place, "north")
+    (place / "north.csv").write_text(f"{HEADER}acme,acmekey000000001,9,9,9,9,9\n")
+    (place / "north.key").write_text("relaykey00000001\n")
+    # (what asks the store tells what else is under way)
+    (place / "bin/hq").write_text(f'#!/bin/sh\n[ -e {place}/run.copied/north ] && echo "a copy is under way" >&2 && exit 1\n'
+                                  f'echo $PPID >{place}/asks; while [ -e {place}/long ]; do sleep 0.05; done; echo "200 {{\\"held\\":1}}"\n')
+    (place / "bin/hq").chmod(0o755)
+    place.chmod(0o777)
+    ask = "hq-ask", "--folder", place, "--user", "nobody", "hold", "acme", "ALL"
+    copying = slow_copy(place)
+    asking = begin(place, *ask)
+    time.sleep(1)
+    expect(asking.poll() is None, "it asks a store that is being copied:", asking.poll() is not None and told(asking))
+    (place / "slow").unlink()
+    asking.kill()
+    asking.communicate(timeout=LONGEST)
+    expect(told(copying)[0] == 0, "the copy ended otherwise")
+    expect(run(place, "desk-stop", "north").returncode == 0, "it does not stop")
+    (place / "long").touch()
+    asking = begin(place, *ask)
+    until(lambda: (place / "asks").exists(), "the store is not asked")
+    copying = begin(place, "desk-backup", place / "second", "north")
+    time.sleep(1)
+    expect(copying.poll() is None and not (place / "second/north.tar").exists(), "it is copied while its store is asked")
+    (place / "long").unlink()
+    expect(told(asking) == (0, "held 1\n"), "the store is asked otherwise")
+    expect(told(copying)[0] == 0, "the second copy ended otherwise")
 
 
 def test_killed_copy(place):
@@ -249,9 +307,34 @@ def test_nothing_to_copy(place):
     expect(run(place, "desk-backup", place / "again", "north").returncode == 0, "a store is cut")
 
 
+def test_worker(place):
+    """The worker is stopped and started so too: its mark stays until it is started, also where it is stopped again."""
+    for _ in range(2):
+        ended = run(place, "desk-stop", "relay")
+        expect((ended.returncode, [it.name for it in (place / "stopped").iterdir()]) == (0, ["relay"]), "it ended with", ended)
+        called = (place / "called").read_text().splitlines()
+        expect(called[-2:] == ["stop hq-relay-intake.service hq-relay-deliver.service",
+                               "is-active --quiet hq-relay-intake.service hq-relay-deliver.service"], "called is", called)
+    run(place, "desk-start", "relay")
+    called = (place / "called").read_text().splitlines()
+    expect(called[-1] == "start hq-relay-intake.service hq-relay-deliver.service" and not [*(place / "stopped").iterdir()], "called is", called)
+
+
+def test_order_of_a_restore():
+    """The worker is kept stopped before its desk, and is started last, by the lines of the page; so it is where they are begun anew."""
+    lines = [it.removeprefix("/usr/libexec/hq-desk/") for it in lines_of("Restore")]
+    first, last = lines.index("desk-stop relay"), lines.index("desk-start relay")
+    expect(first < lines.index("desk-stop north") and last == len(lines) - 1 and "restored" in lines[last - 1], "the lines are", lines)
+    page = (DEPLOY.parent / "docs/PROCEDURES.md").read_text()
+    expect("`/usr/libexec/hq-desk/desk-stop relay north`, and all lines from the first `rm` on" in page, "they begin anew otherwise")
+
+
 def test_stays_stopped():
     """A unit whose desk was stopped, or is being copied, starts neither behind a boot nor by retention; who starts one that was stopped is told."""
     stopped = "!/var/lib/hq-desk-stopped/%i"
+    for unit in ("hq-relay-intake.service", "hq-relay-deliver.service"):
+        found = all_settings_of(DEPLOY / unit).get("AssertPathExists")
+        expect(found == [stopped.replace("%i", "relay")], unit, "starts where", found)
     for unit, wanted in (("hq-desk@.service", ([stopped], None)), ("hq-desk-retain@.service", (None, [stopped]))):
         settings = all_settings_of(DEPLOY / unit)
         found = tuple(settings.get(it) for it in ("AssertPathExists", "ConditionPathExists"))

@@ -4,7 +4,7 @@ import re
 import subprocess
 
 import pytest
-from deploying import DEPLOY
+from deploying import DEPLOY, all_settings_of
 from serving import LONGEST, expect
 from steps import lines_of, scripts_in
 
@@ -58,3 +58,20 @@ def test_a_restore_is_on_the_disk():
     lines = lines_of("Restore")
     written = next(at for at, it in enumerate(lines) if "tar -x" in it)
     expect("sync /var/lib/hqdesk/north.db* /var/lib/hqdesk" in lines[written + 1], "the lines are", lines)
+
+
+def test_postfix_waits_for_the_clock(folder):
+    """The lines of "Units" have both units of Postfix wait for the clock, as the intake does."""
+    page = (DEPLOY.parent / "docs/RELAY.md").read_text()
+    block = re.search(r"(?ms)^### Units$.*?^```\n(.*?)^```$", page).group(1)
+    lines = re.search(r"(?ms)^for it in .*?^done$", block)[0]
+    script = lines.replace("/usr/share/doc/hq-desk/examples", str(DEPLOY)).replace("/etc/systemd/system", str(folder))
+    for _ in range(2):
+        subprocess.run(["bash", "-euc", script], check=True, timeout=LONGEST)
+    for unit in ("postfix.service", "postfix@.service"):
+        found, own = all_settings_of(folder / f"{unit}.d/hq-desk.conf"), all_settings_of(DEPLOY / "hq-relay-intake.service")
+        expect((found["After"], found["Wants"]) == (["time-sync.target"],) * 2, unit, "waits for", found)
+        expect("time-sync.target" in own["After"][0] and "time-sync.target" in own["Wants"][0], "the intake waits for", own)
+    expect(block.index("done\nsystemctl daemon-reload\n") < block.index("hq-relay /etc/hq/relay.ini install"), "systemd reads it too late")
+    listed = (DEPLOY.parent / "packaging/debian/hq-desk.examples").read_text()
+    expect("deploy/postfix-clock.conf\n" in listed, "the package has no such example")

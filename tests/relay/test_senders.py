@@ -2,11 +2,14 @@
 import os
 import signal
 import subprocess
+import time
 from pathlib import Path
 from types import SimpleNamespace
 
 import needs
 import pytest
+from hq_relay.intake import submission
+from hq_relay.intake.submission import Intake, NotTaken
 from lmtp_client import LONG, answer_to, received
 from private import PYTHON
 from serving import LONGEST, RELAY, expect, free_address, named, until
@@ -106,3 +109,20 @@ def test_read_again(place):
         it.terminate()
         expect(it.wait(LONGEST) == 0, "the intake ended with", it.returncode)
         it.stdout.close()
+
+
+@pytest.mark.parametrize("before, told", [(3600, "no customer"), (5 * 86_400 - 60, "no customer"), (6 * 86_400, "no customer so long ago"),
+                                          (400 * 86_400, "no customer so long ago")])
+def test_a_clock_that_was_wrong(monkeypatch, capfd, before, told):
+    """Mail of before its sender was the customer's bounces; where it is older than what Postfix keeps, the log asks for the clock."""
+    since = int(time.time()) - 3600
+    intake = Intake.__new__(Intake)
+    intake.settings = SimpleNamespace(logins={}, domains={"a.example": "acme"}, since={("domain", "a.example"): since})
+    intake.spool = SimpleNamespace(envelope=lambda _: None)
+    monkeypatch.setattr(submission, "arrival_of", lambda _: since - before)
+    with pytest.raises(NotTaken, match="^550 5.7.1 "):
+        intake.customer(LONG, "s1", "ann@a.example", received(LONG))
+    lines = [it for it in capfd.readouterr().err.splitlines() if f'event="{told}"' in it]
+    expect(len(lines) == 1 and ("was the clock wrong" in lines[0]) == ("long ago" in told), "logged is", lines)
+    monkeypatch.setattr(submission, "arrival_of", lambda _: since)
+    expect(intake.customer(LONG, "s1", "ann@a.example", received(LONG)) == "acme", "its own mail is not taken")

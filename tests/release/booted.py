@@ -17,18 +17,26 @@ class Booted:
 
     def __init__(self, folder):
         needs.command("systemd-nspawn", "nsenter")
-        self.folder, self.first = folder, None
-        words = ["systemd-nspawn", f"--directory={folder}", "--boot", "--private-network", f"--machine=hq-{os.getpid()}", "--register=no",
+        self.folder, self.first, self.container = folder, None, None
+
+    def begin(self):
+        words = ["systemd-nspawn", f"--directory={self.folder}", "--boot", "--private-network", f"--machine=hq-{os.getpid()}", "--register=no",
                  "--keep-unit", "--capability=CAP_NET_ADMIN"]
         self.container = subprocess.Popen(words, stdin=subprocess.DEVNULL, stdout=subprocess.DEVNULL, stderr=subprocess.DEVNULL)
-
-    def __enter__(self):
         end = time.monotonic() + TO_BOOT
         while not self.is_up():
             if self.container.poll() is not None or time.monotonic() > end:
                 self.stop()
                 needs.that(False, LACKING)
             time.sleep(0.3)
+
+    def boot_again(self):
+        """It ends, and is booted once more."""
+        self.stop()
+        self.begin()
+
+    def __enter__(self):
+        self.begin()
         return self
 
     def __exit__(self, *_):

@@ -11,11 +11,11 @@ import pytest
 from booted import Booted
 from releasing import ROOT
 from rooted import TO_MAKE, fetched, mirror, place
-from serving import LONGEST, expect
+from serving import LONGEST, expect, until
 
 NEXT = {"bookworm": "trixie"}
 DEPLOY = ROOT / "deploy"
-PROGRAMS = "nginx", "postfix", "python3-aiosmtpd", "systemd-sysv", "dbus"
+PROGRAMS = "nginx", "postfix", "python3-aiosmtpd", "systemd-sysv", "dbus", "iproute2"
 HELPER = "hq-relay-postsuper.socket", "hq-relay-postsuper@.service"
 # Of the package: the worker with its user and its settings. (apt asks nothing of Postfix here, so its settings are none yet.)
 WORKER = """\
@@ -114,3 +114,17 @@ def test_taken_back(machine):
     expect(told == "deleted\n", "the helper tells", told)
     expect(machine.run("postqueue -c /etc/postfix-desk -j") == "", "it is queued")
     expect(machine.run(ASK.format(lies)) == "not there\n", "behind that the helper tells another")
+
+
+def test_booted_again(machine):
+    """The delivering instance listens behind a boot, by a unit of its own, which an upgrade of Postfix starts again."""
+    machine.boot_again()
+    machine.until_active("postfix@desk")
+    until(lambda: machine.run("ss -ltnH 'sport = :822'"), "nobody listens at 822")
+    before = machine.run("systemctl show -p ActiveEnterTimestampMonotonic --value postfix@desk")
+    machine.run("systemctl restart postfix")
+    machine.until_active("postfix@desk")
+    expect(machine.run("systemctl show -p ActiveEnterTimestampMonotonic --value postfix@desk") != before, "it goes on as it was")
+    until(lambda: machine.run("ss -ltnH 'sport = :822'"), "nobody listens at 822")
+    told = machine.run("/usr/libexec/hq-desk/relay/worker /etc/hq/relay.ini install")
+    expect("nothing to change" in told and "started" not in told, "install does", told)

@@ -187,17 +187,24 @@ def test_order(machine):
     for unit in ("hq-desk@north", "hq-desk-workers", "hq-relay-intake", "hq-relay-deliver"):
         told = machine.run(f"systemctl show -p After --value {unit}")
         expect({"network-online.target", "time-sync.target"} <= set(told.split()), unit, "waits for", told)
+    for unit in ("postfix", "postfix@-", "postfix@postfix-desk"):
+        told = machine.run(f"systemctl show -p After -p Wants --value {unit}")
+        expect(told.split().count("time-sync.target") == 2, unit, "waits for", told)
 
 
 def test_stopped_over_a_boot(machine):
-    """A desk that was stopped is started neither by a boot nor by systemctl, which tells that; it comes up once it is started."""
-    machine.run("/usr/libexec/hq-desk/desk-stop north; systemctl start multi-user.target")
-    told = machine.run("systemctl start hq-desk@north", status=1)
-    expect(machine.active("hq-desk@north") == ["inactive"] and "Assertion failed" in told, "it was started, or told is", told)
+    """A desk and a worker that were stopped are started neither by a boot nor by systemctl, which tells that; all else comes up, the
+    delivering Postfix too. They come up once they are started."""
+    machine.run("/usr/libexec/hq-desk/desk-stop relay north")
+    machine.boot_again()
+    for unit in ("hq-desk@north", "hq-relay-intake", "hq-relay-deliver"):
+        told = machine.run(f"systemctl start {unit}", status=1)
+        expect(machine.active(unit) == ["inactive"] and "Assertion failed" in told, "it was started, or told is", told)
+    until(lambda: machine.run("ss -ltnH 'sport = :822'"), "nobody listens at 822")
     machine.run("/usr/libexec/hq-desk/desk-backup /root/stopped north; hq-customers retain 90", longest=120)
     expect(machine.active("hq-desk@north") == ["inactive"], "a backup has started it")
-    machine.run("/usr/libexec/hq-desk/desk-start north", longest=120)
-    machine.until_active("hq-desk@north")
+    machine.run("/usr/libexec/hq-desk/desk-start north relay", longest=120)
+    machine.until_active(*OURS)
 
 
 def test_killed_copy(machine):
@@ -241,6 +248,18 @@ def test_cut_removal(machine, name, when):
     # (apt gives what it runs a path of its own)
     told = machine.run("dpkg --remove hq-desk", status=1, longest=120)
     expect("interrupted" in told, "the removal was not cut:", told)
+    until_as_before(machine)
+
+
+def test_killed_removal(machine):
+    """Where dpkg is killed, as by a power loss, mail goes on once the worker starts, and the package is put back by the line of the page."""
+    stands_in(machine, "systemctl", "stop hq-desk-workers", "kill -9 $PPID $(ps -o ppid= $PPID)")
+    # (the shell stays beside it, and tells by which signal it ended)
+    machine.run("dpkg --remove hq-desk || exit $?", status=137, longest=120)
+    expect(machine.run("postconf -h defer_transports") == "desk\n", "it was killed too early")
+    machine.run("systemctl start hq-relay-intake")
+    until(lambda: machine.run("postconf -h defer_transports; ls /etc/postfix/desk-deferred 2>/dev/null || true") == "\n", "mail waits for ever")
+    machine.run("apt-get install -f -y", longest=120)
     until_as_before(machine)
 
 
@@ -295,6 +314,11 @@ def test_removed(machine):
     expect("mail for the worker waits" in told and "systemctl restart nginx" in told, "a purge tells", told)
     left = machine.run("find /etc/systemd/system -name 'hq-*' -o -path '*/nginx.service.d/*' -o -path '*/logrotate.timer.d/*'")
     expect(left == "", "left are", left)
+    # (whatever has our name, and stays, is told, or lies in what is)
+    found = machine.run("find / -xdev \\( -path /usr -o -path /root -o -path /var/cache/apt \\) -prune -o \\( -name '*desk*' -o -name 'hq*' \\) -print")
+    named = {Path(it.rstrip(".")) for it in re.findall("/[^ ,;']+", told)}
+    untold = [it for it in map(Path, found.split()) if not {it, *it.parents} & named]
+    expect(not untold and Path("/var/log/postfix-desk") in named, "nothing tells of", untold, told)
     machine.run("systemctl daemon-reload; nginx -t; systemctl restart nginx fail2ban logrotate.timer")
     expect(re.fullmatch("(active\n?){3}", machine.run("systemctl is-active nginx fail2ban logrotate.timer")), "what was beside it does not run")
 

@@ -35,6 +35,8 @@ MOST_KEPT = 2
 # For so many seconds a full quota counts as full, so that mail without room is not written first.
 FULL_FOR = 1.0
 NOBODY = "550 5.7.1 no customer sends as this"
+# In seconds: as long as this Postfix keeps mail that is not on hold (maximal_queue_lifetime).
+LONGEST_QUEUED = 5 * 86_400
 REFUSALS = {client.BAD_ADDRESS: "553 5.1.3", client.QUOTA_MESSAGES: "452 4.2.2",
             client.QUOTA_BYTES: "452 4.2.2", client.SERIALS_SPENT: "452 4.3.1"}
 
@@ -107,8 +109,12 @@ class Intake:
             log.error("no Received of Postfix", spool=name, sender=sender,
                       help="the first field has to be Postfix's own")
             raise NotTaken("451 4.3.5 the first field does not tell the login")
-        customer = self.owner(login, sender)
-        if not customer or arrival_of(ident) < self.since(login, sender):
+        customer, since = self.owner(login, sender), self.since(login, sender)
+        if customer and arrival_of(ident) < since - LONGEST_QUEUED:
+            log.error("no customer so long ago", spool=name, sender=sender, login=login,
+                      help="was the clock wrong as Postfix took it, or was it on hold there?")
+            raise NotTaken(NOBODY)
+        if not customer or arrival_of(ident) < since:
             log.warning("no customer", spool=name, sender=sender, login=login)
             raise NotTaken(NOBODY)
         return customer

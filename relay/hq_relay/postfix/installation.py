@@ -18,7 +18,7 @@ from collections.abc import Callable, Iterator
 from pathlib import Path
 from typing import NamedTuple
 
-from hq_relay.postfix import lines, listeners
+from hq_relay.postfix import instance_unit, lines, listeners
 from hq_relay.postfix.configuration import (ConfigurationFiles, ConfigurationPart, MainParameters,
                                             MasterServices, NotInstalled, Record, run)
 from hq_relay.postfix.installation_plan import LISTENER, InstancePlan, Target
@@ -154,8 +154,10 @@ class Installation:
         if LOGROTATE.is_dir():
             rule = Line(rotation_of(self.settings), "bounds the log")
             more.append(WantedFiles(LOGROTATE, {self.settings.delivering.name: rule}))
-        return self.plan_of(self.settings.delivering, lines.delivering(self.settings, *numbers),
+        plan = self.plan_of(self.settings.delivering, lines.delivering(self.settings, *numbers),
                             more, self.is_made)
+        plan.unit = instance_unit.unit_of(plan.folder)
+        return plan
 
     def rules(self) -> dict[str, Line]:
         """The rules of sudo: none if the worker has another way, and an earlier one goes then."""
@@ -231,6 +233,7 @@ class Installation:
         made += [] if self.settings.log.exists() else [f"{self.settings.log}: is made"]
         made += [] if self.is_made else [f"{self.settings.delivering}: is made by postmulti"]
         made += [self.line_of_waiting()] if self.waits() else []
+        made += [f"{self.delivering.unit}: is enabled"] if self.delivering.lacks_unit() else []
         return [*made, *self.delivering.lines(), *self.front.lines()]
 
     def waits(self) -> bool:
@@ -345,6 +348,7 @@ class Installation:
         yield from listeners.hints(self.settings)
         if not lines.is_loopback(self.settings.notices_hop):
             yield "[notices] next-hop is another machine's: its Postfix must not lead to the desk"
+        yield from filter(None, [instance_unit.hint(self.settings.delivering)])
         helper = self.settings.socket
         if helper and not helper.is_socket():
             yield f"there is no {helper}: systemctl enable --now {HELPER}"

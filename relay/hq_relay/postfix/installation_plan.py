@@ -8,6 +8,7 @@ from collections.abc import Mapping
 from dataclasses import dataclass, field
 from pathlib import Path
 
+from hq_relay.postfix import instance_unit
 from hq_relay.postfix.configuration import (ConfigurationFiles, ConfigurationPart, MasterServices,
                                             NotInstalled, Record, run)
 from hq_relay.postfix.lines import Line
@@ -85,6 +86,8 @@ class InstancePlan:
     targets: list[Target]
     record: Record
     is_there: bool = True
+    # The unit that is to start it; nothing where Postfix's own service does.
+    unit: str = ""
     changes: dict[int, list[Change]] = field(default_factory=dict)
 
     def compare(self) -> None:
@@ -110,6 +113,9 @@ class InstancePlan:
 
     def lines(self) -> list[str]:
         return [target.line_of(change) for target, changes in self.planned() for change in changes]
+
+    def lacks_unit(self) -> bool:
+        return bool(self.unit) and not instance_unit.is_in_place(self.unit)
 
     def apply(self) -> None:
         """Writes the changes: first into the record, where the old values stay meanwhile."""
@@ -155,17 +161,25 @@ class InstancePlan:
                                        f"{error.strerror}; see the log of Postfix") from None
                 time.sleep(0.1)
 
-    def runs(self) -> None:
-        """Has Postfix read the changes; starts it if it does not run."""
+    def is_running(self) -> bool:
         try:
             run("postfix", "-c", self.folder, "status")
         except NotInstalled:
+            return False
+        return True
+
+    def runs(self) -> None:
+        """Has Postfix read the changes; starts it if it does not run."""
+        is_running = self.is_running()
+        if self.unit and (not is_running or self.lacks_unit()):
+            instance_unit.put_in_place(self.unit, self.folder)
+            print(f"{self.unit}: enabled and started")
+        elif not is_running:
             run("postfix", "-c", self.folder, "start")
             print(f"{self.folder}: started")
-        else:
-            if self.record.is_unread:
-                run("postfix", "-c", self.folder, "reload")
-                print(f"{self.folder}: reloaded")
+        elif self.record.is_unread:
+            run("postfix", "-c", self.folder, "reload")
+            print(f"{self.folder}: reloaded")
         self.wait_for_listeners()
         if self.record.is_unread:
             self.record.is_unread = False
