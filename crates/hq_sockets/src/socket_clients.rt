@@ -39,8 +39,8 @@ fn response_of(alloc: Global, reply: &Reply<'_>) -> Option<Vec<u8>>
 /// a limit, is told in a line: `hq: input` while its request comes, and `hq: output` while its
 /// response leaves.
 ///
-/// What is taken of a client is what its own bytes ask, however they are cut, at the moment that the
-/// clock told for its round. What is sent to it is its own response, or a beginning of it, and
+/// What is taken of a client is what its own bytes ask, however they are cut, at the moment that
+/// the clock told for its round. What is sent to it is its own response, or a beginning of it, and
 /// nothing else.
 ///
 /// After a response, further bytes of a client are thrown away until the client ends its side, for

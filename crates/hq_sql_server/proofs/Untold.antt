@@ -22,7 +22,8 @@ put_so place old new unwritten (Err why) h =
 module _ {N K : Type 0} (does : Networking N K) (text : List ℕ) (limits : Limits)
     (net_old net_new : N) (old new : Option (List ℕ)) (unwritten : Type 0) (clients : K)
     (place : Place) (named : IsPlaceOf text place)
-    (done : does net_old (listened text limits (Some (clients, place)) ∷ ended clients ∷ []) net_new)
+    (done : does net_old (listened text limits (Some (clients, place)) ∷ ended clients ∷ [])
+    net_new)
   where
     pub untold_so : (why : Trouble) → IsUntold place old new unwritten why →
         IsUnbound does text limits net_old net_new unwritten old new why
