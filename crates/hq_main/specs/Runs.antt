@@ -122,7 +122,8 @@ UnlessLogged _ it = it
 -- a store; and what is done to stores, from one state of these to another.
 module _ {N C G L K S : Type 0} (reads : Reading) (networks : Networking N C) (serves : Serving C)
     (begins : C → Type 0) (connections : C → ℕ) (net_old net_new : N) (logs : Logging G L)
-    (tells : Telling L) (logs_old logs_new : G) (sight : Sight S) (does : Doing K S) (stores_old stores_new : K) where
+    (tells : Telling L) (logs_old logs_new : G) (sight : Sight S) (does : Doing K S)
+    (stores_old stores_new : K) where
   -- what is done for a word
   abbrev pub DoesWord : Word → Type 0 → Type 0 → Streams → Streams → ℕ → Type 0
   DoesWord (Serve given) unread unwritten old new status =
