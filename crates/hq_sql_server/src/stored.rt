@@ -20,7 +20,7 @@ fn run_memory<R: Read, W: Write, L: Log>(
     log: &mut L,
 ) -> Result<(), Trouble>
     ensures { MemoryEnds L.tells log.old log.new settings
-        ((input.new ≡ input.old) × (output.new ≡ output.old) × (log.new ≡ log.old))
+        (((input.new ≡ input.old) × (output.new ≡ output.old)) × (log.new ≡ log.old))
         (record { input = R.remaining input.old; output = W.contents output.old })
         (record { input = R.remaining input.new; output = W.contents output.new }) result }
 {
@@ -42,7 +42,7 @@ fn run_store<K: Stores, R: Read, W: Write, L: Log>(
 ) -> Result<(), Trouble>
     ensures { BatchStoreEnds L.tells log.old log.new K.Store.sight K.does path.now stores.old
         stores.new settings
-        ((input.new ≡ input.old) × (output.new ≡ output.old) × (log.new ≡ log.old))
+        (((input.new ≡ input.old) × (output.new ≡ output.old)) × (log.new ≡ log.old))
         (record { input = R.remaining input.old; output = W.contents output.old })
         (record { input = R.remaining input.new; output = W.contents output.new }) result }
 {
@@ -70,7 +70,7 @@ pub fn run_stored<K: Stores, R: Read, W: Write, L: Log>(
 ) -> Result<(), Trouble>
     ensures { StoreEnds L.tells log.old log.new K.Store.sight K.does
         (option_map (λ s. s.now) store.entry) stores.old stores.new settings
-        ((input.new ≡ input.old) × (output.new ≡ output.old) × (log.new ≡ log.old))
+        (((input.new ≡ input.old) × (output.new ≡ output.old)) × (log.new ≡ log.old))
         (record { input = R.remaining input.old; output = W.contents output.old })
         (record { input = R.remaining input.new; output = W.contents output.new }) result }
 {

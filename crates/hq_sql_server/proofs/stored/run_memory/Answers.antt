@@ -16,4 +16,4 @@ returns g c =
     (ServesFromEmpty tells old new c.args.settings)
     (serves tells old new c.args.settings shelf c.in_ok-shelf.ensures.ours
     c.in_ok-shelf.ensures.empty) _ _
-    (λ same. (same.1, same.2, same.3)) _ _ c.run_batch.result c.run_batch.ensures)
+    (λ same. ((same.1, same.2), same.3)) _ _ c.run_batch.result c.run_batch.ensures)

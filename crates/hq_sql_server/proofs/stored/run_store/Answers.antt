@@ -15,7 +15,7 @@ returns g c =
       (
         left,
         rounds_run_end_as serves serves (λ asked lines served. served) _ _
-            (λ same. ((same.1, same.2, same.3), same.4)) _ _ c.run_batch_in_rounds-ended.result.0
+            (λ same. (((same.1, same.2), same.3), same.4)) _ _ c.run_batch_in_rounds-ended.result.0
             c.run_batch_in_rounds-ended.ensures,
         g.K.Stores.does_on _ _ _ _ _ c.in_ok-store.ensures.done c.leave.ensures,
       ),
