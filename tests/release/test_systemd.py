@@ -31,6 +31,9 @@ print("may listen at", *filter(may, (820, 821, 822, 823, 824, 825, 826, 849, 850
 """
 STRANGER = "runuser -u stranger -- curl -sS http://127.0.0.1:{}/v1/usage 2>&1 || true"
 
+# The line of the page after a removal that was killed.
+PUT_BACK = re.compile(r"`(dpkg --configure -a; apt-get install -f -y)`")
+
 
 @pytest.fixture(scope="module")
 def machine(begun, releases):
@@ -259,7 +262,7 @@ def test_killed_removal(machine):
     expect(machine.run("postconf -h defer_transports") == "desk\n", "it was killed too early")
     machine.run("systemctl start hq-relay-intake")
     until(lambda: machine.run("postconf -h defer_transports; ls /etc/postfix/desk-deferred 2>/dev/null || true") == "\n", "mail waits for ever")
-    machine.run("apt-get install -f -y", longest=120)
+    machine.run(PUT_BACK.search((ROOT / PRODUCTION).read_text())[1], longest=120)
     until_as_before(machine)
 
 
