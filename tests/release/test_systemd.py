@@ -318,7 +318,8 @@ def test_removed(machine):
     left = machine.run("find /etc/systemd/system -name 'hq-*' -o -path '*/nginx.service.d/*' -o -path '*/logrotate.timer.d/*'")
     expect(left == "", "left are", left)
     # (whatever has our name, and stays, is told, or lies in what is)
-    found = machine.run("find / -xdev \\( -path /usr -o -path /root -o -path /var/cache/apt \\) -prune -o \\( -name '*desk*' -o -name 'hq*' \\) -print || true")
+    found = machine.run("find / -xdev \\( -path /usr -o -path /root -o -path /var/cache/apt -o -path /var/spool/postfix -o -name '*freedesktop*' \\) "
+                        "-prune -o \\( -name '*desk*' -o -name 'hq*' \\) -print || true")
     named = {Path(it.rstrip(".")) for it in re.findall("/[^ ,;']+", told)}
     untold = [it for it in map(Path, found.split()) if not {it, *it.parents} & named]
     expect(not untold and Path("/var/log/postfix-desk") in named, "nothing tells of", untold, told)

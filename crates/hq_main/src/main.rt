@@ -18,19 +18,28 @@ use std::process::ExitCode;
 
 /// Runs the program over the process's input and outputs, its network and logs, and the stores of a
 /// disk. A reply is gathered, and written at once when it is whole.
-fn run<D: Disk + Drop>(rt: &HostRuntime, disk: D) -> io::Result<u8> {
-    let words = words(rt)?;
+fn run_words<'r, D: Disk + Drop>(
+    rt: &'r HostRuntime,
+    disk: D,
+    words: &'r [String],
+) -> io::Result<u8> {
     let mut output = BufWriter::new(rt.alloc(), rt.stdout())?;
     Ok(command(
         rt,
         &mut HostNetwork::new(rt),
         &mut HostLogs::new(rt),
         &mut DiskStores::new(disk),
-        words.as_slice(),
+        words,
         &mut rt.stdin(),
         &mut output,
         &mut rt.stderr(),
     ))
+}
+
+/// Runs the program with the words that the process has.
+fn run<D: Disk + Drop>(rt: &HostRuntime, disk: D) -> io::Result<u8> {
+    let words = words(rt)?;
+    run_words(rt, disk, words.as_slice())
 }
 
 fn main(rt: HostRuntime) -> ExitCode {
