@@ -61,7 +61,7 @@ Status: 2.0.0
 
 --b--
 """
-TABLES = "names", "messages", "journal", "handed", "notices", "mailing", "waiting"
+TABLES = "names", "messages", "journal", "handed", "notices", "mailing", "waiting", "sums"
 IDS = {"acme": "4jbPwk62v8z1bcMh", "dale": "4jbPwk62v8z1bcMk", "dale-2": "4jbPwk62v8z1bcMl"}
 
 

@@ -64,7 +64,8 @@ COUNTED = "{row}.finished = 0 AND NOT {row}.cleaned"
 ADDED = ("INSERT INTO sums VALUES (NEW.customer, 1, NEW.size) ON CONFLICT (customer) DO UPDATE "
          "SET contents = contents + 1, bytes = bytes + excluded.bytes")
 TAKEN_AWAY = ("UPDATE sums SET contents = contents - 1, bytes = bytes - OLD.size "
-              "WHERE customer = OLD.customer")
+              "WHERE customer = OLD.customer; "
+              "DELETE FROM sums WHERE customer = OLD.customer AND contents = 0")
 SUMS = [
     "CREATE TABLE sums (customer TEXT PRIMARY KEY, contents INTEGER NOT NULL, "
     "bytes INTEGER NOT NULL)",
