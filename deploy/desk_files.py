@@ -16,6 +16,7 @@ import http.client
 import io
 import json
 import os
+import re
 import shutil
 import socket
 import subprocess
@@ -41,6 +42,8 @@ ERASED = ["name", "moment"]
 MOMENT = "%Y-%m-%dT%H:%M:%SZ"
 DESKS = ["customer", "desk"]
 LOCK, WHOLE, BESIDE, GONE, TRIAL = ".customers.lock", ".customers.whole", ".customers-new", ".customers-gone", ".customers-trial-"
+# What a desk may be called: its name is part of those of files, of units and of metrics.
+DESK = re.compile(r"[0-9A-Za-z][0-9A-Za-z_-]{0,63}")
 # Tables of this folder that are no directory.
 OTHERS = ("relay", "senders", "dropped", "erased", "desks", "events", "up")
 # In seconds: how long another one may have the lock, and what a command may take.
@@ -167,6 +170,8 @@ class Desk:
 
     def __init__(self, settings: Path):
         self.name, self.folder, self.place = settings.stem, settings.parent, settings
+        if not DESK.fullmatch(self.name):
+            raise Refused(f"{settings}: a desk's name has letters of ASCII, digits, - and _ alone, 64 at most, and no - or _ first")
         if self.name in OTHERS:
             raise Refused(f"{settings}: no desk is called {self.name}, since another file has that name")
         self.written = settings.read_bytes().decode()

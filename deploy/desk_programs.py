@@ -7,7 +7,7 @@ from pathlib import Path
 from typing import List, Optional, Tuple, Union
 
 from desk_apart import run_apart
-from desk_files import LONGEST, Desk, Refused
+from desk_files import DESK, LONGEST, Desk, Refused
 
 # In seconds: what the worker may take, which waits until nobody works by earlier settings.
 LONGEST_ERASING = 300
@@ -92,18 +92,25 @@ def count_again() -> None:
         subprocess.run(["systemctl", "start", "--no-block", "hq-desk-metrics.service"], stdin=subprocess.DEVNULL, check=False)
 
 
-def of_store(scripts: Path, desk: Desk, stores: Path, command: str, what: str, read: str = "") -> Optional[Tuple[int, str]]:
-    """What `desk-store` does with the store of a desk, as the user of the desks, while the desk is away for that moment: its
-    status, and what it prints. `read` is what it reads. None where there is no store."""
-    store = stores / f"{desk.name}.db"
+def stores_in(stores: Path, desks: List[Desk]) -> Tuple[List[str], List[str]]:
+    """The names of all stores: those of the desks, and those whose desk's settings are gone; and the files that can be none's."""
+    known = [it.name for it in desks]
+    others = sorted({it.stem for it in stores.glob("*.db")} - {*known})
+    return [*known, *(it for it in others if DESK.fullmatch(it))], [it for it in others if not DESK.fullmatch(it)]
+
+
+def of_store(scripts: Path, desk: str, stores: Path, command: str, what: str, read: str = "") -> Optional[Tuple[int, str]]:
+    """What `desk-store` does with the store of the desk of this name, as the user of the desks, while the desk is away for that
+    moment: its status, and what it prints. `read` is what it reads. None where there is no store."""
+    store = stores / f"{desk}.db"
     if not os.path.lexists(store):
         return None
     words: List[Union[str, Path]] = [scripts / "desk-store", command, store.absolute(), what]
     if os.geteuid() == 0 and shutil.which("systemctl"):
-        words = [scripts / "desk-restart", desk.name, "--stopped", *(["--input"] if read else []), *words]
+        words = [scripts / "desk-restart", desk, "--stopped", *(["--input"] if read else []), *words]
     # (it takes as long as it takes: who ends it would leave the desk stopped)
     ended = run_apart(words, read)
     if ended.returncode not in (DONE, UNKNOWN, MORE):
         told = " / ".join(ended.stderr.strip().splitlines())
-        raise Refused(f"the store of {desk.name}: {told or f'status {ended.returncode}'}")
+        raise Refused(f"the store of {desk}: {told or f'status {ended.returncode}'}")
     return ended.returncode, ended.stdout.strip()

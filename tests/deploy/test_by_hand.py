@@ -41,6 +41,16 @@ def test_by_hand(place, how, first):
     place.done("add", name, "--desk", "north")
 
 
+@pytest.mark.parametrize("name", ["s.outh", "söuth", "-south", "s" * 65, "events"])
+def test_names_of_desks(place, name):
+    """A desk's name is part of those of files, units and metrics: another one is refused, and nothing changes."""
+    for end in ("env", "key", "csv"):
+        (place.folder / f"south.{end}").rename(place.folder / f"{name}.{end}")
+    before = place.files()
+    ended = place.run("key", "acme")
+    expect(ended.returncode == 1 and name in ended.stderr and place.files() == before, "it ended with", ended)
+
+
 def test_erased_while_the_worker_knows_it(place):
     """The worker has tables without it before it is asked to erase it."""
     (place.bin / "hq-relay").unlink()

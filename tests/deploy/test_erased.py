@@ -3,6 +3,7 @@
 The stores are those of the program. A stand-in of systemctl says that no desk runs; tests/release has desks that do.
 """
 import os
+import re
 import shutil
 import sqlite3
 import subprocess
@@ -153,6 +154,30 @@ def test_a_name_that_went_by_hand(place):
     expect(ended.returncode == 1 and "birch was dropped on 20" in ended.stderr, "its name is given again:", ended)
     place.done("erase", "birch")
     place.done("add", "birch")
+
+
+def test_store_of_a_desk_that_is_gone(place):
+    """A desk whose settings go leaves its store: whoever was in it is erased there too, and what it keeps grows old there."""
+    now = int(time.time())
+    acme, birch = place.filled("acme", now), place.filled("birch", now)
+    place.desk("south", 826, "dogwood,dogwoodkey000001,1000,500000000,1000,100,14400\n")
+    for end in ("", "-wal"):
+        for it in ("south", "north.old"):
+            shutil.copy(place.stores / f"north.db{end}", place.stores / f"{it}.db{end}")
+    for end in ("env", "key", "csv"):
+        (place.folder / f"south.{end}").unlink()
+    place.done("drop", "birch", "--queued")
+    wanted = place.told(acme, now)
+    told = place.done("erase", "birch")
+    expect(all(re.search(rf"^the store of {it}: [1-9][0-9]* rows$", told, re.M) for it in ("north", "south")), "it prints", told)
+    expect("north.old.db: its name is no desk's, so nothing was erased there\n" in told, "of a copy it prints", told)
+    expect({*place.bytes_of("birch")} <= {"north.old.db", "north.old.db-wal"} and place.told(acme, now) == wanted, "left are bytes in", place.bytes_of("birch"))
+    expect("south: 0 notices, 0 of the history\n" in place.done("retain", "90"), "retention passes it by")
+    for end in ("db", "db-wal"):
+        (place.stores / f"south.{end}").unlink(missing_ok=True)
+    (place.stores / "south.db").write_text("none")
+    ended = place.run("erase", "cedar")
+    expect(ended.returncode == 1 and "the store of south: " in ended.stderr, "where it cannot be looked into:", ended, birch)
 
 
 def test_same_firm(place):

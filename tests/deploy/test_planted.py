@@ -269,12 +269,14 @@ def test_counts_planted(folder):
     with open(folder / "from/hq-desk-large.prom", "wb") as file:
         file.truncate(3_000_000)
     (folder / "from/other.prom").write_text(good)
+    (folder / "from/hq-desk-the_second.prom").write_text(good)
     (folder / "to/hq-desk-gone.prom").write_text(good)
     (folder / "to/others.prom").write_text("node_mine 1\n")
     told = shown(folder)
     expect(told.returncode == 1 and told.stderr.count("is not shown") == 6, "it tells", told)
     found = {it.name: it.read_text() for it in (folder / "to").iterdir()}
-    expect(found == {"hq-desk-good.prom": good, "hq-desk-later.prom": good, "others.prom": "node_mine 1\n"}, "shown is", found)
+    wanted = {f"hq-desk-{it}.prom": good for it in ("good", "later", "the_second")}
+    expect(found == {**wanted, "others.prom": "node_mine 1\n"}, "shown is", found)
     ages = [(folder / f"to/hq-desk-{it}.prom").stat() for it in ("good", "later")]
     expect(ages[0].st_mtime == 1000 and ages[1].st_mtime <= time.time() and ages[0].st_mode & 0o777 == 0o644, "they are of", ages)
     (folder / "to").rename(folder / "none")
@@ -289,6 +291,17 @@ def test_counts_planted(folder):
     os.chown(folder / "to", 65534, 65534)
     told = shown(folder)
     expect("is not root's" in told.stderr and not [*(folder / "to").iterdir()], "into a folder of another user's it writes", told)
+
+
+def test_counts_of_no_desk(folder):
+    """No count is left out in silence: what is called as a desk's, and cannot be one's, is told, and whatever is beyond the number."""
+    for it in ("from", "to"):
+        (folder / it).mkdir()
+    for it in ("north", "n.orth"):
+        (folder / f"from/hq-desk-{it}.prom").write_text('desk_up{desk="north"} 1\n')
+    told = shown(folder)
+    expect(told.returncode == 1 and "1 files of" in told.stderr and "'hq-desk-n.orth.prom'" in told.stderr, "it tells", told)
+    expect([it.name for it in (folder / "to").iterdir()] == ["hq-desk-north.prom"], "shown is", [*(folder / "to").iterdir()])
 
 
 def test_counts_have_a_bound(folder):

@@ -47,6 +47,12 @@ def test_postfix(purged, folder):
     expect(not (folder / STAMP).exists() and "senders and recipients" in told, "it tells", told)
 
 
+def test_waiting_mail(purged):
+    """Mail that waits for the worker goes on by the settings of before alone: a purge says which backup it needs, and when."""
+    told = purged({"etc/postfix/desk-deferred": ""})
+    expect("put /etc/hq back from its backup before that, else it bounces" in told, "it tells", told)
+
+
 def test_drop_ins(purged, folder):
     """What the lines of the pages have put beside units of others goes, and an empty folder with it; a file of somebody else's stays."""
     units = "nginx.service", "logrotate.timer", "nftables.service", "postfix.service", "postfix@.service"
