@@ -16,6 +16,8 @@ SCRIPTS = "/usr/libexec/hq-desk"
 STOPS = re.compile(rf"{SCRIPTS}/desk-stop ")
 # What stops and starts the worker.
 OF_WORKER = re.compile(rf"{SCRIPTS}/desk-(?:stop|start) relay$")
+# What works at a store while nobody else does, as the user of the desks.
+RESTORES = f"{SCRIPTS}/desk-restart north --stopped --input "
 PAGE = Path(__file__).resolve().parents[2] / "docs/PROCEDURES.md"
 
 
@@ -49,7 +51,7 @@ class Place:
         # (no worker runs here: tests/relay has what it does)
         self.of_worker = []
         # (the program is called `hq`, as the package has it, and an upgrade writes over it)
-        there = {"/etc/hq": folder, "/var/lib/hqdesk": folder, "/usr/libexec/hq-desk": DEPLOY, "/usr/bin/hq": program,
+        there = {RESTORES: "", "/etc/hq": folder, "/var/lib/hqdesk": folder, "/usr/libexec/hq-desk": DEPLOY, "/usr/bin/hq": program,
                  "apt-get install -y \"${NEW:?}\"": f"install -m 755 \"$NEW\" {program}", "hq-as hqdesk ": "",
                  "hq-as --input hqdesk ": "", " -g hqdesk": "",
                  "hq-customers ": f"{DEPLOY}/hq-customers --folder {folder} --store {folder} "}

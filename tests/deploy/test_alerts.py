@@ -74,10 +74,13 @@ def test_units(folder):
         expect(it in text, "it has no", it)
         text = text.replace(it, str(here))
     # (all is enabled, and one does not run)
-    for name, script in (("systemctl", 'case "$*" in *is-active*postfix@desk*) exit 3 ;; esac'), ("metrics", text)):
+    says = ('case "$*" in *is-active*postfix@desk*) exit 3 ;; '
+            "list-units*) echo 'hq-desk-retain@north.service loaded failed failed Erases'; esac")
+    for name, script in (("systemctl", says), ("metrics", text)):
         (folder / name).write_text(script if script.startswith("#!") else f"#!/bin/sh\n{script}\n")
         (folder / name).chmod(0o755)
     subprocess.run([folder / "metrics", folder], env={"PATH": f"{folder}:/usr/bin:/bin"}, check=True, timeout=LONGEST)
     told = (folder / "hq-desk-up.prom").read_text()
     for unit, is_up in (("nginx", 1), ("postfix", 1), ("postfix@desk", 0), ("postfix@the\\\\x2ddesk", 1)):
         expect(f'desk_unit_up{{unit="{unit}.service"}} {is_up}\n' in told, unit, "is told so:", told)
+    expect('desk_unit_failed{unit="hq-desk-retain@north.service"} 1\n' in told, "of what failed it is told:", told)

@@ -274,6 +274,17 @@ def test_restored(place):
     expect(place.told(key, now) == its, "the new one is told", place.told(key, now))
 
 
+def test_restored_by_a_clock_ahead(place):
+    """A row of erased.csv that is still to come, of a clock that ran ahead, erases nobody: it is refused by its name."""
+    now = int(time.time())
+    wanted = place.told(place.filled("acme", now), now)
+    ahead = time.strftime("%Y-%m-%dT%H:%M:%SZ", time.gmtime(now + DAY))
+    (place.folder / "erased.csv").write_text(f"name,moment\nacme,{ahead}\n")
+    ended = place.run("erase-again", "north")
+    expect(ended.returncode == 1 and f"ahead of the clock: acme at {ahead}" in ended.stderr, "it ended with", ended)
+    expect(place.told("acmekey000000001", now) == wanted, "acme is told", place.told("acmekey000000001", now))
+
+
 def test_restored_without_rows_of_a_day(place):
     """So is one of whom a store of before has rows without a moment alone; a copy that is said to be newer goes by its rows."""
     now = int(time.time())

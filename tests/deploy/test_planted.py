@@ -18,7 +18,7 @@ import needs
 import pytest
 from deploying import DEPLOY, HEADER, OTHERS, ROWS, all_settings_of
 from serving import LONGEST, RELAY, batch_line, expect, submission
-from steps import SCRIPTS, lines_of, scripts_in
+from steps import RESTORES, SCRIPTS, lines_of, scripts_in
 
 USER, GROUP = "nobody", "nogroup"
 SECRET, KEPT = "a secret of root's", "a file of root's"
@@ -79,7 +79,7 @@ class Service:
         if "desk-stop" in line or "desk-start" in line:
             return 0
         line = line.replace(f"{SCRIPTS}/desk-backup", str(self.scripts / "desk-backup"))
-        for it, here in (("hq-as --input hqdesk", f"{DEPLOY}/hq-as --input {USER}"), ("hq-as hqdesk", f"{DEPLOY}/hq-as {USER}"),
+        for it, here in ((RESTORES, "hq-as --input hqdesk "), ("hq-as --input hqdesk", f"{DEPLOY}/hq-as --input {USER}"), ("hq-as hqdesk", f"{DEPLOY}/hq-as {USER}"),
                          ("-init /dev/null ", ""), ("-g hqdesk", f"-g {GROUP}"), ("/etc/hq", self.etc),
                          ("/var/lib/hqdesk", self.own), ("/usr/libexec/hq-desk", DEPLOY)):
             line = line.replace(it, str(here))
@@ -141,8 +141,8 @@ def test_restored_elsewhere(service):
         service.step(it, BACKUP=str(service.backup))
     wanted = {it.name: it.read_bytes() for it in service.own.iterdir()}
     service.as_service("sh", "-c", f"rm {service.own}/north.db*")
-    lines = [it for it in lines_of("Restore") if it.startswith(("tar ", "hq-as hqdesk ", "hq-as --input hqdesk "))]
-    expect(len(lines) == 4, "the lines are", lines)
+    lines = [it for it in lines_of("Restore") if it.startswith(("tar ", RESTORES))]
+    expect(len(lines) == 2, "the lines are", lines)
     for it in lines:
         expect(service.step(it, BACKUP=str(service.backup)) == 0, "it fails:", it)
     expect({it.name: it.read_bytes() for it in service.own.iterdir()} == wanted, "it is another store")

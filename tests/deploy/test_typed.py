@@ -54,10 +54,10 @@ def test_copies_are_on_the_disk(folder, is_synced):
 
 
 def test_a_restore_is_on_the_disk():
-    """The lines of Restore sync what they write before they let anybody serve it."""
-    lines = lines_of("Restore")
-    written = next(at for at, it in enumerate(lines) if "tar -x" in it)
-    expect("sync /var/lib/hqdesk/north.db* /var/lib/hqdesk" in lines[written + 1], "the lines are", lines)
+    """The line of Restore that writes holds the lock of the store, and syncs before it lets anybody else open it."""
+    line, = (it for it in lines_of("Restore") if "tar -x" in it)
+    expect(line.startswith("/usr/libexec/hq-desk/desk-restart north --stopped --input sh -c "), "the line is", line)
+    expect(re.search(r"rm -f north\.db\* && tar -x -p && sync north\.db\* \.' <", line), "the line is", line)
 
 
 def test_postfix_waits_for_the_clock(folder):
