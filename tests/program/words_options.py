@@ -5,7 +5,8 @@ from pathlib import Path
 
 from help_texts import (BATCH_HELP, CHECK_HELP, DELETE_HELP, HELP, HISTORY_HELP, HOLD_HELP, IMPORT_HELP, MIGRATE_HELP,
                         QUEUE_HELP, RELEASE_HELP, SERVE_HELP, SWEEP_HELP, USAGE_HELP)
-from words_runs import CHECK, HOST, IMPORT, MIGRATE, MOVE, QUEUE, SWEEP, SWEEP_ALL, USAGE, asked, batch, check, serve
+from words_runs import (CHECK, HOST, IMPORT, MIGRATE, MOVE, QUEUE, SWEEP, SWEEP_ALL, USAGE, asked, batch, check, errors_are_full,
+                        output_is_full, serve)
 
 NEEDED = [("--directory", "<FILE>"), ("--host", "<HOST>")]
 ALL_NEEDED = "--directory <FILE> --host <HOST>"
@@ -148,5 +149,17 @@ def patterns_are_refused(runs):
         valueless(runs, [*asked(word, given), "--sender"], "--sender", "<PATTERN>")
 
 
+def what_cannot_be_told(runs):
+    """A word that is no text; a text that cannot be shown; and where nothing can be told, the status tells it alone."""
+    for words in ([b"batch\xff"], ["batch", "--store", b"\xff"]):
+        runs.expect(words, 2, b"", b"hq: a word is not UTF-8\n")
+        errors_are_full(runs, words, 2)
+    for words in (["--help"], ["serve", "--help"], ["--version"]):
+        output_is_full(runs, words, b"hq: output\n")
+    errors_are_full(runs, ["customers"], 2)
+    errors_are_full(runs, ["batch"], 2)
+    errors_are_full(runs, batch("none.csv"), 1)
+
+
 PARTS = [help_is_shown, version_is_shown, words_are_refused, batch_words_are_refused, server_words_are_refused,
-         administrators_words_are_refused, patterns_are_refused]
+         administrators_words_are_refused, patterns_are_refused, what_cannot_be_told]

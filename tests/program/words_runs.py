@@ -86,3 +86,14 @@ def output_is_full(runs, words, errors):
     if (ended.returncode, ended.stderr) != (1, errors):
         raise Wrong(words, "with a full output gave", ended.returncode, ended.stderr, "and not", (1, errors))
     runs.count += 1
+
+
+def errors_are_full(runs, words, status):
+    """Where standard error takes nothing, nothing is told, and the status is the same."""
+    with open("/dev/full", "wb") as full:
+        ended = subprocess.run(
+            [runs.program, *words], stdin=subprocess.DEVNULL, stdout=subprocess.PIPE, stderr=full, cwd=runs.folder, timeout=LONGEST
+        )
+    if (ended.returncode, ended.stdout) != (status, b""):
+        raise Wrong(words, "with full errors gave", ended.returncode, ended.stdout, "and not", (status, b""))
+    runs.count += 1

@@ -49,8 +49,41 @@ DIRECTORIES = [
     (HEADER + "".join(f"c{it},customerkey{it:05},1,1,1,1,0\n" for it in range(1001)), "53 BadDirectory row 1001", ": more than 1000 rows"),
 ]
 
+# The relay's name, its key, the rows of a directory, and what is told first.
+FIRST = [
+    ("", "", "", "56 BadHost"),
+    ("a..b", "relaykey00000001", ACME, "56 BadHost"),
+    (HOST, "", "", "57 BadRelayKey"),
+    (HOST, "relaykey0000000", "x\n", "57 BadRelayKey"),
+    (HOST, "relay-key-000001", ACME, "57 BadRelayKey"),
+    (HOST, "acmekey000000001", "", "53 BadDirectory row 0"),
+    (HOST, "acmekey000000001", "x\n", "53 BadDirectory row 1"),
+    (HOST, "acmekey000000001", ACME + ACME, "54 DoubledName row 2"),
+    (HOST, "acmekey000000001", ACME + "birch,acmekey000000001,2,10000,10,5,0\n", "55 DoubledKey row 2"),
+    (HOST, "acmekey000000001", ACME, "57 BadRelayKey"),
+    (HOST, "relaykey00000001", ACME, None),
+]
+
+# What stands in the file of a key that is none.
+NO_KEYS = ["", "\n", "\r\n", "short\n", f"{KEY}\r", f"{KEY}\n\n", f"{KEY}\r\r\n", f"{KEY}\n\r", f"{KEY}\n{KEY}\n", f"{KEY}\n# the key\n",
+           f"\n{KEY}", f"\n{KEY}\n", f" {KEY}", f" {KEY}\n", f"{KEY} \n", f"\ufeff{KEY}\n", "k" * 65, f"{KEY}\n" * 20000]
+
 
 # ---- what is refused
+
+def first_refusals(runs):
+    """The relay's name, the form of its key, the directory, and the relay's key beside the customers'; by key and by file."""
+    for host, key, rows, told in FIRST:
+        (runs.folder / "refused.csv").write_text(HEADER + rows)
+        (runs.folder / "relay.key").write_text(f"{key}\n")
+        begun, listening = (0, LISTED), (1, b"", b"hq: network\n")
+        refused = (1, b"", f"hq: {told}\n".encode())
+        for given in ({"key": key}, {"key_file": "relay.key"}):
+            runs.expect(batch("refused.csv", host, **given), *(refused if told else begun))
+            runs.expect(serve("refused.csv", host, **given), *(refused if told else listening))
+    for given in (["--relay-key", KEY], ["--relay-key-file", "relay.key"]):
+        runs.expect(check("refused.csv", HOST, *given), 0, b"1 customer\n")
+
 
 def checks_come_in_order(runs):
     """Relay's name, its key, directory, its key against it, store; and of a server then its address, which is none here."""
@@ -90,8 +123,7 @@ def keys_stand_in_files(runs):
         runs.expect(words("none.csv", "", key_file="none"), 1, b"", b"hq: 56 BadHost\n")
         for unread in ("none", ".", "customers.csv/none"):
             runs.expect(words("none.csv", key_file=unread), 1, b"", b"hq: file\n")
-        for text in ("", "\n", "short\n", f"{KEY}\n\n", f"{KEY}\r", f"{KEY} \n", f" {KEY}", f"{KEY}\n{KEY}\n", f"\n{KEY}",
-                     f"\ufeff{KEY}\n", "k" * 65, f"{KEY}\n" * 20000):
+        for text in NO_KEYS:
             (runs.folder / "relay.key").write_bytes(text.encode())
             runs.expect(words("none.csv", key_file="relay.key"), 1, b"", b"hq: 57 BadRelayKey\n")
         (runs.folder / "relay.key").write_bytes(b"relaykey0000000\xff\n")
@@ -179,5 +211,6 @@ def batches_are_served(runs):
 
 
 # (nothing of these makes a store)
-REFUSED = [checks_come_in_order, directories_are_refused, keys_stand_in_files, checks_are_those_of_a_start, addresses_are_refused]
+REFUSED = [checks_come_in_order, first_refusals, directories_are_refused, keys_stand_in_files, checks_are_those_of_a_start,
+           addresses_are_refused]
 SERVED = [stores_are_opened_before_the_address, batches_are_served]

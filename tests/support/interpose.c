@@ -1,15 +1,21 @@
 // A library to be loaded before the C library's functions (LD_PRELOAD), which makes one call fail.
 //
 // STOP_AT=N ends the process, with status 77, at its N-th call that writes, syncs or cuts a file; with STOP_HALF=1 a
-// write at that call writes its first half before. FAIL_AT=N answers "no space on the disk" at that call, and does nothing.
+// write at that call writes its first half before. FAIL_AT=N answers "no space on the disk" at that call, and does nothing;
+// FAIL_FROM=N at that call and each behind it. READ_FAILS_AT=N answers "input/output error" at the N-th call that reads a
+// store, and READ_FAILS_FROM=N from that one on.
 // POWER_GOES=M has the power go with that end: of each file, what was written or cut since its last sync is gone; with an M
 // that is not 0 a part of these calls is kept, each by a bit drawn from M. SYNCS_LIE=1 has syncs answer well and keep nothing.
 // REFUSE_AT=N answers "no memory" at its N-th request for memory, and REFUSE_EACH=N at each N-th.
 // ACCEPT_FAILS_AT=N answers "too many open files" in place of the N-th connection accepted, and CLOCK_AT=S has the clock tell
 // S seconds since 1970, at all times; how long something takes is not told by that clock.
 // SYNC_TAKES=MS has each sync of a file take so many milliseconds more.
-// CALLS=PATH has three counts written to that file when the process ends by itself: of those calls, of the syncs among
-// them, and of the requests.
+// The rest is of standard input and standard output; or, with SOCKETS=1, of sockets. READ_MOST=N has a read give N bytes at
+// most, and WRITE_MOST=N a write take as many. FLICKERS=1 interrupts each other read and write, from the first on, and
+// INTERRUPTS=N the first N reads. INPUT_FAILS_AT=N answers "input/output error" at the N-th read and each behind it.
+// OUTPUT_TAKES=N answers so at each write when N bytes were written, and OUTPUT_FILLS=N answers then that none was taken.
+// CALLS=PATH has six counts written to that file when the process ends by itself: of the calls of files, of the syncs among
+// them, of the requests for memory, of the calls that read a store; and of these reads and writes.
 #define _GNU_SOURCE
 #include <dlfcn.h>
 #include <errno.h>
@@ -23,8 +29,9 @@
 #include <time.h>
 #include <unistd.h>
 
-static long calls, syncs, requests, accepted, stop_at, fail_at, refuse_at, refuse_each, accept_fails_at;
-static int half, has_power_cut, syncs_lie;
+static long calls, syncs, requests, accepted, stop_at, fail_at, fail_from, refuse_at, refuse_each, accept_fails_at;
+static long file_reads, read_fails_at, read_fails_from, reads, writes, read_most, write_most, interrupts, input_fails_at, room;
+static int half, has_power_cut, syncs_lie, flickers, has_room, has_error, of_sockets, read_turns, write_turns;
 static unsigned long power;
 
 static long number(const char *name) {
@@ -35,6 +42,9 @@ static long number(const char *name) {
 __attribute__((constructor)) static void begin(void) {
   stop_at = number("STOP_AT");
   fail_at = number("FAIL_AT");
+  fail_from = number("FAIL_FROM");
+  read_fails_at = number("READ_FAILS_AT");
+  read_fails_from = number("READ_FAILS_FROM");
   refuse_at = number("REFUSE_AT");
   refuse_each = number("REFUSE_EACH");
   accept_fails_at = number("ACCEPT_FAILS_AT");
@@ -42,15 +52,24 @@ __attribute__((constructor)) static void begin(void) {
   has_power_cut = getenv("POWER_GOES") != NULL;
   power = (unsigned long)number("POWER_GOES");
   syncs_lie = getenv("SYNCS_LIE") != NULL;
-  calls = syncs = requests = accepted = 0;
+  read_most = number("READ_MOST");
+  write_most = number("WRITE_MOST");
+  interrupts = number("INTERRUPTS");
+  input_fails_at = number("INPUT_FAILS_AT");
+  flickers = getenv("FLICKERS") != NULL;
+  of_sockets = getenv("SOCKETS") != NULL;
+  has_error = getenv("OUTPUT_TAKES") != NULL;
+  has_room = has_error || getenv("OUTPUT_FILLS");
+  room = number(has_error ? "OUTPUT_TAKES" : "OUTPUT_FILLS");
+  calls = syncs = requests = accepted = file_reads = reads = writes = 0;
 }
 
 __attribute__((destructor)) static void end(void) {
   const char *path = getenv("CALLS");
   int file = path ? open(path, O_WRONLY | O_CREAT | O_TRUNC, 0600) : -1;
-  char text[64];
+  char text[160];
   if (file >= 0) {
-    int length = snprintf(text, sizeof text, "%ld %ld %ld\n", calls, syncs, requests);
+    int length = snprintf(text, sizeof text, "%ld %ld %ld %ld %ld %ld\n", calls, syncs, requests, file_reads, reads, writes);
     if (write(file, text, (size_t)length) != length) _exit(78);
     close(file);
   }
@@ -61,6 +80,12 @@ __attribute__((destructor)) static void end(void) {
 static ssize_t real_write(int file, const void *bytes, size_t size, off64_t at) {
   static ssize_t (*real)(int, const void *, size_t, off64_t);
   if (!real) real = (ssize_t(*)(int, const void *, size_t, off64_t))dlsym(RTLD_NEXT, "pwrite64");
+  return real(file, bytes, size, at);
+}
+
+static ssize_t real_read(int file, void *bytes, size_t size, off64_t at) {
+  static ssize_t (*real)(int, void *, size_t, off64_t);
+  if (!real) real = (ssize_t(*)(int, void *, size_t, off64_t))dlsym(RTLD_NEXT, "pread64");
   return real(file, bytes, size, at);
 }
 
@@ -100,7 +125,7 @@ static void note(int file, const void *bytes, size_t size, off64_t at) {
   if (end > at) it->had = (size_t)(end - at);
   it->before = copied(NULL, it->had);
   if (bytes) it->bytes = copied(bytes, size);
-  if (pread(file, it->before, it->had, at) != (ssize_t)it->had) _exit(78);
+  if (real_read(file, it->before, it->had, at) != (ssize_t)it->had) _exit(78);
 }
 
 static void forget_changes(int file) {
@@ -140,10 +165,19 @@ static int is_stop(void) { return ++calls == stop_at; }
 
 // of the call that was counted last
 static int fails(void) {
-  if (calls != fail_at) return 0;
+  if (calls != fail_at && !(fail_from && calls >= fail_from)) return 0;
   errno = ENOSPC;
   return 1;
 }
+
+ssize_t pread64(int file, void *bytes, size_t size, off64_t at) {
+  file_reads++;
+  if (file_reads != read_fails_at && !(read_fails_from && file_reads >= read_fails_from)) return real_read(file, bytes, size, at);
+  errno = EIO;
+  return -1;
+}
+
+ssize_t pread(int file, void *bytes, size_t size, off_t at) { return pread64(file, bytes, size, at); }
 
 ssize_t pwrite64(int file, const void *bytes, size_t size, off64_t at) {
   if (is_stop()) {
@@ -191,6 +225,64 @@ int ftruncate64(int file, off64_t size) {
 }
 
 int ftruncate(int file, off_t size) { return ftruncate64(file, size); }
+
+// ---- standard input and standard output, or sockets
+
+static size_t least(size_t size, long most) { return most && size > (size_t)most ? (size_t)most : size; }
+
+// Counts a read, and answers whether it is to be made.
+static int is_read(void) {
+  reads++;
+  int is_interrupted = reads <= interrupts || (flickers && ++read_turns % 2);
+  errno = is_interrupted ? EINTR : EIO;
+  return !is_interrupted && !(input_fails_at && reads >= input_fails_at);
+}
+
+ssize_t read(int file, void *bytes, size_t size) {
+  static ssize_t (*real)(int, void *, size_t);
+  if (!real) real = (ssize_t(*)(int, void *, size_t))dlsym(RTLD_NEXT, "read");
+  if (file || of_sockets) return real(file, bytes, size);
+  return is_read() ? real(file, bytes, least(size, read_most)) : -1;
+}
+
+ssize_t recv(int file, void *bytes, size_t size, int flags) {
+  static ssize_t (*real)(int, void *, size_t, int);
+  if (!real) real = (ssize_t(*)(int, void *, size_t, int))dlsym(RTLD_NEXT, "recv");
+  if (!of_sockets) return real(file, bytes, size, flags);
+  return is_read() ? real(file, bytes, least(size, read_most), flags) : -1;
+}
+
+// Counts a write of some bytes, and leaves of them those that are to be written; answers 0 where it is to be made.
+static int write_fault(size_t *size) {
+  writes++;
+  if (flickers && ++write_turns % 2) return EINTR;
+  if (has_room && !room && has_error) return EIO;
+  *size = has_room && !room ? 0 : least(least(*size, write_most), room);
+  room -= has_room ? (long)*size : 0;
+  return 0;
+}
+
+ssize_t write(int file, const void *bytes, size_t size) {
+  static ssize_t (*real)(int, const void *, size_t);
+  if (!real) real = (ssize_t(*)(int, const void *, size_t))dlsym(RTLD_NEXT, "write");
+  if (file != 1 || of_sockets) return real(file, bytes, size);
+  int fault = write_fault(&size);
+  if (!fault) return size ? real(file, bytes, size) : 0;
+  errno = fault;
+  return -1;
+}
+
+ssize_t send(int file, const void *bytes, size_t size, int flags) {
+  static ssize_t (*real)(int, const void *, size_t, int);
+  if (!real) real = (ssize_t(*)(int, const void *, size_t, int))dlsym(RTLD_NEXT, "send");
+  if (!of_sockets) return real(file, bytes, size, flags);
+  int fault = write_fault(&size);
+  if (!fault) return size ? real(file, bytes, size, flags) : 0;
+  errno = fault;
+  return -1;
+}
+
+// ---- memory, the network and the clock
 
 static int is_refused(void) {
   requests++;

@@ -19,7 +19,7 @@ birch,birchkey00000001,100,1000000,100,10,0
 # No single wait takes longer, in seconds.
 LONGEST = 120
 PHRASES = {200: "OK", 400: "Bad Request", 401: "Unauthorized", 403: "Forbidden", 404: "Not Found", 405: "Method Not Allowed",
-           413: "Payload Too Large"}
+           413: "Payload Too Large", 503: "Service Unavailable"}
 
 
 class Wrong(Exception):

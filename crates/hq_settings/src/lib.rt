@@ -19,11 +19,7 @@ mod relay;
 mod relay_words;
 mod setting_up;
 mod settings;
-#[cfg(test)]
-mod tests;
 mod trouble;
-#[cfg(test)]
-mod words_tests;
 
 pub use builtin::settings as builtin_settings;
 pub use checking::{count_customers, relay_given};

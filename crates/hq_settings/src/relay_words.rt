@@ -47,7 +47,7 @@ fn key_text(key: &[u8]) -> &str
 }
 
 /// The relay of this name, and of the key on the one line of a file.
-pub(crate) fn relay_with(alloc: Global, host: &str, file: &[u8]) -> Result<Relay, Fail>
+fn relay_with(alloc: Global, host: &str, file: &[u8]) -> Result<Relay, Fail>
     ensures { Reads (seen_by relay_seen result) (relay_in host.now (key_line file.now)) }
 {
     let key = key_text(key_line(file));
