@@ -1,1 +1,2 @@
+mod Folded
 pub mod Given

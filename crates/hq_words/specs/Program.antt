@@ -5,6 +5,9 @@ use Rattle.clap.specs.Simple.{App, Shape, new_app, new_rule, new_shape, with_sub
 use Rattle.clap.specs.Walk.{Rule, Text}
 use Rattle.clap.specs.declared.builder.value_parser.ValueParser.TheVariants.{Unsigned}
 use Rattle.hq_values.specs.Moments.{last_moment}
+use Rattle.hq_words.specs.declared.table.Takes.{Takes}
+use Rattle.hq_words.specs.declared.table.Takes.TheVariants.{Needed, Optional, TextOr, Count}
+use Rattle.hq_words.specs.declared.table.Takes.TheVariants.{Seconds, Moment}
 
 -- an option `--NAME` with one value
 abbrev pub option_rule : Text → Bool → Rule
@@ -26,13 +29,22 @@ default_rule name value = record (option_rule name false) { defaults = value ∷
 abbrev pub number_rule : Text → Text → ℕ → Rule
 number_rule name value most = record (default_rule name value) { parser = Some (Unsigned 1 most) }
 
--- the option `--at`, asked for: a number, up to the last second of the year 2099
-abbrev pub moment_rule : Rule
-moment_rule = record (needed (codes "at")) { parser = Some (Unsigned 0 last_moment) }
+-- an option of a moment, asked for: a number, up to the last second of the year 2099
+abbrev pub moment_rule : Text → Rule
+moment_rule name = record (needed name) { parser = Some (Unsigned 0 last_moment) }
 
 -- an option that may be left out
 abbrev pub optional : Text → Rule
 optional name = option_rule name false
+
+-- what an option of this name takes
+abbrev pub rule_for : Text → Takes → Rule
+rule_for name Needed = needed name
+rule_for name Optional = optional name
+rule_for name (TextOr text) = default_rule name text.now
+rule_for name Count = number_rule name (codes "1000000") 1000000
+rule_for name Seconds = number_rule name (codes "30") 3600
+rule_for name Moment = moment_rule name
 
 -- a word with options
 abbrev pub word_shape : Text → List Rule → Shape
@@ -76,7 +88,7 @@ moving_shape name = word_shape name
     (needed (codes "directory") ∷ needed (codes "store") ∷ needed (codes "customer")
     ∷ optional (codes "sender")
     ∷ optional (codes "recipient")
-    ∷ moment_rule ∷ [])
+    ∷ moment_rule (codes "at") ∷ [])
 
 abbrev pub queue_shape : Shape
 queue_shape = telling_shape (codes "queue")
@@ -106,7 +118,7 @@ abbrev pub sweep_shape : Shape
 sweep_shape = word_shape (codes "sweep")
     (needed (codes "directory") ∷ needed (codes "host") ∷ needed (codes "store")
     ∷ optional (codes "customer")
-    ∷ moment_rule ∷ [])
+    ∷ moment_rule (codes "at") ∷ [])
 
 abbrev pub migrate_shape : Shape
 migrate_shape = word_shape (codes "migrate") (needed (codes "store") ∷ [])

@@ -5,6 +5,7 @@
 mod command;
 mod options;
 mod selecting;
+mod table;
 mod texts;
 mod words;
 
