@@ -10,13 +10,10 @@ from model import Customer, Script, import_of
 from serving import HEADER, Wrong, words
 
 ROOT = os.path.dirname(os.path.dirname(os.path.abspath(__file__)))
-FAILING = os.path.join(ROOT, "crates", "hq_failing", "out", "hq_failing")
-# the number of a call that is never made
-NEVER = "1000000000"
 DESK = os.path.join(ROOT, "crates", "hq_main", "out", "hq_main")
 REPETITIONS = 15
 # messages of the neighbours together, where stores are compared; the calls of a round, and the rounds
-FEW, MANY, MANY_IN_LISTS = 100, 10000, 1000
+FEW, MANY = 100, 10000
 ROUND, ROUNDS = 100, 10
 # the calls of a round where each one is of hundreds of messages
 FEW_CALLS = 4
@@ -130,11 +127,6 @@ def desk_words(path, store=None):
     return words(DESK, "batch", store, directory=path)
 
 
-def list_words(path):
-    """The words by which they are served over plain lists."""
-    return [FAILING, path, "lists", "once", NEVER]
-
-
 def measured_directory(folder):
     """A directory of eleven customers, each with room for 1,000 messages."""
     path = os.path.join(folder, "measured")
@@ -170,12 +162,11 @@ def say_stores():
     print("  store    call               few      many        few      many    ratio    with many")
     with tempfile.TemporaryDirectory() as folder:
         path = measured_directory(folder)
-        for store, asked, many in (
-            ("lists", lambda count: list_words(path), MANY_IN_LISTS),
-            ("memory", lambda count: desk_words(path), MANY),
-            ("file", lambda count: desk_words(path, os.path.join(folder, f"store-{count}")), MANY),
+        for store, asked in (
+            ("memory", lambda count: desk_words(path)),
+            ("file", lambda count: desk_words(path, os.path.join(folder, f"store-{count}"))),
         ):
-            with_few, with_many = (microseconds_over(asked(count), count) for count in (FEW, many))
+            with_few, with_many = (microseconds_over(asked(count), count) for count in (FEW, MANY))
             for kind, (clock, busy) in with_few.items():
                 slow, slow_busy = with_many[kind]
                 print(f"  {store:<8} {kind:<15} {clock:>8.1f} {slow:>9.1f} {busy:>10.1f} {slow_busy:>9.1f}"

@@ -9,7 +9,6 @@ sys.dont_write_bytecode = True
 CRATES = Path(__file__).resolve().parent.parent / "crates"
 # Each program that tests run, where it was built, and what it is.
 PROGRAMS = {"program": ("hq_main/out/hq_main", "the desk"),
-            "failing": ("hq_failing/out/hq_failing", "a batch over a store that fails"),
             "shelf-tests": ("hq_sql_tests/out/hq_sql_tests_tests", "the tests of crates/hq_sql_tests")}
 
 
@@ -29,11 +28,6 @@ def built(request, name):
 def program(request):
     """The desk."""
     return built(request, "--program")
-
-
-@pytest.fixture(scope="session")
-def failing(request):
-    return built(request, "--failing")
 
 
 @pytest.fixture(scope="session")

@@ -1,11 +1,11 @@
 """Random lines over each store.
 
-PROGRAM is that of crates/hq_main. FAILING is that of crates/hq_failing, by which no call fails here, over plain lists.
-20,000 lines of five customers and of the relay are made from a seed while PROGRAM replies to them over a store in memory:
-calls of each kind, on what is there and on what is not, and lines that are refused. They are replied to again over plain
-lists, and over a file that is closed and opened again nine times:
+20,000 lines of some customers and of the relay are made from a seed while the program replies to them over a store in memory:
+calls of each kind, on what is there and on what is not, and lines that are refused. They are lines of five customers with room
+for much, and others of the two built-in customers, who have room for little. They are replied to again over a file that is
+closed and opened again nine times, and those of the built-in customers over plain lists too:
 
-1. All three tell the same, byte for byte.
+1. All these tell the same, byte for byte.
 2. The lines of one customer alone, those of the relay for it among them, are told the same as among all the others'.
 3. Each kind of call was answered 200, and each refusal that such lines can meet was told. The same seed makes the same lines on
 one version of Python.
@@ -15,13 +15,14 @@ import random
 import re
 import subprocess
 
-from serving import HEADER, LONGEST, RELAY, Wrong, words
+import pytest
+from serving import ACME, BIRCH, HEADER, LONGEST, RELAY, Wrong, words
+from stores_files import DIRECTORY
 
 START = 1767225600
-# the number of a call that is never made
-NEVER = "1000000000"
-# each has room for 1,000 messages
-CUSTOMERS = {"acme": "acmekey000000001", **{f"birch{it}": f"birchkey{it:08}" for it in range(2, 6)}}
+# The customers of a run: each of five has room for 1,000 messages, and the built-in ones for 2 and for 100.
+FIVE = {"acme": ACME, **{f"birch{it}": f"birchkey{it:08}" for it in range(2, 6)}}
+BUILT_IN = {"acme": ACME, "birch": BIRCH}
 SENDERS = ["", "ann@a.example", "Ann+news@b.a.example", "eve@c.example"]
 ADDRESSES = ["p@far.example", "P@FAR.example", "q@far.example", "r+s@near.example", "t@near.example", "u@x.near.example"]
 PATTERNS = ["ann@", ".c.example", "eve@c.example", "q@far.example", "r@near.example", ".near.example", "t@", "<>"]
@@ -41,7 +42,8 @@ BAD = [
     ("POST", "/v1/line-put", '{"class":"sender","pattern":"a.example","action":"BOUNCE"}'),
     ("POST", "/v1/import", '{"label":"a b","csv":""}'),
 ]
-# The refusals of random lines: all but those of quotas, of what is spent, of directories and of the longest bodies.
+# The refusals of random lines: all but those of what is spent, of directories and of the longest bodies; and those of quotas.
+QUOTAS = {40, 41, 42}
 REFUSALS = {1, 2, 3, 4, 5, 7, 8, 10, 11, 12, 13, 20, 23, 24, 25, 26, 27, 28, 30, 31, 32, 33, 50, 51, 52}
 
 
@@ -68,11 +70,11 @@ class Desk:
 class Lines:
     """Random lines and their replies, each with the customer that it asks for, if any, and its kind."""
 
-    def __init__(self, seed, desk):
-        self.random, self.desk, self.at = random.Random(seed), desk, START
+    def __init__(self, seed, desk, customers):
+        self.random, self.desk, self.customers, self.at = random.Random(seed), desk, customers, START
         self.made, self.told = [], []
         # for each customer its queue IDs, each with the recipients that it was told for
-        self.queued = {customer: {} for customer in CUSTOMERS}
+        self.queued = {customer: {} for customer in customers}
 
     def tell(self, kind, customer, line):
         reply = self.desk.ask(line)
@@ -84,7 +86,7 @@ class Lines:
         return self.tell(kind, customer, f"{self.at} {method} {path} {key} {body}".rstrip(" ").encode())
 
     def own(self, kind, customer, method, path, body=None):
-        return self.add(kind, customer, method, path, CUSTOMERS[customer], "" if body is None else json.dumps(body))
+        return self.add(kind, customer, method, path, self.customers[customer], "" if body is None else json.dumps(body))
 
     def relay(self, kind, customer, body=None):
         body = "" if body is None else json.dumps(body)
@@ -140,8 +142,9 @@ class Lines:
 
     def bad(self, customer):
         method, path, body = self.one(BAD)
-        key = self.one([CUSTOMERS[customer]] * 3 + [RELAY, "-", "nobodyskey000001"])
-        self.add("bad", customer if key == CUSTOMERS[customer] else None, method, path, key, body)
+        own = self.customers[customer]
+        key = self.one([own] * 3 + [RELAY, "-", "nobodyskey000001"])
+        self.add("bad", customer if key == own else None, method, path, key, body)
 
     def no_line(self, customer):
         line = self.one([b"x", b"1 2 3", b"99999999999 GET /v1/messages -", b"\xff GET / -", b"1767225600  GET / -"])
@@ -191,16 +194,14 @@ class Lines:
         asked = self.random.choices([it for it, _ in kinds], [weight for _, weight in kinds], k=count)
         for ask in asked:
             self.at += self.one([0, 0, 1, 10, 300, 1000])
-            ask(self.one([*CUSTOMERS]))
+            ask(self.one([*self.customers]))
 
 
 def replies_of(asked, lines):
     """The replies of a run over these lines, one for each."""
     ended = subprocess.run(asked, input=b"".join(it + b"\n" for it in lines), capture_output=True, timeout=1800)
     told = ended.stdout.split(b"\n")[:-1]
-    # (hq_failing tells how many calls of its store there were)
-    told_besides = re.sub(rb"^\d+ calls\n$", b"", ended.stderr)
-    if (ended.returncode, told_besides, len(told)) != (0, b"", len(lines)):
+    if (ended.returncode, ended.stderr, len(told)) != (0, b"", len(lines)):
         raise Wrong(asked, ended.returncode, ended.stderr, f"{len(lines)} lines", f"{len(told)} replies")
     return told
 
@@ -222,29 +223,46 @@ def over_file(program, directory, store, lines, pieces=10):
     return [reply for part in parts for reply in replies_of(batch(program, directory, store), part)]
 
 
-def expect_of_each_kind(made, told):
+def expect_of_each_kind(made, told, refusals):
     """That the lines were no idle ones."""
     answered = {kind for (kind, _, _), reply in zip(made, told) if reply.startswith(b"200 ")}
     kinds = {kind for kind, _, _ in made} - {"bad", "no line"}
     refused = {int(it) for reply in told for it in re.findall(rb'^[45]\d\d .*"error":(\d+)', reply)}
-    if not answered >= kinds or not refused >= REFUSALS:
-        raise Wrong(f"never answered: {sorted(kinds - answered)}; never refused: {sorted(REFUSALS - refused)}")
+    if not answered >= kinds or not refused >= refusals:
+        raise Wrong(f"never answered: {sorted(kinds - answered)}; never refused: {sorted(refusals - refused)}")
 
 
-def test_soak(program, failing, folder, seed=1, count=20000):
-    """Random lines over each store are told the same, and those of each customer alone."""
-    directory, store = folder / "directory", folder / "store"
-    rows = "".join(f"{name},{key},1000,1000000000,5000,1000,0\n" for name, key in CUSTOMERS.items())
-    directory.write_text(HEADER + rows)
+@pytest.fixture
+def five(folder):
+    """The directory of five customers."""
+    rows = "".join(f"{name},{key},1000,1000000000,5000,1000,0\n" for name, key in FIVE.items())
+    (folder / "directory").write_text(HEADER + rows)
+    return folder / "directory"
+
+
+def soak(program, folder, directory, customers, seed=1, count=20000):
+    """Random lines and their replies: over memory and over a file they are the same, and those of each customer alone."""
     desk = Desk(batch(program, directory))
-    soak = Lines(seed, desk)
-    soak.make(count)
+    drawn = Lines(seed, desk, customers)
+    drawn.make(count)
     desk.end()
-    made, told, lines = soak.made, soak.told, [line for _, _, line in soak.made]
-    expect_same("over lists", lines, told, replies_of([failing, directory, "lists", "once", NEVER], lines))
-    expect_same("over a file", lines, told, over_file(program, directory, store, lines))
-    for customer in CUSTOMERS:
+    made, told, lines = drawn.made, drawn.told, [line for _, _, line in drawn.made]
+    expect_same("over a file", lines, told, over_file(program, directory, folder / "store", lines))
+    for customer in customers:
         own = [at for at, (_, whose, _) in enumerate(made) if whose == customer]
         alone = replies_of(batch(program, directory), [lines[at] for at in own])
         expect_same(f"{customer} alone", [lines[at] for at in own], [told[at] for at in own], alone)
-    expect_of_each_kind(made, told)
+    return made, told
+
+
+def test_soak(program, folder, five):
+    """Customers with room for much, over memory and over a file."""
+    expect_of_each_kind(*soak(program, folder, five, FIVE), REFUSALS)
+
+
+def test_built_in(program, folder):
+    """The built-in customers, over memory, over a file and over plain lists."""
+    made, told = soak(program, folder, DIRECTORY, BUILT_IN)
+    lines = [line for _, _, line in made]
+    expect_same("over lists", lines, told, replies_of([program], lines))
+    expect_of_each_kind(made, told, REFUSALS | QUOTAS)

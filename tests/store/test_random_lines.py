@@ -7,9 +7,10 @@ import json
 from hypothesis import HealthCheck, given, settings
 from hypothesis import strategies as some
 from serving import HEADER, KEYS, RELAY, expect, words
+from stores_files import DIRECTORY as BUILT_IN
 from stores_files import run
 
-EXAMPLES, NEVER = 60, "1000000000"
+EXAMPLES = 60
 CUSTOMERS = {"acme": f"acme,{KEYS['acme']},3,5000,4,3,60,5", "birch": f"birch,{KEYS['birch']},9,9000,9,9,0,0"}
 DIRECTORY = f"{HEADER.strip()},history\n" + "".join(f"{it}\n" for it in CUSTOMERS.values())
 IDS = some.integers(1, 5).map(lambda it: f"{it:010X}")
@@ -81,20 +82,21 @@ def replies(asked, lines):
     return ended.stdout.splitlines()
 
 
-def test_each_store_replies_the_same(program, failing, folder):
-    """Over lists, memory and a file; and each customer alone is told what it is told among all."""
+def test_each_store_replies_the_same(program, folder):
+    """Over memory and a file, and with the quotas of the built-in customers over lists; and each customer alone is told what it
+    is told among all."""
     directory, made = folder / "directory", iter(range(1_000_000))
     directory.write_text(DIRECTORY)
 
-    def over_memory(lines):
-        return replies(words(program, "batch", directory=directory), lines)
+    def over_memory(lines, of=directory):
+        return replies(words(program, "batch", directory=of), lines)
 
     @settings(max_examples=EXAMPLES, deadline=None, database=None, suppress_health_check=[HealthCheck.too_slow])
     @given(HISTORIES)
     def same(history):
         whose, lines = zip(*lines_of(history))
         told = over_memory(lines)
-        assert told == replies([failing, directory, "lists", "once", NEVER], lines)
+        assert over_memory(lines, BUILT_IN) == replies([program], lines)
         assert told == replies(words(program, "batch", str(folder / f"store-{next(made)}"), directory=directory), lines)
         for customer in CUSTOMERS:
             own_lines = [line for it, line in zip(whose, lines) if it == customer]

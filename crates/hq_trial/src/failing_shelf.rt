@@ -38,14 +38,6 @@ impl<S> FailingShelf<S> {
         }
     }
 
-    /// How many calls were made of it, those among them that it failed; at the greatest `u64` it
-    /// stays.
-    pub fn calls(&self) -> u64
-        ensures { result ≡ (trial_of self.now).calls }
-    {
-        self.trial.calls
-    }
-
     /// The greatest number of messages that was asked for at once; 0 where none were asked for.
     pub fn greatest_limit(&self) -> usize
         ensures { result ≡ greatest_limit_of self.now }

@@ -1,6 +1,0 @@
-//! One connection with the desk.
-
-mod faults;
-mod limits;
-mod responses;
-mod served;

@@ -1,6 +1,0 @@
-//! Requests and responses over HTTP.
-
-mod limits;
-mod requests;
-mod responses;
-mod told;
