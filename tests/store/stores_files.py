@@ -125,6 +125,14 @@ def expect_sound(store, folder):
     base.close()
 
 
+def without_log(store):
+    """Takes the log of a store into its file, whose pages are then read as they are asked for, and not as it is opened."""
+    if Path(store).exists():
+        with sqlite3.connect(store) as base:
+            base.execute("PRAGMA wal_checkpoint(TRUNCATE)")
+        base.close()
+
+
 # ---- migrations
 
 def migration(program, store):

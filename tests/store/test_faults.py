@@ -26,7 +26,7 @@ from functools import lru_cache
 
 from serving import expect, words
 import pytest
-from stores_files import expect_sound, run, run_alone
+from stores_files import expect_sound, run, run_alone, without_log
 from tool import Workers
 from worked import chosen, directory_of, is_fit, lines_of, replies_of
 
@@ -81,6 +81,7 @@ class Script:
         if self.begun:
             ended = run(self.words(folder / "store"), b"".join(self.begun))
             expect((ended.returncode, ended.stderr) == (0, b""), self.name, ended)
+            without_log(folder / "store")
         asked, more = self.words(folder / "store"), {"LD_PRELOAD": self.library, **more}
         return run_alone(asked, self.lines, **more) if alone else run(asked, b"".join(self.lines), **more)
 

@@ -14,6 +14,7 @@ import subprocess
 
 import pytest
 from serving import HEADER, LONGEST, RELAY, expect, words
+from stores_files import without_log
 from tool import Workers
 
 MAIL = '{"spool":"s1","sender":"ann@a.example","recipients":["bob@far.example"],"size":900}'
@@ -53,6 +54,7 @@ def aged(program, folder):
         (made / "customers.csv").write_text(HEADER + rows)
         lines = [f"1767225600 POST /relay/submit/{name} {RELAY} {MAIL}" for name in NAMES[:count]]
         expect(run(program, made, lines).stdout.splitlines() == [QUEUED] * count, "submissions")
+        without_log(made / "store")
         return made
     return make
 
