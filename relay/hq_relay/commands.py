@@ -14,8 +14,8 @@ It is not proved, as the desk is: what it may lose or double at each stop is wri
                         intake and deliver have read them
     knows NAME          the status is 0 where there is anything of a customer, and 3 where there is
                         not
-    restored            fits the book to a desk whose store came back from a backup, while neither
-                        intake nor deliver runs
+    restored [DESK]     fits the book to a desk whose store came back from a backup, while neither
+                        intake nor deliver runs; of several desks it is named
 
 docs/RELAY.md explains it. The status is 2 for bad settings or words, and 1 for all else that was
 not done.
@@ -263,17 +263,28 @@ def unknown(settings: Settings, is_removing: bool) -> int:
     return 0
 
 
-def restored(settings: Settings) -> int:
-    """The command `restored`; its status."""
+def restored(settings: Settings, desk: str | None = None) -> int:
+    """The command `restored`; its status. Customers of other desks have all that they had."""
     place = Workplace(settings)
     locks = place.locked("intake", "deliver")
     if not locks:
         return 1
-    DeskRestore(place.settings, place.desk, place.spool, place.book).restore()
+    customers = [*place.settings.customers]
+    if desk is None and place.settings.has_several_desks:
+        log.error("several desks", help="name the one that came back: restored DESK")
+        return 1
+    if desk is not None:
+        customers = place.settings.of_desks().get(desk, [])
+    if not customers:
+        log.error("no customer of this desk", desk=desk, help="desks.csv has the desks, if "
+                  "`desks` names it; the only desk needs no name")
+        return 1
+    DeskRestore(place.settings, place.desk, place.spool, place.book).restore(customers)
     return 0
 
 
-OF_A_CUSTOMER = {"erase": erase, "knows": knows}
+# The commands that take a name.
+NAMED = {"erase": erase, "knows": knows, "restored": restored}
 # The commands of root itself: they write to both instances of Postfix, or nothing at all.
 AS_ROOT = ("install", "settings")
 COMMANDS: dict[tuple[str, ...], Callable[[Settings], int]] = {
@@ -292,8 +303,8 @@ COMMANDS: dict[tuple[str, ...], Callable[[Settings], int]] = {
 
 def command_of(words: list[str]) -> Callable[[Settings], int] | None:
     """The command of these words; None if there is none."""
-    if len(words) == 2 and words[0] in OF_A_CUSTOMER:
-        return lambda settings: OF_A_CUSTOMER[words[0]](settings, words[1])
+    if len(words) == 2 and words[0] in NAMED:
+        return lambda settings: NAMED[words[0]](settings, words[1])
     return COMMANDS.get(tuple(words))
 
 

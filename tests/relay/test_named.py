@@ -151,6 +151,29 @@ def test_after_a_restore(program, shared):
         expect(not it.desk.usage("acme")["pending"], "pending is", it.desk.messages("acme"))
 
 
+def test_after_a_restore_of_one_desk(program, shared):
+    """Of several desks one comes back. What customers of another one deleted stays deleted, and none is gone over unnamed."""
+    with Relay(program, shared, settings={"desk": {"desks": "desks.csv"}}) as it:
+        it.write("desks.csv", "customer,desk", *(f"{name},{'north' if name == 'acme' else 'south'}" for name in it.customers))
+        intake = it.intake()
+        for name in ("acme", "birch"):
+            it.take(name, f"p@{FAR}")
+        it.postfix.empty()
+        for name in ("acme", "birch"):
+            it.desk.own(name, "POST", "/v1/delete-all")
+        intake.kill()
+        for words, told in (((), "several desks"), (("west",), "no customer of this desk")):
+            begun = it.run("restored", *words)
+            begun.ends(1)
+            expect(told in begun.log.read_text(), words, "tells", begun.log.read_text())
+        restored = it.run("restored", "north")
+        restored.ends()
+        told = restored.log.read_text()
+        expect("customer=acme" in told and "customer=birch" not in told, "a restore of north tells", told)
+        it.desk.expect_usage("acme", pending=1)
+        it.desk.expect_usage("birch", pending=0)
+
+
 def copy_store(it, before, behind):
     """The desk is stopped, its store copied to files of other names, and the desk started."""
     it.desk.kill()

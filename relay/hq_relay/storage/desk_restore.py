@@ -19,11 +19,12 @@ class DeskRestore:
 
     def __init__(self, settings: Settings, desk: Desk, spool: Spool, book: Book):
         self.desk, self.spool, self.book = desk, spool, book
-        self.customers, self.attempts = settings.customers, Attempts(book)
+        self.attempts = Attempts(book)
         self.names = SpoolNames(desk, spool, book)
 
-    def restore(self) -> None:
-        for customer in self.customers:
+    def restore(self, customers: list[str]) -> None:
+        """Fits the book for these customers, who are those of the desk that came back."""
+        for customer in customers:
             self.reset_notices(customer)
             self.book.forget_messages(customer)
             queued = {spool: id for id, spool in self.names.queued(customer).items()}
