@@ -284,7 +284,8 @@ def restored(settings: Settings, desk: str | None = None) -> int:
 
 
 # The commands that take a name.
-NAMED = {"erase": erase, "knows": knows, "restored": restored}
+NAMED: dict[str, Callable[[Settings, str], int]] = {
+    "erase": erase, "knows": knows, "restored": restored}
 # The commands of root itself: they write to both instances of Postfix, or nothing at all.
 AS_ROOT = ("install", "settings")
 COMMANDS: dict[tuple[str, ...], Callable[[Settings], int]] = {
