@@ -170,8 +170,8 @@ def test_after_a_restore_of_one_desk(program, shared):
         restored.ends()
         told = restored.log.read_text()
         expect("customer=acme" in told and "customer=birch" not in told, "a restore of north tells", told)
-        it.desk.expect_usage("acme", pending=1)
-        it.desk.expect_usage("birch", pending=0)
+        pending = [it.desk.usage(name)["pending"] for name in ("acme", "birch")]
+        expect(pending == [1, 0], "of acme and birch are pending", pending)
 
 
 def copy_store(it, before, behind):
