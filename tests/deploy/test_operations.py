@@ -228,7 +228,7 @@ def move(place, north, south, proxy):
         half_moved(north.folder, north, south, "dale")
 
     with Load(proxy, customers(*NORTH[1:], *SOUTH), "move") as load:
-        _, took = place.run("Moving a customer", meanwhile)
+        _, took = place.run("Moving a customer", meanwhile, BACKUP=str(north.folder / "of-the-move"))
     expect(all_of(south.address, key_of("dale")) == before, "dale is told something else")
     expect("dale,south\n" in (north.folder / "desks.csv").read_text(), "the worker takes dale for one of north")
     expect(north.ask("GET", "/v1/usage", key_of("dale"))[0] == 401, "north has dale")
