@@ -190,6 +190,18 @@ def test_same_firm(place):
     expect("dropped" not in place.done("list"), "it is listed as dropped")
 
 
+def test_same_firm_at_another_desk(place):
+    """It does not come back to a desk whose store has nothing of it, and is told which one has."""
+    place.filled("birch", int(time.time()))
+    place.desk("south", 826, "dogwood,dogwoodkey000001,1000,500000000,1000,100,14400\n")
+    place.done("drop", "birch", "--queued")
+    before = place.files()
+    ended = place.run("add", "birch", "--same-firm", "--desk", "south")
+    expect(ended.returncode == 1 and "are in the store of north: add it by --desk north" in ended.stderr, "it ended with", ended)
+    expect(place.files() == before, "files were changed")
+    place.done("add", "birch", "--same-firm", "--desk", "north")
+
+
 def test_erased(place):
     """All of a customer goes from the store and its log, down to its bytes, and nothing of another's."""
     now = int(time.time())
