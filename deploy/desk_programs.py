@@ -1,4 +1,5 @@
 """What runs by the files of /etc/hq, for hq-customers: it is told of other files, and does what it does for a customer that is gone."""
+import configparser
 import os
 import shutil
 import subprocess
@@ -9,6 +10,8 @@ from typing import List, Optional, Tuple, Union
 from desk_apart import run_apart
 from desk_files import DESK, LONGEST, Desk, Refused
 
+# The folder of the worker's mail in the settings that the package brings.
+SPOOL = "/var/lib/hqrelay/spool"
 # In seconds: what the worker may take, which waits until nobody works by earlier settings.
 LONGEST_ERASING = 300
 # What `desk-store` ends with where it did its work: wholly, where it knows no such customer, and where more is left.
@@ -68,9 +71,23 @@ def of_worker(folder: Path, name: str) -> str:
     return ended.stdout.strip()
 
 
+def book_of(folder: Path) -> Path:
+    """Where the worker of these settings remembers what it has; without settings, where that of the package does."""
+    read = configparser.ConfigParser(interpolation=None, strict=False)
+    try:
+        read.read(folder / "relay.ini", encoding="utf-8")
+        return folder / read.get("spool", "folder", fallback=SPOOL) / "book.db"
+    except configparser.Error as fault:
+        raise Refused(f"{folder / 'relay.ini'}: {fault}") from None
+
+
 def is_known_to_worker(folder: Path, name: str) -> bool:
-    """Whether the worker has anything of a customer. (Before the first call of hq-customers it has no table, and nobody's mail.)"""
+    """Whether the worker has anything of a customer. Before the first call of hq-customers it has no table, and nobody's mail. Where
+    the settings are gone and its mail is not, as behind a purge, nobody knows whose that is."""
     if not all((folder / it).exists() for it in ("relay.ini", "relay.csv")):
+        if os.path.lexists(book_of(folder)):
+            raise Refused(f"{book_of(folder).parent} has mail of earlier customers, and {folder} no table of them: put {folder} back from "
+                          "its backup; or, if nobody's mail of before is wanted, remove that folder")
         return False
     ended = as_worker(folder, "knows", name)
     if ended.returncode not in (DONE, UNKNOWN):

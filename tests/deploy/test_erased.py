@@ -143,6 +143,18 @@ def test_a_name_that_another_desk_knows(place):
     expect(ended.returncode == 1 and "the worker does not tell what it has: broken" in ended.stderr, "it is given:", ended)
 
 
+def test_a_name_where_the_settings_are_gone(place):
+    """The worker has mail, and nobody knows whose, as behind a purge: no name is given until the settings are back, or the mail is gone."""
+    spool = place.folder / "spool"
+    spool.mkdir()
+    (spool / "book.db").write_bytes(b"")
+    before = place.files()
+    ended = place.run("add", "cedar")
+    expect(ended.returncode == 1 and f"{spool} has mail of earlier customers" in ended.stderr and place.files() == before, "it is given:", ended)
+    (spool / "book.db").unlink()
+    place.done("add", "cedar")
+
+
 def test_a_name_that_went_by_hand(place):
     """A row that somebody takes out of a directory is that of a customer who was dropped, until it is erased."""
     place.done("set", "acme", "--messages", "999")
@@ -175,9 +187,12 @@ def test_store_of_a_desk_that_is_gone(place):
     expect("south: 0 notices, 0 of the history\n" in place.done("retain", "90"), "retention passes it by")
     for end in ("db", "db-wal"):
         (place.stores / f"south.{end}").unlink(missing_ok=True)
-    (place.stores / "south.db").write_text("none")
-    ended = place.run("erase", "cedar")
-    expect(ended.returncode == 1 and "the store of south: " in ended.stderr, "where it cannot be looked into:", ended, birch)
+    (place.stores / "a.db").write_text("none")
+    for words in (("erase", "cedar"), ("retain", "90")):
+        ended = place.run(*words)
+        expect(ended.returncode == 1 and "the store of a: " in ended.stderr, "where it cannot be looked into:", ended, birch)
+        expect("north: 0" in ended.stdout, "the others are not done:", ended)
+    expect("cedar" not in (place.folder / "erased.csv").read_text(), "cedar counts as erased")
 
 
 def test_same_firm(place):

@@ -330,7 +330,7 @@ def test_removed(machine):
 def test_set_up_again(machine, releases):
     """Behind a purge the package is set up again by the lines of the pages: the firewall has its rules, and mail that waited for the
     worker goes on."""
-    machine.run(f"apt-get install -y /root/{package_in(releases.now).name}; rm -r /var/lib/hqdesk/*", longest=120)
+    machine.run(f"apt-get install -y /root/{package_in(releases.now).name}; rm -r /var/lib/hqdesk/* /var/lib/hqrelay/*", longest=120)
     expect(machine.run("postconf -h defer_transports") == "desk\n", "mail goes to nobody")
     for page, title in ((PRODUCTION, "A desk"), (PRODUCTION, "nginx"), (PRODUCTION, "Firewall and alerts"), (RELAY, "Units")):
         for it in blocks(page, title):
