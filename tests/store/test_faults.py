@@ -10,7 +10,8 @@ one by one, each behind the reply before, or all at once, so that they share com
 2. From the first line on that gets `503 {"error":93,"name":"Closed"}` each call of every customer gets it, and what is refused
    before its call is refused as ever, a line without a key with 401.
 3. Opened again, the store has what the replies tell. Of the lines that got 93 as it closed all were done, the first alone, or none.
-4. Where the store cannot be opened, the program tells `hq: 91 Disk`, and replies to nothing.
+4. Where the store cannot be opened, the program tells `hq: 91 Disk`, or `hq: 93 Closed` where what was begun could not be undone
+   either, and replies to nothing.
 
 Where nothing fails, the replies are those of the example. What a line would have got that was not sent is what the same
 program replies to the other lines over a store in memory. It takes the examples of at most 60 lines and 8,192 bytes but those
@@ -32,6 +33,8 @@ from worked import chosen, directory_of, is_fit, lines_of, replies_of
 
 DISK = b'503 {"error":91,"name":"Disk"}\n'
 CLOSED = b'503 {"error":93,"name":"Closed"}\n'
+# What is told of a store that cannot be opened.
+NOT_OPENED = b"hq: 91 Disk\n", b"hq: 93 Closed\n"
 # what is refused before its call, by its number in docs/API.md
 BEFORE = {1, 2, 3, 4, 5, 6, 7, 8, 13, 20, 23, 24, 25, 26, 27, 28}
 # Which calls fail, by their count in what the library tells, and of how many one is tried.
@@ -134,7 +137,7 @@ def fail(script, folder, alone, way, at):
     where = script.name, "alone" if alone else "together", way, at
     told = ended.stdout.splitlines(keepends=True)
     if ended.returncode:
-        expect((ended.returncode, told) == (1, []) and ended.stderr in (None, b"hq: 91 Disk\n"), *where, ended)
+        expect((ended.returncode, told) == (1, []) and ended.stderr in (None, *NOT_OPENED), *where, ended)
         shutil.rmtree(folder)
         return "not opened"
     expect(len(told) == len(script.lines) and not ended.stderr, *where, ended)
