@@ -1,11 +1,12 @@
 """What runs by the files of /etc/hq, for hq-customers: it is told of other files, and does what it does for a customer that is gone."""
 import configparser
+import contextlib
 import os
 import shutil
 import subprocess
 import time
 from pathlib import Path
-from typing import List, Optional, Tuple, Union
+from typing import Iterator, List, Optional, Tuple, Union
 
 from desk_apart import run_apart
 from desk_files import DESK, LONGEST, Desk, Refused
@@ -131,3 +132,17 @@ def of_store(scripts: Path, desk: str, stores: Path, command: str, what: str, re
         told = " / ".join(ended.stderr.strip().splitlines())
         raise Refused(f"the store of {desk}: {told or f'status {ended.returncode}'}")
     return ended.returncode, ended.stdout.strip()
+
+
+@contextlib.contextmanager
+def kept_for_later(faults: List[str]) -> Iterator[None]:
+    """A store at which nothing can be done keeps nobody from the others."""
+    try:
+        yield
+    except Refused as fault:
+        faults.append(str(fault))
+
+
+def told_at_last(faults: List[str]) -> None:
+    if faults:
+        raise Refused(f"the others are done; mend this, or move that file to another folder, and run it again: {' / '.join(faults)}")
