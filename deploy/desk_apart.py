@@ -1,5 +1,6 @@
 """What keeps root apart from the user of a service: who has taken over that user may have written whatever a command prints, and
-reads the environment of each process of its own. And a file of settings, as systemd reads it; and the lock of who works at a store."""
+reads the environment of each process of its own. And a file of settings, as systemd reads it; the lock of who works at a store; and
+the mark of who is moved."""
 import contextlib
 import fcntl
 import os
@@ -8,7 +9,7 @@ import subprocess
 import sys
 import threading
 from pathlib import Path
-from typing import IO, Any, Dict, Iterator, List, Optional
+from typing import IO, Any, Dict, Iterator, List, NamedTuple, Optional
 
 # The folders of root's programs, which the path of cron, and of `su` without a login, does not name.
 OF_ROOT = "/usr/sbin", "/sbin"
@@ -78,6 +79,35 @@ def settings_of(path: Path) -> Dict[str, str]:
 
 # The locks of who works at the store of a desk, and the marks of those that are being copied.
 LOCKS, COPIED = Path("/run/hq-desk.locks"), Path("/run/hq-desk.copied")
+
+
+# Who is moved from one desk to another, until that is done (desk-start reads it too); and its steps: the first store has all rows, or
+# both have them and the second counts.
+MOVING, IS_ASKED, IS_COPIED = ".customers.moving", "asked", "copied"
+
+
+class Move(NamedTuple):
+    """A move that is under way, or that was stopped there."""
+
+    customer: str
+    source: str
+    target: str
+    step: str
+
+    def told(self) -> str:
+        return (f"the move of {self.customer} from {self.source} to {self.target} was stopped on the way: "
+                f"type `hq-customers move {self.customer} --desk {self.target}` again")
+
+
+def under_way(folder: Path) -> Optional[Move]:
+    """The move whose mark is there."""
+    path = folder / MOVING
+    if not path.exists():
+        return None
+    words = path.read_text().split()
+    if len(words) != len(Move._fields):
+        raise ValueError(f"{path} has no customer, two desks and a step")
+    return Move(*words)
 
 
 @contextlib.contextmanager

@@ -186,6 +186,7 @@ class Desk:
             raise Refused(f"{self.path} is no directory of customers: see `hq check`")
         self.columns = header
         self.rows = [dict(zip(header, it)) for it in rows]
+        self.had_rows = bool(rows)
         self.keys_path = keys_beside(self.path)
         self.keys: List[Dict[str, str]] = []
 
@@ -250,10 +251,13 @@ class Folder:
         self.senders: Dict[Tuple[str, str], str] = {it: row[0] for it, row in self.senders_before.items()}
         self.dropped = {name: (desk, day) for name, desk, day in table_of(path / "dropped.csv", DROPPED)}
         self.erased = {name: moment for name, moment in table_of(path / "erased.csv", ERASED)}
+        self.desks_before = table_of(path / "desks.csv", DESKS)
         # (a row that was taken out by hand is that of a customer who was dropped)
         self.is_first = not (path / "relay.csv").exists()
         before = [] if self.is_first else [it[0] for it in rows_of(path / "relay.csv")[1:]]
         known = {it["name"] for desk in self.desks for it in desk.rows}
+        # (and one that was put back, as with the settings of a desk that was away, is nobody's any more)
+        self.dropped = {name: told for name, told in self.dropped.items() if name not in known}
         self.by_hand = [it for it in before if it not in known]
         for name in self.by_hand:
             self.dropped.setdefault(name, ("by hand", datetime.now(timezone.utc).strftime("%Y-%m-%d")))
@@ -320,7 +324,8 @@ class Folder:
             given = [f"{it.settings['LISTEN']}={it.path}{BESIDE}" for it in self.desks]
             tried([scripts / "desk-maps", made, *given])
             maps: List[Tuple[str, int, Callable[[Path, str, int, int], object]]] = [
-                ("keys.map", 0o600, self.put_closed), ("names.map", 0o640, put_beside)]
+                ("keys.map", 0o600, self.put_closed), ("names.map", 0o640, put_beside),
+                ("desks.conf", 0o644, put_beside)]
             for name, mode, put in maps:
                 put(self.path / name, Path(made, name).read_text(), mode, desks)
             self.check_worker(Path(made))
@@ -339,10 +344,12 @@ class Folder:
             put_beside(desk.place, desk.settings_text(), 0o644, group)
 
     def check(self, desk: Desk) -> None:
-        """What a start of the desk would say of its new directory, and of its named keys."""
+        """What a start of the desk would say of its new directory, and of its named keys. (One that nobody has filled yet is as it was.)"""
+        if not desk.rows and not desk.had_rows:
+            return
         keys = ["--keys", f"{desk.keys_path}{BESIDE}"] if desk.keys else []
         tried(["hq", "check", "--directory", f"{desk.path}{BESIDE}", "--host", desk.settings["HOST"], "--relay-key-file",
-               self.path / f"{desk.name}.key", *keys])
+               self.path / f"{desk.name}.key", *keys], f"{desk.path}: ")
 
     def check_worker(self, made: Path) -> None:
         """What the worker would say of its settings, with the new tables beside them."""
@@ -362,8 +369,8 @@ def group_of(name: str) -> int:
     return -1
 
 
-def tried(words: list) -> None:
+def tried(words: list, what: str = "") -> None:
     ended = subprocess.run(words, stdin=subprocess.DEVNULL, capture_output=True, text=True, timeout=LONGEST, start_new_session=True)
     if ended.returncode:
         told = " / ".join(ended.stderr.strip().splitlines()) or f"status {ended.returncode}"
-        raise Refused(f"{Path(words[0]).name} refuses it, and nothing was changed: {told}")
+        raise Refused(f"{what}{Path(words[0]).name} refuses it, and nothing was changed: {told}")

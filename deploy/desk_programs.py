@@ -1,15 +1,17 @@
 """What runs by the files of /etc/hq, for hq-customers: it is told of other files, and does what it does for a customer that is gone."""
+import argparse
 import configparser
 import contextlib
 import os
 import shutil
+import signal
 import subprocess
 import time
 from pathlib import Path
 from typing import Iterator, List, Optional, Tuple, Union
 
 from desk_apart import run_apart
-from desk_files import DESK, LONGEST, Desk, Refused
+from desk_files import DESK, LONGEST, Desk, Folder, Refused
 
 # The folder of the worker's mail in the settings that the package brings.
 SPOOL = "/var/lib/hqrelay/spool"
@@ -29,6 +31,13 @@ def is_active(unit: str) -> bool:
     return not subprocess.run(["systemctl", "is-active", "--quiet", unit], stdin=subprocess.DEVNULL, start_new_session=True).returncode
 
 
+def go_on() -> None:
+    """Whoever closes the terminal, or stops this, does not keep what is written from being taken up: an old key would go on."""
+    # (what is begun here would inherit that signals are ignored, and so they are handled)
+    for it in (signal.SIGHUP, signal.SIGINT, signal.SIGTERM):
+        signal.signal(it, lambda *_: None)
+
+
 def take_up(scripts: Path, desks: List[Desk], is_gone: bool) -> None:
     """Has what runs go by the files: desks first, so that nobody speaks to them of a customer whom they do not know; and last
     where a customer is gone. A fault of one keeps none of the others from it; all are told in the end."""
@@ -41,14 +50,18 @@ def take_up(scripts: Path, desks: List[Desk], is_gone: bool) -> None:
 
     if not is_gone:
         restart()
-    running = [it for it in PROGRAMS if is_active(it)]
-    for it in running:
-        faults.extend(fault_of(["systemctl", "reload", it]))
+    has_worker = is_gone and is_active("hq-relay-deliver")
+    faults.extend(reload_all())
     if is_gone:
-        time.sleep(SETTLES if "hq-relay-deliver" in running else 0)
+        time.sleep(SETTLES if has_worker else 0)
         restart()
     if faults:
         raise Refused(f"the files are written, and not taken up by all; mend this, and run these again: {' / '.join(faults)}")
+
+
+def reload_all() -> List[str]:
+    """Has all but the desks go by the files; the faults of that."""
+    return [fault for it in PROGRAMS if is_active(it) for fault in fault_of(["systemctl", "reload", it])]
 
 
 def fault_of(words: list) -> List[str]:
@@ -117,6 +130,16 @@ def stores_in(stores: Path, desks: List[Desk]) -> Tuple[List[str], List[str]]:
     return [*known, *(it for it in others if DESK.fullmatch(it))], [it for it in others if not DESK.fullmatch(it)]
 
 
+def refuse_gone(folder: Folder, stores: Path, dropped: List[str]) -> None:
+    """Refuses to take a desk for gone whose store is there, and whose settings may be away for a moment: its customers would lose
+    their logins and domains. `dropped` are desks that are gone."""
+    known = {*(it.name for it in folder.desks), *dropped}
+    for desk in sorted({desk for name, desk in folder.desks_before if name in folder.by_hand} - known):
+        if os.path.lexists(stores / f"{desk}.db"):
+            raise Refused(f"{folder.path / desk}.env is missing, {stores / desk}.db is there, and nothing was changed: put that file back. "
+                          f"Where {desk} is gone for good, type `hq-customers drop-desk {desk}`: its customers are dropped then")
+
+
 def of_store(scripts: Path, desk: str, stores: Path, command: str, what: str, read: str = "") -> Optional[Tuple[int, str]]:
     """What `desk-store` does with the store of the desk of this name, as the user of the desks, while the desk is away for that
     moment: its status, and what it prints. `read` is what it reads. None where there is no store."""
@@ -146,3 +169,26 @@ def kept_for_later(faults: List[str]) -> Iterator[None]:
 def told_at_last(faults: List[str]) -> None:
     if faults:
         raise Refused(f"the others are done; mend this, or move that file to another folder, and run it again: {' / '.join(faults)}")
+
+
+def refuse_elsewhere(scripts: Path, folder: Folder, its_desk: Desk, given: argparse.Namespace) -> None:
+    """Refuses a desk for a firm whose records are in another one's store, where it would not find them."""
+    for desk in stores_in(given.store, folder.desks)[0]:
+        found = None if desk == its_desk.name else of_store(scripts, desk, given.store, "knows", given.name)
+        if found and found[0] != UNKNOWN:
+            raise Refused(f"the records of {given.name} are in the store of {desk}: add it by --desk {desk}, and then type "
+                          f"`hq-customers move {given.name} --desk {its_desk.name}`")
+
+
+def refuse_known(scripts: Path, folder: Folder, its_desk: Desk, given: argparse.Namespace) -> None:
+    """Refuses a name under which a desk or the worker has records of somebody: who gets it would read them."""
+    ways = f"`hq-customers erase {given.name}` erases them; with --same-firm that firm finds them again"
+    if given.name in folder.dropped:
+        raise Refused(f"{given.name} was dropped on {folder.dropped[given.name][1]}, and its records are still there: {ways}")
+    if is_known_to_worker(given.folder, given.name):
+        raise Refused(f"the worker has records of an earlier {given.name}: {ways}")
+    # (a desk is away while it is asked: once there is a table of all names, who went from another desk's directory is known)
+    for desk in stores_in(given.store, folder.desks)[0] if folder.is_first else [its_desk.name]:
+        found = of_store(scripts, desk, given.store, "knows", given.name)
+        if found and found[0] != UNKNOWN:
+            raise Refused(f"the desk {desk} has records of an earlier {given.name}: {ways}")

@@ -8,6 +8,9 @@ from typing import Dict, Iterator, List, Tuple
 VERSION = 3
 TABLES = ("heads", "messages", "recipients", "lines", "marks", "notices", "holds", "ends")
 
+# In seconds: how long the look at a store of whatever release takes at most.
+LONGEST_LOOK = 5
+
 # The tables whose rows have a moment, and where.
 MOMENTS = {"messages": "arrival", "notices": "moment", "ends": "moment"}
 
@@ -29,6 +32,21 @@ def opened(path: str) -> sqlite3.Connection:
     if store.execute("SELECT version FROM desk_schema").fetchall() != [(VERSION,)]:
         raise Refused(f"{path} is no store of this release")
     return store
+
+
+def schema_of(path: str) -> int:
+    """The schema of a store of whatever release. (It leaves no index of the log there, which a desk has in its memory.)"""
+    if not os.path.isfile(path):
+        raise Refused(f"{path} is no file")
+    with contextlib.closing(sqlite3.connect(path, timeout=1, isolation_level=None)) as store:
+        # (whoever writes the file may make a view of that name that never ends)
+        end = time.monotonic() + LONGEST_LOOK
+        store.set_progress_handler(lambda: time.monotonic() > end, 10_000)
+        store.execute("PRAGMA locking_mode = EXCLUSIVE")
+        if not store.execute("SELECT 1 FROM sqlite_master WHERE type = 'table' AND name = 'desk_schema'").fetchone():
+            raise Refused(f"{path} is no store")
+        (version,), = store.execute("SELECT version FROM desk_schema").fetchmany(2)
+    return int(version)
 
 
 def rows(store: sqlite3.Connection, name: str) -> Dict[str, List[tuple]]:

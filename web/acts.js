@@ -1,5 +1,8 @@
 // What is done to messages: one, those that are marked, a group, those of a pattern, or all. One
 // thing at a time; what was done is told as a sum; a deletion waits some seconds for "Undo".
+//
+// What cannot be taken back (a release, a new try, a deletion) is of the messages that were seen,
+// by their IDs. A hold can be, so it goes by patterns too, which are for what comes in meanwhile.
 
 import { call, changing } from "./api.js";
 import { desk, drop, now, refresh } from "./desk.js";
@@ -9,8 +12,12 @@ import { size, text } from "./texts.js";
 import { told } from "./words.js";
 
 const LANES = 4;
+// How long something may take until it is said that it is under way, in milliseconds.
+const UNSAID = 1000;
 export const UNDO_SECONDS = 8;
 const HELD = "held by customer";
+// Of more than so many it is shown how far it is.
+const MANY = 20;
 
 // What can be done to one message: the call, whether that changed it, and what is known of it then.
 const DOES = {
@@ -33,6 +40,7 @@ const DOES = {
       const made = { ...it, id: reply.id, state: "waiting", reason: "", arrival: now(), pending };
       desk.messages.push(made);
       desk.byId.set(made.id, made);
+      document.dispatchEvent(new CustomEvent("renamed", { detail: { from: it.id, to: made.id } }));
     },
   },
   delete: {
@@ -105,10 +113,22 @@ function progress(name, all) {
   return (done) => { bar.value = done; };
 }
 
+// Says after a second that something is under way, until it has ended.
+async function saidWhile(does) {
+  const words = element("p", { id: "working" }, text("working"));
+  const timer = setTimeout(() => by("told").append(words), UNSAID);
+  try {
+    return await does();
+  } finally {
+    clearTimeout(timer);
+    words.remove();
+  }
+}
+
 // `before` is how many were done by calls that went before.
 async function each(ids, name, before = 0) {
   const sum = { before, done: 0, already: 0, gone: 0, faults: new Map(), stopped: false, made: "" };
-  const tells = ids.length > 20 ? progress(name, ids.length) : () => {};
+  const tells = ids.length > MANY ? progress(name, ids.length) : () => {};
   const waiting = [...ids];
   let asked = 0;
   stops = false;
@@ -118,7 +138,8 @@ async function each(ids, name, before = 0) {
       tells(++asked);
     }
   };
-  await Promise.all(Array.from({ length: Math.min(LANES, ids.length) }, lane));
+  const lanes = () => Promise.all(Array.from({ length: Math.min(LANES, ids.length) }, lane));
+  await (ids.length > MANY ? lanes() : saidWhile(lanes));
   say(...linesOf(sum, name, ids));
 }
 
@@ -201,48 +222,61 @@ async function mayDelete(ids) {
   return ask(title, words, text("deleteYes", { count }), { isDanger: true, facts });
 }
 
+// A new try sends what is on hold, so that is asked for; the others are tried anyhow.
+async function mayTry(ids) {
+  const count = ids.filter((id) => desk.byId.get(id)?.state === "hold").length;
+  return !count || ask(text("tryTitle", { count }), text("tryText"), text("requeueYes"));
+}
+
+// Whether somebody wants this done to these messages, and still does behind the seconds for "Undo".
+async function isWanted(name, ids) {
+  if (name === "requeue") return mayTry(ids);
+  return name !== "delete" || (await mayDelete(ids) && heldBack(ids, ids.length));
+}
+
 // Does it to messages by their IDs.
 export function act(name, ids) {
   if (!ids.length) return undefined;
   return alone(async () => {
-    if (name === "delete") {
-      if (!(await mayDelete(ids)) || !(await heldBack(ids, ids.length))) return;
-    }
-    await each(ids, name);
+    if (await isWanted(name, ids)) await each(ids, name);
   });
 }
 
-// Does it to all that a pattern is for, by one call: also what comes in until then.
-export function actMatching(name, pattern, words, count, ids) {
+// Holds all that a pattern is for, by one call: also what comes in until then.
+export function holdMatching(pattern, words, count) {
   return alone(async () => {
-    const title = text(`${name}GroupTitle`, { count, words });
-    const isDanger = name === "delete";
-    if (!(await ask(title, text("groupText"), text(`${name}Yes`, { count }), { isDanger }))) return;
-    if (name === "delete" && !(await heldBack(ids, count))) return;
-    const { changed } = await call("POST", `/v1/${name}-matching`, pattern);
-    say(`${text(`${name}Sum`, { count: changed })}.`);
+    const title = text("holdGroupTitle", { count, words });
+    if (!(await ask(title, text("groupText"), text("holdYes", { count })))) return;
+    const { changed } = await saidWhile(() => call("POST", "/v1/hold-matching", pattern));
+    say(`${text("holdSum", { count: changed })}.`);
   });
 }
 
-// Holds or releases a group by as few calls as there are: the patterns whose messages are all of
-// the group, then those that are left, one by one.
+// Holds a group by as few calls as there are: the patterns whose messages are all of the group,
+// then those that are left, one by one. Releases those that were seen, and deletes them.
 export function actGroup(name, messages, words) {
   const ids = new Set(messages.map((it) => it.id));
-  // a deletion cannot be taken back, so it is of those messages alone that were seen
   if (name === "delete" || ids.size < 2 * LANES) return act(name, [...ids]);
   return alone(async () => {
     const count = ids.size;
     const title = text(`${name}GroupTitle`, { count, words });
-    if (!(await ask(title, text("groupText"), text(`${name}Yes`, { count })))) return;
-    let done = 0;
-    for (const domain of wholeDomains(ids)) {
-      const pattern = { class: "recipient", pattern: domain };
-      done += (await call("POST", `/v1/${name}-matching`, pattern)).changed;
-      for (const it of desk.messages) if (it.domains.includes(domain)) ids.delete(it.id);
-    }
+    const said = text(name === "hold" ? "groupText" : "seenText");
+    if (!(await ask(title, said, text(`${name}Yes`, { count })))) return;
+    const done = name === "hold" ? await saidWhile(() => holdDomains(ids)) : 0;
     if (ids.size) await each([...ids], name, done);
     else say(`${text(`${name}Sum`, { count: done })}.`);
   });
+}
+
+// Holds the domains that are wholly among these, and takes them away from these. How many it held.
+async function holdDomains(ids) {
+  let done = 0;
+  for (const domain of wholeDomains(ids)) {
+    const pattern = { class: "recipient", pattern: domain };
+    done += (await call("POST", "/v1/hold-matching", pattern)).changed;
+    for (const it of desk.messages) if (it.domains.includes(domain)) ids.delete(it.id);
+  }
+  return done;
 }
 
 // The domains all of whose messages are among these, where that saves calls.
@@ -260,17 +294,20 @@ function wholeDomains(ids) {
   return whole.sort((a, b) => b[1].all - a[1].all).slice(0, 10).map(([domain]) => domain);
 }
 
-// Does it to all of the queue, by one call.
+// Does it to all of the queue, by one call, which is for what came in meanwhile too. That is asked
+// for once more where it cannot be taken back.
 export function actAll(name) {
   return alone(async () => {
     const { messages: count } = await call("GET", "/v1/usage");
     if (!count) return say(text("emptyQueue"));
     const title = text(`${name}AllTitle`, { count });
-    const yes = text(`${name}Yes`, { count });
-    if (!(await ask(title, text("allText"), yes, { isDanger: name === "delete" }))) return;
+    const how = { isDanger: name === "delete" };
+    if (!(await ask(title, text("allText"), text(`${name}Yes`, { count }), how))) return;
+    const [again, yes] = [text(`${name}AlsoTitle`), text(`${name}AlsoYes`)];
+    if (name !== "hold" && !(await ask(again, text("alsoText"), yes, how))) return;
     const ids = desk.messages.map((it) => it.id);
     if (name === "delete" && !(await heldBack(ids, count))) return;
-    const { changed } = await call("POST", `/v1/${name}-all`);
+    const { changed } = await saidWhile(() => call("POST", `/v1/${name}-all`));
     say(`${text(`${name}Sum`, { count: changed })}.`);
   });
 }

@@ -5,6 +5,9 @@ const KEPT = "desk-key";
 const READERS = ["/v1/check", "/v1/lines-after", "/v1/find", "/v1/history-find"];
 // How often a call is asked again that the proxy refused as too often: nothing was done then.
 const AGAIN = 5;
+// The most milliseconds until a reply begins: to a call that reads, and to one that changes.
+const LONGEST_READING = 15_000;
+const LONGEST_ACTING = 60_000;
 
 // What came in the place of a reply of 200. `number` is the desk's, and 0 where something else
 // answered, or nobody.
@@ -43,10 +46,22 @@ function nameIs(name) {
 
 const rests = (seconds) => new Promise((done) => setTimeout(done, seconds * 1000));
 
-async function asked(method, path, sent, headers) {
+// A desk that hangs is away, and nobody is to wait for it without a word. (How long the body takes
+// is the line's: a long report over a slow one comes all the same.)
+async function begun(path, how, longest) {
+  const ends = new AbortController();
+  const timer = setTimeout(() => ends.abort(), longest);
+  try {
+    return await fetch(path, { ...how, signal: ends.signal });
+  } finally {
+    clearTimeout(timer);
+  }
+}
+
+async function asked(method, path, sent, headers, longest) {
   const how = { method, headers, body: sent, cache: "no-store", redirect: "error" };
   for (let tries = 0; ; tries += 1) {
-    const reply = await fetch(path, how);
+    const reply = await begun(path, how, longest);
     if (reply.status !== 429 || tries === AGAIN) return reply;
     await rests(Math.min(5, Number(reply.headers.get("Retry-After")) || 1));
   }
@@ -63,7 +78,8 @@ export async function call(method, path, body, typed) {
   let status = 0;
   let told = {};
   try {
-    const reply = await asked(method, path, sent, headers);
+    const longest = reads ? LONGEST_READING : LONGEST_ACTING;
+    const reply = await asked(method, path, sent, headers, longest);
     status = reply.status;
     told = await reply.json();
     if (status === 200) nameIs(reply.headers.get("X-Desk-Customer"));

@@ -1,7 +1,7 @@
 // What the page knows of its desk: the queue, how much may be kept, and how old that is. It is
 // asked for again by itself while somebody looks at it, and kept while the desk is away.
 
-import { asker, call, changing, key } from "./api.js";
+import { asker, call, changing, history, key } from "./api.js";
 import { messagesOf } from "./report.js";
 
 const KEPT = "desk-kept";
@@ -22,6 +22,8 @@ export const desk = {
   byId: new Map(),
   usage: null,
   limits: null,
+  // the newest that left the queue, a hundred at most
+  ends: [],
   // when it was asked, and whether that was before a reload
   at: 0,
   fault: null,
@@ -37,8 +39,8 @@ let timer = 0;
 let faults = 0;
 let doubts = 0;
 
-function take({ report, usage, limits, at }) {
-  Object.assign(desk, { report, usage, limits, at });
+function take({ report, usage, limits, ends = [], at }) {
+  Object.assign(desk, { report, usage, limits, ends, at });
   desk.messages = messagesOf(report);
   desk.byId = new Map(desk.messages.map((it) => [it.id, it]));
 }
@@ -46,10 +48,10 @@ function take({ report, usage, limits, at }) {
 async function ask() {
   // (who has no key is to be refused once, and not three times)
   const usage = await call("GET", "/v1/usage");
-  const [limits, { report }] = await Promise.all([
-    call("GET", "/v1/limits"), call("GET", "/v1/report"),
+  const [limits, { report }, { ends }] = await Promise.all([
+    call("GET", "/v1/limits"), call("GET", "/v1/report"), history(null, null),
   ]);
-  return { report, usage, limits, at: now() };
+  return { report, usage, limits, ends, at: now() };
 }
 
 function again(seconds) {

@@ -89,6 +89,11 @@ function more() {
   numbered();
 }
 
+// (on paper nobody comes to the end of a list)
+addEventListener("beforeprint", () => {
+  while (drawn < shown.length) more();
+});
+
 function numbered() {
   by("messages").setAttribute("aria-rowcount", shown.length + 1);
   [...body.rows].forEach((it, at) => it.setAttribute("aria-rowindex", at + 2));

@@ -22,6 +22,13 @@ function canBeRead(colour, ground) {
   return (high + 0.05) / (low + 0.05) >= LEAST_CONTRAST;
 }
 
+const title = () => (firm.name ? `${text("title")} – ${firm.name}` : text("title"));
+
+// The title names the view, so that tabs and the history of the browser differ.
+export function tellView(view) {
+  document.title = `${text(view)} – ${title()}`;
+}
+
 export function wearColours() {
   for (const [scheme, ground] of Object.entries(GROUNDS)) {
     const colour = firm.colours[scheme];
@@ -31,7 +38,7 @@ export function wearColours() {
   by("firm").textContent = firm.name;
   by("firm").hidden = !firm.name;
   by("logo").src = firm.logo;
-  document.title = firm.name ? `${text("title")} – ${firm.name}` : text("title");
+  document.title = title();
   for (const [id, address] of [["help", firm.help], ["login", firm.login]]) {
     by(id).hidden = !address;
     if (address) by(id).href = address;

@@ -9,7 +9,8 @@ const { call, key } = await import("./api.js");
 const { by, closeMenus, sayNothing } = await import("./parts.js");
 const { desk, forget, refresh, restore, when } = await import("./desk.js");
 const { told } = await import("./words.js");
-const { tellWho, wearColours } = await import("./look.js");
+const { tellView, tellWho, wearColours } = await import("./look.js");
+const { goTo, viewOfAddress } = await import("./place.js");
 const [overview, queue, sent, rules, notices, usage] = await Promise.all(
   ["overview", "queue", "sent", "rules", "notices", "usage"].map((it) => import(`./${it}.js`)),
 );
@@ -29,7 +30,8 @@ function select(tab) {
     by(viewOf(it)).hidden = it !== tab;
   }
   tab.scrollIntoView({ block: "nearest", inline: "nearest" });
-  if (location.hash !== `#${viewOf(tab)}`) history.pushState(null, "", `#${viewOf(tab)}`);
+  if (viewOfAddress() !== viewOf(tab)) goTo(viewOf(tab), {}, true);
+  tellView(viewOf(tab));
   VIEWS[viewOf(tab)].open();
 }
 
@@ -49,7 +51,7 @@ function moveBetweenTabs(event) {
 }
 
 const tabOfAddress = () =>
-  tabs.find((it) => `#${viewOf(it)}` === location.hash) ?? tabs[0];
+  tabs.find((it) => viewOf(it) === viewOfAddress()) ?? tabs[0];
 
 // ---- the key
 
@@ -67,6 +69,7 @@ function showViews() {
   by("key-form").hidden = true;
   by("views").hidden = false;
   by("refresh").hidden = false;
+  queue.takeAddress();
   select(tabOfAddress());
   // (so that Tab and arrows begin where the page does)
   if (document.activeElement === document.body) chosen.focus({ focusVisible: false });
@@ -119,6 +122,10 @@ document.addEventListener("history", ({ detail }) => {
   sent.showOnly(detail);
   turnTo(by("tab-sent"));
 });
+document.addEventListener("failures", () => {
+  sent.showUndelivered();
+  turnTo(by("tab-sent"));
+});
 document.addEventListener("notices", ({ detail }) => {
   turnTo(by("tab-notices"));
   notices.openOf(detail);
@@ -127,7 +134,9 @@ document.addEventListener("click", closeMenus);
 document.addEventListener("focusin", closeMenus);
 document.addEventListener("keydown", closeMenus);
 addEventListener("popstate", () => {
-  if (!by("views").hidden && tabOfAddress() !== chosen) turnTo(tabOfAddress());
+  if (by("views").hidden) return;
+  if (tabOfAddress() === by("tab-queue")) queue.takeAddress();
+  if (tabOfAddress() !== chosen) turnTo(tabOfAddress());
 });
 for (const tab of tabs) {
   tab.addEventListener("click", () => turnTo(tab));

@@ -10,9 +10,10 @@ let opened = null;
 
 function drawn(notice) {
   const opens = () => trying(() => show(notice));
-  const subject = button(text(`notice_${notice.kind}`), opens, {
-    class: "link", "aria-label": text("openNotice", { number: notice.number }),
-  });
+  const words = text(`notice_${notice.kind}`);
+  // (a name begins with what is seen: WCAG 2.5.3)
+  const name = `${words}: ${text("openNotice", { number: notice.number })}`;
+  const subject = button(words, opens, { class: "link", "aria-label": name });
   const to = element("span", { class: "line" }, address(notice.to));
   const cell = (it) => element("td", { role: "cell" }, it);
   const row = element("tr", { role: "row", class: "notice", "data-id": notice.id });

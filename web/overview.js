@@ -1,11 +1,12 @@
 // The overview: whether all is well, how full it is, why mail waits, and how old it is.
 
-import { actGroup, actMatching } from "./acts.js";
+import { actGroup, holdMatching } from "./acts.js";
 import { agesChart, fullness } from "./chart.js";
 import { desk, now } from "./desk.js";
 import { byAge, byDomain, byReason, byState, STATES } from "./groups.js";
 import { by, button, chip, element, foreign, menu } from "./parts.js";
 import { show } from "./queue.js";
+import { UNDELIVERED } from "./sent.js";
 import { count, size, span, text } from "./texts.js";
 
 // Of each list of groups, until more are asked for.
@@ -14,6 +15,9 @@ const FEW = 6;
 // has taken the mail within the hour.
 const LONG = 4 * 3600;
 const NEARLY_FULL = 0.9;
+// Of those that left within a day: so many failures are told where they are more than this part,
+// and above the second part it is bad.
+const [DAY, FEWEST_FAILED, MANY_FAILED, MOST_FAILED] = [24 * 3600, 5, 0.1, 0.5];
 const every = { reasons: false, domains: false };
 
 // ---- all is well, or not
@@ -21,11 +25,25 @@ const every = { reasons: false, domains: false };
 // (no list of 10,000 arguments: some browsers have not so many)
 const oldest = (messages) => messages.reduce((least, it) => Math.min(least, it.arrival), Infinity);
 
+// Whether many of the newest that left within a day failed; null where few did.
+function failures() {
+  const ends = desk.ends.filter((it) => it.result !== "deleted" && now() - it.at < DAY);
+  const number = ends.filter((it) => UNDELIVERED.includes(it.result)).length;
+  const part = number / ends.length;
+  if (number < FEWEST_FAILED || part <= MANY_FAILED) return null;
+  const words = element("span", {}, text("wellFailed", { count: number, all: ends.length }), " ");
+  const shows = () => document.dispatchEvent(new CustomEvent("failures"));
+  words.append(button(text("showFailed"), shows, { class: "link", id: "show-failed" }));
+  return [part > MOST_FAILED ? "bad" : "warn", words];
+}
+
 function trouble() {
   const states = byState(desk.messages);
   const { usage, limits } = desk;
   const full = Math.max(usage.messages / limits.messages, usage.bytes / limits.bytes);
   if (full >= NEARLY_FULL) return ["bad", text("wellFull", { count: Math.floor(full * 100) })];
+  const failed = failures();
+  if (failed) return failed;
   if (!desk.messages.length) return ["good", text("wellEmpty")];
   const late = desk.messages.filter((it) => it.state !== "hold" && now() - it.arrival >= LONG);
   if (late.length) {
@@ -69,12 +87,11 @@ function choicesOf(group) {
   if (held) names.unshift("release");
   if (held < group.messages.length) names.unshift("hold");
   const words = nameOf(group);
-  const ids = group.messages.map((it) => it.id);
   const pattern = { class: "recipient", pattern: group.name };
   return names.map((name) => [
     text(`do_${name}`),
-    () => (group.kind === "domain"
-      ? actMatching(name, pattern, words, ids.length, ids)
+    () => (name === "hold" && group.kind === "domain"
+      ? holdMatching(pattern, words, group.messages.length)
       : actGroup(name, group.messages, words)),
     { "data-group": name, ...(name === "delete" ? { class: "danger" } : {}) },
   ]);
@@ -122,7 +139,9 @@ export function draw() {
   if (!desk.at) return;
   const [level, words] = trouble();
   by("well").className = level;
-  by("well").textContent = words;
+  // (a button in it keeps the focus)
+  const said = element("span", {}, words);
+  if (by("well").textContent !== said.textContent) by("well").replaceChildren(said);
   drawTiles();
   drawFullness(by("amounts"));
   by("ages").replaceChildren(agesChart(byAge(desk.messages, now())));

@@ -12,6 +12,7 @@ import {
 } from "./list.js";
 import { answerOf } from "./report.js";
 import { by, element, foreign, sayNothing, trying } from "./parts.js";
+import { goTo, viewOfAddress, wordsOfAddress } from "./place.js";
 import { text } from "./texts.js";
 
 // Of the domains that are offered, and how long after a key the desk is asked, in milliseconds.
@@ -75,12 +76,42 @@ export function draw() {
   // what is not seen is never done anything to
   const ids = new Set(shown.map((it) => it.id));
   for (const it of marks) if (!ids.has(it)) marks.delete(it);
+  // (what a button of the detail does is seen in the list)
+  if (isOpen() && desk.byId.has(isOpen()) && !ids.has(isOpen())) shut();
   by("only-group").hidden = !group;
   by("only-group-name").replaceChildren(group ? foreign(group.words) : "");
   list(shown);
   tellCount(shown.length);
   tellMarks();
   redraw();
+  tellAddress();
+}
+
+// ---- the address
+
+const FILTERS = ["state", "age", "domain"];
+
+// (a group is of one look at the queue, and has no address)
+function tellAddress(isStep = false) {
+  if (by("queue").hidden || viewOfAddress() !== "queue") return;
+  const order = by("order").value;
+  const filters = FILTERS.map((it) => [it, by(`only-${it}`).value]);
+  const words = { words: by("search").value.trim(), order: order === "newest" ? "" : order };
+  goTo("queue", { ...words, ...Object.fromEntries(filters), message: isOpen() }, isStep);
+}
+
+// Shows what the address says: behind a reload, Back, or a link that somebody kept.
+export function takeAddress() {
+  const words = wordsOfAddress();
+  by("search").value = words.get("words") ?? "";
+  by("order").value = words.get("order") in ORDERS ? words.get("order") : "newest";
+  by("only-state").value = STATES.includes(words.get("state")) ? words.get("state") : "";
+  by("only-age").value = AGES[words.get("age")] ? words.get("age") : "";
+  chooseDomain(words.get("domain") ?? "");
+  const id = words.get("message");
+  if (isOpen() && isOpen() !== id) shut();
+  draw();
+  if (desk.byId.has(id) && isOpen() !== id) openRow(id, false);
 }
 
 // (several keys within one frame are one drawing)
@@ -107,16 +138,21 @@ function offerDomains() {
   field.value = chosen;
 }
 
-// Shows these messages alone: those of a state, a domain, a group, or some words.
-export function show({ state = "", domain = "", words = "", group: one = null }) {
-  by("search").value = words;
-  by("only-state").value = state;
-  by("only-age").value = "";
+// (a domain of which nothing waits may be asked for, too)
+function chooseDomain(domain) {
   offerDomains();
   if (domain && ![...by("only-domain").options].some((it) => it.value === domain)) {
     by("only-domain").append(option(domain, domain));
   }
   by("only-domain").value = domain;
+}
+
+// Shows these messages alone: those of a state, a domain, a group, or some words.
+export function show({ state = "", domain = "", words = "", group: one = null }) {
+  by("search").value = words;
+  by("only-state").value = state;
+  by("only-age").value = "";
+  chooseDomain(domain);
   const groupName = one && (one.name || text(one.kind === "waiting" ? "notTried" : "hold"));
   group = one && { ...one, words: groupName };
   document.dispatchEvent(new CustomEvent("turn", { detail: "queue" }));
@@ -176,8 +212,9 @@ function doMarked(name) {
   return act(name, ids);
 }
 
-function openRow(id) {
-  openDetail(id, { does: (name) => act(name, [id]) });
+function openRow(id, isStep = true) {
+  openDetail(id, { does: (name) => act(name, [id]), quiet: !isStep });
+  tellAddress(isStep);
   for (const it of document.querySelectorAll("tr.opened")) it.classList.remove("opened");
   rowFor(id)?.classList.add("opened");
 }
@@ -189,10 +226,15 @@ export function showMessage(id) {
   openRow(id);
 }
 
-export function closeDetail() {
-  const id = isOpen();
+function shut() {
   close();
   for (const it of document.querySelectorAll("tr.opened")) it.classList.remove("opened");
+}
+
+export function closeDetail() {
+  const id = isOpen();
+  shut();
+  tellAddress();
   focusOn(rowFor(id) ?? null);
 }
 
@@ -255,5 +297,9 @@ drawnBy(() => {
   if (by("queue").hidden) by("well").focus();
   else if (isOpen()) by("detail-title").focus();
   else focusOn(activeRow());
+});
+// (a message that is tried anew has another ID)
+document.addEventListener("renamed", ({ detail: { from, to } }) => {
+  if (isOpen() === from) openRow(to, false);
 });
 when("stranger", sayNothing);

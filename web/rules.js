@@ -1,19 +1,22 @@
 // The rules: the lines of both classes, found, set, changed and dropped; and the check of an
 // address.
 
+import { holdMatching } from "./acts.js";
 import { call, found, history, lines } from "./api.js";
 import { csvOf } from "./csv.js";
 import { desk } from "./desk.js";
 import {
-  ask, by, button, download, element, filling, foreign, menu, sayAndLoad, trying,
+  ask, bad, by, button, download, element, filling, foreign, menu, sayAndLoad, trying,
 } from "./parts.js";
+import { show } from "./queue.js";
 import { domainOf } from "./report.js";
 import { openImport } from "./rules_file.js";
 import { count, text } from "./texts.js";
-import { ACTIONS } from "./words.js";
+import { ACTIONS, told } from "./words.js";
 
-// Of those that a rule would be for.
+// Of those that a rule would be for; and of a page of the desk.
 const SHOWN = 5;
+const PAGE = 100;
 
 let rules = [];
 // the rule that is being changed, null where a new one is made
@@ -127,16 +130,55 @@ function warn() {
   return at.replaceChildren(text("matchesNobody"), " ", take);
 }
 
+// (the desk keeps patterns in lower case)
+const isSame = (known, line) =>
+  known?.class === line.class && known.pattern === line.pattern.toLowerCase();
+
+// Asks before a rule is written over that is not the one that is changed here.
+function mayReplace(line) {
+  const known = rules.find((it) => isSame(it, line));
+  if (!known || known.action === line.action || isSame(edited, line)) return true;
+  const facts = [["replaceNow", known], ["replaceNew", line]]
+    .map(([name, it]) => [text(name), foreign(it.action)]);
+  const title = text("replaceTitle", { rule: spoken(line) });
+  return ask(title, "", text("replaceYes"), { facts });
+}
+
+// Drops the rule that another one stands in for; what went wrong, if that did.
+async function dropOld(line) {
+  try {
+    await call("POST", "/v1/line-drop", { class: edited.class, pattern: edited.pattern });
+    return null;
+  } catch (fault) {
+    const words = { rule: spoken(line), old: spoken(edited), words: told(fault) };
+    return bad(text("stillThere", words));
+  }
+}
+
+// What a new rule is for and does not stop: the messages that are queued, with what can be done.
+async function queuedOf(line) {
+  const { value: some } = await found({ class: line.class, pattern: line.pattern }).next();
+  if (!some.length) return null;
+  const { length: number } = some;
+  const isMore = number === PAGE;
+  const pattern = { class: line.class, pattern: line.pattern };
+  const holds = () => holdMatching(pattern, spoken(line), number);
+  const shows = () => show({ words: line.pattern });
+  return element("p", { class: "doing" },
+    element("span", {}, text(isMore ? "queuedMore" : "queuedOf", { count: number })),
+    button(text("do_hold"), holds, { id: "hold-queued" }),
+    button(text("showQueued"), shows, { id: "show-queued" }));
+}
+
 async function put() {
   const line = { ...written(), action: `${by("put-action").value} ${by("put-text").value}`.trim() };
+  if (!(await mayReplace(line))) return;
   const reply = await call("POST", "/v1/line-put", line);
-  const isMoved = edited
-    && (edited.class !== line.class || edited.pattern !== line.pattern.toLowerCase());
-  if (isMoved) {
-    await call("POST", "/v1/line-drop", { class: edited.class, pattern: edited.pattern });
-  }
+  const fault = edited && !isSame(edited, line) ? await dropOld(line) : null;
   by("put-dialog").close();
-  await sayAndLoad(text(`put_${reply.put}`, { rule: spoken(line) }), load);
+  await sayAndLoad(fault ?? text(`put_${reply.put}`, { rule: spoken(line) }), load);
+  const queued = line.action.startsWith("REJECT") && line.pattern !== "<>" && await queuedOf(line);
+  if (queued) by("told").append(queued);
 }
 
 // Whether a pattern is for an address, as the desk looks it up.
@@ -190,7 +232,6 @@ async function inDialog(event, does) {
   try {
     await does();
   } catch (fault) {
-    const { told } = await import("./words.js");
     by("put-stops").replaceChildren();
     by("put-fault").textContent = told(fault);
   }

@@ -11,11 +11,21 @@ const MOST_ROWS = 1000;
 const HEADER = "class,pattern,action";
 
 let loads = () => {};
+let offered = "";
+
+// Offers a label of its own for each file that is sent: under one that was used the desk would
+// answer as it did then. A label that somebody wrote stays.
+function offerLabel() {
+  const field = by("import-label");
+  if (field.value !== offered) return;
+  offered = new Date().toISOString().replace(/[-:]/g, "").replace(/\.(\d+)Z/, "$1");
+  field.value = offered;
+}
 
 export function openImport(load) {
   loads = load;
   by("imported").replaceChildren();
-  if (!by("import-label").value) by("import-label").value = new Date().toISOString().slice(0, 10);
+  offerLabel();
   by("import-dialog").showModal();
 }
 
@@ -48,9 +58,12 @@ async function send(csv) {
     const label = by("import-label").value.trim();
     const { added, changed, same } = await call("POST", "/v1/import", { label, csv });
     const words = { added: count(added), changed: count(changed), same: count(same) };
+    offerLabel();
     return [element("p", {}, text("imported", words))];
   } catch (fault) {
     if (!("number" in fault)) throw fault;
+    // (where no reply came, the next try is to be the same file under the same label)
+    if (!fault.isAway) offerLabel();
     return fault.row === undefined ? [bad(told(fault))] : faultOf(fault, csv);
   }
 }

@@ -10,16 +10,26 @@ import { moment, text } from "./texts.js";
 import { showMessage } from "./queue.js";
 
 const COLUMNS = ["at", "id", "number", "recipient", "result", "sender", "status", "text"];
-// What may become of a recipient.
+// What may become of a recipient, and of whom that mail did not come.
 const RESULTS = ["delivered", "failed", "deleted", "expired"];
+export const UNDELIVERED = ["failed", "expired"];
+// How many are looked for at once, page by page.
+const ENOUGH = 100;
 
 const body = by("ends").tBodies[0];
 let shown = [];
-// the pattern that is searched for, the one message that is shown, and where more goes on
+// the pattern that is searched for, the one message that is shown, where more goes on, and the
+// moment of the last one that was looked at
 let wanted = null;
 let only = null;
 let next = null;
+let back = null;
 let loading = 0;
+// whether the list begins anew with the next page
+let isFresh = true;
+// whether pages are asked for now, and are to end with the one that comes
+let isAsking = false;
+let stops = false;
 
 function people(end) {
   const to = element("span", { class: "line strong" }, address(end.recipient));
@@ -47,37 +57,63 @@ function onlyThat(end) {
   return open();
 }
 
-function tell() {
+// Whether an end is of those that are looked for.
+function isMeant(end) {
   const result = by("ends-result").value;
-  for (const it of body.rows) it.hidden = Boolean(result) && it.dataset.result !== result;
-  const number = [...body.rows].filter((it) => !it.hidden).length;
-  const words = only ? "endsOf" : next === null ? "endsAll" : "endsSome";
-  by("ends-shown").textContent = text(words, { count: number, id: only?.id });
-  by("ends-more").hidden = next === null;
-  by("ends-all").hidden = !wanted;
-  by("ends-csv").disabled = number === 0;
-  by("ends").hidden = number === 0;
-  by("ends-none").hidden = number > 0;
+  const results = result === "undelivered" ? UNDELIVERED : [result];
+  return (!only || end.id === only.id) && (!result || results.includes(end.result));
 }
 
-async function more() {
-  const mine = loading;
-  const told = await history(wanted, next);
-  if (mine !== loading) return;
-  if (next === null) {
-    shown = [];
+function tell() {
+  const { length: number } = shown;
+  const at = back === null ? "" : moment(back).textContent;
+  const some = isAsking ? "endsSearching" : at ? "endsSome" : "endsMore";
+  const words = next !== null ? some : only ? "endsOf" : "endsAll";
+  by("ends-shown").textContent = text(words, { count: number, id: only?.id, at });
+  by("ends-more").hidden = next === null;
+  by("ends-more").textContent = text(isAsking ? "stop" : "older");
+  by("ends-all").hidden = !wanted && !by("ends-result").value;
+  by("ends-csv").disabled = number === 0;
+  by("ends").hidden = number === 0;
+  by("ends-none").hidden = number > 0 || isAsking;
+}
+
+function show({ ends, next: further }) {
+  // (what is shown stays until a reply comes)
+  if (isFresh) {
+    [back, shown, isFresh] = [null, [], false];
     body.replaceChildren();
   }
-  const ends = only ? told.ends.filter((it) => it.id === only.id) : told.ends;
-  shown.push(...ends);
-  body.append(...ends.map(drawn));
-  next = told.next;
-  tell();
+  const some = ends.filter(isMeant);
+  shown.push(...some);
+  body.append(...some.map(drawn));
+  next = further;
+  back = ends.at(-1)?.at ?? back;
+}
+
+// Asks for pages, until there are enough of those that are looked for, or none is left.
+async function more() {
+  const mine = loading;
+  const most = ENOUGH + (isFresh ? 0 : shown.length);
+  [isAsking, stops] = [true, false];
+  try {
+    do {
+      const told = await history(wanted, next);
+      if (mine !== loading) return;
+      show(told);
+      tell();
+    } while (next !== null && shown.length < most && !stops);
+  } finally {
+    if (mine === loading) {
+      isAsking = false;
+      tell();
+    }
+  }
 }
 
 async function load() {
   loading += 1;
-  next = null;
+  [next, isFresh] = [null, true];
   const most = desk.limits?.history;
   by("ends-kept").textContent = most ? text("endsKept", { count: most }) : text("endsNone");
   by("ends-shown").textContent = text("loading");
@@ -105,6 +141,13 @@ async function find(event) {
   await open();
 }
 
+// Has the view show whose mail did not come.
+export function showUndelivered() {
+  only = wanted = null;
+  by("ends-pattern").value = "";
+  by("ends-result").value = "undelivered";
+}
+
 async function showAll() {
   only = wanted = null;
   by("ends-pattern").value = "";
@@ -112,21 +155,34 @@ async function showAll() {
   await open();
 }
 
-function save() {
-  const result = by("ends-result").value;
-  const some = shown.filter((it) => !result || it.result === result);
+// Saves all that are looked for, also those that are not shown yet.
+async function save() {
+  let [some, before, isStopped] = [[], null, false];
+  const stop = button(text("stop"), () => { isStopped = true; }, { id: "stop" });
+  const said = element("span", {});
+  do {
+    const told = await history(wanted, before);
+    some = some.concat(told.ends.filter(isMeant));
+    before = told.next;
+    said.textContent = text("gathered", { count: some.length });
+    if (!stop.isConnected) say(element("div", { class: "doing" }, said, stop));
+  } while (before !== null && !isStopped);
+  say(text(isStopped ? "gatheredSome" : "gatheredAll", { count: some.length }));
   download("history.csv", csvOf([COLUMNS, ...some.map((it) => COLUMNS.map((name) => it[name]))]));
 }
 
 by("ends-result").append(
   element("option", { value: "" }, text("anyResult")),
-  ...RESULTS.map((it) => element("option", { value: it }, text(it))),
+  ...[...RESULTS, "undelivered"].map((it) => element("option", { value: it }, text(it))),
 );
-by("ends-result").addEventListener("change", tell);
+by("ends-result").addEventListener("change", open);
 by("ends-form").addEventListener("submit", find);
 by("ends-all").addEventListener("click", showAll);
-by("ends-more").addEventListener("click", () => trying(more));
-by("ends-csv").addEventListener("click", save);
+by("ends-more").addEventListener("click", () => {
+  if (isAsking) stops = true;
+  else trying(more);
+});
+by("ends-csv").addEventListener("click", () => trying(save));
 by("reload-ends").addEventListener("click", async () => {
   if (await open()) say(text("loadedAgain"));
 });

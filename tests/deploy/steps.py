@@ -14,6 +14,8 @@ from serving import LONGEST, Wrong, expect
 SCRIPTS = "/usr/libexec/hq-desk"
 # The line with which a desk is away, until it is started.
 STOPS = re.compile(rf"{SCRIPTS}/desk-stop ")
+# The line that stops both desks of a move, and starts them.
+MOVES = re.compile(r"hq-customers move ")
 # What stops and starts the worker.
 OF_WORKER = re.compile(rf"{SCRIPTS}/desk-(?:stop|start) relay$")
 # What works at a store while nobody else does, as the user of the desks.
@@ -70,12 +72,14 @@ class Place:
         for line in lines_of(title):
             if "hq-relay" in line or OF_WORKER.match(line):
                 self.of_worker.append(line)
-            elif STOPS.match(line):
+            elif STOPS.match(line) or MOVES.match(line):
                 stopped = time.monotonic()
-                self.step(line, names)
+                self.step(line, names) if STOPS.match(line) else self.of_desks("stop", self.desks.values())
                 begun = time.monotonic()
                 after_stop()
                 paused = time.monotonic() - begun
+                if MOVES.match(line):
+                    self.moves(line, names)
             else:
                 stopped = stopped or time.monotonic()
                 self.step(line, names)
@@ -85,7 +89,7 @@ class Place:
         if line == "nginx -t":
             self.of_shell(f"nginx -t -p {self.proxy.folder} -c {self.proxy.folder}/nginx.conf", names)
         elif line.startswith(f"{SCRIPTS}/desk-backup "):
-            _, _, *desks = line.split()
+            desks = [it for it in line.split() if it in self.desks]
             self.with_stopped(desks, lambda: self.of_shell(line.replace(SCRIPTS, str(self.scripts)), names))
         elif STOPS.match(line) or line.startswith(f"{SCRIPTS}/desk-start "):
             way, *desks = line.split()
@@ -98,6 +102,12 @@ class Place:
                 self.of_desks(verb, [self.desks[it.partition("@")[2]] for it in units])
         else:
             self.of_shell(line, names)
+
+    def moves(self, line, names):
+        """What the command does between its stop of the desks and their start (`test_moved.py` has it do that too)."""
+        self.of_shell(line.replace("hq-customers ", "hq-customers --files "), names)
+        self.proxy.reload()
+        self.of_desks("start", self.desks.values())
 
     def with_stopped(self, desks, work):
         running = [self.desks[it] for it in desks if self.desks[it].runs]

@@ -41,6 +41,61 @@ def test_by_hand(place, how, first):
     place.done("add", name, "--desk", "north")
 
 
+def test_settings_that_are_away(place):
+    """Settings of a desk whose store is there may be away for a moment: nothing changes until they are back, or the desk is dropped."""
+    (place.folder / "south.db").write_text("a store")
+    (place.folder / "south.env").rename(place.folder / "aside")
+    before = place.files()
+    for words in (("set", "acme", "--messages", "900"), ("key", "acme"), ("add", "elm", "--desk", "north"), ("erase", "birch"), ("drop", "dale")):
+        ended = place.run("--store", place.folder, *words)
+        expect(ended.returncode == 1 and f"{place.folder}/south.env is missing, {place.folder}/south.db is there" in ended.stderr
+               and "`hq-customers drop-desk south`" in ended.stderr and place.files() == before, words, "ended with", ended)
+    expect("birch by hand" in place.done("--store", place.folder, "list"), "they are not listed")
+    (place.folder / "aside").rename(place.folder / "south.env")
+    ended = place.run("--store", place.folder, "drop-desk", "south")
+    expect(ended.returncode == 1 and "south.env is there" in ended.stderr, "a desk that is there:", ended)
+    place.done("--store", place.folder, "set", "acme", "--messages", "900")
+    expect("domain b.example, login bea" in place.done("list"), "birch has lost what it had:", place.done("list"))
+
+
+def test_a_desk_that_is_gone(place):
+    """A desk that is gone for good is dropped by name; then everything goes on, and its customers are erased like others."""
+    (place.folder / "south.db").write_text("a store")
+    name, told = taken_out(place, "a desk")
+    ended = place.run("--store", place.folder, "drop-desk", "south", "west")
+    expect(ended.returncode == 1 and "no customer is at a desk west" in ended.stderr, "another one:", ended)
+    ended = place.run("--store", place.folder, "drop-desk", "south")
+    expect((ended.returncode, ended.stderr) == (0, told), "it ended with", ended)
+    place.done("--store", place.folder, "set", "acme", "--messages", "900")
+    (place.folder / "south.db").unlink()
+    place.done("--store", place.folder, "erase", name)
+
+
+def test_a_desk_that_is_back(place):
+    """A desk that was dropped by name and is there again has its customers again: nobody is told of as dropped."""
+    away = place.folder.parent / "away"
+    away.mkdir()
+    for it in ("south.env", "south.key", "south.csv"):
+        (place.folder / it).rename(away / it)
+    ended = place.run("drop-desk", "south")
+    expect(ended.returncode == 0 and "dropped on" in place.done("list"), "it ended with", ended)
+    for it in away.iterdir():
+        it.rename(place.folder / it.name)
+    place.done("set", "acme", "--messages", "901")
+    expect("dropped on" not in place.done("list"), "it tells", place.done("list"))
+
+
+def test_a_desk_without_a_row(place):
+    """A directory that has its header alone keeps nobody from the others; once it has somebody, that file is named where it is refused."""
+    place.desk("west", 827, "")
+    place.done("add", "elm", "--desk", "north")
+    place.done("add", "fir", "--desk", "west")
+    (place.folder / "west.csv").write_text((place.folder / "west.csv").read_text().replace("fir,", "FIR,"))
+    before = place.files()
+    ended = place.run("add", "oak", "--desk", "north")
+    expect(ended.returncode == 1 and f"{place.folder}/west.csv: hq refuses it" in ended.stderr and place.files() == before, "it tells", ended)
+
+
 @pytest.mark.parametrize("name", ["s.outh", "söuth", "-south", "s" * 65, "events"])
 def test_names_of_desks(place, name):
     """A desk's name is part of those of files, units and metrics: another one is refused, and nothing changes."""

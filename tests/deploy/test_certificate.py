@@ -146,11 +146,11 @@ SETTING_UP = DEPLOY.parent / "docs/PRODUCTION.md"
 
 
 def typed(folder, tls, name):
-    """The lines by which nginx is set up, but for those that nginx and systemd do."""
+    """The lines by which nginx is set up, but for those that nginx, systemd and dpkg do."""
     lines = re.search(r"(?ms)^### nginx\n.*?^```\n(.*?)^```$", SETTING_UP.read_text())[1]
     for old, new in (("/usr/share/doc/hq-desk/examples", DEPLOY), ("/etc/", f"{folder}/")):
         lines = lines.replace(old, str(new))
-    ended = subprocess.run(["bash", "-euc", re.sub(r"(?m)^(systemctl|nginx) .*\n", "", lines)], capture_output=True, text=True,
+    ended = subprocess.run(["bash", "-euc", re.sub(r"(?m)^(systemctl|nginx|dpkg-divert) .*\n", "", lines)], capture_output=True, text=True,
                            timeout=LONGEST, env={**os.environ, "TLS": str(tls), "NAME": name})
     expect((ended.returncode, ended.stderr) == (0, ""), "the lines end with", ended)
 

@@ -101,11 +101,11 @@ def test_long_requests(proxy, north):
 def test_often_at_the_page(proxy):
     """The page has a limit by address, and its calls and other addresses none of that."""
     with connection(proxy) as client:
-        client.sendall((head("HEAD /style.css HTTP/1.1") + b"\r\n") * 200
+        client.sendall((head("HEAD /style.css HTTP/1.1") + b"\r\n") * 900
                        + head("HEAD / HTTP/1.1", "Connection: close") + b"\r\n")
         text = b"".join(iter(lambda: client.recv(65536), b""))
     found = re.findall(rb"HTTP/1.1 (\d+)", text)
-    expect(len(found) == 201 and set(found) == {b"200", b"429"}, "201 times the page is", set(found))
+    expect(len(found) == 901 and set(found) == {b"200", b"429"}, "901 times the page is", set(found))
     done(proxy.ask(*USAGE, ACME), "a call beside the page")
     time.sleep(1)
     expect(ask(proxy, "GET / HTTP/1.1")[0] == 200, "the page, a second later")

@@ -5,15 +5,17 @@ import json
 import random
 import re
 import socket
+import ssl
 import subprocess
 import time
 from concurrent.futures import ThreadPoolExecutor
 from contextlib import ExitStack
+from types import SimpleNamespace
 
 import needs
 import pytest
 from deploying import DEPLOY, OTHERS, ROWS, Desk, Proxy, done
-from serving import ACME, BIRCH, LONGEST, RELAY, asked, expect, until
+from serving import ACME, BIRCH, HEADER, LONGEST, RELAY, asked, expect, until
 
 USAGE = "GET", "/v1/usage"
 READING, NAMED_READ = "acmereading00001", "acmenamedread001"
@@ -101,7 +103,7 @@ def test_networks(front):
     real = ("  server_tokens off;\n  access_log", "  server_tokens off;\n  set_real_ip_from 127.0.0.1;\n  real_ip_header X-From;\n  access_log")
     path = front.folder / "hq-desk.conf"
     before, text = path.read_text(), path.read_text()
-    for old, new in (shows, real, ("limit_req zone=hq_page burst=120 nodelay;\n  # Who asks some", "# Who asks some")):
+    for old, new in (shows, real, ("limit_req zone=hq_page burst=600 nodelay;\n  # Who asks some", "# Who asks some")):
         expect(text.count(old) == 1, "nginx.conf has no", old)
         text = text.replace(old, new)
     path.write_text(text)
@@ -149,6 +151,73 @@ def test_slow_bodies_of_one_key(front):
         with ThreadPoolExecutor(4) as them:
             for it in them.map(lambda _: front.ask(*USAGE, ACME), range(8)):
                 done(it, "four at once of the customer's own key")
+
+
+CROWD = [f"crowdkey000000{it:02d}" for it in range(13)]
+WHOLE = "GET /v1/usage HTTP/1.1\r\nHost: desk.example\r\nX-Desk-Key: {}\r\nConnection: close\r\n\r\n"
+
+
+def crowd(place, name):
+    """The directory of acme and thirteen others, each of whom may ask eight calls at once."""
+    path = place / f"{name}.csv"
+    path.write_text(HEADER + "".join(f"{it}\n" for it in crowd_rows()))
+    return path
+
+
+def crowd_rows():
+    return [*ROWS, *(f"crowd-{number},{key},100,1000000,100,10,0" for number, key in enumerate(CROWD))]
+
+
+def test_slow_bodies_of_many(place, program):
+    """However many customers are slow in their bodies, none of these is at the desk yet: others find room there."""
+    needs.command("nginx", "openssl")
+    with Desk(place, program, "crowd", crowd_rows()) as desk, Proxy(place / "crowd", [desk]) as front, ExitStack() as kept:
+        for key in CROWD:
+            slow_bodies(front, kept, key, 8)
+        until(lambda: front.ask(*USAGE, CROWD[0]) == OFTEN, "the bodies are not there", 5)
+        for _ in range(20):
+            done(front.ask(*USAGE, ACME), "beside a hundred slow bodies")
+
+
+def replies(clients):
+    """What came for those of these that were replied to by now."""
+    found = []
+    for it in clients:
+        try:
+            found.append(it.recv(4096).decode())
+        except ssl.SSLWantReadError:
+            continue
+    return [it for it in found if it]
+
+
+def test_room_at_a_desk(place):
+    """A desk has a hundred calls of customers at once. Who comes behind them is told to ask again, and nothing was done; a desk
+    that is away is told as that."""
+    needs.command("nginx", "openssl")
+    with socket.create_server(("127.0.0.1", 0), backlog=200) as hangs:
+        desk = SimpleNamespace(address="127.0.0.1:{}".format(hangs.getsockname()[1]), directory=crowd(place, "hangs"))
+        with Proxy(place / "hangs", [desk]) as front, ExitStack() as kept:
+            host, _, port = front.public.rpartition(":")
+            asked_for = []
+            for key in CROWD:
+                for _ in range(8):
+                    made = socket.create_connection((host, int(port)), LONGEST)
+                    client = kept.enter_context(front.context.wrap_socket(made, server_hostname=host))
+                    client.sendall(WHOLE.format(key).encode())
+                    client.setblocking(False)
+                    asked_for.append(client)
+            told = []
+            until(lambda: told.extend(replies(asked_for)) or len(told) >= len(asked_for) - 100, "too few calls are refused")
+            time.sleep(1)
+            told += replies(asked_for)
+            expect(len(told) == len(asked_for) - 100, "of", len(asked_for), "calls refused are", len(told))
+            told = told[0]
+            expect(told.startswith("HTTP/1.1 429 ") and "Retry-After: 1\r\n" in told and told.endswith('{"name":"TooOften","proxy":429}'),
+                   "the last ones are told", told)
+            expect(front.ask(*USAGE, ACME) == OFTEN, "another one is let in")
+            hangs.close()
+    with Proxy(place / "hangs", [desk]) as front:
+        expect(front.ask(*USAGE, ACME) == (502, {"name": "DeskAway", "proxy": 502}), "a desk that is away is told as", front.ask(*USAGE, ACME))
 
 
 def test_long_calls_of_a_reading_key(front):

@@ -216,15 +216,3 @@ def test_customer_gone_at_each_step(place):
         for name, text in keep.items():
             (place.folder / name).write_bytes(text)
     expect(20 < number < 200 and "acme" not in place.rows(), "it was stopped", number, "times")
-
-
-def test_moved(place):
-    """A customer with named keys is not moved to another store; one without is."""
-    def moved(name):
-        words = [DEPLOY / "move-customer", place.folder / "north.db", place.folder / "south.db", name, place.folder]
-        return subprocess.run(words, capture_output=True, text=True, timeout=LONGEST)
-    for it in ("panel", "report"):
-        place.done("add-key", "acme", it)
-    expect(moved("acme").returncode == 1 and "acme has named keys in" in moved("acme").stderr
-           and "north.keys.csv: panel, report. " in moved("acme").stderr, "it is told", moved("acme"))
-    expect("north.db is no file" in moved("birch").stderr, "birch is told", moved("birch"))

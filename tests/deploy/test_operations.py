@@ -181,31 +181,30 @@ def mover(*words):
 
 def refused_moves(north, south, name):
     """What the script must not do, on desks that are stopped."""
-    found = mover(north.store, south.store, "nobody")
-    expect(found.returncode == 1 and "nothing of nobody" in found.stderr, "of nobody:", found)
-    found = mover(north.directory, south.store, name)
+    found = mover("--copy", north.directory, south.store, name)
     expect(found.returncode == 1, "from a file that is no store:", found)
+    found = mover("--take", north.store, south.store, name)
+    expect(found.returncode == 1 and f"nothing of {name}" in found.stderr, "rows that nobody else has:", found)
 
 
 def half_moved(folder, north, south, name):
-    """A move that was stopped between its two stores is ended by the next, on copies of them."""
+    """A copy that was stopped, or made of earlier rows, is made again, on copies of both stores."""
     place = folder / "half"
     copied(north.store, place)
     copied(south.store, place / "south")
     source, target = place / north.store.name, place / "south" / south.store.name
-    keep = place / "keep"
-    copied(source, keep)
-    first = mover(source, target, name)
-    second = mover(keep / source.name, target, name)
-    expect(first.returncode == second.returncode == 0 and first.stdout == second.stdout, second)
-    with contextlib.closing(sqlite3.connect(keep / source.name)) as store:
-        left = store.execute("SELECT count(*) FROM heads WHERE customer = ?", (name,)).fetchone()
-    expect(left == (0,), "the rows were not taken out of the first store")
+    first = mover("--copy", source, target, name)
     with contextlib.closing(sqlite3.connect(target)) as store, store:
         store.execute("UPDATE heads SET accepted = accepted + 1 WHERE customer = ?", (name,))
-    copied(north.store, place / "again")
-    found = mover(place / "again" / north.store.name, target, name)
-    expect(found.returncode == 1 and "already" in found.stderr, "a taken name:", found)
+        store.execute("DELETE FROM messages WHERE customer = ? AND serial < 5", (name,))
+    second = mover("--copy", source, target, name)
+    expect(first.returncode == second.returncode == 0 and first.stdout == second.stdout, "again:", second)
+    with contextlib.closing(sqlite3.connect(source)) as one, contextlib.closing(sqlite3.connect(target)) as other:
+        for table in ("heads", "messages", "recipients", "lines", "marks", "notices", "holds", "ends"):
+            both = [sorted(it.execute(f"SELECT * FROM {table} WHERE customer = ?", (name,))) for it in (one, other)]
+            expect(both[0] == both[1], "the second store has another", table)
+    third = mover("--take", source, target, name)
+    expect(third.stdout == first.stdout and mover("--take", source, target, name).stdout == "0 rows\n", "taken out:", third)
 
 
 def move(place, north, south, proxy):
@@ -217,12 +216,8 @@ def move(place, north, south, proxy):
     proxy.reload()
     table, before = filled(north, "dale"), all_of(north.address, key_of("dale"))
     others = {it: kept(north.address, it) for it in NORTH[1:]}
-    found = mover(north.store, south.store, "dale")
+    found = mover("--copy", north.store, south.store, "dale")
     expect(found.returncode == 1 and "locked" in found.stderr, "desks that run:", found)
-    for desk, names in ((north, NORTH[1:]), (south, [*SOUTH, "dale"])):
-        rows = "".join(f"{row(it)}\n" for it in names)
-        (north.folder / f"{desk.name}.new").write_text(HEADER + rows)
-
     def meanwhile():
         refused_moves(north, south, "dale")
         half_moved(north.folder, north, south, "dale")

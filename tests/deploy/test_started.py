@@ -2,6 +2,7 @@
 import os
 import shlex
 import shutil
+import signal
 import subprocess
 import time
 
@@ -305,6 +306,27 @@ def test_nothing_to_copy(place):
     (place / "bin/df").write_text("#!/bin/sh\necho ' 1000000 900000'\n")
     (place / "stores/north.db").write_bytes(bytes(700000))
     expect(run(place, "desk-backup", place / "again", "north").returncode == 0, "a store is cut")
+
+
+def test_a_store_that_is_lost(place):
+    """Before a restore the copy of a store that is lost is empty, and of one that lacks its log has what is there; the desk is started."""
+    for text, wanted in ((None, ""), ("a store", "north.db\n")):
+        address = is_set_up(place, "north")
+        if text is None:
+            (place / "stores/north.db").unlink()
+        ended = run(place, "desk-backup", "--any", place / f"copy of {text}", "north")
+        expect((ended.returncode, ended.stdout) == (0, wanted) and listens(address), "it ended with", ended)
+    expect(any(it.startswith("/usr/libexec/hq-desk/desk-backup --any ") for it in lines_of("Restore")), "the page has another line")
+
+
+def test_interrupted(place):
+    """Who ends a start by Ctrl-C is told in one line."""
+    is_set_up(place, "north")
+    starting = begin(place, "desk-restart", "north", "systemctl", "start", "hq-desk@north.service")
+    until(lambda: (place / "runs-north").exists(), "it does not start")
+    starting.send_signal(signal.SIGINT)
+    told, _ = starting.communicate(timeout=LONGEST)
+    expect(starting.returncode == 1 and told == "desk-restart: north: stopped before it was known whether the desk listens\n", "it tells", told)
 
 
 def test_worker(place):

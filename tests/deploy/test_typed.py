@@ -53,6 +53,26 @@ def test_copies_are_on_the_disk(folder, is_synced):
         expect(ended.returncode == 1 and not ended.stdout and "not whole" in ended.stderr, "it ended with", ended)
 
 
+def test_a_new_release_of_debian(folder):
+    """The worker is stopped before, also over the boot; what the administrator has changed stays, and nothing is asked. Behind the boot
+    it starts once both instances are as the new Postfix wants them. A line that fails ends each block."""
+    page = (DEPLOY.parent / "docs/PROCEDURES.md").read_text()
+    blocks = re.findall(r"(?ms)^```\n(.*?)^```$", page.partition("\n## A new release of Debian\n")[2])
+    names = "desk-stop", "apt-get", "systemctl", "hq-relay", "desk-start"
+    for name in names:
+        (folder / name).write_text(f'#!/bin/sh\necho "{name} $@" >>{folder}/done\n[ "$FAILS" != {name} ]\n')
+        (folder / name).chmod(0o755)
+    upgrade = "apt-get --option Dpkg::Options::=--force-confold --yes full-upgrade"
+    wanted = [["desk-stop relay", upgrade, "systemctl reboot"], ["hq-relay /etc/hq/relay.ini install", "desk-start relay"]]
+    for block, lines in zip(blocks, wanted, strict=True):
+        for number, line in enumerate([*lines, ""], 1):
+            (folder / "done").unlink(missing_ok=True)
+            ended = subprocess.run(["bash", "-euc", block.replace("/usr/libexec/hq-desk/", "")], capture_output=True, text=True, timeout=LONGEST,
+                                   env={"PATH": f"{folder}:/usr/bin:/bin", "FAILS": line.partition(" ")[0]})
+            expect((folder / "done").read_text().splitlines() == lines[:number], line, "fails, and done is", (folder / "done").read_text())
+            expect((ended.returncode == 0) == (not line), line, "fails, and the block ends with", ended)
+
+
 def test_a_restore_is_on_the_disk():
     """The line of Restore that writes holds the lock of the store, and syncs before it lets anybody else open it."""
     line, = (it for it in lines_of("Restore") if "tar -x" in it)

@@ -72,6 +72,11 @@ class Browser:
         self.protocol("Emulation.setEmulatedMedia",
                       features=[{"name": "prefers-color-scheme", "value": name}])
 
+    def media(self, name="", **features):
+        """Another medium, such as paper, or features of it; none are those of before."""
+        some = [{"name": it.replace("_", "-"), "value": value} for it, value in features.items()]
+        self.protocol("Emulation.setEmulatedMedia", media=name, features=some)
+
     def picture(self, file):
         file.parent.mkdir(parents=True, exist_ok=True)
         file.write_bytes(self.driver.get_screenshot_as_png())
@@ -126,8 +131,9 @@ class Browser:
         ActionChains(self.driver).send_keys(*pressed).perform()
 
     def text(self, selector):
-        """The text of an element as it is shown; None where there is none."""
-        return self.run("document.querySelector(arguments[0])?.innerText ?? null", selector)
+        """The text of an element as it is shown, "" where it is hidden; None where there is none."""
+        script = "((it) => it && (it.checkVisibility() ? it.innerText : ''))(document.querySelector(arguments[0]))"
+        return self.run(script, selector)
 
     def texts(self, selector):
         """The text of each element of a selector."""

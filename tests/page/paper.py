@@ -41,7 +41,8 @@ def fits(pattern, address):
 
 
 class Paper(http.server.ThreadingHTTPServer):
-    """A stand-in for the desk, with one message until it is told more. `asked` is what it was asked."""
+    """A stand-in for the desk, with one message until it is told more. `asked` is what it was asked, and `slow` has the seconds
+    that a path takes."""
 
     daemon_threads = True
     request_queue_size = 64
@@ -53,7 +54,7 @@ class Paper(http.server.ThreadingHTTPServer):
         self.thread.start()
 
     def reset(self):
-        self.slow, self.told, self.asked, self.limits = set(), {}, [], dict(LIMITS)
+        self.slow, self.told, self.asked, self.limits = {}, {}, [], dict(LIMITS)
         self.history, self.lines, self.notices, self.customer, self.counts = [], [], {}, "", {}
         self.lock = threading.Lock()
         self.queue([message(1)])
@@ -103,6 +104,9 @@ class Paper(http.server.ThreadingHTTPServer):
                    "recipients": len(it["pending"])} for it in some[:PAGE]]
         return {"messages": listed, "more": len(some) > PAGE}
 
+    def history_page(self, ends):
+        return {"history": ends[:PAGE], "more": len(ends) > PAGE}
+
     def history_find(self, body):
         side = "sender" if body["class"] == "sender" else "recipient"
         return {"history": [it for it in self.history if fits(body["pattern"], it[side])][:PAGE], "next": None}
@@ -134,13 +138,15 @@ class Paper(http.server.ThreadingHTTPServer):
     def by_path(self, method, path, body):
         name, _, last = path[len("/v1/"):].partition("/")
         lists = {"report": self.report, "usage": self.usage, "limits": lambda: self.limits,
-                 "history": lambda: {"history": self.history[:PAGE], "more": False},
+                 "history": lambda: self.history_page(self.history),
                  "lines": lambda: {"lines": self.lines, "more": False},
                  "notices": lambda: {"more": False, "notices": [
                      {it: one[it] for it in ("at", "id", "kind", "number", "to")} for one in self.notices.values()]},
                  "find": lambda: self.find(body), "history-find": lambda: self.history_find(body)}
         if not last and name in lists:
             return 200, lists[name]()
+        if name == "history-before":
+            return 200, self.history_page([it for it in self.history if it["number"] < int(last)])
         if name == "notice" and int(last) in self.notices:
             return 200, self.notices[int(last)]
         word, _, kind = name.partition("-")
@@ -173,8 +179,7 @@ class Answers(http.server.BaseHTTPRequestHandler):
                 status, told = server.told["*"]
             else:
                 status, told = server.by_path(self.command, self.path, body)
-        if self.path in server.slow:
-            time.sleep(1)
+        time.sleep(server.slow.get(self.path, 0))
         if "X-Desk-Key" not in self.headers and "*" not in server.told:
             status, told = 401, {"error": 2, "name": "NoKey"}
         text = told if isinstance(told, str) else json.dumps(told)

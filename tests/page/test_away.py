@@ -178,3 +178,42 @@ def test_what_the_proxy_asks_for(visit, paper):
     client.request("GET", "/v1/usage")
     expect(client.getresponse().status == 401, "a call without a key is answered")
     client.close()
+
+
+def test_a_desk_that_hangs(visit, paper):
+    """What is under way is told after a second; and who reads waits for fifteen seconds at most."""
+    browser = visit.browser
+    paper.queue([message(it) for it in range(1, 4)])
+    visit.on_paper("queue")
+    visit.mark("0000000002")
+    paper.slow["/v1/hold/0000000002"] = 3
+    browser.click("[data-marked=hold]")
+    browser.tells("Working …")
+    browser.tells("0000000002 is held.")
+    visit.settled()
+    expect("Working" not in browser.text("#told"), "it is still told as under way")
+    paper.slow["/v1/usage"] = 20
+    begun = time.monotonic()
+    browser.click("#refresh")
+    browser.until(lambda: browser.text("#away-words") == AWAY, "the head says", browser.text("#away"))
+    expect(10 < time.monotonic() - begun < 20, "it is told after", time.monotonic() - begun)
+    paper.slow.clear()
+
+
+def test_a_slow_line(visit, paper):
+    """A report that takes longer than a reply may be waited for comes all the same: its head was there."""
+    browser = visit.browser
+    paper.queue([message(it, pending=[(f"r{it}@far.example", "4.2.0", "x" * 2000)]) for it in range(1, 901)])
+    visit.on_paper("queue")
+    browser.protocol("Network.enable")
+    browser.protocol("Network.emulateNetworkConditions", offline=False, latency=0, downloadThroughput=110_000, uploadThroughput=110_000)
+    try:
+        browser.refresh()
+        # (some seventeen seconds)
+        time.sleep(10)
+        visit.settled()
+        visit.says("#shown", "900 messages")
+        expect(reports(paper) == 2 and not browser.text("#away-words"), "it was asked", reports(paper), "times, and the head says",
+               browser.text("#away"))
+    finally:
+        browser.protocol("Network.emulateNetworkConditions", offline=False, latency=0, downloadThroughput=-1, uploadThroughput=-1)

@@ -48,13 +48,15 @@ def test_its_limits_and_names(visit, proxy):
     visit.turn_to("queue")
     browser.click("#mark-all")
     browser.click("[data-marked=requeue]")
-    browser.until(lambda: visit.told() == [f"{MANY} requeued."], "told is", visit.told())
+    browser.until(lambda: visit.told() == [f"{MANY} are tried now."], "told is", visit.told())
     visit.settled()
     expect(not set(made) & {*states(proxy, ACME)} and len(states(proxy, ACME)) == MANY, "the desk has", len(states(proxy, ACME)))
     for name, wanted in (("hold", "hold"), ("release", "deferred")):
         browser.click("#all-menu summary")
         browser.click(f"[data-all={name}]")
         visit.answer(True)
+        if name == "release":
+            visit.answer(True)
         browser.tells(f"{MANY} {'held' if name == 'hold' else 'released'}.")
         visit.settled()
         expect({*states(proxy, ACME).values()} == {wanted}, "the desk has", {*states(proxy, ACME).values()})

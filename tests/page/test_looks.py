@@ -287,3 +287,45 @@ def test_a_part_that_does_not_load(visit):
     browser.until(lambda: browser.text("main") == told, "shown is", browser.text("main"))
     browser.protocol("Network.setBlockedURLs", urls=[])
     browser.complaints()
+
+
+def test_forced_colours(visit, paper):
+    """What a ground alone tells keeps a colour: bars, dots, the open row and the chosen tab."""
+    browser = visit.browser
+    paper.queue([message(it, f"s{it}@a.example", state="hold" if it % 2 else "incoming") for it in range(1, 4)])
+    visit.on_paper()
+    browser.media(forced_colors="active")
+    try:
+        drawn = """[...document.querySelectorAll(arguments[0])].map((it) => [
+          getComputedStyle(it)[arguments[1]], getComputedStyle(document.body).backgroundColor])"""
+        for where, what in (("#amounts .meter > div", "backgroundColor"), (".legend .spot", "backgroundColor"),
+                            ("#ages .part", "fill"), ("#amounts .meter", "borderTopColor")):
+            found = browser.run(drawn, where, what)
+            expect(found and all(one != ground for one, ground in found), where, "is drawn as", found)
+        lines = browser.run("[...document.querySelectorAll('[role=tab]')].map((it) => getComputedStyle(it).borderBottomColor)")
+        expect(len({*lines[1:]}) == 1 and lines[0] != lines[1], "the lines of the tabs are", lines)
+        visit.picture("forced-overview")
+        visit.turn_to("queue")
+        visit.open("0000000003")
+        outlines = browser.run("[...document.querySelectorAll('tr.message')].map((it) => getComputedStyle(it).outlineStyle)")
+        expect(outlines == ["solid", "none", "none"], "the outlines of the rows are", outlines)
+        visit.picture("forced-queue")
+    finally:
+        browser.media()
+
+
+def test_on_paper(visit, paper):
+    """All rows are printed, and nothing that is pressed."""
+    browser = visit.browser
+    paper.queue([message(it, f"s{it}@a.example") for it in range(1, 131)])
+    visit.on_paper("queue")
+    expect(len(visit.rows()) < 130, "all rows are drawn from the beginning")
+    browser.media("print")
+    try:
+        browser.run("dispatchEvent(new Event('beforeprint'))")
+        expect(len(visit.rows()) == 130, "printed are", len(visit.rows()))
+        seen = browser.run("""[...document.querySelectorAll('button, input, select')].filter(
+          (it) => it.checkVisibility() && !it.matches('.link, .group-name, .tile')).length""")
+        expect(seen == 0, "on paper there are buttons or fields:", seen)
+    finally:
+        browser.media()

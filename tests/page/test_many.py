@@ -27,7 +27,7 @@ def slowness(browser):
 
 
 def test_the_first_screen(visit, paper):
-    """Within half a second: the overview by three calls; then the queue, of which few rows are drawn."""
+    """Within half a second: the overview by four calls; then the queue, of which few rows are drawn."""
     browser = visit.browser
     paper.queue(queue(MANY))
     paper.limits["messages"] = 2 * MANY
@@ -43,7 +43,7 @@ def test_the_first_screen(visit, paper):
         # (a reload begins the count anew, or goes on with it)
         times.append(took - before if took > before else took)
     expect(min(times) <= most, "the first screen took", times, "and may take", most)
-    expect(sorted(path for _, path, _ in paper.asked) == ["/v1/limits", "/v1/report", "/v1/usage"], "asked was", paper.asked)
+    expect(sorted(path for _, path, _ in paper.asked) == ["/v1/history", "/v1/limits", "/v1/report", "/v1/usage"], "asked was", paper.asked)
     tiles = browser.run("[...document.querySelectorAll('.tile .number')].map((it) => Number(it.textContent.replace(',', '')))")
     expect(sum(tiles) == MANY, "counted are", tiles)
     before = own_time(browser)

@@ -121,25 +121,63 @@ def test_a_group_is_shown(visit, paper):
 
 
 def test_a_domain_is_held_released_and_deleted(visit, paper):
-    """By one call each, whatever came in since; and a neighbour domain stays as it is."""
+    """Held by one call, whatever came in since. Released and deleted is what was seen, and nothing that came in since."""
     browser = visit.browser
     queue(paper)
     visit.on_paper()
-    # (one more comes in behind what the page knows)
-    paper.messages["00000000F0"], paper.text = message(0xF0, pending=[("late@near.example", "", "")]), None
-    for does, word in (("hold", "held"), ("release", "released"), ("delete", "deleted")):
+    near_ones = [f"{it:010X}" for it in range(11, 17)]
+    one, two, three = (f"{it:010X}" for it in (0xF0, 0xF1, 0xF2))
+    for does, late, question, told, wanted in (
+            ("hold", {}, "Hold 6 messages: near.example?", "7 held.", [("POST", "/v1/hold-matching")]),
+            # (a rule put this one on hold, and nobody has seen it)
+            ("release", {"state": "hold", "reason": "look at it"}, None, "7 released.",
+             [("POST", f"/v1/release/{it}") for it in (*near_ones, one)]),
+            ("delete", {}, "Delete 8 messages?", "8 deleted.", [("DELETE", f"/v1/message/{it}") for it in (*near_ones, one, two)])):
+        # one more comes in behind what the page knows
+        number = {"hold": 0xF0, "release": 0xF1, "delete": 0xF2}[does]
+        paper.messages[f"{number:010X}"], paper.text = message(number, pending=[("late@near.example", "", "")], **late), None
         paper.asked.clear()
         do_group(visit, "#domains", "near.example", does)
-        visit.answer(True, f"{does.capitalize()} {6 if does == 'hold' else 7} messages: near.example?")
+        if question:
+            visit.answer(True, question)
         if does == "delete":
             visit.delete_now()
-        browser.tells(f"7 {word}.")
+        browser.tells(told)
         visit.settled()
-        changes = [it for it in paper.asked if it[0] != "GET"]
-        expect(changes == [("POST", f"/v1/{does}-matching", {"class": "recipient", "pattern": "near.example"})], "asked was",
-               changes)
-    expect(len(paper.messages) == 15, "left are", len(paper.messages))
+        changes = sorted(it[:2] for it in paper.asked if it[0] != "GET")
+        expect(changes == sorted(wanted), "asked was", changes)
+    expect(paper.messages[three]["state"] == "incoming" and len(paper.messages) == 16, "left are", [*paper.messages])
     expect(browser.run(GROUPS, "#domains")[0] == [15, "far.example"], "the list is not drawn anew")
+
+
+def test_what_failed_is_told(visit, paper):
+    """At least five of a day, and more than one in ten, are told; more than half are bad; and the way leads to them."""
+    browser, now = visit.browser, int(time.time())
+
+    def ends(**counts):
+        results = [name for name, count in counts.items() for _ in range(count)]
+        return [{"at": now - 60 * at, "id": f"{at + 1:010X}", "number": len(results) - at, "recipient": f"r{at}@far.example",
+                 "result": result, "sender": "ann@a.example", "status": "", "text": ""} for at, result in enumerate(results)]
+
+    paper.queue([])
+    paper.history = ends(failed=4)
+    visit.on_paper()
+    for history, told, kind in (
+            (ends(failed=4), "All is well. No mail waits.", "good"),
+            (ends(failed=5, delivered=45), "All is well. No mail waits.", "good"),
+            (ends(failed=5, delivered=44), "5 of the last 49 recipients of a day failed. Show them", "warn"),
+            (ends(failed=4, expired=1, deleted=90), "5 of the last 5 recipients of a day failed. Show them", "bad"),
+            ([{**it, "at": it["at"] - 30 * HOUR} for it in ends(failed=6)], "All is well. No mail waits.", "good"),
+            (ends(failed=5, expired=1, delivered=3), "6 of the last 9 recipients of a day failed. Show them", "bad")):
+        paper.history = history
+        visit.refresh()
+        expect((browser.text("#well"), browser.run("document.querySelector('#well').className")) == (told, kind),
+               "it is told as", browser.text("#well"), "and not", told)
+    visit.picture("failed")
+    browser.click("#show-failed")
+    visit.says("#ends-shown", "6 recipients.")
+    shown = browser.run("[...document.querySelectorAll('#ends tbody tr')].map((it) => it.dataset.result)")
+    expect(sorted(shown) == ["expired", *["failed"] * 5], "shown are", shown)
 
 
 def test_an_answer_is_held_and_deleted(visit, paper):

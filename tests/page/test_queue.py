@@ -84,7 +84,7 @@ def test_search(visit, paper):
         browser.write("#search", words)
         visit.rows_are(wanted)
     paper.messages[ids(9)[0]], paper.text = message(9, pending=[("new@late.example", "", "")]), None
-    paper.slow.add("/v1/find")
+    paper.slow["/v1/find"] = 1
     browser.write("#search", "late.example")
     visit.says("#shown", "0 of 5 messages, searching …")
     visit.rows_are(ids(9))
@@ -93,57 +93,35 @@ def test_search(visit, paper):
     expect({"class": "recipient", "pattern": "late.example", "after": ids(5)[0]} in asked, "asked was", asked)
 
 
-def test_the_detail(visit, paper):
-    """Each recipient with its last answer whole, the next try, when it expires, and its history."""
+def test_addresses(visit, paper):
+    """Filters, order and the open message stand in the address: a reload keeps them, and Back closes the message first."""
     browser = visit.browser
     mixed(paper)
-    arrival = paper.messages[ids(1)[0]]["arrival"]
-    paper.messages[ids(1)[0]].update(next_try=arrival + 60 * HOUR, attempts=7, warned=True)
-    paper.history = [{"at": arrival + 60, "id": ids(1)[0], "number": 1, "recipient": "gone@far.example", "result": "delivered",
-                      "sender": "ann@a.example", "status": "2.0.0", "text": "queued"}]
     visit.on_paper("queue")
+    browser.choose("#order", "oldest")
+    browser.choose("#only-domain", "far.example")
+    browser.write("#search", "a.example")
+    visit.rows_are(ids(1))
     visit.open(ids(1)[0])
-    facts = dict(zip(browser.texts("#detail-facts dt"), browser.texts("#detail-facts dd")))
-
-    def shown(seconds):
-        script = "new Intl.DateTimeFormat('en-GB', { dateStyle: 'medium', timeStyle: 'short' }).format(arguments[0] * 1000)"
-        return browser.run(script, seconds)
-
-    expect(facts["Next try"] == shown(arrival + 60 * HOUR) and facts["Expires"].startswith(shown(arrival + 120 * HOUR))
-           and facts["Attempts"] == "7 attempts" and facts["Sender"] == "was told that it is late"
-           and facts["Queue ID"] == ids(1)[0],
-           "the facts are", facts)
-    recipients = [it.split("\n\n") for it in browser.texts("#detail-recipients li")]
-    expect(recipients == [["bob@far.example", f"4.2.0 {LONG}".strip()]], "the recipients are", recipients)
-    browser.until(lambda: "gone@far.example" in (browser.text("#detail-ends") or ""), "the history is missing")
-    expect("delivered" in browser.text("#detail-ends"), "the history is", browser.text("#detail-ends"))
-    visit.picture("detail")
-    both = browser.run("[...document.querySelectorAll('#list, #detail')].map((it) => it.getBoundingClientRect().left)")
-    expect(both[1] > both[0] + 300, "the detail is not beside the list, but at", both)
-    browser.keys(ESCAPE)
-    expect(browser.run(FOCUSED) == ids(1)[0] and not browser.run("document.querySelector('#detail').checkVisibility()"),
-           "Escape leads to", browser.run(FOCUSED))
-    visit.open(ids(4)[0])
-    facts = dict(zip(browser.texts("#detail-facts dt"), browser.texts("#detail-facts dd")))
-    expect(facts["Next try"] == facts["Expires"] == "not while on hold", "one on hold has", facts)
-
-
-def test_the_detail_goes_along(visit, paper):
-    """With what is done to its message, and when that has left."""
-    browser = visit.browser
-    mixed(paper)
-    visit.on_paper("queue")
-    visit.open(ids(4)[0])
-    browser.click("#detail [data-does=release]")
-    browser.tells(f"{ids(4)[0]} is released.")
-    browser.until(lambda: browser.text("#detail-tools button") == "Hold", "the buttons stay as they were")
+    browser.refresh()
     visit.settled()
-    states = [browser.text("#detail-facts .chip"), browser.run(CELLS, visit.row(ids(4)[0]))[2]]
-    expect(states == ["waiting", "waiting"], "the list and the detail say", states)
-    del paper.messages[ids(4)[0]]
-    paper.text = None
-    visit.refresh()
-    browser.until(lambda: browser.text("#detail-gone"), "that it has left is not told")
+    visit.rows_are(ids(1))
+    browser.until(lambda: "Spool name" in (browser.text("#detail-facts") or ""), "the message is not open behind a reload")
+    kept = [browser.run(f"document.querySelector('#{it}').value") for it in ("order", "only-domain", "search")]
+    expect(kept == ["oldest", "far.example", "a.example"], "behind a reload there is", kept)
+    expect(browser.run("document.title") == "Queue \u2013 Outgoing mail", "the title is", browser.run("document.title"))
+    browser.run("history.back()")
+    browser.until(lambda: not browser.run("document.querySelector('#detail').checkVisibility()"), "Back leaves the message open")
+    visit.rows_are(ids(1))
+    browser.run("history.back()")
+    browser.until(lambda: browser.run("document.title") == "Overview \u2013 Outgoing mail", "Back leads to",
+                  browser.run("location.hash"))
+    browser.run("history.forward()")
+    visit.rows_are(ids(1))
+    browser.go(f"{visit.paper_page}#queue?state=hold")
+    visit.rows_are(ids(4))
+    browser.go(f"{visit.paper_page}#queue?state=none&age=99&order=none&message=0")
+    visit.rows_are(ids(5, 4, 3, 2, 1))
 
 
 def test_marked_ones(visit, paper):
@@ -164,7 +142,7 @@ def test_marked_ones(visit, paper):
     browser.tells("2 released.")
     visit.settled()
     browser.click("[data-marked=requeue]")
-    browser.tells("2 requeued.")
+    browser.tells("2 are tried now.")
     visit.rows_are(ids(7, 6, 3, 2))
     browser.click("#mark-all")
     expect(browser.text("#marked") == "4 marked", "marked are", browser.text("#marked"))
@@ -180,7 +158,7 @@ def test_an_old_answer_undoes_nothing(visit, paper):
     mixed(paper)
     visit.on_paper("queue")
     visit.mark(*ids(5))
-    paper.slow.add("/v1/report")
+    paper.slow["/v1/report"] = 1
     asked = len(paper.asked)
     browser.click("#refresh")
     browser.until(lambda: ("GET", "/v1/report", None) in paper.asked[asked:], "nothing is asked")
@@ -267,12 +245,24 @@ def test_all_of_them(visit):
             browser.click("#all-menu summary")
             browser.click(f"[data-all={name}]")
             visit.answer(yes, f"{name.capitalize()} all 3 messages?")
+            if yes and name != "hold":
+                visit.answer(yes, f"{name.capitalize()} also what came in meanwhile?")
             if yes and name == "delete":
                 visit.delete_now()
             if yes:
                 browser.tells(told)
             visit.settled()
         expect(desk.states(ACME) == states, "the desk has", desk.states(ACME))
+    # (what cannot be taken back is asked for once more)
+    one = desk.submit("acme", "ann@a.example", "bob@far.example")
+    visit.refresh()
+    browser.click("#all-menu summary")
+    browser.click("[data-all=delete]")
+    visit.answer(True, "Delete the 1 message?")
+    visit.answer(False, "Delete also what came in meanwhile?")
+    visit.settled()
+    expect(desk.states(ACME) == {one: "incoming"}, "the desk has", desk.states(ACME))
+    desk.empty(ACME)
     browser.click("#all-menu summary")
     browser.click("[data-all=delete]")
     browser.tells("The queue is empty.")

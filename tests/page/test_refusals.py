@@ -140,7 +140,7 @@ def test_faults_of_each_view(visit, paper):
 def test_one_thing_at_a_time(visit, paper):
     """While marked messages are gone through, nothing else is begun."""
     browser = visit.browser
-    paper.slow.add(HOLD)
+    paper.slow[HOLD] = 1
     visit.on_paper("queue")
     visit.do("hold", ONE)
     browser.click("[data-marked=release]")
@@ -219,4 +219,4 @@ def test_hostile_texts_are_text(visit, paper):
     expect(buttons[1] <= buttons[0], "the buttons of a question are below the window", buttons)
     expect(browser.run(TOO_WIDE) <= 0, "a question is too wide")
     visit.answer(False)
-    expect(browser.run(MADE) == ["Outgoing mail", 0], "a text became markup:", browser.run(MADE))
+    expect(browser.run(MADE) == ["Queue \u2013 Outgoing mail", 0], "a text became markup:", browser.run(MADE))

@@ -122,7 +122,8 @@ def test_what_matches_nobody(visit, paper):
     browser.until(lambda: "a star stands for nothing" in browser.text("#put-warning"), "a star is not warned of")
     browser.write("#put-pattern", "spam.example")
     browser.click("#put-check")
-    visit.says("#put-stops p", "100+ messages of the queue, and 1 of the newest recipients that left it.")
+    visit.says("#put-stops p", "100+ messages of the queue, and 1 of the newest recipients that left it. A rule judges what comes "
+               "in: it stops no message of the queue.")
     wanted = [f"bot{it}@spam.example (now OK, by .example)" for it in range(1, 6)]
     expect(browser.texts("#put-stops li") == wanted, "some are", browser.texts("#put-stops li"))
     browser.choose("#put-class", "recipient")
@@ -132,6 +133,85 @@ def test_what_matches_nobody(visit, paper):
                   browser.texts("#put-stops li"))
     visit.picture("rule-warned")
     expect(not [it for it in paper.asked if it[1] == "/v1/line-put"], "a rule was set")
+    browser.keys(ESCAPE)
+
+
+def test_no_rule_is_lost(visit):
+    """A pattern that has a rule is asked for, with both actions; of an edit whose second part fails it is told what is there."""
+    browser, desk = visit.browser, visit.desk
+    no_rules(visit, ACME)
+    for pattern, action in (("a.example", "OK"), ("b.example", "HOLD look")):
+        desk.ask("POST", "/v1/line-put", ACME, {"class": "sender", "pattern": pattern, "action": action})
+    visit.use(ACME)
+    visit.turn_to("rules")
+    for yes, wanted in ((False, "HOLD look"), (True, "REJECT no")):
+        browser.click("#rules-new")
+        fill(visit, "sender", "B.example", "REJECT", "no")
+        browser.one("#question")
+        expect(browser.texts("#question-facts dd") == ["HOLD look", "REJECT no"], "shown are", browser.texts("#question-facts dd"))
+        visit.answer(yes, "Replace the rule for mail from B.example?")
+        browser.until(lambda: {it["pattern"]: it["action"] for it in desk.ask("GET", "/v1/lines", ACME)["lines"]}["b.example"] == wanted,
+                      "the desk has", desk.ask("GET", "/v1/lines", ACME))
+        if not yes:
+            browser.keys(ESCAPE)
+    browser.tells("The rule for mail from B.example is changed.")
+    # (of the rule itself nothing is asked: its action is seen)
+    shows(visit, [["from", "a.example", "OK", ""], ["from", "b.example", "REJECT", "no"]])
+    choose(visit, 1, "edit")
+    fill(visit, "sender", "a.example", "DISCARD", "")
+    browser.tells("The rule for mail from a.example is changed.")
+    shows(visit, [["from", "a.example", "DISCARD", ""], ["from", "b.example", "REJECT", "no"]])
+    choose(visit, 1, "edit")
+    desk.ask("POST", "/v1/line-drop", ACME, {"class": "sender", "pattern": "a.example"})
+    fill(visit, "sender", "c.example", "OK", "")
+    browser.tells("The rule for mail from c.example is set. The one for mail from a.example is still there: "
+                  "No such rule any more. (11 NoLine)")
+
+
+def test_what_is_queued_of_a_rule(visit, paper):
+    """A rule stops nothing that is queued: behind REJECT that is told, with a hold of it and the way there."""
+    browser = visit.browser
+    paper.queue([*(message(it, f"bot{it}@spam.example") for it in range(1, 4)), message(9)])
+    paper.told["/v1/line-put"] = (200, {"put": "added"})
+    visit.on_paper("rules")
+    browser.click("#rules-new")
+    fill(visit, "sender", "spam.example", "OK", "")
+    browser.tells("The rule for mail from spam.example is set.")
+    expect(not browser.count("#show-queued"), "an OK stops somebody")
+    browser.click("#rules-new")
+    fill(visit, "sender", "spam.example", "REJECT", "")
+    browser.one("#show-queued")
+    expect("3 messages of it are in the queue, and stay there." in browser.text("#told"), "told is", browser.text("#told"))
+    browser.click("#hold-queued")
+    visit.answer(True, "Hold 3 messages: from spam.example?")
+    browser.tells("3 held.")
+    visit.settled()
+    expect([it for it, one in paper.messages.items() if one["state"] == "hold"] == [f"{it:010X}" for it in (1, 2, 3)], "held are",
+           paper.messages)
+    browser.click("#rules-new")
+    fill(visit, "sender", "spam.example", "REJECT", "")
+    browser.click("#show-queued")
+    visit.rows_are([f"{it:010X}" for it in (3, 2, 1)])
+
+
+def test_a_label_of_its_own(visit, paper):
+    """Each press that got a reply has another label than the one before; where none came, the next one is the same."""
+    browser = visit.browser
+    visit.on_paper("rules")
+    browser.click("#rules-import")
+    file = visit.folder / "again.csv"
+    file.write_text(HEAD + "sender,a.example,OK\n")
+    browser.attach("#import-file", file)
+    replies = [(200, {"added": 1, "changed": 0, "same": 0}), (502, "away"), (200, {"added": 0, "changed": 0, "same": 1}),
+               (409, {"error": 52, "name": "LabelUsed"}), (200, {"added": 0, "changed": 0, "same": 1})]
+    for number, reply in enumerate(replies, 1):
+        paper.told["/v1/import"] = reply
+        browser.run("document.querySelector('#imported').replaceChildren()")
+        browser.click("#import-form [type=submit]")
+        browser.until(lambda: sum(path == "/v1/import" for _, path, _ in paper.asked) == number and browser.text("#imported"),
+                      "nothing is told of", number)
+    labels = [body["label"] for _, path, body in paper.asked if path == "/v1/import"]
+    expect(labels[1] == labels[2] and len({*labels}) == 4, "the labels are", labels)
     browser.keys(ESCAPE)
 
 

@@ -29,6 +29,14 @@ def find(visit, side, pattern):
     visit.browser.click("#ends-form [type=submit]")
 
 
+def saved(visit):
+    """Presses for the file, and answers it: it may need more pages than those that are shown."""
+    visit.browser.run(KEEPS)
+    visit.browser.click("#ends-csv")
+    visit.browser.until(lambda: visit.browser.run("window.kept instanceof Blob"), "nothing is saved")
+    return visit.browser.run(KEPT)
+
+
 def test_the_history(visit):
     """Each recipient that left stands there with the last answer, the newest first; a search, a filter,
     a message's own; no markup of strangers; and what is downloaded is no formula."""
@@ -45,9 +53,7 @@ def test_the_history(visit):
     browser.until(lambda: browser.run(ENDS)[:3] == wanted, "the history shows", browser.run(ENDS)[:3])
     expect("The last 150 are kept." in browser.text("#sent"), "how many are kept is not told")
     visit.picture("sent")
-    browser.run(KEEPS)
-    browser.click("#ends-csv")
-    rows = browser.run(KEPT).split("\r\n")
+    rows = saved(visit).split("\r\n")
     expect(rows[0] == '"at","id","number","recipient","result","sender","status","text"', "the file begins", rows[0])
     expect('"\'=cmd@a.example"' in rows[1] and f'"{second}"' in rows[1], "the file has", rows[1])
     browser.choose("#ends-result", "failed")
@@ -79,15 +85,13 @@ def test_no_formulas(paper, visit):
     ends[0].update(recipient=f"{FORMULAS[0]}@far.example", sender="=2@a.example", status="+3")
     paper.history = ends
     visit.on_paper("sent")
-    visit.browser.run(KEEPS)
-    visit.browser.click("#ends-csv")
-    saved = visit.browser.run(KEPT)
+    told = saved(visit)
     for separator in SEPARATORS:
-        cells = [it for row in csv.reader(io.StringIO(saved, newline=""), delimiter=separator) for it in row]
-        cells += re.split(rf"[\r\n{re.escape(separator)}]", saved)
+        cells = [it for row in csv.reader(io.StringIO(told, newline=""), delimiter=separator) for it in row]
+        cells += re.split(rf"[\r\n{re.escape(separator)}]", told)
         found = [it for it in cells if re.match(BEGINS_A_FORMULA, it)]
         expect(not found, "of cells that are parted by", repr(separator), "formulas are", found)
-    rows = [*csv.DictReader(io.StringIO(saved, newline=""))]
+    rows = [*csv.DictReader(io.StringIO(told, newline=""))]
     wanted = {name: [str(it[name]) for it in ends] for name in ends[0]}
     found = {name: [it[name].replace("'", "") for it in rows] for name in ends[0]}
     expect(found == wanted, "of the texts is left", found)
@@ -108,11 +112,36 @@ def test_older_ends(visit):
     desk.empty(CEDAR)
     visit.use(CEDAR)
     visit.turn_to("sent")
-    visit.says("#ends-shown", "100 recipients, more below.")
+    browser.until(lambda: re.fullmatch(r"100 recipients, back to .+, more below\.", browser.text("#ends-shown") or ""),
+                  "the head says", browser.text("#ends-shown"))
     browser.click("#ends-more")
     visit.says("#ends-shown", "150 recipients.")
     shown = browser.run("[...document.querySelectorAll('#ends .strong')].map((it) => it.textContent)")
     expect(shown == [f"r{it}@far.example" for it in reversed(range(30, 180))], "shown are", shown)
+
+
+def test_a_search_goes_on(visit, paper):
+    """Pages are asked for until a hundred are found, or the history ends: of a result, of one message, and for a file."""
+    browser = visit.browser
+    paper.history = [{"at": 1767225600 + number, "id": f"{number:010X}", "number": number, "recipient": f"r{number}@far.example",
+                      "result": "failed" if number % 10 == 0 else "delivered", "sender": "ann@a.example", "status": "", "text": ""}
+                     for number in range(1500, 0, -1)]
+    visit.on_paper("sent")
+    browser.until(lambda: (browser.text("#ends-shown") or "").startswith("100 recipients, back to"), "the head says",
+                  browser.text("#ends-shown"))
+    browser.choose("#ends-result", "failed")
+    browser.until(lambda: (browser.text("#ends-shown") or "").startswith("100 recipients, back to"), "the head says",
+                  browser.text("#ends-shown"))
+    shown = browser.run("[...document.querySelectorAll('#ends .strong')].map((it) => it.textContent)")
+    expect(shown == [f"r{it}@far.example" for it in range(1500, 500, -10)], "shown are", shown)
+    browser.click("#ends-more")
+    visit.says("#ends-shown", "150 recipients.")
+    browser.choose("#ends-result", "")
+    browser.until(lambda: (browser.text("#ends-shown") or "").startswith("100 recipients, back to"), "the head says",
+                  browser.text("#ends-shown"))
+    rows = [*csv.DictReader(io.StringIO(saved(visit), newline=""))]
+    browser.tells("1,500 recipients are saved.")
+    expect([it["number"] for it in rows] == [str(it) for it in range(1500, 0, -1)], "saved are", len(rows))
 
 
 def test_notices_and_their_ways(visit):

@@ -86,7 +86,7 @@ def test_the_firm(visit, paper):
         visit.settled()
         expect(browser.run(ACCENT) == wanted, colour, "is worn as", browser.run(ACCENT))
     names = [browser.text("#firm"), browser.run("document.title")]
-    expect(names == ["Nordlicht Hosting", "Outgoing mail – Nordlicht Hosting"], "the firm is told as", names)
+    expect(names == ["Nordlicht Hosting", "Overview – Outgoing mail – Nordlicht Hosting"], "the firm is told as", names)
     expect(browser.run("document.querySelector('#help').href") == "https://nordlicht.example/help", "help is elsewhere")
     browser.scheme("dark")
     expect(browser.run(ACCENT) == "rgb(255, 184, 107)", "in the dark it wears", browser.run(ACCENT))

@@ -72,7 +72,9 @@ class Visit:
         filled = {"overview": "#well", "queue": "#shown", "sent": "#ends-shown", "rules": "#lines-shown",
                   "notices": "#notices-shown", "usage": "#counts td"}[view]
         busy = f"document.querySelector('#{view} [aria-busy=true]')"
-        self.browser.until(lambda: (self.browser.text(filled) or "Loading …") != "Loading …" and not self.browser.run(busy),
+        # (a narrow page hides the list beside a message that is open)
+        told = f"document.querySelector('{filled}')?.textContent || 'Loading …'"
+        self.browser.until(lambda: self.browser.run(told) != "Loading …" and not self.browser.run(busy),
                            view, "shows nothing")
 
     def row(self, queue_id):

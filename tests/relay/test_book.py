@@ -56,7 +56,7 @@ def used(book):
                lambda: book.last_notice("acme"), lambda: book.mailing("acme", 3), lambda: book.begun("acme"), lambda: book.mailed("acme", 3),
                lambda: book.set_aside("acme", 4, "q@a.example", b"x"), lambda: book.waiting("acme"), lambda: book.content_of("acme/4"),
                lambda: book.tried("acme/4", 5.0), lambda: book.waited("acme/4"), lambda: book.set_back("acme", 1),
-               lambda: book.has_any("acme"), lambda: book.forget_messages("birch"), lambda: book.forget("acme", set(), 1e12),
+               lambda: book.has_any("acme"), lambda: book.forget_messages("birch", []), lambda: book.forget("acme", set(), 1e12),
                lambda: book.forget_customer("acme")):
         it()
 

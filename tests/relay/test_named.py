@@ -9,7 +9,7 @@ import shutil
 import signal
 from pathlib import Path
 
-from machine import WIDE, Relay
+from machine import REMEMBERED, WIDE, Relay
 from lmtp_client import LONG, TEXT, lmtp
 from serving import KEYS, RELAY, expect, until
 from tool import Workers
@@ -155,6 +155,7 @@ def test_after_a_restore_of_one_desk(program, shared):
     """Of several desks one comes back. What customers of another one deleted stays deleted, and none is gone over unnamed."""
     with Relay(program, shared, settings={"desk": {"desks": "desks.csv"}}) as it:
         it.write("desks.csv", "customer,desk", *(f"{name},{'north' if name == 'acme' else 'south'}" for name in it.customers))
+        copy_store(it, "", "kept.")
         intake = it.intake()
         for name in ("acme", "birch"):
             it.take(name, f"p@{FAR}")
@@ -162,6 +163,7 @@ def test_after_a_restore_of_one_desk(program, shared):
         for name in ("acme", "birch"):
             it.desk.own(name, "POST", "/v1/delete-all")
         intake.kill()
+        copy_store(it, "kept.", "")
         for words, told in (((), "several desks"), (("west",), "no customer of this desk")):
             begun = it.run("restored", *words)
             begun.ends(1)
@@ -172,6 +174,54 @@ def test_after_a_restore_of_one_desk(program, shared):
         expect("customer=acme" in told and "customer=birch" not in told, "a restore of north tells", told)
         pending = [it.desk.usage(name)["pending"] for name in ("acme", "birch")]
         expect(pending == [1, 0], "of acme and birch are pending", pending)
+
+
+def test_deleted_before_the_backup(program, shared):
+    """What left the queue before the backup stays away, by however many ends of the history. What was deleted later comes back."""
+    early, late, lost = [f"early{number}@{FAR}" for number in range(105)], f"late@{FAR}", f"lost@{FAR}"
+    with Relay(program, shared, limits=dict.fromkeys(KEYS, REMEMBERED)) as it:
+        intake = it.intake()
+        for recipient in early:
+            it.take("acme", recipient)
+        it.postfix.empty()
+        it.desk.own("acme", "POST", "/v1/delete-all")
+        it.take("acme", late)
+        it.postfix.empty()
+        copy_store(it, "", "kept.")
+        it.take("acme", lost)
+        it.postfix.empty()
+        it.desk.own("acme", "POST", "/v1/delete-all")
+        intake.kill()
+        copy_store(it, "kept.", "")
+        for _ in range(2):
+            it.run("restored").ends()
+            shown = [it.desk.own("acme", "GET", f"/v1/message/{entry['id']}") for entry in it.desk.messages("acme")]
+            pending = sorted(recipient["address"] for message in shown for recipient in message["pending"])
+            expect(pending == [late, lost], "pending are", pending)
+
+
+def test_two_lines_of_time(program, shared):
+    """A restore is taken back: in the copy of before it the IDs of new mail are those of other messages, which left. None is lost."""
+    with Relay(program, shared, limits=dict.fromkeys(KEYS, REMEMBERED)) as it:
+        copy_store(it, "", "first.")
+        intake = it.intake()
+        round_of(it, *(f"old{number}@{FAR}" for number in range(3)))
+        it.expect_delivered(*(f"old{number}@{FAR}" for number in range(3)))
+        intake.kill()
+        copy_store(it, "", "aside.")
+        copy_store(it, "first.", "")
+        it.run("restored").ends()
+        intake = it.intake()
+        new = sorted(f"old{number}@soft.example" for number in range(3))
+        round_of(it, *new)
+        expect(it.desk.usage("acme")["pending"] == 3, "the new mail is not queued")
+        intake.kill()
+        copy_store(it, "aside.", "")
+        told = it.run("restored")
+        told.ends()
+        shown = [it.desk.own("acme", "GET", f"/v1/message/{entry['id']}") for entry in it.desk.messages("acme")]
+        pending = sorted(recipient["address"] for message in shown for recipient in message["pending"])
+        expect(pending == new, "pending are", pending, told.log.read_text())
 
 
 def copy_store(it, before, behind):

@@ -54,3 +54,13 @@ def linted(path: Path) -> None:
     found = run("lintian", "--info", "--display-info", "--display-experimental", "--pedantic", "--tag-display-limit", "0",
                 "--suppress-tags", "spelling-error-in-binary", "--fail-on", "error,warning,info,pedantic,experimental", path)
     expect(found.returncode == 0 and not re.search(r"(?m)^[A-Z]: ", found.stdout), "lintian:", found.stdout, found.stderr)
+
+
+def blocks(page, title):
+    """The blocks of lines that a page shows under a title, up to the next of any level."""
+    text = (ROOT / page).read_text()
+    section = re.search(rf"(?ms)^#+ {re.escape(title)}\n(.*?)(?=^#+ |\Z)", text)
+    expect(section, page, "has no section", title)
+    found = re.findall(r"(?ms)^```\n(.*?)^```$", section[1])
+    expect(found, page, "has no lines under", title)
+    return found

@@ -21,6 +21,39 @@ ENVIRONMENT = {"PATH": "/usr/local/sbin:/usr/local/bin:/usr/sbin:/usr/bin:/sbin:
 TO_MAKE = 240
 POLICY = "#!/bin/sh\nexit 101\n"
 QUICK = 'Acquire::Languages "none";\nAcquire::Retries "2";\nDpkg::Options:: "--force-unsafe-io";\n'
+# A host of recipients: it keeps each message, and waits while the file `waits` is there.
+SINK = """exec /usr/bin/python3 -c '
+import asyncio, os, signal, time, uuid
+from aiosmtpd.controller import Controller
+class Kept:
+    async def handle_DATA(self, server, session, envelope):
+        while os.path.exists("/tmp/waits") and b"waiting" in envelope.content:
+            open("/tmp/waiting", "w").close()
+            await asyncio.sleep(0.05)
+        with open(f"/tmp/taken/{uuid.uuid4()}", "wb") as file:
+            file.write(envelope.content)
+        return "250 kept"
+os.makedirs("/tmp/taken", exist_ok=True)
+Controller(Kept(), "127.0.0.1", 2525).start()
+open("/tmp/listens", "w").close()
+signal.pause()'"""
+
+# A host of recipients: it keeps each message, and waits while the file `waits` is there.
+SINK = """exec /usr/bin/python3 -c '
+import asyncio, os, signal, time, uuid
+from aiosmtpd.controller import Controller
+class Kept:
+    async def handle_DATA(self, server, session, envelope):
+        while os.path.exists("/tmp/waits") and b"waiting" in envelope.content:
+            open("/tmp/waiting", "w").close()
+            await asyncio.sleep(0.05)
+        with open(f"/tmp/taken/{uuid.uuid4()}", "wb") as file:
+            file.write(envelope.content)
+        return "250 kept"
+os.makedirs("/tmp/taken", exist_ok=True)
+Controller(Kept(), "127.0.0.1", 2525).start()
+open("/tmp/listens", "w").close()
+signal.pause()'"""
 
 
 def mirror():

@@ -12,42 +12,17 @@ from pathlib import Path
 
 import needs
 import pytest
-from releasing import ROOT, package_in
-from rooted import Root, fetched, place
+from releasing import ROOT, blocks, package_in
+from rooted import SINK, Root, fetched, place
 from serving import expect, until
 
+DIVERTED = "dpkg-divert --truename /etc/nginx/nginx.conf"
 PRODUCTION, PROCEDURES, RELAY, README = "docs/PRODUCTION.md", "docs/PROCEDURES.md", "docs/RELAY.md", "README.md"
 NAMES = {"TLS": "/root/tls", "NAME": "desk.example"}
 OURS = ("/etc/hq", "/var/lib/hqdesk", "/var/lib/hqrelay", "/var/log/hqdesk", "/usr/share/hq-desk", "/usr/libexec/hq-desk")
 HERE = Path(__file__).resolve().parent
 BESIDE = "fail2ban python3-systemd logrotate prometheus-node-exporter"
-# A host of recipients: it keeps each message, and waits while the file `waits` is there.
-SINK = """exec /usr/bin/python3 -c '
-import asyncio, os, signal, time, uuid
-from aiosmtpd.controller import Controller
-class Kept:
-    async def handle_DATA(self, server, session, envelope):
-        while os.path.exists("/tmp/waits") and b"waiting" in envelope.content:
-            open("/tmp/waiting", "w").close()
-            await asyncio.sleep(0.05)
-        with open(f"/tmp/taken/{uuid.uuid4()}", "wb") as file:
-            file.write(envelope.content)
-        return "250 kept"
-os.makedirs("/tmp/taken", exist_ok=True)
-Controller(Kept(), "127.0.0.1", 2525).start()
-open("/tmp/listens", "w").close()
-signal.pause()'"""
 OLD_STORES = ROOT / "tests/examples/migration"
-
-
-def blocks(page, title):
-    """The blocks of lines that a page shows under a title, up to the next of any level."""
-    text = (ROOT / page).read_text()
-    section = re.search(rf"(?ms)^#+ {re.escape(title)}\n(.*?)(?=^#+ |\Z)", text)
-    expect(section, page, "has no section", title)
-    found = re.findall(r"(?ms)^```\n(.*?)^```$", section[1])
-    expect(found, page, "has no lines under", title)
-    return found
 
 
 @pytest.fixture(scope="module")
@@ -158,6 +133,17 @@ def test_set_up(root, folder):
     shown = root.run("cat /proc/[0-9]*/cmdline | tr '\\0' ' '")
     for it in (key_of(root, "acme"), root.path("/etc/hq/north.key").read_text().strip()):
         expect(it not in shown, "the list of processes shows a key")
+
+
+def test_the_nginx_conf_of_debian(root):
+    """An upgrade of nginx writes Debian's nginx.conf beside ours; where that one is in its place all the same, the package says so."""
+    expect(root.run(DIVERTED) == "/etc/nginx/nginx.conf.before-hq-desk\n", "dpkg writes the nginx.conf of nginx to", root.run(DIVERTED))
+    triggered = "sh /var/lib/dpkg/info/hq-desk.postinst triggered /usr/sbin/nginx"
+    expect(root.run(triggered) == "", "without a fault it tells", root.run(triggered))
+    own = "/etc/nginx/nginx.conf"
+    told = root.run(f"cp -p {own} /root/own; cp {own}.before-hq-desk {own}; {triggered}; cp -p /root/own {own}")
+    expect("has no line 'user hqproxy;'" in told and "PRODUCTION.md.gz" in told, "it tells", told)
+
 
 
 def test_first_mail(root):
@@ -341,6 +327,15 @@ def test_migrated(root, releases):
     until(lambda: usage(root, "acme").get("delivered") == 3, "acme is not answered")
 
 
+def test_cut(root, releases):
+    """An upgrade that was cut while it was unpacked is ended by the lines of the page."""
+    before = usage(root, "acme")
+    root.run("sed -i '/^Package: hq-desk$/,/^$/s/^Status: .*/Status: install reinstreq half-installed/' /var/lib/dpkg/status")
+    root.run(blocks(PROCEDURES, "An upgrade")[1], longest=240, NEW=f"/root/{package_in(releases.now).name}")
+    expect(root.run("dpkg-query -W -f '${Status}' hq-desk") == "install ok installed", "it is not installed")
+    until(lambda: usage(root, "acme") == before, "what acme has is another thing")
+
+
 def test_removed(root):
     """What runs ends; settings, keys, stores, logs and the spool stay."""
     kept = [it for it in ("/etc/hq/north.csv", "/etc/hq/north.key", "/var/lib/hqdesk/north.db", "/var/log/hqdesk/north.log",
@@ -365,6 +360,7 @@ def test_purged(root):
     before = root.path("/etc/nginx/nginx.conf.before-hq-desk").read_text()
     told = root.run("apt-get purge -y hq-desk", longest=120)
     expect(root.path("/etc/nginx/nginx.conf").read_text() == before, "nginx has not its own nginx.conf again")
+    expect(root.run(DIVERTED) == "/etc/nginx/nginx.conf\n", "dpkg writes the nginx.conf of nginx to", root.run(DIVERTED))
     for it in ("/etc/postfix has the lines", "/etc/postfix-desk has the lines", "the users hqdesk, hqproxy and hqrelay stay"):
         expect(it in told, "it does not tell that", it, "but", told[-800:])
     dangling = root.run("find /etc/systemd/system -xtype l -name 'hq-*'; ls /etc/sudoers.d | grep -v README || true")

@@ -11,7 +11,7 @@ import pytest
 from booted import Booted
 from releasing import ROOT
 from rooted import TO_MAKE, fetched, mirror, place
-from serving import LONGEST, expect, until
+from serving import ACME, HEADER, LONGEST, expect, until
 
 NEXT = {"bookworm": "trixie"}
 DEPLOY = ROOT / "deploy"
@@ -70,9 +70,9 @@ def tried(debian, kind):
         shutil.copy(it, own)
     shutil.copy(DEPLOY / f"nginx-listen-{kind}.conf", own / "nginx-listen.conf")
     shutil.copy(DEPLOY / "nginx-listen-80.conf", own / "nginx-plain.conf")
-    for name, text in (("nginx-name.conf", "server_name desk.example;\n"), ("names.map", "default 127.0.0.1:825;\n"), ("keys.map", ""),
-                       ("sessions.map", "")):
+    for name, text in (("nginx-name.conf", "server_name desk.example;\n"), ("north.csv", f"{HEADER}acme,{ACME},1,1,1,1,0\n"), ("sessions.map", "")):
         (own / name).write_text(text)
+    subprocess.run([DEPLOY / "desk-maps", own, f"127.0.0.1:825={own}/north.csv"], check=True, timeout=LONGEST)
     subprocess.run(["openssl", "req", "-x509", "-newkey", "ec", "-pkeyopt", "ec_paramgen_curve:P-256", "-nodes", "-days", "2", "-keyout",
                     own / "tls.key", "-out", own / "tls.crt", "-subj", "/CN=desk.example"], check=True, stderr=subprocess.DEVNULL)
     shutil.copy(own / "nginx-main.conf", debian / "etc/nginx/nginx.conf")

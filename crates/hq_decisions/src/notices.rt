@@ -1,14 +1,14 @@
 //! Notices that calls make: who gets one, under which number, and which of all are kept; and
 //! notices told. Nothing is read or written here.
 
-ghost use Rattle.std.specs.Prelude.{◌≡◌, ◌∷◌, ◌++◌, ◌+◌, ◌≤◌, ◌^◌, OnErr, length};
-ghost use Rattle.std.specs.Prelude.{nat_lt};
+ghost use Rattle.std.specs.Prelude.{◌≡◌, ◌∷◌, ◌++◌, ◌+◌, ◌≤◌, ◌^◌, OnErr, length, nat_lt};
 ghost use Rattle.hq_memory.specs.Making.{MadeIn};
 ghost use Rattle.hq_rules.specs.Admission.{spent};
+ghost use Rattle.hq_rules.specs.Histories.{kept_history};
 ghost use Rattle.hq_rules.specs.Notices as rules;
 ghost use Rattle.hq_tables.specs.declared.change.Change.TheVariants.{PutHead};
 
-use hq_kept::{Entry, Head, Kind, Message, Notice, Told};
+use hq_kept::{Ended, Entry, Head, Kind, Message, Notice, Told};
 use hq_memory::Memory;
 use hq_rules::decision::{Decision, PAGE, refuse, tell};
 use hq_rules::histories::keep_history;
@@ -102,33 +102,35 @@ fn add_from<M: Memory>(
     Ok(())
 }
 
-/// The changes of a plan with those that number and keep its notices.
+/// The changes of a plan with those that number and keep its notices, and with its history.
 fn with_numbers<M: Memory>(
     memory: M,
     host: &Host,
-    quota: u64,
+    entry: &Entry,
     at: Moment,
     changes: Items<Change>,
-    head: Head,
+    mut head: Head,
     drafts: Items<Draft>,
+    ended: &[Ended],
 ) -> Result<Vec<Change>, AllocError>
     requires { head.next_notice + length drafts ≤ 2 ^ 40 }
     ensures { MadeIn M.refused result (λ all. all.items ≡ changes
         ++ PutHead (rules.with_notices (length drafts) head)
         ∷ (rules.added_from host.now at head.next_notice drafts
-        ++ rules.kept_below quota (head.next_notice + length drafts) drafts)) }
+        ++ (rules.kept_below entry.now.quota.notices (head.next_notice + length drafts) drafts
+        ++ kept_history entry.now at (rules.with_notices (length drafts) head) ended.now))) }
 {
-    let mut head = head;
     let first = head.next_notice;
     let count = drafts.len() as u64;
     head.next_notice = first + count;
-    let oldest = head.next_notice.saturating_sub(quota);
+    let oldest = head.next_notice.saturating_sub(entry.quota.notices);
     let mut changes = changes.into_vec();
     memory.push(&mut changes, Change::PutHead(head))?;
     add_from(memory, &mut changes, host, at, first, drafts.into_vec())?;
     if count > 0 {
         memory.push(&mut changes, Change::DropNoticesBelow(oldest))?;
     }
+    keep_history(memory, &mut changes, entry, at, &head, ended)?;
     Ok(changes)
 }
 
@@ -162,8 +164,8 @@ pub fn carry_out<M: Memory>(
         drafts,
         ended,
     } = plan;
-    let mut changes = with_numbers(memory, host, entry.quota.notices, at, changes, head, drafts)?;
-    keep_history(memory, &mut changes, entry, at, &head, ended.as_slice())?;
+    let gone = ended.as_slice();
+    let changes = with_numbers(memory, host, entry, at, changes, head, drafts, gone)?;
     Ok(Decision {
         answer,
         changes: Items::from_vec(changes),

@@ -87,16 +87,14 @@ fn new_message<M: Memory>(
         ≡ rules.new_message serial at origin receivers held) }
 {
     let pending = not_tried(memory, receivers.into_vec())?;
-    let state = first_state(held.as_ref());
-    let reason = first_reason(memory, held);
     Ok(Message {
         serial,
         sender: origin.sender,
         spool: origin.spool,
         size: origin.size,
         arrival: at,
-        state,
-        reason,
+        state: first_state(held.as_ref()),
+        reason: first_reason(memory, held),
         next_try: at,
         attempts: 0,
         warned: false,
@@ -117,11 +115,11 @@ fn enqueue<M: Memory>(
     let recipients = message.pending.len() as u64;
     head.next_serial = message.serial.get() + 1;
     head.tally.accepted = head.tally.accepted.saturating_add(recipients);
-    let answer = Answer::Queued(message.copy(memory)?, refused);
+    let queued = message.copy(memory)?;
     let mut changes = memory.one(Change::PutHead(head))?;
     memory.push(&mut changes, Change::PutMessage(message))?;
     Ok(Decision {
-        answer,
+        answer: Answer::Queued(queued, refused),
         changes: Items::from_vec(changes),
     })
 }

@@ -5,10 +5,10 @@ import socket
 from collections.abc import Callable, Iterable, Iterator
 from typing import TypeVar
 
-from hq_relay.desk.replies import (DueMessage, DuePage, ListedMessage, Message, Notice,
+from hq_relay.desk.replies import (DueMessage, DuePage, End, ListedMessage, Message, Notice,
                                    OutcomeReply, Swept, Usage, Verdict, due_message_of, due_page_of,
-                                   listed_message_of, message_of, notice_of, outcome_reply_of,
-                                   swept_of, usage_page_of, verdict_of)
+                                   end_of, listed_message_of, message_of, notice_of,
+                                   outcome_reply_of, swept_of, usage_page_of, verdict_of)
 from hq_relay.json_members import Members, as_members, number_of, objects_of
 from hq_relay.outcome import Outcome
 from hq_relay.settings import Settings
@@ -269,6 +269,17 @@ class Desk:
         """The numbers of a customer's notices."""
         return self.pages("notices", customer, "notices",
                           lambda entry: number_of(entry, "number"), "number", after)
+
+    def history(self, customer: str) -> Iterator[End]:
+        """The recipients that left the queue, the newest first, as far as the history has them."""
+        before: object = None
+        while True:
+            reply = self.ask(f"/relay/history/{customer}", {"before": before})
+            ends = objects_of(reply, "history")
+            yield from map(end_of, ends)
+            if not ends or not reply["more"]:
+                return
+            before = ends[-1]["number"]
 
     def pages(self, kind: str, customer: str, member: str, entry_of: Callable[[Members], Entry],
               key: str, after: object = None) -> Iterator[Entry]:

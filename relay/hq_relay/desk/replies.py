@@ -137,6 +137,20 @@ def listed_message_of(entry: Members) -> ListedMessage:
     return ListedMessage(id, arrival, state)
 
 
+class End(NamedTuple):
+    """What became of a recipient that left the queue: when, of which message, from whom to whom."""
+
+    at: int
+    id: str
+    sender: str
+    recipient: str
+
+
+def end_of(entry: Members) -> End:
+    return End(number_of(entry, "at"), text_of(entry, "id"), text_of(entry, "sender"),
+               text_of(entry, "recipient"))
+
+
 class DueMessage(NamedTuple):
     """A message that is due, and the number of its next attempt."""
 

@@ -4,7 +4,7 @@ What a call has written is synced to the disk when it returns. `database.py` has
 """
 import sqlite3
 import time
-from collections.abc import Iterable
+from collections.abc import Collection, Iterable
 from dataclasses import dataclass
 from typing import NamedTuple
 
@@ -45,6 +45,13 @@ class Uncleaned(NamedTuple):
     is_finished: bool
     gone: int | None
     size: int
+
+
+class Named(NamedTuple):
+    """The name of a queue ID, and when that was written down: its message was queued then."""
+
+    spool: str
+    at: int
 
 
 class Kept(NamedTuple):
@@ -91,6 +98,12 @@ class Book(NoticeRecords):
         """The name of an ID, if that was written down at this moment or later."""
         query = "SELECT spool FROM messages WHERE customer = ? AND id = ? AND at >= ?"
         return self.text(query, customer, id, since)
+
+    def ids(self, customer: str) -> dict[str, Named]:
+        """The names of a customer's queue IDs, of messages that left too."""
+        query = "SELECT id, spool, at FROM messages WHERE customer = ?"
+        rows = self.database().execute(query, (customer,))
+        return {id: Named(spool, at) for id, spool, at in rows}
 
     def all_mailed(self, customer: str) -> None:
         """No notice of a customer waits: its messages that left by a failure are finished."""
@@ -147,10 +160,11 @@ class Book(NoticeRecords):
             database.executemany("DELETE FROM messages WHERE customer = ? AND id = ?", gone)
             database.execute(f"DELETE FROM names WHERE spool IN ({OLD_NAMES})", old)
 
-    def forget_messages(self, customer: str) -> None:
-        """Drops the queue IDs of a customer."""
+    def forget_messages(self, customer: str, but: Collection[str]) -> None:
+        """Drops the queue IDs of a customer but these."""
+        dropped = [(customer, id) for id in self.ids(customer) if id not in but]
         with self.writing() as database:
-            database.execute("DELETE FROM messages WHERE customer = ?", (customer,))
+            database.executemany("DELETE FROM messages WHERE customer = ? AND id = ?", dropped)
 
     def forget_customer(self, customer: str) -> int:
         """Drops all records of a customer; how many there were."""

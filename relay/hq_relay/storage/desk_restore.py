@@ -26,10 +26,11 @@ class DeskRestore:
         """Fits the book for these customers, who are those of the desk that came back."""
         for customer in customers:
             self.reset_notices(customer)
-            self.book.forget_messages(customer)
+            left = self.left_before(customer)
+            self.book.forget_messages(customer, left)
             queued = {spool: id for id, spool in self.names.queued(customer).items()}
             self.end_finished(customer, queued)
-            self.submit_lost(customer, queued)
+            self.submit_lost(customer, queued, set(left.values()))
             self.move_reports(customer, queued)
             self.move_attempts(customer, queued)
 
@@ -40,6 +41,22 @@ class DeskRestore:
         if mailed > greatest:
             self.book.set_back(customer, greatest)
             log.warning("notices numbered anew", customer=customer, mailed=mailed, now=greatest)
+
+    def left_before(self, customer: str) -> dict[str, str]:
+        """The names by queue ID of what had left the queue before the backup, by the history.
+
+        IDs come a second time behind a restore. So an end is of a name only if it came after that
+        was queued, with its sender and its recipient; else the name is submitted again.
+        """
+        known, left = self.book.ids(customer), {}
+        for end in self.desk.history(customer):
+            named = known.get(end.id)
+            envelope = self.spool.envelope(named.spool) if named and named.at <= end.at else None
+            if envelope and (envelope.sender, envelope.recipient) == (end.sender, end.recipient):
+                left[end.id] = envelope.spool
+                log.info("left before the backup", customer=customer, id=end.id,
+                         spool=envelope.spool)
+        return left
 
     def end_finished(self, customer: str, queued: dict[str, str]) -> None:
         """Ends messages that the desk has again, and that were finished since the backup."""
@@ -54,10 +71,10 @@ class DeskRestore:
                 log.warning("may come twice", customer=customer, id=id, spool=spool,
                             sender=message.sender, means="if it was sent since the backup")
 
-    def submit_lost(self, customer: str, queued: dict[str, str]) -> None:
-        """Submits mail again that was taken, and that the desk does not have any more."""
+    def submit_lost(self, customer: str, queued: dict[str, str], left: set[str]) -> None:
+        """Submits mail again that was taken, and that the desk lost with its newest records."""
         for spool, known in self.book.uncleaned(customer).items():
-            if spool in queued or known.is_finished:
+            if spool in queued or known.is_finished or spool in left:
                 continue
             with self.spool.opened(spool) as kept:
                 if not kept:

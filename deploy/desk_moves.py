@@ -1,0 +1,189 @@
+"""The move of a customer to another desk, for hq-customers: wherever it is cut, the same command goes on from there.
+
+A mark in the folder of settings says who is moved, from where and to where. It stands there, synced, before the first change, and
+goes behind the last. From then on marks of desk-stop keep both desks from a start, that of a boot too. desk-start refuses both
+desks while the mark is there, and hq-customers whatever else works at the customer or at stores. Where a step fails before a row
+is in the second store, both desks start again and the mark goes.
+"""
+import argparse
+import contextlib
+import os
+import subprocess
+import time
+from pathlib import Path
+from typing import List, Optional
+
+import desk_programs
+from desk_apart import IS_ASKED, IS_COPIED, MOVING, Move, alone, run_apart, under_way
+from desk_files import FURTHER, Desk, Folder, Refused, sync
+
+# The marks of those that desk-stop has stopped.
+STOPPED = Path("/var/lib/hq-desk-stopped")
+# What works at stores, and would find the customer in both, or in none.
+OF_STORES = "erase", "erase-again", "retain"
+# In seconds: how long nginx takes at most to tell its processes that others go by new files.
+RELOADS = 0.5
+
+
+def refuse_meanwhile(folder: Path, command: str, name: Optional[str]) -> None:
+    """Refuses what would change the records of a customer whose move was stopped."""
+    going = under_way(folder)
+    if going and (command in OF_STORES or name == going.customer):
+        raise Refused(going.told())
+
+
+def mark(folder: Path, going: Move) -> None:
+    beside = folder / f"{MOVING}.new"
+    with open(os.open(beside, os.O_WRONLY | os.O_CREAT | os.O_TRUNC, 0o644), "w") as file:
+        file.write(f"{' '.join(going)}\n")
+        file.flush()
+        os.fsync(file.fileno())
+    beside.rename(folder / MOVING)
+    sync(folder)
+
+
+def unmark(folder: Path) -> None:
+    (folder / MOVING).unlink(missing_ok=True)
+    sync(folder)
+
+
+def move(scripts: Path, folder: Folder, given: argparse.Namespace, its_desk: Desk, target: Desk) -> None:
+    """Moves a customer, or ends a move that was stopped."""
+    going = under_way(folder.path)
+    if going and (going.customer, going.target) != (given.name, target.name):
+        raise Refused(going.told())
+    if not going and its_desk is target:
+        print(f"{given.name} is at {target.name} already")
+        return
+    is_new = going is None
+    going = going or Move(given.name, its_desk.name, target.name, IS_ASKED)
+    if is_new:
+        refuse(folder, given, its_desk, target)
+    carry(folder, going)
+    if is_new:
+        folder.rehearse(scripts)
+        refuse_stores(scripts, given, going)
+    desk_programs.go_on()
+    mark(folder.path, going)
+    do(scripts, folder, given, going)
+    unmark(folder.path)
+    print(f"{given.name} is at {target.name} now")
+
+
+def refuse(folder: Folder, given: argparse.Namespace, source: Desk, target: Desk) -> None:
+    """Refuses what is known to fail, by the files alone."""
+    if len(source.rows) == 1:
+        raise Refused(f"{given.name} is the last customer of {source.name}, and a desk wants one. Nothing was changed. Add one first "
+                      f"that nobody uses, as by `hq-customers add placeholder --desk {source.name} >/dev/null`")
+    for desk in (source, target):
+        if not os.path.lexists(given.store / f"{desk.name}.db"):
+            raise Refused(f"{desk.name} has no store, and nothing was changed: start it once")
+        if not given.files and (STOPPED / desk.name).exists():
+            raise Refused(f"{desk.name} is kept stopped, and nothing was changed: `desk-start {desk.name}` comes first")
+
+
+def refuse_stores(scripts: Path, given: argparse.Namespace, going: Move) -> None:
+    """Refuses a store that is no store of this release, and a second one that has records of that name."""
+    for desk in (going.source, going.target):
+        if is_known(scripts, given.store, desk, going.customer) and desk == going.target:
+            raise Refused(f"the store of {desk} has records of another {going.customer}, and nothing was changed")
+
+
+def is_known(scripts: Path, store: Path, desk: str, name: str) -> bool:
+    found = desk_programs.of_store(scripts, desk, store, "knows", name)
+    return found is not None and found[0] != desk_programs.UNKNOWN
+
+
+def carry(folder: Folder, going: Move) -> None:
+    """Has the row and the named keys of the customer stand at the second desk. (They do already where the files are written.)"""
+    known = {it.name: it for it in folder.desks}
+    if not {going.source, going.target} <= known.keys():
+        raise Refused(f"{going.told()}, once both desks have their settings")
+    source, target = known[going.source], known[going.target]
+    for row in [it for it in source.rows if it["name"] == going.customer]:
+        source.rows.remove(row)
+        target.rows.append(row)
+    if FURTHER in source.columns and FURTHER not in target.columns:
+        target.columns.append(FURTHER)
+    for row in target.rows:
+        row.setdefault(FURTHER, "0")
+    target.keys += [it for it in source.keys if it["customer"] == going.customer]
+    source.keys = [it for it in source.keys if it["customer"] != going.customer]
+
+
+def do(scripts: Path, folder: Folder, given: argparse.Namespace, going: Move) -> None:
+    """Stops both desks, moves the rows, writes the files, and starts both by them."""
+    desks = [] if given.files else sorted((going.source, going.target))
+    try:
+        stop(scripts, desks)
+        with contextlib.ExitStack() as locks:
+            for it in desks:
+                locks.enter_context(alone(it, "hq-customers"))
+            move_rows(scripts, folder.path, given.store, going)
+            folder.write(scripts)
+    except (Refused, OSError, ValueError, subprocess.SubprocessError) as fault:
+        call_off(scripts, given, desks, going, str(fault))
+    faults = [] if given.files else [*desk_programs.reload_all(), *start(scripts, desks)]
+    if faults:
+        raise Refused(f"{going.customer} is at {going.target} now, and not all of it runs. Mend this, and type the same again: "
+                      f"{' / '.join(faults)}")
+
+
+def call_off(scripts: Path, given: argparse.Namespace, desks: List[str], going: Move, fault: str) -> None:
+    """Leaves the customer where it was, as long as the second store has nothing of it; and always says so by a Refused."""
+    try:
+        is_begun = is_known(scripts, given.store, going.target, going.customer) or has_row(given.folder, going.target, going.customer)
+    except (Refused, OSError, ValueError) as another:
+        is_begun, fault = True, f"{fault} / {another}"
+    if is_begun:
+        kept = f"{going.source} and {going.target} stay stopped" if desks else "it is half moved"
+        raise Refused(f"{going.told()} once this is mended; {kept} until then: {fault}")
+    faults = start(scripts, desks)
+    unmark(given.folder)
+    raise Refused(f"{going.customer} stays at {going.source}, and nothing was moved: {' / '.join([fault, *faults])}")
+
+
+def has_row(folder: Path, desk: str, name: str) -> bool:
+    return any(it["name"] == name for it in Desk(folder / f"{desk}.env").rows)
+
+
+def stop(scripts: Path, desks: List[str]) -> None:
+    """Stops desks until they are started here, over a boot too: so it is on the disk before anything else is done."""
+    if not desks:
+        return
+    if faults := desk_programs.fault_of([scripts / "desk-stop", *desks]):
+        raise Refused(faults[0])
+    for it in (STOPPED, STOPPED.parent):
+        sync(it)
+
+
+def start(scripts: Path, desks: List[str]) -> List[str]:
+    """Starts desks; the faults of that."""
+    faults: List[str] = []
+    if desks:
+        time.sleep(RELOADS)
+    for it in desks:
+        (STOPPED / it).unlink(missing_ok=True)
+        faults += desk_programs.fault_of([scripts / "desk-restart", it, "systemctl", "start", f"hq-desk@{it}.service"])
+    if desks and STOPPED.exists():
+        sync(STOPPED)
+    return faults
+
+
+def move_rows(scripts: Path, folder: Path, store: Path, going: Move) -> None:
+    """Moves all rows of the customer. What the first store has is all of it until the mark says that it is copied: then the copy is."""
+    if going.step == IS_ASKED:
+        rows(scripts, store, "--copy", going)
+        mark(folder, going._replace(step=IS_COPIED))
+    rows(scripts, store, "--take", going)
+
+
+def rows(scripts: Path, store: Path, step: str, going: Move) -> None:
+    """A step of move-customer, as the user of the desks."""
+    paths = [store.absolute() / f"{it}.db" for it in (going.source, going.target)]
+    words = [scripts / "move-customer", step, *paths, going.customer]
+    # (what is sent to those of this terminal does not end it)
+    ended = run_apart([scripts / "hq-as", "hqdesk", *words] if os.geteuid() == 0 else words, start_new_session=True)
+    if ended.returncode:
+        told = " / ".join(ended.stderr.strip().splitlines())
+        raise Refused(told or f"move-customer ended with {ended.returncode}")
