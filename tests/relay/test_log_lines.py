@@ -1,4 +1,6 @@
 """Which lines of the log count, whatever hosts, senders and recipients write into them."""
+import time
+
 import pytest
 from hypothesis import given, settings, strategies
 from hq_relay.outcome import Outcome, Result
@@ -28,6 +30,15 @@ def test_lines_of_a_message():
     expect((sent.kind, sent.queue_id) == (SENT, ID), sent)
     expect(sent.outcome == Outcome("bob@far.example", Result.DELIVERED, "2.0.0", "250 2.0.0 taken", "mx.far.example", is_by_log=True), sent.outcome)
     expect(read(WAS_NOT % "no").kind == FAILED, read(WAS_NOT % "no"))
+
+
+# How postlogd writes a time, and how syslog does.
+@pytest.mark.parametrize("form", ["%b %d %H:%M:%S", "%b %e %H:%M:%S"])
+@pytest.mark.parametrize("day", range(366))
+def test_each_day_of_a_year(form, day):
+    at = time.strftime(form, time.gmtime(1_830_297_600 + day * 86_400 + day * 236))  # (from 2028 on, a leap year)
+    found = read(WAS_SENT.replace("Nov 30 02:59:03", at))
+    expect(found and found.kind == SENT, at)
 
 
 @pytest.mark.parametrize("text", [

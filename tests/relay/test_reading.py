@@ -2,7 +2,7 @@
 import email
 
 import pytest
-from hypothesis import given, settings, strategies
+from hypothesis import example, given, settings, strategies
 from hq_relay.postfix.report_reader import read_fields, read_report, read_text
 
 BOUND = "4jd7yb2k31z1c3CQ.1796007543/relay.example"
@@ -85,6 +85,7 @@ def test_a_report_that_was_cut(at):
 @settings(max_examples=1500, deadline=None, database=None)
 @given(strategies.lists(strategies.tuples(strategies.floats(0, 1), strategies.sampled_from(PIECES), strategies.integers(0, 40)),
                         min_size=1, max_size=4))
+@example([(HEAD.index("Content-Transfer-Encoding") / len(REPORT), " ", 0)])  # (a boundary whose field goes on)
 def test_strange_reports(edits):
     """Pieces are put in anywhere, in the place of some bytes."""
     text = REPORT.decode()

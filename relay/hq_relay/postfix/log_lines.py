@@ -25,8 +25,9 @@ class LineKind(Enum):
 TAKEN, SENT, FAILED, REMOVED = LineKind.TAKEN, LineKind.SENT, LineKind.FAILED, LineKind.REMOVED
 # The longest line that is looked at, in bytes; postlogd cuts longer ones.
 LONGEST_LINE = 8192
-# "Nov 30 02:59:03 relay postfix-desk/smtp[4691]: 4jd7yb2hywz1c3CP: "
-HEAD = re.compile(rb"[A-Z][a-z]{2} [ 1-3][0-9] [0-2][0-9]:[0-5][0-9]:[0-6][0-9] [!-~]{1,255} "
+# "Nov 30 02:59:03 relay postfix-desk/smtp[4691]: 4jd7yb2hywz1c3CP: ". (postlogd writes the first of
+# a month as 01; syslog would write a blank and 1.)
+HEAD = re.compile(rb"[A-Z][a-z]{2} [ 0-3][0-9] [0-2][0-9]:[0-5][0-9]:[0-6][0-9] [!-~]{1,255} "
                   rb"(?:[!-Z^-~]{1,255}/)?(smtpd|qmgr|smtp|lmtp|pipe|local|virtual|discard)"
                   rb"\[[0-9]{1,10}\]: ([0-9A-Za-z]{6,40}): ")
 # The rest of a line, by the program. The worker gives each message the ID by XFORWARD.

@@ -28,7 +28,7 @@ CUT = re.compile(r"(?:lost connection|conversation) with .* while sending ")
 # and a group of its fields.
 TYPE = re.compile(rb"(?im)^content-type[ \t]*:")
 HEAD = re.compile(rb"(?m)^Content-Type: multipart/report; report-type=delivery-status;\n"
-                  rb'\tboundary="([0-9A-Za-z./_-]{1,200})"$')
+                  rb'\tboundary="([0-9A-Za-z./_-]{1,200})"$(?!\n[ \t])')
 NOTIFICATION = re.compile(rb"Content-Description: Notification\n"
                           rb"Content-Type: text/plain; charset=(?:us-ascii|utf-8)\n"
                           rb"(?:Content-Transfer-Encoding: [78]bit\n)?\n")
