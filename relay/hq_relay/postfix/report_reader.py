@@ -116,7 +116,7 @@ def read_fields(text: bytes) -> DeliveryReport | None:
         return None
     bound = b"\n--" + found[1]
     parts = (b"\n" + body).split(bound + b"\n")
-    if len(parts) < 3 or bound in parts[1] or not NOTIFICATION.match(parts[1]):
+    if len(parts) < 3 or bound in parts[0] + parts[1] or not NOTIFICATION.match(parts[1]):
         return None
     status = STATUS_PART.fullmatch(parts[2].partition(bound + b"--")[0])
     if not status or bound in status[1]:
