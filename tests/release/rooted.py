@@ -38,23 +38,6 @@ Controller(Kept(), "127.0.0.1", 2525).start()
 open("/tmp/listens", "w").close()
 signal.pause()'"""
 
-# A host of recipients: it keeps each message, and waits while the file `waits` is there.
-SINK = """exec /usr/bin/python3 -c '
-import asyncio, os, signal, time, uuid
-from aiosmtpd.controller import Controller
-class Kept:
-    async def handle_DATA(self, server, session, envelope):
-        while os.path.exists("/tmp/waits") and b"waiting" in envelope.content:
-            open("/tmp/waiting", "w").close()
-            await asyncio.sleep(0.05)
-        with open(f"/tmp/taken/{uuid.uuid4()}", "wb") as file:
-            file.write(envelope.content)
-        return "250 kept"
-os.makedirs("/tmp/taken", exist_ok=True)
-Controller(Kept(), "127.0.0.1", 2525).start()
-open("/tmp/listens", "w").close()
-signal.pause()'"""
-
 
 def mirror():
     """The mirror of Debian that apt uses here, and the release; the test is skipped where there is none that answers."""
