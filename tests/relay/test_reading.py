@@ -87,6 +87,7 @@ def test_a_report_that_was_cut(at):
                         min_size=1, max_size=4))
 @example([(HEAD.index("Content-Transfer-Encoding") / len(REPORT), " ", 0)])  # (a boundary whose field goes on)
 @example([(REPORT.index(b"This is a MIME") / len(REPORT), f"--{BOUND}--\n", 0)])  # (an end before the first part)
+@example([(REPORT.index(b" rfc822;x@hard") / len(REPORT), "\t", 22)])  # (a field of blanks alone)
 def test_strange_reports(edits):
     """Pieces are put in anywhere, in the place of some bytes."""
     text = REPORT.decode()

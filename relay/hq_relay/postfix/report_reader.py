@@ -114,12 +114,13 @@ def read_fields(text: bytes) -> DeliveryReport | None:
         return None
     if not GROUP.fullmatch(head.decode()):
         return None
-    bound = b"\n--" + found[1]
-    parts = (b"\n" + body).split(bound + b"\n")
-    if len(parts) < 3 or bound in parts[0] + parts[1] or not NOTIFICATION.match(parts[1]):
+    # (three parts: for people, for programs, and the message; a stranger's bound is not Postfix's form)
+    _, *parts = (b"\n" + body).split(b"\n--" + found[1])
+    ends = [part[:1] for part in parts]
+    if ends != [b"\n", b"\n", b"\n", b"-"] or parts[3].rstrip(b"\n") != b"--":
         return None
-    status = STATUS_PART.fullmatch(parts[2].partition(bound + b"--")[0])
-    if not status or bound in status[1]:
+    status = STATUS_PART.fullmatch(parts[1][1:])
+    if not status or not NOTIFICATION.match(parts[0][1:]):
         return None
     groups = [group for group in status[1].decode().split("\n\n") if group]
     if not all(GROUP.fullmatch(group) for group in groups):
@@ -133,7 +134,7 @@ def fields_of(group: str) -> Field:
     fields: dict[str, str] = {}
     for field in re.split(r"\n(?![ \t])", group):
         name, _, value = field.partition(":")
-        fields.setdefault(name.lower(), value)
+        fields.setdefault(name.lower(), value.lstrip(" \t").rstrip("\n"))
     return lambda name: fields.get(name.lower())
 
 
