@@ -114,7 +114,7 @@ def read_fields(text: bytes) -> DeliveryReport | None:
         return None
     if not GROUP.fullmatch(head.decode()):
         return None
-    # (three parts: for people, for programs, and the message; a stranger's bound is not Postfix's form)
+    # (parts for people, for programs, and the message: a bound of a stranger makes another form)
     _, *parts = (b"\n" + body).split(b"\n--" + found[1])
     ends = [part[:1] for part in parts]
     if ends != [b"\n", b"\n", b"\n", b"-"] or parts[3].rstrip(b"\n") != b"--":
