@@ -1,9 +1,9 @@
 """The move of a customer to another desk, for hq-customers: wherever it is cut, the same command goes on from there.
 
 A mark in the folder of settings says who is moved, from where and to where. It stands there, synced, before the first change, and
-goes behind the last. From then on marks of desk-stop keep both desks from a start, that of a boot too. desk-start refuses both
+goes behind the last. From then on marks of its own keep both desks from a start, that of a boot too. desk-start refuses both
 desks while the mark is there, and hq-customers whatever else works at the customer or at stores. Where a step fails before a row
-is in the second store, both desks start again and the mark goes.
+is in the second store, both desks start again and the mark goes. A desk that desk-stop has stopped meanwhile stays stopped.
 """
 import argparse
 import contextlib
@@ -17,8 +17,8 @@ import desk_programs
 from desk_apart import IS_ASKED, IS_COPIED, MOVING, Move, alone, run_apart, under_way
 from desk_files import FURTHER, Desk, Folder, Refused, sync
 
-# The marks of those that desk-stop has stopped.
-STOPPED = Path("/var/lib/hq-desk-stopped")
+# The marks of those that desk-stop has stopped, and in the same folder those of the desks of a move. (No desk's name has a dot.)
+STOPPED, OF_A_MOVE = Path("/var/lib/hq-desk-stopped"), "{}.moving"
 # What works at stores, and would find the customer in both, or in none.
 OF_STORES = "erase", "erase-again", "retain"
 # In seconds: how long nginx takes at most to tell its processes that others go by new files.
@@ -115,7 +115,7 @@ def do(scripts: Path, folder: Folder, given: argparse.Namespace, going: Move) ->
     """Stops both desks, moves the rows, writes the files, and starts both by them."""
     desks = [] if given.files else sorted((going.source, going.target))
     try:
-        stop(scripts, desks)
+        stop(desks)
         with contextlib.ExitStack() as locks:
             for it in desks:
                 locks.enter_context(alone(it, "hq-customers"))
@@ -147,23 +147,30 @@ def has_row(folder: Path, desk: str, name: str) -> bool:
     return any(it["name"] == name for it in Desk(folder / f"{desk}.env").rows)
 
 
-def stop(scripts: Path, desks: List[str]) -> None:
+def stop(desks: List[str]) -> None:
     """Stops desks until they are started here, over a boot too: so it is on the disk before anything else is done."""
     if not desks:
         return
-    if faults := desk_programs.fault_of([scripts / "desk-stop", *desks]):
-        raise Refused(faults[0])
-    for it in (STOPPED, STOPPED.parent):
-        sync(it)
+    STOPPED.mkdir(mode=0o700, exist_ok=True)
+    for it in desks:
+        (STOPPED / OF_A_MOVE.format(it)).touch()
+    for folder in (STOPPED, STOPPED.parent):
+        sync(folder)
+    for it in desks:
+        units = [f"hq-desk@{it}.service", f"hq-desk-retain@{it}.service"]
+        if faults := desk_programs.fault_of(["systemctl", "stop", *units]):
+            raise Refused(faults[0])
+        if any(map(desk_programs.is_active, units)):
+            raise Refused(f"{it} does not stop")
 
 
 def start(scripts: Path, desks: List[str]) -> List[str]:
-    """Starts desks; the faults of that."""
+    """Starts desks but those that desk-stop keeps stopped; the faults of that."""
     faults: List[str] = []
     if desks:
         time.sleep(RELOADS)
     for it in desks:
-        (STOPPED / it).unlink(missing_ok=True)
+        (STOPPED / OF_A_MOVE.format(it)).unlink(missing_ok=True)
         faults += desk_programs.fault_of([scripts / "desk-restart", it, "systemctl", "start", f"hq-desk@{it}.service"])
     if desks and STOPPED.exists():
         sync(STOPPED)

@@ -200,6 +200,29 @@ def test_deleted_before_the_backup(program, shared):
             expect(pending == [late, lost], "pending are", pending)
 
 
+def test_requeued_before_the_backup(program, shared):
+    """What a customer requeued and deleted before the worker saw its new ID stays away; an equal mail that the desk lost comes back."""
+    with Relay(program, shared, limits=dict.fromkeys(KEYS, REMEMBERED)) as it:
+        intake = it.intake()
+        for _ in range(3):
+            it.take("acme", f"p@{FAR}")
+        it.postfix.empty()
+        first, second, _ = (entry["id"] for entry in it.desk.messages("acme"))
+        requeued = [it.desk.own("acme", "POST", f"/v1/requeue/{id}")["id"] for id in (second, first)]
+        it.desk.own("acme", "DELETE", f"/v1/message/{requeued[0]}")
+        copy_store(it, "", "kept.")
+        it.take("acme", f"p@{FAR}")
+        it.postfix.empty()
+        intake.kill()
+        copy_store(it, "kept.", "")
+        for _ in range(2):
+            restored = it.run("restored")
+            restored.ends()
+            told = restored.log.read_text()
+            expect(told.count("left before the backup") == 1, "one has left, and it tells", told)
+            expect(len(it.desk.messages("acme")) == 3, "the queue has", it.desk.messages("acme"), told)
+
+
 def test_two_lines_of_time(program, shared):
     """A restore is taken back: in the copy of before it the IDs of new mail are those of other messages, which left. None is lost."""
     with Relay(program, shared, limits=dict.fromkeys(KEYS, REMEMBERED)) as it:

@@ -47,13 +47,6 @@ class Uncleaned(NamedTuple):
     size: int
 
 
-class Named(NamedTuple):
-    """The name of a queue ID, and when that was written down: its message was queued then."""
-
-    spool: str
-    at: int
-
-
 class Kept(NamedTuple):
     """How many contents are kept, and their bytes."""
 
@@ -99,11 +92,10 @@ class Book(NoticeRecords):
         query = "SELECT spool FROM messages WHERE customer = ? AND id = ? AND at >= ?"
         return self.text(query, customer, id, since)
 
-    def ids(self, customer: str) -> dict[str, Named]:
+    def ids(self, customer: str) -> dict[str, str]:
         """The names of a customer's queue IDs, of messages that left too."""
-        query = "SELECT id, spool, at FROM messages WHERE customer = ?"
-        rows = self.database().execute(query, (customer,))
-        return {id: Named(spool, at) for id, spool, at in rows}
+        query = "SELECT id, spool FROM messages WHERE customer = ?"
+        return dict(self.database().execute(query, (customer,)))
 
     def all_mailed(self, customer: str) -> None:
         """No notice of a customer waits: its messages that left by a failure are finished."""

@@ -2,16 +2,36 @@
 
 The book is fitted to the desk, and lost mail is submitted again.
 """
-from dataclasses import replace
+from collections.abc import Collection
+from dataclasses import dataclass, replace
 
 from hq_relay import log
 from hq_relay.desk.client import Desk, Refused
+from hq_relay.desk.replies import End
 from hq_relay.outcome import Outcome, Result
 from hq_relay.settings import Settings
 from hq_relay.storage.attempts import Attempts
 from hq_relay.storage.book import Book
 from hq_relay.storage.spool import Envelope, Spool
 from hq_relay.storage.spool_names import SpoolNames
+
+
+@dataclass(frozen=True, slots=True)
+class Departed:
+    """A name that is in no list of the desk, with the last queue ID that the book has of it.
+
+    Its content was written in the second `written`.
+    """
+
+    id: str
+    spool: str
+    envelope: Envelope
+    written: int
+
+    def may_end_by(self, end: End) -> bool:
+        """Whether this may be the end of its message."""
+        addresses = self.envelope.sender, self.envelope.recipient
+        return self.written <= end.at and addresses == (end.sender, end.recipient)
 
 
 class DeskRestore:
@@ -27,10 +47,10 @@ class DeskRestore:
         for customer in customers:
             self.reset_notices(customer)
             left = self.left_before(customer)
-            self.book.forget_messages(customer, left)
+            self.book.forget_messages(customer, left.values())
             queued = {spool: id for id, spool in self.names.queued(customer).items()}
             self.end_finished(customer, queued)
-            self.submit_lost(customer, queued, set(left.values()))
+            self.submit_lost(customer, queued, left)
             self.move_reports(customer, queued)
             self.move_attempts(customer, queued)
 
@@ -43,20 +63,53 @@ class DeskRestore:
             log.warning("notices numbered anew", customer=customer, mailed=mailed, now=greatest)
 
     def left_before(self, customer: str) -> dict[str, str]:
-        """The names by queue ID of what had left the queue before the backup, by the history.
+        """The queue IDs by name of what had left the queue before the backup, by the history.
 
-        IDs come a second time behind a restore. So an end is of a name only if it came after that
-        was queued, with its sender and its recipient; else the name is submitted again.
+        An end has the ID that the book has of a name. Or it has a greater one, which the book has
+        not: then its customer had requeued the message. IDs come a second time after a restore. So
+        an end is of a name only if it came after the content, from its sender and to its recipient.
         """
-        known, left = self.book.ids(customer), {}
+        departed = self.departed(customer)
+        names = {it.id: it for it in departed}
+        left: dict[str, str] = {}
+        of_requeued: list[End] = []
         for end in self.desk.history(customer):
-            named = known.get(end.id)
-            envelope = self.spool.envelope(named.spool) if named and named.at <= end.at else None
-            if envelope and (envelope.sender, envelope.recipient) == (end.sender, end.recipient):
-                left[end.id] = envelope.spool
-                log.info("left before the backup", customer=customer, id=end.id,
-                         spool=envelope.spool)
+            named = names.get(end.id)
+            if named and named.may_end_by(end):
+                left[named.spool] = named.id
+            else:
+                of_requeued.append(end)
+        by_addresses: dict[tuple[str, str], list[Departed]] = {}
+        for named in departed:
+            by_addresses.setdefault((named.envelope.sender, named.envelope.recipient),
+                                    []).append(named)
+        for end in of_requeued:
+            for named in by_addresses.get((end.sender, end.recipient), []):
+                if named.spool not in left and named.id < end.id and named.may_end_by(end):
+                    left[named.spool] = named.id
+                    break
+        for spool, id in left.items():
+            log.info("left before the backup", customer=customer, id=id, spool=spool)
         return left
+
+    def departed(self, customer: str) -> list[Departed]:
+        """The names of the book with content that are in no list, the greatest ID first."""
+        known = self.book.ids(customer)
+        listed = {entry.id for entry in self.desk.messages(customer)}
+        queued = {known[id] for id in listed & known.keys()}
+        for id in listed - known.keys():
+            message = self.desk.message(customer, id)
+            if message:
+                queued.add(message.spool)
+        found: dict[str, Departed] = {}
+        for id in sorted(known, reverse=True):
+            spool = known[id]
+            if spool in queued or spool in found:
+                continue
+            with self.spool.opened(spool) as kept:
+                if kept:
+                    found[spool] = Departed(id, spool, kept.envelope, kept.written)
+        return [*found.values()]
 
     def end_finished(self, customer: str, queued: dict[str, str]) -> None:
         """Ends messages that the desk has again, and that were finished since the backup."""
@@ -71,7 +124,7 @@ class DeskRestore:
                 log.warning("may come twice", customer=customer, id=id, spool=spool,
                             sender=message.sender, means="if it was sent since the backup")
 
-    def submit_lost(self, customer: str, queued: dict[str, str], left: set[str]) -> None:
+    def submit_lost(self, customer: str, queued: dict[str, str], left: Collection[str]) -> None:
         """Submits mail again that was taken, and that the desk lost with its newest records."""
         for spool, known in self.book.uncleaned(customer).items():
             if spool in queued or known.is_finished or spool in left:

@@ -38,12 +38,16 @@ class Envelope:
 
 @dataclass(frozen=True, slots=True)
 class Kept:
-    """A message of the spool, opened: its content begins at `start` and has `size` bytes."""
+    """A message of the spool, opened: its content begins at `start` and has `size` bytes.
+
+    It was written in the second `written`.
+    """
 
     envelope: Envelope
     file: BinaryIO
     start: int
     size: int
+    written: int
 
     def head(self) -> bytes:
         """Its header fields, as far as they lie in the first 65,536 bytes."""
@@ -214,5 +218,5 @@ def kept_in(file: BinaryIO) -> Kept | None:
         envelope = Envelope(**json.loads(file.readline(LONGEST_ENVELOPE)))
     except (TypeError, ValueError):
         return None
-    start = file.tell()
-    return Kept(envelope, file, start, os.fstat(file.fileno()).st_size - start)
+    start, found = file.tell(), os.fstat(file.fileno())
+    return Kept(envelope, file, start, found.st_size - start, int(found.st_mtime))
