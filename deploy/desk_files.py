@@ -25,7 +25,7 @@ import tempfile
 import time
 from datetime import datetime, timezone
 from pathlib import Path
-from typing import Callable, Dict, Iterator, List, Optional, Tuple
+from typing import Callable, Dict, Iterator, List, NamedTuple, Optional, Tuple
 
 from desk_apart import settings_of
 
@@ -39,6 +39,8 @@ SENDERS = ["kind", "name", "customer"]
 SINCE = "since"
 DROPPED = ["name", "desk", "day"]
 ERASED = ["name", "moment"]
+# The random name of an erasure: by it a copy of a store knows which ones it has been through.
+ERASURE = "erasure"
 MOMENT = "%Y-%m-%dT%H:%M:%SZ"
 DESKS = ["customer", "desk"]
 LOCK, WHOLE, BESIDE, GONE, TRIAL = ".customers.lock", ".customers.whole", ".customers-new", ".customers-gone", ".customers-trial-"
@@ -52,6 +54,18 @@ PATIENCE, LONGEST = 60, 120
 
 class Refused(Exception):
     """Nothing was changed; the text says why."""
+
+
+class Erased(NamedTuple):
+    """Since when the records of a name are gone, and the name of that erasure (empty of an earlier release)."""
+
+    moment: str
+    erasure: str = ""
+
+
+def erased_in(path: Path) -> Dict[str, Erased]:
+    """Whose records are gone, by a table of it."""
+    return {name: Erased(*row) for name, *row in table_of(path, ERASED, ERASURE)}
 
 
 @contextlib.contextmanager
@@ -250,7 +264,7 @@ class Folder:
         self.senders_before = {(row[0], row[1]): (row[2], *row[3:]) for row in table_of(path / "senders.csv", SENDERS, SINCE)}
         self.senders: Dict[Tuple[str, str], str] = {it: row[0] for it, row in self.senders_before.items()}
         self.dropped = {name: (desk, day) for name, desk, day in table_of(path / "dropped.csv", DROPPED)}
-        self.erased = {name: moment for name, moment in table_of(path / "erased.csv", ERASED)}
+        self.erased = erased_in(path / "erased.csv")
         self.desks_before = table_of(path / "desks.csv", DESKS)
         # (a row that was taken out by hand is that of a customer who was dropped)
         self.is_first = not (path / "relay.csv").exists()
@@ -315,7 +329,7 @@ class Folder:
         put_beside(self.path / "senders.csv", text_of(senders), 0o640, workers)
         gone = [DROPPED, *([name, *row] for name, row in sorted(self.dropped.items()))]
         put_beside(self.path / "dropped.csv", text_of(gone), 0o640, desks)
-        erased = [ERASED, *([*it] for it in sorted(self.erased.items()))]
+        erased = [[*ERASED, ERASURE], *([name, *it] for name, it in sorted(self.erased.items()))]
         put_beside(self.path / "erased.csv", text_of(erased), 0o640, desks)
         put_beside(self.path / "relay.csv", self.of_worker(), 0o640, workers)
         desks_of = [DESKS, *([row["name"], desk.name] for desk in self.desks for row in desk.rows)]

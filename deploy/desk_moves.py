@@ -20,7 +20,7 @@ from desk_files import FURTHER, Desk, Folder, Refused, sync
 # The marks of those that desk-stop has stopped, and in the same folder those of the desks of a move. (No desk's name has a dot.)
 STOPPED, OF_A_MOVE = Path("/var/lib/hq-desk-stopped"), "{}.moving"
 # What works at stores, and would find the customer in both, or in none.
-OF_STORES = "erase", "erase-again", "retain"
+OF_STORES = "erase", "erase-again", "retain", "compare"
 # In seconds: how long nginx takes at most to tell its processes that others go by new files.
 RELOADS = 0.5
 
@@ -56,7 +56,7 @@ def move(scripts: Path, folder: Folder, given: argparse.Namespace, its_desk: Des
         print(f"{given.name} is at {target.name} already")
         return
     is_new = going is None
-    going = going or Move(given.name, its_desk.name, target.name, IS_ASKED)
+    going = going or Move(given.name, its_desk.name, target.name, IS_COPIED if given.same_firm else IS_ASKED)
     if is_new:
         refuse(folder, given, its_desk, target)
     carry(folder, going)
@@ -83,10 +83,15 @@ def refuse(folder: Folder, given: argparse.Namespace, source: Desk, target: Desk
 
 
 def refuse_stores(scripts: Path, given: argparse.Namespace, going: Move) -> None:
-    """Refuses a store that is no store of this release, and a second one that has records of that name."""
-    for desk in (going.source, going.target):
-        if is_known(scripts, given.store, desk, going.customer) and desk == going.target:
-            raise Refused(f"the store of {desk} has records of another {going.customer}, and nothing was changed")
+    """Refuses a store that is no store of this release, and a second one that has records of that name, unless they are its own."""
+    is_known(scripts, given.store, going.source, going.customer)
+    found = is_known(scripts, given.store, going.target, going.customer)
+    if given.same_firm and not found:
+        raise Refused(f"the store of {going.target} has no records of {going.customer}, and nothing was changed: leave out --same-firm")
+    if found and not given.same_firm:
+        raise Refused(f"the store of {going.target} has records of another {going.customer}, and nothing was changed. `hq-customers erase "
+                      f"{going.customer} --desk {going.target}` erases them; with --same-firm they are its own, and those at {going.source} are "
+                      "erased")
 
 
 def is_known(scripts: Path, store: Path, desk: str, name: str) -> bool:
@@ -171,7 +176,8 @@ def start(scripts: Path, desks: List[str]) -> List[str]:
         time.sleep(RELOADS)
     for it in desks:
         (STOPPED / OF_A_MOVE.format(it)).unlink(missing_ok=True)
-        faults += desk_programs.fault_of([scripts / "desk-restart", it, "systemctl", "start", f"hq-desk@{it}.service"])
+        if not (STOPPED / it).exists():
+            faults += desk_programs.fault_of([scripts / "desk-restart", it, "systemctl", "start", f"hq-desk@{it}.service"])
     if desks and STOPPED.exists():
         sync(STOPPED)
     return faults

@@ -177,7 +177,8 @@ def refuse_elsewhere(scripts: Path, folder: Folder, its_desk: Desk, given: argpa
         found = None if desk == its_desk.name else of_store(scripts, desk, given.store, "knows", given.name)
         if found and found[0] != UNKNOWN:
             raise Refused(f"the records of {given.name} are in the store of {desk}: add it by --desk {desk}, and then type "
-                          f"`hq-customers move {given.name} --desk {its_desk.name}`")
+                          f"`hq-customers move {given.name} --desk {its_desk.name}`; or, if nobody wants those, `hq-customers erase "
+                          f"{given.name} --desk {desk}` erases them")
 
 
 def refuse_known(scripts: Path, folder: Folder, its_desk: Desk, given: argparse.Namespace) -> None:

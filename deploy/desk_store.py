@@ -60,6 +60,12 @@ def has_any(store: sqlite3.Connection, name: str) -> bool:
     return any(store.execute(f"SELECT 1 FROM {it} WHERE customer = ? LIMIT 1", (name,)).fetchone() for it in TABLES)
 
 
+def names_in(store: sqlite3.Connection) -> List[str]:
+    """Of whom a store has rows."""
+    asked = " UNION ".join(f"SELECT customer FROM {it}" for it in TABLES)
+    return sorted(name for name, in store.execute(asked))
+
+
 def has_older(store: sqlite3.Connection, name: str, moment: int) -> bool:
     """Whether a store has a row of a customer from before a moment."""
     asked = "SELECT 1 FROM {} WHERE customer = ? AND {} < ? LIMIT 1"

@@ -19,7 +19,7 @@ from serving import LONGEST, expect
 from test_erased import BOTH, WITH_HISTORY, Stores
 
 SCRIPTS = ("hq-customers", "hq-as", "hq-ask", "desk-stop", "desk-start", "desk-maps", "desk-store", "move-customer", "desk_apart.py", "desk_files.py",
-           "desk_moves.py", "desk_programs.py", "desk_store.py")
+           "desk_erasures.py", "desk_moves.py", "desk_programs.py", "desk_store.py")
 TABLES = "heads", "messages", "recipients", "lines", "marks", "notices", "holds", "ends"
 ELM = "elm,elmkey0000000001,1000,500000000,1000,100,14400,1000\n"
 SYSTEMCTL = """\
@@ -32,7 +32,7 @@ for it; do
   it=${{it%.service}} name=${{it#*@}}
   case $verb in
     stop) rm -f "{folder}/runs/$it" ;;
-    start) [ ! -e "{folder}/stopped/$name" ] || exit 1; : >"{folder}/runs/$it"; {python} {folder}/state.py "$name" >>{folder}/starts ;;
+    start) [ ! -e "{folder}/stopped/$name" ] && [ ! -e "{folder}/stopped/$name.moving" ] || exit 1; : >"{folder}/runs/$it"; {python} {folder}/state.py "$name" >>{folder}/starts ;;
   esac
 done
 """
@@ -265,12 +265,12 @@ def test_files_refused(place, name):
     place.put(where / name, "#!/bin/sh\nexit 1\n")
     expect(place.move().returncode == 1 and place.files() == before and "stop hq-desk" not in (place.place / "called").read_text(), "before")
     # (it refuses once desks are stopped)
-    place.put(where / name, f'#!/bin/sh\n[ ! -e {place.place}/stopped/north ] || exit 1\nexec {good} "$@"\n')
+    place.put(where / name, f'#!/bin/sh\n[ ! -e {place.place}/stopped/north.moving ] || exit 1\nexec {good} "$@"\n')
     if name == "hq":
-        place.put(where / name, f'#!/bin/sh\n[ "$1" != check ] || [ ! -e {place.place}/stopped/north ] || exit 1\nexec {good} "$@"\n')
+        place.put(where / name, f'#!/bin/sh\n[ "$1" != check ] || [ ! -e {place.place}/stopped/north.moving ] || exit 1\nexec {good} "$@"\n')
     if name == "desk-maps":
         shutil.copy(good, place.scripts / "good-maps")
-        place.put(where / name, f'#!/bin/sh\n[ ! -e {place.place}/stopped/north ] || exit 1\nexec {place.scripts}/good-maps "$@"\n')
+        place.put(where / name, f'#!/bin/sh\n[ ! -e {place.place}/stopped/north.moving ] || exit 1\nexec {place.scripts}/good-maps "$@"\n')
     ended = place.move()
     expect(ended.returncode == 1 and "stay stopped until then" in ended.stderr, "behind it ended with", ended)
     place.boot()
@@ -316,9 +316,29 @@ def test_killed(place):
 
 def test_a_terminal_that_is_closed(place):
     """Whoever closes the terminal in the middle does not keep the move from being ended."""
-    ended = place.move(script=["sh", "-c", f'"$@" & while [ ! -e {place.place}/stopped/south ]; do sleep 0.01; done; '
+    ended = place.move(script=["sh", "-c", f'"$@" & while [ ! -e {place.place}/stopped/south.moving ]; do sleep 0.01; done; '
                                             "kill -HUP $! && kill -INT $! && kill -TERM $! && wait $!", "sh"])
     expect(ended.returncode == -signal.SIGHUP or ended.returncode == 0, "it ended with", ended)
+    place.is_moved()
+
+
+@pytest.mark.parametrize("fails", ["", "start hq-desk@south"])
+def test_stopped_meanwhile(place, fails):
+    """Who stops a desk while a customer moves finds it stopped when both are done, over a boot too; desk-start starts it."""
+    place.put(place.scripts / "slow-rows", (place.scripts / "move-customer").read_text())
+    place.put(place.scripts / "move-customer", f'#!/bin/sh\n: >{place.place}/moves\n[ "$1" != --take ] || sleep 2\nexec "$(dirname "$0")/slow-rows" "$@"\n')
+    if fails:
+        (place.place / "fails").write_text(fails)
+    words = 'set -e; (while [ ! -e "$0/moves" ]; do sleep 0.05; done; "$0/scripts/desk-stop" north) & "$@" && status=$? || status=$?; wait $!; exit $status'
+    ended = place.move(script=["bash", "-c", words, place.place])
+    (place.place / "fails").unlink(missing_ok=True)
+    expect(bool(ended.returncode) == bool(fails), fails, "it ended with", ended)
+    place.boot()
+    running = sorted(it.name for it in (place.place / "runs").iterdir())
+    expect("hq-desk@north" not in running and (place.place / "stopped/north").exists(), "both done,", running, "run", ended)
+    if ended.returncode:
+        place.move()
+    expect(place.desk_start("north").returncode == 0, "desk-start", place.desk_start("north"))
     place.is_moved()
 
 

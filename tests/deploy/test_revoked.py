@@ -79,7 +79,7 @@ def test_erased_by_a_clock_ahead(place):
         (place.folder / "erased.csv").write_text(f"name,moment\n{name},{moment}\n")
         expect(run(place, "add", name, stdout=subprocess.PIPE).returncode == 0, name, "is not added")
         found = (place.folder / "erased.csv").read_text().splitlines()[1]
-        expect(found.startswith(f"{name},2") and (found == f"{name},{moment}") == is_kept and "2099" not in found, "of", name, "it has", found)
+        expect(found.startswith(f"{name},2") and (found == f"{name},{moment},") == is_kept and "2099" not in found, "of", name, "it has", found)
 
 
 def closed(*numbers):

@@ -306,6 +306,12 @@ def test_nothing_to_copy(place):
     (place / "bin/df").write_text("#!/bin/sh\necho ' 1000000 900000'\n")
     (place / "stores/north.db").write_bytes(bytes(700000))
     expect(run(place, "desk-backup", place / "again", "north").returncode == 0, "a store is cut")
+    # (whoever was erased before, and who is at which desk)
+    found = [(place / f"again/north.{it}.csv").read_text() for it in ("erased", "desks")]
+    expect(found == ["name,moment\n", "customer,desk\n"], "beside the copy are", found)
+    (place / "erased.csv").write_text("name,moment,erasure\nbirch,2026-01-02T03:04:05Z,ab\n")
+    run(place, "desk-backup", place / "third", "north")
+    expect((place / "third/north.erased.csv").read_text().endswith("birch,2026-01-02T03:04:05Z,ab\n"), "erased are others")
 
 
 def test_a_store_that_is_lost(place):
@@ -357,7 +363,9 @@ def test_stays_stopped():
     for unit in ("hq-relay-intake.service", "hq-relay-deliver.service"):
         found = all_settings_of(DEPLOY / unit).get("AssertPathExists")
         expect(found == [stopped.replace("%i", "relay")], unit, "starts where", found)
-    for unit, wanted in (("hq-desk@.service", ([stopped], None)), ("hq-desk-retain@.service", (None, [stopped]))):
+    # (a move that is not done has marks of its own)
+    both = [stopped, f"{stopped}.moving"]
+    for unit, wanted in (("hq-desk@.service", (both, None)), ("hq-desk-retain@.service", (None, both))):
         settings = all_settings_of(DEPLOY / unit)
         found = tuple(settings.get(it) for it in ("AssertPathExists", "ConditionPathExists"))
         expect(found == wanted, unit, "starts where", found)

@@ -1,0 +1,108 @@
+"""Records in the stores of desks that are nobody's there any more, for hq-customers: of who was erased since a copy of a store was made,
+or is a customer of another desk."""
+import argparse
+from datetime import datetime, timezone
+from pathlib import Path
+from typing import Dict, List, NamedTuple, Optional
+
+import desk_programs
+from desk_files import DESKS, MOMENT, Desk, Erased, Folder, Refused, erased_in, now, table_of
+
+
+class Misplaced(NamedTuple):
+    """A customer, a desk whose store has records of it, and the desk whose directory has it."""
+
+    name: str
+    desk: str
+    place: str
+
+
+def erase_at(scripts: Path, folder: Folder, given: argparse.Namespace) -> None:
+    """Erases the records of a name in one store, at whose desk nobody has it."""
+    desks = desk_programs.stores_in(given.store, folder.desks)[0]
+    if given.desk not in desks:
+        raise Refused(f"--desk has to be one of: {', '.join(desks)}")
+    if places_of(folder).get(given.name) == given.desk:
+        raise Refused(f"{given.name} is a customer of {given.desk}: `hq-customers drop {given.name}` comes first")
+    found = desk_programs.of_store(scripts, given.desk, given.store, "erase", given.name)
+    print(f"the store of {given.desk}: {found[1] if found else 'there is none'}", flush=True)
+
+
+def erase_again(scripts: Path, folder: Folder, desk: Desk, given: argparse.Namespace) -> List[Desk]:
+    """Erases in the store of a desk, which a backup of before has brought back, whoever was erased since then."""
+    if given.copy:
+        refuse_earlier(folder, desk, given.copy)
+    erased = "".join(f"{name} {since}\n" for name, since in sorted(erased_since(folder, desk, given.copy).items()))
+    found = desk_programs.of_store(scripts, desk.name, given.store, "erase-again", "-", erased)
+    print(f"the store of {desk.name}: {found[1] if found else 'there is none'}", flush=True)
+    refuse_misplaced(folder, misplaced(scripts, folder, given.store, desk.name))
+    return []
+
+
+def compare(scripts: Path, folder: Folder, stores: Path) -> List[Desk]:
+    """Refuses if a store has records of a customer of another desk. A desk is away while its store is looked into."""
+    faults: List[str] = []
+    found: List[Misplaced] = []
+    for desk in desk_programs.stores_in(stores, folder.desks)[0]:
+        with desk_programs.kept_for_later(faults):
+            found += misplaced(scripts, folder, stores, desk)
+    desk_programs.told_at_last(faults)
+    refuse_misplaced(folder, found)
+    print("each store has records of its own customers alone")
+    return []
+
+
+def erased_since(folder: Folder, desk: Desk, copy: Optional[Path]) -> Dict[str, str]:
+    """Whoever was erased, with the second up to which its records go; or `-` for all of them, where the copy of the store tells that
+    it is of before that erasure."""
+    if copy:
+        before = erased_in(copied(copy, desk, "erased"))
+        return {name: "-" for name, it in folder.erased.items() if not is_same(before.get(name), it)}
+    # (by a moment that is still to come, of a clock that ran ahead, all that a customer has would be older)
+    if to_come := [f"{name} at {it.moment}" for name, it in sorted(folder.erased.items()) if it.moment > now()]:
+        raise Refused(f"erased.csv is ahead of the clock: {', '.join(to_come)}. Let the clock be right, or correct that row")
+    return {name: str(int(moment_of(it.moment).timestamp())) for name, it in folder.erased.items()}
+
+
+def is_same(before: Optional[Erased], after: Erased) -> bool:
+    """Whether both are one erasure. (`add` sets back a moment that is ahead of its clock.)"""
+    return before is not None and (before.erasure == after.erasure if after.erasure else before == after)
+
+
+def copied(copy: Path, desk: Desk, what: str) -> Path:
+    path = copy / f"{desk.name}.{what}.csv"
+    if not path.exists():
+        raise Refused(f"{path} is missing, as it is of a copy that an earlier release made, or a snapshot: type the same without --copy")
+    return path
+
+
+def refuse_earlier(folder: Folder, desk: Desk, copy: Path) -> None:
+    """Refuses a copy of a desk from before somebody moved there: its records are in it no more."""
+    at = dict(table_of(copied(copy, desk, "desks"), DESKS))
+    moved = sorted(row["name"] for row in desk.rows if at.get(row["name"], desk.name) != desk.name)
+    if moved:
+        raise Refused(f"this copy of {desk.name} is from before {', '.join(moved)} moved there, and has nothing of them: take a later one")
+
+
+def places_of(folder: Folder) -> Dict[str, str]:
+    """The desk of each customer."""
+    return {row["name"]: desk.name for desk in folder.desks for row in desk.rows}
+
+
+def misplaced(scripts: Path, folder: Folder, stores: Path, desk: str) -> List[Misplaced]:
+    """Of whom the store of a desk has records, who are customers of another one."""
+    its = places_of(folder)
+    found = desk_programs.of_store(scripts, desk, stores, "names", "-")
+    return [Misplaced(name, desk, its[name]) for name in (found[1].split() if found else ()) if its.get(name, desk) != desk]
+
+
+def refuse_misplaced(folder: Folder, found: List[Misplaced]) -> None:
+    if found:
+        told = ", ".join(f"{desk} has records of {name}, who is at {place} by {folder.path}" for name, desk, place in found)
+        name, desk, _ = found[0]
+        raise Refused(f"{told}. If {folder.path} is from before a move, put its newest copy back. Else `hq-customers erase {name} --desk {desk}` "
+                      f"erases these, and `hq-customers move {name} --desk {desk} --same-firm` takes them, and erases the others")
+
+
+def moment_of(text: str) -> datetime:
+    return datetime.strptime(text, MOMENT).replace(tzinfo=timezone.utc)
