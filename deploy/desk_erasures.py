@@ -6,6 +6,7 @@ from pathlib import Path
 from typing import Dict, List, NamedTuple, Optional
 
 import desk_programs
+from desk_apart import under_way
 from desk_files import DESKS, MOMENT, Desk, Erased, Folder, Refused, erased_in, now, table_of
 
 
@@ -90,10 +91,11 @@ def places_of(folder: Folder) -> Dict[str, str]:
 
 
 def misplaced(scripts: Path, folder: Folder, stores: Path, desk: str) -> List[Misplaced]:
-    """Of whom the store of a desk has records, who are customers of another one."""
-    its = places_of(folder)
+    """Of whom the store of a desk has records, who are customers of another one. (Who is half moved may be in both.)"""
+    its, going = places_of(folder), under_way(folder.path)
     found = desk_programs.of_store(scripts, desk, stores, "names", "-")
-    return [Misplaced(name, desk, its[name]) for name in (found[1].split() if found else ()) if its.get(name, desk) != desk]
+    names = [it for it in (found[1].split() if found else ()) if not going or it != going.customer]
+    return [Misplaced(name, desk, its[name]) for name in names if its.get(name, desk) != desk]
 
 
 def refuse_misplaced(folder: Folder, found: List[Misplaced]) -> None:

@@ -9,6 +9,7 @@ import argparse
 import contextlib
 import os
 import subprocess
+import sys
 import time
 from pathlib import Path
 from typing import List, Optional
@@ -19,8 +20,8 @@ from desk_files import FURTHER, Desk, Folder, Refused, sync
 
 # The marks of those that desk-stop has stopped, and in the same folder those of the desks of a move. (No desk's name has a dot.)
 STOPPED, OF_A_MOVE = Path("/var/lib/hq-desk-stopped"), "{}.moving"
-# What works at stores, and would find the customer in both, or in none.
-OF_STORES = "erase", "erase-again", "retain", "compare"
+# What works at stores, and would find the customer in both, or in none. (erase-again is for a store that comes back meanwhile.)
+OF_STORES = "erase", "retain", "compare"
 # In seconds: how long nginx takes at most to tell its processes that others go by new files.
 RELOADS = 0.5
 
@@ -176,7 +177,9 @@ def start(scripts: Path, desks: List[str]) -> List[str]:
         time.sleep(RELOADS)
     for it in desks:
         (STOPPED / OF_A_MOVE.format(it)).unlink(missing_ok=True)
-        if not (STOPPED / it).exists():
+        if (STOPPED / it).exists():
+            print(f"{it} stays stopped, as desk-stop has left it", file=sys.stderr)
+        else:
             faults += desk_programs.fault_of([scripts / "desk-restart", it, "systemctl", "start", f"hq-desk@{it}.service"])
     if desks and STOPPED.exists():
         sync(STOPPED)
@@ -188,10 +191,11 @@ def move_rows(scripts: Path, folder: Path, store: Path, going: Move) -> None:
     if going.step == IS_ASKED:
         rows(scripts, store, "--copy", going)
         mark(folder, going._replace(step=IS_COPIED))
-    rows(scripts, store, "--take", going)
+    if rows(scripts, store, "--take", going).endswith("none there"):
+        print(f"no store has records of {going.customer}: if it had some, restore {going.target} from a copy that has them", file=sys.stderr)
 
 
-def rows(scripts: Path, store: Path, step: str, going: Move) -> None:
+def rows(scripts: Path, store: Path, step: str, going: Move) -> str:
     """A step of move-customer, as the user of the desks."""
     paths = [store.absolute() / f"{it}.db" for it in (going.source, going.target)]
     words = [scripts / "move-customer", step, *paths, going.customer]
@@ -200,3 +204,4 @@ def rows(scripts: Path, store: Path, step: str, going: Move) -> None:
     if ended.returncode:
         told = " / ".join(ended.stderr.strip().splitlines())
         raise Refused(told or f"move-customer ended with {ended.returncode}")
+    return ended.stdout.strip()

@@ -151,7 +151,7 @@ class Moves(Stores):
             for name in ("north", "south"):
                 ended = self.desk_start(name)
                 expect(ended.returncode == 1 and "hq-customers move dale --desk south\n" in ended.stderr, *about, "desk-start", ended)
-            for words in (("set", "dale", "--messages", "5"), ("erase", "birch"), ("retain", "90"), ("move", "acme", "--desk", "south")):
+            for words in (("set", "dale", "--messages", "5"), ("erase", "birch"), ("retain", "90"), ("compare",), ("move", "acme", "--desk", "south")):
                 ended = self.run(*words)
                 expect(ended.returncode == 1 and "type `hq-customers move dale --desk south` again" in ended.stderr, *about, words, ended)
         ended = self.move()
@@ -340,6 +340,38 @@ def test_stopped_meanwhile(place, fails):
         place.move()
     expect(place.desk_start("north").returncode == 0, "desk-start", place.desk_start("north"))
     place.is_moved()
+
+
+@pytest.mark.parametrize("step", ["asked", "copied"])
+def test_a_store_that_comes_back_meanwhile(place, step):
+    """South's store comes back from before within a half move: whoever was erased since is erased there, dale is whole in the end, and a
+    desk that was stopped for it starts by desk-start alone."""
+    place.batch((place.now, "POST", "/v1/line-put", "elmkey0000000001", {"class": "sender", "pattern": "b.example", "action": "HOLD"}), name="south")
+    copied = shutil.copytree(place.stores, place.place / "copied")
+    for it, header in (("erased", "name,moment"), ("desks", "customer,desk")):
+        (copied / f"south.{it}.csv").write_text(f"{header}\n")
+    (place.folder / "erased.csv").write_text("name,moment,erasure\nelm,2026-01-02T03:04:05Z,ab\n")
+    (place.folder / ".customers.moving").write_text(f"dale north south {step}\n")
+    for it in ("north", "south"):
+        (place.place / f"stopped/{it}.moving").touch()
+    (place.place / "stopped/south").touch()
+    place.boot()
+    ended = place.run("erase-again", "south", "--copy", copied)
+    expect(ended.returncode == 0 and " rows of elm\n" in ended.stdout, step, "within a move erase-again ended with", ended)
+    expect(place.desk_start("south").returncode == 1, step, "south starts with dale half moved")
+    ended = place.move()
+    expect(ended.returncode == 0 and "south stays stopped" in ended.stderr, step, "it ended with", ended)
+    expect([it.name for it in (place.place / "runs").iterdir()] == ["hq-desk@north"], step, "south runs")
+    expect(place.desk_start("south").returncode == 0, step, "desk-start")
+    place.is_moved(step)
+    # (both stores are of a moment at which neither had dale)
+    for it in ("north", "south"):
+        with contextlib.closing(sqlite3.connect(place.stores / f"{it}.db", isolation_level=None)) as store:
+            for table in TABLES:
+                store.execute(f"DELETE FROM {table} WHERE customer = 'dale'")
+    (place.folder / ".customers.moving").write_text("dale north south copied\n")
+    ended = place.move()
+    expect("no store has records of dale" in ended.stderr, step, "nothing is told of what is lost:", ended)
 
 
 def test_asked_meanwhile(place):
