@@ -7,6 +7,7 @@ import contextlib
 import os
 import shutil
 import signal
+import time
 from pathlib import Path
 
 from machine import REMEMBERED, WIDE, Relay
@@ -221,6 +222,32 @@ def test_requeued_before_the_backup(program, shared):
             told = restored.log.read_text()
             expect(told.count("left before the backup") == 1, "one has left, and it tells", told)
             expect(len(it.desk.messages("acme")) == 3, "the queue has", it.desk.messages("acme"), told)
+
+
+def test_redirected_before_the_backup(program, shared):
+    """What a rule sent elsewhere, and its customer deleted before the backup, stays away, also where it was requeued before."""
+    with Relay(program, shared, limits=dict.fromkeys(KEYS, REMEMBERED)) as it:
+        it.desk.line("acme", "recipient", f"p@{FAR}", f"REDIRECT other@{FAR}")
+        intake = it.intake()
+        for _ in range(2):
+            it.take("acme", f"p@{FAR}")
+        it.postfix.empty()
+        first, second = (entry["id"] for entry in it.desk.messages("acme"))
+        time.sleep(1)  # (an end counts from the second after the content on)
+        requeued = it.desk.own("acme", "POST", f"/v1/requeue/{second}")["id"]
+        for id in (first, requeued):
+            it.desk.own("acme", "DELETE", f"/v1/message/{id}")
+        copy_store(it, "", "kept.")
+        it.take("acme", f"p@{FAR}")
+        it.postfix.empty()
+        intake.kill()
+        copy_store(it, "kept.", "")
+        for _ in range(2):
+            restored = it.run("restored")
+            restored.ends()
+            told = restored.log.read_text()
+            expect(told.count("left before the backup") == 2, "two have left, and it tells", told)
+            expect(len(it.desk.messages("acme")) == 1, "the queue has", it.desk.messages("acme"), told)
 
 
 def test_two_lines_of_time(program, shared):

@@ -28,10 +28,13 @@ class Departed:
     envelope: Envelope
     written: int
 
-    def may_end_by(self, end: End) -> bool:
-        """Whether this may be the end of its message."""
-        addresses = self.envelope.sender, self.envelope.recipient
-        return self.written <= end.at and addresses == (end.sender, end.recipient)
+    def fits(self, end: End) -> bool:
+        """Whether this may be the end of its message: a rule may have sent that elsewhere."""
+        if self.envelope.sender != end.sender:
+            return False
+        if self.envelope.recipient == end.recipient:
+            return self.written <= end.at
+        return self.written < end.at
 
 
 class DeskRestore:
@@ -67,7 +70,7 @@ class DeskRestore:
 
         An end has the ID that the book has of a name. Or it has a greater one, which the book has
         not: then its customer had requeued the message. IDs come a second time after a restore. So
-        an end is of a name only if it came after the content, from its sender and to its recipient.
+        an end is of a name only if it came after the content, and from its sender.
         """
         departed = self.departed(customer)
         names = {it.id: it for it in departed}
@@ -75,19 +78,11 @@ class DeskRestore:
         of_requeued: list[End] = []
         for end in self.desk.history(customer):
             named = names.get(end.id)
-            if named and named.may_end_by(end):
+            if named and named.fits(end):
                 left[named.spool] = named.id
             else:
                 of_requeued.append(end)
-        by_addresses: dict[tuple[str, str], list[Departed]] = {}
-        for named in departed:
-            by_addresses.setdefault((named.envelope.sender, named.envelope.recipient),
-                                    []).append(named)
-        for end in of_requeued:
-            for named in by_addresses.get((end.sender, end.recipient), []):
-                if named.spool not in left and named.id < end.id and named.may_end_by(end):
-                    left[named.spool] = named.id
-                    break
+        left.update(requeued(departed, of_requeued, left))
         for spool, id in left.items():
             log.info("left before the backup", customer=customer, id=id, spool=spool)
         return left
@@ -181,3 +176,28 @@ class DeskRestore:
                 self.attempts.resolved(attempt, [])
                 log.warning("attempt dropped", customer=customer, id=attempt.id,
                             spool=attempt.spool)
+
+
+def requeued(departed: list[Departed], ends: list[End], left: Collection[str]) -> dict[str, str]:
+    """The queue IDs by name of messages that ended under a greater ID, but for names that left.
+
+    Each end is of one name: of one with its recipient, if there is any, and with the greatest ID.
+    """
+    found: dict[str, str] = {}
+    by_sender: dict[str, list[Departed]] = {}
+    for it in departed:
+        if it.spool not in left:
+            by_sender.setdefault(it.envelope.sender, []).append(it)
+    for is_rewritten in (False, True):
+        rest = []
+        for end in ends:
+            names = by_sender.get(end.sender, [])
+            named = next((it for it in names if it.id < end.id and it.fits(end)
+                          and (is_rewritten or it.envelope.recipient == end.recipient)), None)
+            if named:
+                names.remove(named)
+                found[named.spool] = named.id
+            else:
+                rest.append(end)
+        ends = rest
+    return found
