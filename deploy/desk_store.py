@@ -3,9 +3,9 @@ import contextlib
 import os
 import sqlite3
 import time
-from typing import Dict, Iterator, List, Tuple
+from typing import Dict, Iterator, List, Set, Tuple
 
-VERSION = 3
+VERSION, SCHEMA = 3, "desk_schema"
 TABLES = ("heads", "messages", "recipients", "lines", "marks", "notices", "holds", "ends")
 
 # In seconds: how long the look at a store of whatever release takes at most.
@@ -19,19 +19,32 @@ class Refused(Exception):
     """Nothing was changed; the text says why."""
 
 
-def opened(path: str) -> sqlite3.Connection:
-    """A store that no desk has, by a connection whose commits are synced, and which overwrites what is deleted."""
+def opened(path: str, is_earlier_too: bool = False) -> sqlite3.Connection:
+    """A store that no desk has, by a connection whose commits are synced, and which overwrites what is deleted. One of an earlier
+    release is refused, or has fewer tables."""
     if not os.path.isfile(path):
         raise Refused(f"{path} is no file")
     store = sqlite3.connect(path, timeout=0, isolation_level=None)
     store.execute("PRAGMA synchronous = FULL")
     store.execute("PRAGMA secure_delete = ON")
-    names = {it for it, in store.execute("SELECT name FROM sqlite_master WHERE type = 'table'")}
-    if names != {"desk_schema", *TABLES}:
+    names, (version,) = tables_in(store), store.execute("SELECT max(version) FROM desk_schema").fetchone()
+    if not {SCHEMA, "heads"} <= names <= {SCHEMA, *TABLES} or not isinstance(version, int) or not 1 <= version <= VERSION:
         raise Refused(f"{path} is no store of this release")
-    if store.execute("SELECT version FROM desk_schema").fetchall() != [(VERSION,)]:
+    if version < VERSION and not is_earlier_too:
+        raise Refused(f"{path} is a store of an earlier release: `hq migrate` comes first")
+    if version == VERSION and len(names) <= len(TABLES):
         raise Refused(f"{path} is no store of this release")
     return store
+
+
+def tables_in(store: sqlite3.Connection) -> Set[str]:
+    return {it for it, in store.execute("SELECT name FROM sqlite_master WHERE type = 'table'")}
+
+
+def tables_of(store: sqlite3.Connection) -> List[str]:
+    """Those with rows of customers that this store has."""
+    names = tables_in(store)
+    return [it for it in TABLES if it in names]
 
 
 def schema_of(path: str) -> int:
@@ -57,19 +70,20 @@ def rows(store: sqlite3.Connection, name: str) -> Dict[str, List[tuple]]:
 
 def has_any(store: sqlite3.Connection, name: str) -> bool:
     """Whether a store has a row of a customer."""
-    return any(store.execute(f"SELECT 1 FROM {it} WHERE customer = ? LIMIT 1", (name,)).fetchone() for it in TABLES)
+    return any(store.execute(f"SELECT 1 FROM {it} WHERE customer = ? LIMIT 1", (name,)).fetchone() for it in tables_of(store))
 
 
 def names_in(store: sqlite3.Connection) -> List[str]:
     """Of whom a store has rows."""
-    asked = " UNION ".join(f"SELECT customer FROM {it}" for it in TABLES)
+    asked = " UNION ".join(f"SELECT customer FROM {it}" for it in tables_of(store))
     return sorted(name for name, in store.execute(asked))
 
 
 def has_older(store: sqlite3.Connection, name: str, moment: int) -> bool:
     """Whether a store has a row of a customer from before a moment."""
     asked = "SELECT 1 FROM {} WHERE customer = ? AND {} < ? LIMIT 1"
-    return any(store.execute(asked.format(table, column), (name, moment)).fetchone() for table, column in MOMENTS.items())
+    there = [(table, MOMENTS[table]) for table in tables_of(store) if table in MOMENTS]
+    return any(store.execute(asked.format(*it), (name, moment)).fetchone() for it in there)
 
 
 @contextlib.contextmanager
@@ -86,7 +100,7 @@ def changing(store: sqlite3.Connection) -> Iterator[None]:
 
 def dropped(store: sqlite3.Connection, name: str) -> int:
     """Deletes all rows of a customer in the transaction under way; how many there were."""
-    return sum(store.execute(f"DELETE FROM {it} WHERE customer = ?", (name,)).rowcount for it in TABLES)
+    return sum(store.execute(f"DELETE FROM {it} WHERE customer = ?", (name,)).rowcount for it in tables_of(store))
 
 
 # So many rows are deleted between two looks at the clock.

@@ -2,6 +2,7 @@
 
 The stores are those of the program. A stand-in of systemctl says that no desk runs; tests/release has desks that do.
 """
+import contextlib
 import os
 import re
 import shutil
@@ -345,6 +346,29 @@ def test_restored_by_its_list(place):
     expect(" rows of birch\n" in place.done("erase-again", "north", "--copy", before), "nothing is erased again")
     ended = place.run("erase-again", "north", "--copy", place.folder)
     expect(ended.returncode == 1 and "without --copy" in ended.stderr, "without a list", ended)
+
+
+@pytest.mark.parametrize("version", [1, 2])
+def test_a_store_of_an_earlier_release(place, version):
+    """It is erased in before it is migrated, by clocks, since its copy has no list; whatever else works at a store refuses it, and tells why."""
+    for end in ("", "-wal"):
+        old = DEPLOY.parent / f"tests/examples/migration/version-{version}.db{end}"
+        if old.exists():
+            shutil.copy(old, place.stores / f"north.db{end}")
+    with contextlib.closing(sqlite3.connect(place.stores / "north.db")) as store:
+        names = sorted(name for name, in store.execute("SELECT customer FROM heads"))
+    now = int(time.time())
+    for it in place.stores.iterdir():
+        os.utime(it, (now - DAY, now - DAY))
+    (place.folder / "erased.csv").write_text(f"name,moment\n{names[0]},{time.strftime('%Y-%m-%dT%H:%M:%SZ', time.gmtime(now - 5))}\n")
+    ended = place.run("erase", "nobody")
+    expect(ended.returncode == 1 and "is a store of an earlier release: `hq migrate` comes first" in ended.stderr, "erase ended with", ended)
+    ended = place.run("erase-again", "north")
+    expect(ended.returncode == 0 and f" rows of {names[0]}\n" in ended.stdout, "erase-again ended with", ended)
+    told = subprocess.run([place.bin / "hq", "migrate", "--store", place.stores / "north.db"], capture_output=True, text=True, timeout=LONGEST)
+    expect(told.returncode == 0, "it is not migrated:", told)
+    with contextlib.closing(sqlite3.connect(place.stores / "north.db")) as store:
+        expect(sorted(name for name, in store.execute("SELECT customer FROM heads")) == names[1:], "left are others")
 
 
 def test_records_at_another_desk(place):
