@@ -33,6 +33,13 @@ def refuse_meanwhile(folder: Path, command: str, name: Optional[str]) -> None:
         raise Refused(going.told())
 
 
+def refuse_without_settings(folder: Folder) -> None:
+    """Refuses to go on with a move as long as a desk of it has no settings."""
+    going, known = under_way(folder.path), {it.name for it in folder.desks}
+    if going and (gone := [it for it in (going.source, going.target) if it not in known]):
+        raise Refused(f"{going.told()}, once {folder.path / gone[0]}.env is there again")
+
+
 def mark(folder: Path, going: Move) -> None:
     beside = folder / f"{MOVING}.new"
     with open(os.open(beside, os.O_WRONLY | os.O_CREAT | os.O_TRUNC, 0o644), "w") as file:
@@ -103,8 +110,6 @@ def is_known(scripts: Path, store: Path, desk: str, name: str) -> bool:
 def carry(folder: Folder, going: Move) -> None:
     """Has the row and the named keys of the customer stand at the second desk. (They do already where the files are written.)"""
     known = {it.name: it for it in folder.desks}
-    if not {going.source, going.target} <= known.keys():
-        raise Refused(f"{going.told()}, once both desks have their settings")
     source, target = known[going.source], known[going.target]
     for row in [it for it in source.rows if it["name"] == going.customer]:
         source.rows.remove(row)

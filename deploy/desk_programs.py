@@ -117,6 +117,25 @@ def as_worker(folder: Path, command: str, name: str) -> "subprocess.CompletedPro
     return run_apart(words, longest=LONGEST_ERASING)
 
 
+def fault_of_printing(text: str) -> str:
+    """Prints it; why that fails, where it does."""
+    try:
+        print(text, flush=True)
+    except OSError as fault:
+        # (else it is tried once more at the end)
+        os.dup2(os.open(os.devnull, os.O_WRONLY), 1)
+        return str(fault)
+    return ""
+
+
+def end(desks: List[str]) -> None:
+    """Ends desks whose settings are gone, and by which they may still run."""
+    units = [f"hq-desk{it}@{desk}.{kind}" for desk in desks for it, kind in (("", "service"), ("-retain", "timer"), ("-check", "timer"))]
+    faults = fault_of(["systemctl", "disable", "--now", *units]) if shutil.which("systemctl") else []
+    if faults:
+        raise Refused(f"the files are written, and a desk may still run: {faults[0]}")
+
+
 def count_again() -> None:
     """Has the counts for Prometheus made anew, without waiting, where they are made at all."""
     if shutil.which("systemctl") and is_active("hq-desk-metrics.timer"):

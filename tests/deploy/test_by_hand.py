@@ -61,14 +61,27 @@ def test_settings_that_are_away(place):
 def test_a_desk_that_is_gone(place):
     """A desk that is gone for good is dropped by name; then everything goes on, and its customers are erased like others."""
     (place.folder / "south.db").write_text("a store")
+    place.systemctl('[ "$1" = disable ] || exit 3')
     name, told = taken_out(place, "a desk")
     ended = place.run("--store", place.folder, "drop-desk", "south", "west")
     expect(ended.returncode == 1 and "no customer is at a desk west" in ended.stderr, "another one:", ended)
     ended = place.run("--store", place.folder, "drop-desk", "south")
     expect((ended.returncode, ended.stderr) == (0, told), "it ended with", ended)
+    # (it may run by the files that it read at its start)
+    expect("disable --now hq-desk@south.service hq-desk-retain@south.timer hq-desk-check@south.timer" in (place.bin / "called").read_text(),
+           "it runs on")
     place.done("--store", place.folder, "set", "acme", "--messages", "900")
     (place.folder / "south.db").unlink()
     place.done("--store", place.folder, "erase", name)
+
+
+def test_gone_within_a_move(place):
+    """A desk to which somebody is half moved is not dropped, and the move goes on once its settings are there again."""
+    (place.folder / ".customers.moving").write_text("dale north south copied\n")
+    (place.folder / "south.env").rename(place.folder / "aside")
+    for words in (("drop-desk", "south"), ("move", "dale", "--desk", "south")):
+        ended = place.run("--store", place.folder, *words)
+        expect(ended.returncode == 1 and f"again, once {place.folder}/south.env is there again" in ended.stderr, words, "ended with", ended)
 
 
 def test_a_desk_that_is_back(place):
@@ -77,6 +90,7 @@ def test_a_desk_that_is_back(place):
     away.mkdir()
     for it in ("south.env", "south.key", "south.csv"):
         (place.folder / it).rename(away / it)
+    place.systemctl('[ "$1" = disable ] || exit 3')
     ended = place.run("drop-desk", "south")
     expect(ended.returncode == 0 and "dropped on" in place.done("list"), "it ended with", ended)
     for it in away.iterdir():
