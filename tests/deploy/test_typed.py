@@ -46,7 +46,8 @@ def test_copies_are_on_the_disk(folder, is_synced):
     (scripts / "sync").chmod(0o755)
     ended = subprocess.run([scripts / "desk-backup", folder / "copies", "north"], capture_output=True, text=True, timeout=LONGEST)
     synced = (folder / "synced").read_text().split()
-    expect(synced == ["--", f"{folder}/copies/north.tar", f"{folder}/copies", str(folder)], "it syncs", synced)
+    copies = [f"{folder}/copies/north.{it}" for it in ("desks.csv", "erased.csv", "tar")]
+    expect(synced == ["--", *copies, f"{folder}/copies", str(folder)], "it syncs", synced)
     if is_synced:
         expect((ended.returncode, ended.stdout) == (0, "north.db\nnorth.db-wal\n"), "it ended with", ended)
     else:
