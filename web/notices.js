@@ -2,6 +2,7 @@
 
 import { call, notices } from "./api.js";
 import { desk } from "./desk.js";
+import { show as find } from "./find.js";
 import { address, button, by, chip, element, filling, say, trying } from "./parts.js";
 import { moment, text } from "./texts.js";
 import { showMessage } from "./queue.js";
@@ -23,15 +24,11 @@ function drawn(notice) {
   return row;
 }
 
-// Where more is told of the message of a notice: the queue while it is there, else the history.
-function way(notice, sender) {
-  const isQueued = desk.byId.has(notice.id);
-  const does = () => {
-    if (isQueued) return showMessage(notice.id);
-    const detail = { id: notice.id, sender };
-    return document.dispatchEvent(new CustomEvent("history", { detail }));
-  };
-  return button(text(isQueued ? "openMessage" : "openHistory", { id: notice.id }), does);
+// Where more is told of the message of a notice: the queue while it is there, and the search.
+function ways({ id }) {
+  const finds = button(text("findMessage", { id }), () => find({ words: id }));
+  if (!desk.byId.has(id)) return [finds];
+  return [button(text("openMessage", { id }), () => showMessage(id)), finds];
 }
 
 async function show(notice) {
@@ -42,7 +39,7 @@ async function show(notice) {
   by("notice-to").replaceChildren(address(told.to));
   by("notice-human").textContent = told.human;
   by("notice-status").textContent = told.status;
-  by("notice-ways").replaceChildren(way(notice, told.to), button(text("close"), close));
+  by("notice-ways").replaceChildren(...ways(notice), button(text("close"), close));
   by("notice").hidden = false;
   by("notice").focus();
 }

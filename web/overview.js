@@ -3,10 +3,11 @@
 import { actGroup, holdMatching } from "./acts.js";
 import { agesChart, fullness } from "./chart.js";
 import { desk, now } from "./desk.js";
+import { dayOf, show as find } from "./find.js";
 import { byAge, byDomain, byReason, byState, STATES } from "./groups.js";
 import { by, button, chip, element, foreign, menu } from "./parts.js";
 import { show } from "./queue.js";
-import { UNDELIVERED } from "./sent.js";
+import { UNDELIVERED } from "./records.js";
 import { count, size, span, text } from "./texts.js";
 
 // Of each list of groups, until more are asked for.
@@ -32,7 +33,7 @@ function failures() {
   const part = number / ends.length;
   if (number < FEWEST_FAILED || part <= MANY_FAILED) return null;
   const words = element("span", {}, text("wellFailed", { count: number, all: ends.length }), " ");
-  const shows = () => document.dispatchEvent(new CustomEvent("failures"));
+  const shows = () => find({ state: "undelivered", from: dayOf(now() - DAY) });
   words.append(button(text("showFailed"), shows, { class: "link", id: "show-failed" }));
   return [part > MOST_FAILED ? "bad" : "warn", words];
 }

@@ -50,6 +50,21 @@ export function text(name, values = {}) {
   });
 }
 
+// The head and the body of a table whose markup names its columns.
+function addColumns(table) {
+  const head = table.createTHead();
+  const row = head.insertRow();
+  const cells = table.dataset.columns.split(" ").map((name) => {
+    const cell = document.createElement("th");
+    cell.setAttribute("role", "columnheader");
+    cell.textContent = text(name);
+    return cell;
+  });
+  row.append(...cells);
+  row.setAttribute("role", "row");
+  for (const it of [head, table.createTBody()]) it.setAttribute("role", "rowgroup");
+}
+
 // Puts the texts of the page where its markup names them.
 export function fill(root) {
   document.documentElement.lang = language;
@@ -62,6 +77,7 @@ export function fill(root) {
   for (const it of root.querySelectorAll("[data-hint]")) {
     it.setAttribute("placeholder", text(it.dataset.hint));
   }
+  for (const it of root.querySelectorAll("[data-columns]")) addColumns(it);
 }
 
 // A moment in the time of this device.

@@ -296,7 +296,7 @@ def test_by_keyboard_alone(visit):
     visit.settled()
 
     browser.until(lambda: browser.run("document.activeElement.id") == "tab-overview", "the focus is on", browser.run(FOCUSED))
-    browser.keys("\ue014")
+    browser.keys("\ue014", "\ue014")
     visit.rows_are(reversed(made))
     tab_to(browser, made[3])
     browser.keys("\ue015", "\ue015", " ", "\ue015", " ")

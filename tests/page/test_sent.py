@@ -166,7 +166,8 @@ def test_notices_and_their_ways(visit):
     expect(browser.run("document.activeElement.id") == "notice", "the focus is not at what opened")
     visit.picture("notices")
     browser.click("#notice-ways button")
-    visit.says("#ends-shown", f"1 recipient of {listed[-2]['id']}.")
+    browser.until(lambda: browser.run("[...document.querySelectorAll('#found tbody tr')].map((it) => it.dataset.id)") == [listed[-2]["id"]],
+                  "no way leads to what became of it")
     visit.turn_to("notices")
     browser.click("#notice-list tbody tr:nth-child(1) button")
     browser.until(lambda: f"Open message {listed[-1]['id']}" in browser.texts("#notice-ways button"),

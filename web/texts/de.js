@@ -1,6 +1,7 @@
 // Die Seite auf Deutsch. Die Namen sind die von en.js.
 
 import faults from "./faults-de.js";
+import sent from "./sent-de.js";
 
 export default {
   language: "Deutsch",
@@ -227,35 +228,7 @@ export default {
   deleteNow: "Jetzt löschen",
   undone: "Nichts wurde gelöscht.",
 
-  findHistory: "Im Verlauf suchen",
-  side: "Absender oder Empfänger",
-  pattern: "Muster",
-  toRecipient: "an (Empfänger)",
-  fromSender: "von (Absender)",
-  endsHint: "bob@far.example, far.example",
-  find: "Suchen",
-  result: "Ergebnis",
-  anyResult: "Jedes Ergebnis",
-  csv: "Als CSV laden",
-  when: "Wann",
-  toFrom: "An, von",
-  older: "Ältere",
-  openOne: "{id}, {to} öffnen",
-  endsAll: "{count} Empfänger.",
-  endsSome: "{count} Empfänger, bis zurück zu {at}, unten mehr.",
-  endsMore: "{count} Empfänger, unten mehr.",
-  endsSearching: "{count} Empfänger, sucht bis zurück zu {at} …",
-  gathered: "{count} Empfänger bis jetzt",
-  gatheredSome: "{count} Empfänger gesichert, bis zum Aufhören.",
-  gatheredAll: "{count} Empfänger gesichert.",
-  endsOf: "{count} Empfänger von {id}.",
-  endsKept: { one: "Der letzte wird behalten.", other: "Die letzten {count} werden behalten." },
-  endsNone: "Ihr Anbieter behält für Sie keinen Verlauf.",
-  pendingMeans: "warten in der Warteschlange",
-  deliveredMeans: "hat ihr Mailserver angenommen",
-  failedMeans: "wurden endgültig abgewiesen",
-  deletedMeans: "haben Sie gelöscht",
-  expiredMeans: "wurden nach fünf Tagen aufgegeben",
+  ...sent,
 
   searchRules: "In den Regeln suchen",
   newRule: "Neue Regel",
@@ -347,7 +320,6 @@ export default {
   notice_delay: "Post ist verspätet",
   openNotice: "Meldung {number} öffnen",
   openMessage: "Nachricht {id} öffnen",
-  openHistory: "Verlauf von {id}",
   noticeHuman: "Der Text",
   noticeStatus: "Der Zustellbericht",
   forPrograms: "Für Programme (message/delivery-status)",

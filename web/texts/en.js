@@ -2,6 +2,7 @@
 // forms has `one` and `other`, chosen by its {count}.
 
 import faults from "./faults-en.js";
+import sent from "./sent-en.js";
 
 export default {
   language: "English",
@@ -231,42 +232,7 @@ export default {
   deleteNow: "Delete now",
   undone: "Nothing was deleted.",
 
-  // what became of mail
-  findHistory: "Find in the history",
-  side: "Sender or recipient",
-  pattern: "Pattern",
-  toRecipient: "to (recipient)",
-  fromSender: "from (sender)",
-  endsHint: "bob@far.example, far.example",
-  find: "Find",
-  result: "Result",
-  anyResult: "Any result",
-  csv: "Download as CSV",
-  when: "When",
-  toFrom: "To, from",
-  older: "Older ones",
-  openOne: "Open {id}, {to}",
-  endsAll: { one: "{count} recipient.", other: "{count} recipients." },
-  endsSome: {
-    one: "{count} recipient, back to {at}, more below.",
-    other: "{count} recipients, back to {at}, more below.",
-  },
-  endsMore: { one: "{count} recipient, more below.", other: "{count} recipients, more below." },
-  endsSearching: {
-    one: "{count} recipient, searching back to {at} …",
-    other: "{count} recipients, searching back to {at} …",
-  },
-  gathered: { one: "{count} recipient so far", other: "{count} recipients so far" },
-  gatheredSome: "{count} recipients are saved: it was stopped.",
-  gatheredAll: { one: "{count} recipient is saved.", other: "{count} recipients are saved." },
-  endsOf: { one: "{count} recipient of {id}.", other: "{count} recipients of {id}." },
-  endsKept: { one: "The last one is kept.", other: "The last {count} are kept." },
-  endsNone: "Your provider keeps no history for you.",
-  pendingMeans: "wait in the queue",
-  deliveredMeans: "were taken by their mail server",
-  failedMeans: "were refused for good",
-  deletedMeans: "were deleted by you",
-  expiredMeans: "were given up after five days",
+  ...sent,
 
   // rules
   searchRules: "Search the rules",
@@ -360,7 +326,6 @@ export default {
   notice_delay: "Mail is late",
   openNotice: "Open notice {number}",
   openMessage: "Open message {id}",
-  openHistory: "History of {id}",
   noticeHuman: "The text",
   noticeStatus: "The delivery status",
   forPrograms: "For programs (message/delivery-status)",
