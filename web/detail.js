@@ -2,6 +2,7 @@
 // when it expires, and what became of the recipients that have left.
 
 import { call, history } from "./api.js";
+import { wholeCause } from "./causes.js";
 import { desk, now } from "./desk.js";
 import { address, button, by, chip, element, foreign, sender, trying } from "./parts.js";
 import { moment, size, span, text } from "./texts.js";
@@ -54,12 +55,14 @@ function facts({ message, whole }) {
 
 function recipient({ address: to, status, text: said }) {
   const answer = status ? foreign(`${status} ${said}`) : text("notTried");
-  return element("li", {}, element("strong", {}, address(to)), element("p", {}, answer));
+  return element("li", {}, element("strong", {}, address(to)), wholeCause(status, said, false),
+    element("p", {}, answer));
 }
 
 function end({ at, recipient: to, result, status, text: said }) {
   const answer = status ? [": ", foreign(`${status} ${said}`)] : [];
-  return element("li", {}, chip(result), " ", address(to), element("p", {}, moment(at), ...answer));
+  return element("li", {}, chip(result), " ", address(to), wholeCause(status, said, true),
+    element("p", {}, moment(at), ...answer));
 }
 
 function drawButtons({ message }) {

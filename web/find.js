@@ -2,6 +2,7 @@
 // It goes on until enough is found, the history ends, or somebody stops it.
 
 import { history } from "./api.js";
+import { causeOfMessage } from "./causes.js";
 import { desk, refresh } from "./desk.js";
 import { STATES } from "./groups.js";
 import { by, element, filling, trying } from "./parts.js";
@@ -61,9 +62,10 @@ const isEnd = ({ results, fits }) => (it) => results.includes(it.result)
 function messageRow(message) {
   const { id, arrival: at, sender: from, state, reason, pending } = message;
   const said = state === "hold" ? reason : answerOf(message);
+  const cause = causeOfMessage(message);
   const to = pending[0]?.address ?? "";
   const opens = () => showMessage(id);
-  return mailRow({ id, at, to, from, state, said, opens, more: pending.length - 1 });
+  return mailRow({ id, at, to, from, state, said, cause, opens, more: pending.length - 1 });
 }
 
 const rowOfEnd = (end) =>

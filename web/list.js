@@ -2,6 +2,7 @@
 // element as long as its message is shown, so that focus and marks survive a refresh.
 
 import { leaving } from "./acts.js";
+import { causeOfMessage } from "./causes.js";
 import { now } from "./desk.js";
 import { answerOf } from "./report.js";
 import { shortened } from "./groups.js";
@@ -40,7 +41,7 @@ function recipients({ pending }) {
   return [foreign(first.address), rest ? ` ${text("andMore", { count: rest })}` : ""];
 }
 
-// Why a message waits, whole and as a row has room for.
+// The answer that a message waits for, whole and as a row has room for.
 function why(message) {
   if (message.state === "hold") return [message.reason, message.reason];
   const last = message.pending.find((it) => it.status);
@@ -64,8 +65,9 @@ function fill(row, message) {
   people.children[0].replaceChildren(from);
   people.children[1].replaceChildren(...recipients(message));
   const [whole, short] = why(message);
-  said.firstChild.replaceChildren(foreign(short));
-  said.firstChild.title = whole;
+  said.firstElementChild.textContent = said.firstElementChild.title = causeOfMessage(message);
+  said.lastElementChild.replaceChildren(foreign(short));
+  said.lastElementChild.title = whole;
   states.replaceChildren(chip(state));
   moment(message.arrival, age);
   arrived.title = age.textContent;

@@ -1,6 +1,7 @@
 // The notices, the newest first, and the two texts of one, with the way to its message.
 
 import { call, notices } from "./api.js";
+import { recipientsOf, wholeCause } from "./causes.js";
 import { desk } from "./desk.js";
 import { show as find } from "./find.js";
 import { address, button, by, chip, element, filling, say, trying } from "./parts.js";
@@ -31,12 +32,19 @@ function ways({ id }) {
   return [button(text("openMessage", { id }), () => showMessage(id)), finds];
 }
 
+// Why, for each recipient that the notice tells of.
+function causes(status, isOver) {
+  return recipientsOf(status).map((it) => element("li", {}, address(it.address),
+    wholeCause(it.status, it.text, isOver)));
+}
+
 async function show(notice) {
   by("notice").hidden = true;
   const told = await call("GET", `/v1/notice/${notice.number}`);
   opened = notice.number;
   by("notice-subject").textContent = told.subject;
   by("notice-to").replaceChildren(address(told.to));
+  by("notice-causes").replaceChildren(...causes(told.status, notice.kind === "failure"));
   by("notice-human").textContent = told.human;
   by("notice-status").textContent = told.status;
   by("notice-ways").replaceChildren(...ways(notice), button(text("close"), close));

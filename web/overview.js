@@ -1,6 +1,7 @@
 // The overview: whether all is well, how full it is, why mail waits, and how old it is.
 
 import { actGroup, holdMatching } from "./acts.js";
+import { whatHappened } from "./causes.js";
 import { agesChart, fullness } from "./chart.js";
 import { desk, now } from "./desk.js";
 import { dayOf, show as find } from "./find.js";
@@ -108,9 +109,12 @@ function drawGroup(group, most) {
     class: "group-name", title: name, "aria-label": text("showGroup", { count: length, name }),
   });
   shows.append(foreign(name));
+  const [status, ...said] = group.name.split(" ");
+  const cause = group.kind === "deferred" ? whatHappened(status, said.join(" ")) : "";
+  const words = element("div", {}, element("span", { class: "cause" }, cause), shows);
   const label = text("actionsOf", { name });
   return element("li", { class: `group ${group.kind}` },
-    element("span", { class: "number" }, count(length)), shows,
+    element("span", { class: "number" }, count(length)), words,
     menu(text("actions"), label, choicesOf(group)), bar);
 }
 

@@ -25,8 +25,10 @@ def test_the_detail(visit, paper):
            and facts["Attempts"] == "7 attempts" and facts["Sender"] == "was told that it is late"
            and facts["Queue ID"] == ids(1)[0],
            "the facts are", facts)
-    recipients = [it.split("\n\n") for it in browser.texts("#detail-recipients li")]
-    expect(recipients == [["bob@far.example", f"4.2.0 {LONG}".strip()]], "the recipients are", recipients)
+    recipients = [[*filter(None, it.split("\n"))] for it in browser.texts("#detail-recipients li")]
+    expect(recipients == [["bob@far.example", "The mail server of the other side is busy or out of order.",
+                           "Nobody has to act: The relay tries again by itself.", f"4.2.0 {LONG}".strip()]], "the recipients are",
+           recipients)
     browser.until(lambda: "gone@far.example" in (browser.text("#detail-ends") or ""), "the history is missing")
     expect("delivered" in browser.text("#detail-ends"), "the history is", browser.text("#detail-ends"))
     visit.picture("detail")

@@ -63,8 +63,8 @@ def test_all_mail_is_found_at_one_place(visit, paper):
     look(visit, "buchhalt")
     browser.until(lambda: len(browser.run(FOUND)) == 2, "found are", browser.run(FOUND))
     expect(browser.run(FOUND) == [
-        ["0000000501", "buchhaltung@far.example | From ann@a.example", "deferred", "4.2.2 mailbox is full"],
-        ["0000000009", "Buchhaltung@near.example | From ann@a.example", "failed", "5.1.1 no such user"]], "found are", browser.run(FOUND))
+        ["0000000501", "buchhaltung@far.example | From ann@a.example", "deferred", "The mailbox is full.\n4.2.2 mailbox is full"],
+        ["0000000009", "Buchhaltung@near.example | From ann@a.example", "failed", "There is no such mailbox.\n5.1.1 no such user"]], "found are", browser.run(FOUND))
     for scheme, width in (("light", 1280), ("dark", 1280), ("light", 360)):
         browser.scheme(scheme)
         browser.size(width)

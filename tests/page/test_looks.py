@@ -122,7 +122,8 @@ def filled(visit):
                      for it, result in enumerate(("delivered", "failed", "deleted", "expired"), 1)]
     paper.notices = {it: {"at": now, "id": "0000000001", "kind": kind, "number": it, "to": "ann@a.example",
                           "human": "It is late.\r\n",
-                          "status": "Reporting-MTA: dns; relay.example\r\n", "subject": "Late"} for it,
+                          "status": "Reporting-MTA: dns; relay.example\r\n\r\nFinal-Recipient: rfc822; bob@far.example\r\nStatus: 5.1.1\r\n",
+                          "subject": "Late"} for it,
                      kind in ((1, "failure"), (2, "delay"))}
     paper.counts = {"delivered": 40, "failed": 9, "deleted": 5, "expired": 3}
     paper.limits["messages"] = 4

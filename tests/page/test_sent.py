@@ -48,7 +48,7 @@ def test_the_history(visit):
     visit.use(CEDAR)
     visit.turn_to("sent")
     wanted = [["d@far.example | From =cmd@a.example", "deleted", "", second],
-              ["b@far.example | From ann@a.example", "failed", "5.1.1 no such user <script>alert(1)</script>", first],
+              ["b@far.example | From ann@a.example", "failed", "There is no such mailbox. | 5.1.1 no such user <script>alert(1)</script>", first],
               ["a@far.example | From ann@a.example", "delivered", "", first]]
     browser.until(lambda: browser.run(ENDS)[:3] == wanted, "the history shows", browser.run(ENDS)[:3])
     expect("The last 150 are kept." in browser.text("#sent"), "how many are kept is not told")

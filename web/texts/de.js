@@ -1,5 +1,6 @@
 // Die Seite auf Deutsch. Die Namen sind die von en.js.
 
+import causes from "./causes-de.js";
 import faults from "./faults-de.js";
 import sent from "./sent-de.js";
 
@@ -322,6 +323,7 @@ export default {
   openMessage: "Nachricht {id} öffnen",
   noticeHuman: "Der Text",
   noticeStatus: "Der Zustellbericht",
+  whatHappens: "Was geschah, und was zu tun ist",
   forPrograms: "Für Programme (message/delivery-status)",
   whatIsKept: "Was für Sie behalten wird",
   historyKept: "Verlauf",
@@ -339,6 +341,8 @@ export default {
   acceptedNot: "wurden angenommen, und nicht {count}",
   sumLabel: "{count} angenommen: {said}",
   whatHappened: "Was geschah",
+
+  ...causes,
 
   ...faults,
 };

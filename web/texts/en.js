@@ -1,6 +1,7 @@
 // The page in English. Each text has a name; {count} and its like stand for values. A text with two
 // forms has `one` and `other`, chosen by its {count}.
 
+import causes from "./causes-en.js";
 import faults from "./faults-en.js";
 import sent from "./sent-en.js";
 
@@ -328,6 +329,7 @@ export default {
   openMessage: "Open message {id}",
   noticeHuman: "The text",
   noticeStatus: "The delivery status",
+  whatHappens: "What happened, and what to do",
   forPrograms: "For programs (message/delivery-status)",
   whatIsKept: "What is kept for you",
   historyKept: "History",
@@ -345,6 +347,8 @@ export default {
   acceptedNot: "were accepted, and not {count}",
   sumLabel: "{count} accepted: {said}",
   whatHappened: "What happened",
+
+  ...causes,
 
   ...faults,
 };
