@@ -114,7 +114,7 @@ function progress(name, all) {
 }
 
 // Says after a second that something is under way, until it has ended.
-async function saidWhile(does) {
+export async function saidWhile(does) {
   const words = element("p", { id: "working" }, text("working"));
   const timer = setTimeout(() => by("told").append(words), UNSAID);
   try {
@@ -125,8 +125,8 @@ async function saidWhile(does) {
   }
 }
 
-// `before` is how many were done by calls that went before.
-async function each(ids, name, before = 0) {
+// `before` is how many were done by calls that went before, and `first` are lines of what else was.
+export async function each(ids, name, before = 0, first = []) {
   const sum = { before, done: 0, already: 0, gone: 0, faults: new Map(), stopped: false, made: "" };
   const tells = ids.length > MANY ? progress(name, ids.length) : () => {};
   const waiting = [...ids];
@@ -140,7 +140,7 @@ async function each(ids, name, before = 0) {
   };
   const lanes = () => Promise.all(Array.from({ length: Math.min(LANES, ids.length) }, lane));
   await (ids.length > MANY ? lanes() : saidWhile(lanes));
-  say(...linesOf(sum, name, ids));
+  say(...first, ...linesOf(sum, name, ids));
 }
 
 // ---- one thing at a time
@@ -170,7 +170,7 @@ export async function alone(does) {
 
 // Holds a deletion back for some seconds. Nothing is asked of the desk before, so a page that is
 // closed meanwhile has deleted nothing. Answers whether it is to be done.
-function heldBack(ids, count) {
+export function heldBack(ids, count) {
   const undo = button(text("undo"), () => {}, { id: "undo" });
   const soon = button(text("deleteNow"), () => {}, { id: "delete-now", class: "link" });
   const left = element("span", { "aria-hidden": "true" });

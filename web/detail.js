@@ -67,14 +67,17 @@ function end({ at, recipient: to, result, status, text: said }) {
 
 function drawButtons({ message }) {
   const names = [message.state === "hold" ? "release" : "hold", "requeue", "delete"];
+  if (message.sender) names.push("stop");
   const is = names.join(" ");
   const at = by("detail-tools");
   if (at.dataset.is === is && !opened.gone) return;
   const had = [...at.children].indexOf(document.activeElement);
   at.dataset.is = is;
-  at.replaceChildren(...names.map((name) => button(text(`do_${name}`), () => opened.does(name), {
-    "data-does": name, ...(name === "delete" ? { class: "danger" } : {}),
-  })));
+  at.replaceChildren(...names.map((name) => {
+    const kind = ["delete", "stop"].includes(name) ? { class: "danger" } : {};
+    const does = () => opened.does(name, opened.message);
+    return button(text(`do_${name}`), does, { "data-does": name, ...kind });
+  }));
   if (had >= 0) at.children[had]?.focus();
 }
 

@@ -1,4 +1,4 @@
-// Why mail waits: the messages of a queue by what the other side said, by domain and by age.
+// Why mail waits: the messages of a queue by what the other side said, by domain, sender and age.
 
 const HOUR = 3600;
 // The columns of the chart of ages end at these hours; the last one has no end.
@@ -56,8 +56,11 @@ function reasonsOf(message) {
 }
 
 // Whether a message is in a group.
-export const isIn = (message, of) =>
-  reasonsOf(message).some(([kind, name]) => `${kind} ${name}` === of);
+export function isIn(message, { of, kind, name }) {
+  if (kind === "domain") return message.domains.includes(name);
+  if (kind === "sender") return message.sender.toLowerCase() === name;
+  return reasonsOf(message).some(([one, reason]) => `${one} ${reason}` === of);
+}
 
 function grouped(messages, namesOf) {
   const groups = new Map();
@@ -76,6 +79,8 @@ function grouped(messages, namesOf) {
 export const byReason = (messages) => grouped(messages, reasonsOf);
 export const byDomain = (messages) =>
   grouped(messages, (it) => it.domains.map((domain) => ["domain", domain]));
+export const bySender = (messages) =>
+  grouped(messages, (it) => [["sender", it.sender.toLowerCase()]]);
 
 // Which column of the chart an age belongs to.
 export const columnOf = (seconds) => AGES.findIndex((hours) => seconds < hours * HOUR);

@@ -5,10 +5,11 @@ import { whatHappened } from "./causes.js";
 import { agesChart, fullness } from "./chart.js";
 import { desk, now } from "./desk.js";
 import { dayOf, show as find } from "./find.js";
-import { byAge, byDomain, byReason, byState, STATES } from "./groups.js";
+import { byAge, byDomain, byReason, bySender, byState, STATES } from "./groups.js";
 import { by, button, chip, element, foreign, menu } from "./parts.js";
 import { show } from "./queue.js";
 import { UNDELIVERED } from "./records.js";
+import { stopSender } from "./stop.js";
 import { count, size, span, text } from "./texts.js";
 
 // Of each list of groups, until more are asked for.
@@ -20,7 +21,12 @@ const NEARLY_FULL = 0.9;
 // Of those that left within a day: so many failures are told where they are more than this part,
 // and above the second part it is bad.
 const [DAY, FEWEST_FAILED, MANY_FAILED, MOST_FAILED] = [24 * 3600, 5, 0.1, 0.5];
-const every = { reasons: false, domains: false };
+// The lists of groups: their titles, and what their groups are of.
+const LISTS = {
+  reasons: ["whyWaits", byReason], domains: ["toWhom", byDomain], senders: ["whoSends", bySender],
+};
+// the lists that are shown whole
+const every = new Set();
 
 // ---- all is well, or not
 
@@ -79,24 +85,30 @@ function drawTiles() {
 export function nameOf({ kind, name }) {
   if (kind === "waiting") return text("notTried");
   if (kind === "hold") return name ? text("heldFor", { reason: name }) : text("hold");
+  if (kind === "sender") return name || text("nullSender");
   return name;
 }
 
 // Which actions make sense for a group: a hold where something is not on hold, and so on.
 function choicesOf(group) {
-  const held = group.messages.filter((it) => it.state === "hold").length;
+  const { kind, name, messages } = group;
+  const held = messages.filter((it) => it.state === "hold").length;
   const names = ["delete"];
   if (held) names.unshift("release");
-  if (held < group.messages.length) names.unshift("hold");
+  if (held < messages.length) names.unshift("hold");
+  if (kind === "sender" && name) names.push("stop");
+  return names.map((it) => [text(`do_${it}`), () => doGroup(it, group),
+    { "data-group": it, ...(["delete", "stop"].includes(it) ? { class: "danger" } : {}) }]);
+}
+
+// (an answer is no pattern of the desk, and the null sender is left to those that were seen)
+function doGroup(does, group) {
+  const { kind, name, messages } = group;
+  if (does === "stop") return stopSender(name);
+  const side = kind === "domain" ? "recipient" : kind === "sender" && name ? "sender" : "";
   const words = nameOf(group);
-  const pattern = { class: "recipient", pattern: group.name };
-  return names.map((name) => [
-    text(`do_${name}`),
-    () => (name === "hold" && group.kind === "domain"
-      ? holdMatching(pattern, words, group.messages.length)
-      : actGroup(name, group.messages, words)),
-    { "data-group": name, ...(name === "delete" ? { class: "danger" } : {}) },
-  ]);
+  if (does !== "hold" || !side) return actGroup(does, messages, words);
+  return holdMatching({ class: side, pattern: name }, words, messages.length);
 }
 
 function drawGroup(group, most) {
@@ -104,7 +116,8 @@ function drawGroup(group, most) {
   const { length } = group.messages;
   const bar = element("progress", { max: most, "aria-hidden": "true" });
   bar.value = length;
-  const choose = group.kind === "domain" ? { domain: group.name } : { group };
+  const choose = group.kind === "domain"
+    ? { domain: group.name } : { group: { ...group, words: name } };
   const shows = button("", () => show(choose), {
     class: "group-name", title: name, "aria-label": text("showGroup", { count: length, name }),
   });
@@ -119,7 +132,7 @@ function drawGroup(group, most) {
 }
 
 function drawGroups(id, groups) {
-  const shown = every[id] ? groups : groups.slice(0, FEW);
+  const shown = every.has(id) ? groups : groups.slice(0, FEW);
   const most = groups[0]?.messages.length ?? 1;
   const rows = shown.map((it) => drawGroup(it, most));
   by(id).replaceChildren(...rows);
@@ -154,8 +167,7 @@ export function draw() {
   if (by("overview").querySelector("details[open]")) return;
   const focused = document.activeElement?.closest?.(".group") ? document.activeElement : null;
   const label = focused?.getAttribute("aria-label");
-  drawGroups("reasons", byReason(desk.messages));
-  drawGroups("domains", byDomain(desk.messages));
+  for (const [id, [, groupsOf]] of Object.entries(LISTS)) drawGroups(id, groupsOf(desk.messages));
   if (focused) {
     const same = [...by("overview").querySelectorAll(".group [aria-label]")]
       .find((it) => it.getAttribute("aria-label") === label);
@@ -165,10 +177,18 @@ export function draw() {
 
 export const open = draw;
 
-for (const id of ["reasons", "domains"]) {
-  by(`${id}-more`).addEventListener("click", () => {
-    every[id] = true;
+// A list of groups under its title.
+function listOf(id, title) {
+  const more = button("", () => {
+    every.add(id);
     draw();
     by(id).children[FEW]?.querySelector("button").focus();
-  });
+  }, { id: `${id}-more`, class: "link", hidden: "" });
+  const names = { "aria-labelledby": `${id}-title` };
+  return element("section", { class: `card of-${id}`, ...names },
+    element("h2", { id: `${id}-title` }, text(title)),
+    element("ul", { id, class: "groups", ...names }),
+    element("p", { id: `${id}-none`, class: "quiet", hidden: "" }, text("emptyQueue")), more);
 }
+
+by("groups").append(...Object.entries(LISTS).map(([id, [title]]) => listOf(id, title)));

@@ -13,6 +13,7 @@ import {
 import { answerOf } from "./report.js";
 import { by, element, foreign, sayNothing, trying } from "./parts.js";
 import { goTo, viewOfAddress, wordsOfAddress } from "./place.js";
+import { stopSender } from "./stop.js";
 import { text } from "./texts.js";
 
 // Of the domains that are offered, and how long after a key the desk is asked, in milliseconds.
@@ -50,7 +51,7 @@ function isShown() {
     (!state || it.state === state)
     && (!domain || it.domains.includes(domain))
     && (!age || columnOf(Math.max(0, moment - it.arrival)) === Number(age))
-    && (!group || (group.kind === "domain" ? it.domains.includes(group.name) : isIn(it, group.of)))
+    && (!group || isIn(it, group))
     && (!words || it.all.includes(words));
 }
 
@@ -153,8 +154,7 @@ export function show({ state = "", domain = "", words = "", group: one = null })
   by("only-state").value = state;
   by("only-age").value = "";
   chooseDomain(domain);
-  const groupName = one && (one.name || text(one.kind === "waiting" ? "notTried" : "hold"));
-  group = one && { ...one, words: groupName };
+  group = one;
   document.dispatchEvent(new CustomEvent("turn", { detail: "queue" }));
   draw();
 }
@@ -213,7 +213,8 @@ function doMarked(name) {
 }
 
 function openRow(id, isStep = true) {
-  openDetail(id, { does: (name) => act(name, [id]), quiet: !isStep });
+  const does = (name, { sender }) => (name === "stop" ? stopSender(sender) : act(name, [id]));
+  openDetail(id, { does, quiet: !isStep });
   tellAddress(isStep);
   for (const it of document.querySelectorAll("tr.opened")) it.classList.remove("opened");
   rowFor(id)?.classList.add("opened");

@@ -66,7 +66,7 @@ def test_a_new_try(visit, paper):
     mixed(paper)
     visit.on_paper("queue")
     visit.open(ids(4)[0])
-    expect(browser.texts("#detail-tools button") == ["Release", "Try now", "Delete"], "offered are", browser.texts("#detail-tools button"))
+    expect(browser.texts("#detail-tools button") == ["Release", "Try now", "Delete", "Stop this sender"], "offered are", browser.texts("#detail-tools button"))
     for yes in (False, True):
         browser.click("#detail [data-does=requeue]")
         visit.answer(yes, "Release 1 message that is on hold, and try it now?")

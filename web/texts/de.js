@@ -94,6 +94,7 @@ export default {
   agesOver: "> {count} d",
   whyWaits: "Warum Post wartet",
   toWhom: "Für wen sie wartet",
+  whoSends: "Wer sie sendet",
   messages: "Nachrichten",
   sizeTogether: "Größe zusammen",
   notTried: "noch nicht versucht",
@@ -228,6 +229,30 @@ export default {
   deleteBegun: "Löscht …",
   deleteNow: "Jetzt löschen",
   undone: "Nichts wurde gelöscht.",
+
+  do_stop: "Diesen Absender stoppen",
+  stopTitle: "{sender} stoppen?",
+  stopText: {
+    one: "Eine Regel weist neue Post davon ab (REJECT). {count} Nachricht der Warteschlange wird "
+      + "angehalten.",
+    other: "Eine Regel weist neue Post davon ab (REJECT). {count} Nachrichten der Warteschlange "
+      + "werden angehalten.",
+  },
+  stopYes: "Stoppen",
+  stopped: "{sender} ist gestoppt: Eine Regel weist neue Post davon ab.",
+  stopNotHeld: "Was davon in der Warteschlange ist, ist nicht angehalten: {words}",
+  stopHeld: "Was davon in der Warteschlange ist, ist angehalten.",
+  stopDeleteTitle: {
+    one: "Die {count} Nachricht von {sender} löschen, die Sie gesehen haben?",
+    other: "Die {count} Nachrichten von {sender} löschen, die Sie gesehen haben?",
+  },
+  stopDeleteText: "Sie sind jetzt angehalten und bleiben es, wenn Sie abbrechen. Ihr Absender "
+    + "erfährt nichts.",
+  stopLateTitle: {
+    one: "Auch die {count} Nachricht löschen, die inzwischen eintraf?",
+    other: "Auch die {count} Nachrichten löschen, die inzwischen eintrafen?",
+  },
+  stopLateText: "Das hat niemand gesehen. Es bleibt angehalten, wenn Sie abbrechen.",
 
   ...sent,
 

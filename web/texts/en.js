@@ -100,6 +100,7 @@ export default {
   agesOver: "over {count} d",
   whyWaits: "Why mail waits",
   toWhom: "For whom it waits",
+  whoSends: "Who sends it",
   messages: "Messages",
   sizeTogether: "Size together",
   notTried: "not tried yet",
@@ -232,6 +233,28 @@ export default {
   deleteBegun: "Deleting …",
   deleteNow: "Delete now",
   undone: "Nothing was deleted.",
+
+  // a sender that is stopped
+  do_stop: "Stop this sender",
+  stopTitle: "Stop {sender}?",
+  stopText: {
+    one: "A rule refuses its new mail (REJECT). {count} message in the queue is put on hold.",
+    other: "A rule refuses its new mail (REJECT). {count} messages in the queue are put on hold.",
+  },
+  stopYes: "Stop it",
+  stopped: "{sender} is stopped: a rule refuses its new mail.",
+  stopNotHeld: "What is queued of it is not on hold: {words}",
+  stopHeld: "What is queued of it is on hold.",
+  stopDeleteTitle: {
+    one: "Delete the {count} message of {sender} that you saw?",
+    other: "Delete the {count} messages of {sender} that you saw?",
+  },
+  stopDeleteText: "They are on hold now, and stay so if you cancel. Their sender is told nothing.",
+  stopLateTitle: {
+    one: "Delete also the {count} message that came in meanwhile?",
+    other: "Delete also the {count} messages that came in meanwhile?",
+  },
+  stopLateText: "Nobody has seen that. It stays on hold if you cancel.",
 
   ...sent,
 
