@@ -7,7 +7,7 @@
 import { call, changing } from "./api.js";
 import { desk, drop, now, refresh } from "./desk.js";
 import { answerOf } from "./report.js";
-import { address, ask, bad, button, by, element, say, sender } from "./parts.js";
+import { address, ask, bad, button, by, element, focused, say, sender } from "./parts.js";
 import { size, text } from "./texts.js";
 import { told } from "./words.js";
 
@@ -148,7 +148,7 @@ export async function each(ids, name, before = 0, first = []) {
 // Does what may take long, and nothing else of that kind meanwhile.
 export async function alone(does) {
   if (changing.count) return say(text("wait"));
-  const had = document.activeElement;
+  const had = focused();
   changing.count += 1;
   changing.turns += 1;
   by("views").ariaBusy = "true";
@@ -201,20 +201,21 @@ export function heldBack(ids, count) {
 // ---- what may be asked for
 
 // What a question shows of one message.
-const factsOf = (it) => [
+const factsOf = (/** @type {Message} */ it) => [
   [text("from"), sender(it.sender)],
   [text("to"), element("span", {}, ...someOf(it))],
   [text("size"), size(it.size)],
   [text("queueId"), it.id],
 ];
 
-function someOf({ pending }) {
+function someOf(/** @type {Message} */ { pending }) {
   const shown = pending.slice(0, 3).flatMap((it) => [address(it.address), element("br")]);
   const rest = pending.length - 3;
   return rest > 0 ? [...shown, text("andMore", { count: rest })] : shown.slice(0, -1);
 }
 
 async function mayDelete(ids) {
+  /** @type {any[]} */
   const messages = ids.map((id) => desk.byId.get(id)).filter(Boolean);
   const count = ids.length;
   const facts = messages.length === 1 && count === 1 ? factsOf(messages[0]) : [];
@@ -235,7 +236,7 @@ async function isWanted(name, ids) {
 }
 
 // Does it to messages by their IDs.
-export function act(name, ids) {
+export function act(name, /** @type {string[]} */ ids) {
   if (!ids.length) return undefined;
   return alone(async () => {
     if (await isWanted(name, ids)) await each(ids, name);
@@ -243,7 +244,7 @@ export function act(name, ids) {
 }
 
 // Holds all that a pattern is for, by one call: also what comes in until then.
-export function holdMatching(pattern, words, count) {
+export function holdMatching(/** @type {Pattern} */ pattern, words, count) {
   return alone(async () => {
     const title = text("holdGroupTitle", { count, words });
     if (!(await ask(title, text("groupText"), text("holdYes", { count })))) return;
@@ -254,7 +255,7 @@ export function holdMatching(pattern, words, count) {
 
 // Holds a group by as few calls as there are: the patterns whose messages are all of the group,
 // then those that are left, one by one. Releases those that were seen, and deletes them.
-export function actGroup(name, messages, words) {
+export function actGroup(name, /** @type {Message[]} */ messages, words) {
   const ids = new Set(messages.map((it) => it.id));
   if (name === "delete" || ids.size < 2 * LANES) return act(name, [...ids]);
   return alone(async () => {

@@ -13,6 +13,7 @@ import { has, text } from "./texts.js";
 // Each row: the name of its texts, who has to act, statuses, and words. A row is for an answer of
 // one of its statuses, or with its words; the first that is for it counts, so that what a status
 // alone says stands behind what the words say. A status begins with X for both classes.
+/** @type {[string, string, string, RegExp | null][]} */
 const ROWS = [
   ["greylisted", "nobody", "", /gr[ae]y-?list/],
   ["blockList", "provider", "", /\b(?:block|black|deny)-?list|spamhaus|spamcop|barracuda|\brbl\b/],
@@ -51,6 +52,7 @@ const ROWS = [
   ["never", "you", "5.", null],
 ];
 
+/** @type {Map<string, any>} */
 const known = new Map();
 
 function isOf([, , statuses, words], status, said) {
@@ -80,7 +82,7 @@ export function whatHappened(status, said) {
 }
 
 // What happened to a message: of its last answer, as a row has room for.
-export function causeOfMessage({ state, pending }) {
+export function causeOfMessage(/** @type {Message} */ { state, pending }) {
   const last = pending.find((it) => it.status);
   return state === "hold" || !last ? "" : whatHappened(last.status, last.text);
 }

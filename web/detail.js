@@ -13,6 +13,7 @@ const EXPIRY_SECONDS = 432_000;
 const FAILED = ["failed", "expired"];
 
 // the message that is open, what its buttons do, and what was asked about it
+/** @type {any} */
 let opened = null;
 
 export const isOpen = () => opened?.id ?? null;

@@ -18,6 +18,7 @@ const FIELDS = ["words", "state", "from", "to"];
 
 const body = by("found").tBodies[0];
 // what is looked for, and how far that is; null before the first search
+/** @type {any} */
 let search = null;
 
 // ---- what is looked for
@@ -26,7 +27,7 @@ let search = null;
 function startOf(day, later = 0) {
   if (!/^\d{4}-\d\d-\d\d$/.test(day)) return null;
   const [year, month, date] = day.split("-").map(Number);
-  return Math.floor(new Date(year, month - 1, date + later) / 1000);
+  return Math.floor(new Date(year, month - 1, date + later).getTime() / 1000);
 }
 
 // The day of a moment, as a field has it.
@@ -51,15 +52,15 @@ function begun(given) {
   };
 }
 
-const isQueued = ({ given: { state }, fits }) => (it) =>
+const isQueued = ({ given: { state }, fits }) => (/** @type {Message} */ it) =>
   (!state || it.state === state) && fits(it.arrival, it.all);
 
-const isEnd = ({ results, fits }) => (it) => results.includes(it.result)
+const isEnd = ({ results, fits }) => (/** @type {End} */ it) => results.includes(it.result)
   && fits(it.at, [it.id, it.recipient, it.sender, saidOf(it)].join(" ").toLowerCase());
 
 // ---- what is shown
 
-function messageRow(message) {
+function messageRow(/** @type {Message} */ message) {
   const { id, arrival: at, sender: from, state, reason, pending } = message;
   const said = state === "hold" ? reason : answerOf(message);
   const cause = causeOfMessage(message);
@@ -68,7 +69,7 @@ function messageRow(message) {
   return mailRow({ id, at, to, from, state, said, cause, opens, more: pending.length - 1 });
 }
 
-const rowOfEnd = (end) =>
+const rowOfEnd = (/** @type {End} */ end) =>
   endRow(end, () => (desk.byId.has(end.id) ? showMessage(end.id) : show({ words: end.id })));
 
 function add(mine, rows) {

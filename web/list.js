@@ -6,7 +6,7 @@ import { causeOfMessage } from "./causes.js";
 import { now } from "./desk.js";
 import { answerOf } from "./report.js";
 import { shortened } from "./groups.js";
-import { by, chip, foreign } from "./parts.js";
+import { by, chip, focused, foreign } from "./parts.js";
 import { moment, size, span, text } from "./texts.js";
 
 // (a screen has some fifteen rows: the first few are drawn within the first frame)
@@ -34,7 +34,7 @@ function newRow(id) {
   return row;
 }
 
-function recipients({ pending }) {
+function recipients(/** @type {Message} */ { pending }) {
   const [first] = pending;
   if (!first) return [];
   const rest = pending.length - 1;
@@ -42,7 +42,7 @@ function recipients({ pending }) {
 }
 
 // The answer that a message waits for, whole and as a row has room for.
-function why(message) {
+function why(/** @type {Message} */ message) {
   if (message.state === "hold") return [message.reason, message.reason];
   const last = message.pending.find((it) => it.status);
   if (!last) return [text("notTried"), text("notTried")];
@@ -50,7 +50,7 @@ function why(message) {
 }
 
 // (a row whose message is as it was costs nothing)
-function fill(row, message) {
+function fill(row, /** @type {Message} */ message) {
   const { id, state, reason } = message;
   const is = `${state} ${reason} ${answerOf(message)} ${message.pending.length}`;
   row.classList.toggle("leaving", leaving.has(id));
@@ -75,7 +75,7 @@ function fill(row, message) {
   bytes.textContent = size(message.size);
 }
 
-function rowOf(message) {
+function rowOf(/** @type {Message} */ message) {
   const row = rows.get(message.id) ?? newRow(message.id);
   rows.set(message.id, row);
   fill(row, message);
@@ -121,8 +121,8 @@ function place(wanted) {
 }
 
 // Shows these messages, in this order.
-export function list(messages) {
-  const had = body.contains(document.activeElement) ? document.activeElement.closest("tr") : null;
+export function list(/** @type {Message[]} */ messages) {
+  const had = body.contains(focused()) ? focused().closest("tr") : null;
   const hadPlace = had ? had.sectionRowIndex : 0;
   const next = active?.isConnected ? active.sectionRowIndex : 0;
   const keep = shown.length && messages[0]?.id === shown[0]?.id ? drawn : STEP;

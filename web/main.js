@@ -3,10 +3,10 @@
 import { fill, text } from "./texts.js";
 
 fill(document);
-fill(document.getElementById("message-row").content);
+for (const it of document.querySelectorAll("template")) fill(it.content);
 
 const { call, key } = await import("./api.js");
-const { by, closeMenus, sayNothing } = await import("./parts.js");
+const { all, by, closeMenus, focused, sayNothing } = await import("./parts.js");
 const { desk, forget, refresh, restore, when } = await import("./desk.js");
 const { told } = await import("./words.js");
 const { tellView, tellWho, wearColours } = await import("./look.js");
@@ -17,7 +17,7 @@ const [overview, find, queue, sent, rules, notices, usage] = await Promise.all(
 );
 
 const VIEWS = { overview, find, queue, sent, rules, notices, usage };
-const tabs = [...document.querySelectorAll("[role=tab]")];
+const tabs = all("[role=tab]");
 const viewOf = (tab) => tab.getAttribute("aria-controls");
 let chosen = tabs[0];
 
@@ -76,7 +76,7 @@ function showViews() {
   takeAddress();
   select(tabOfAddress());
   // (so that Tab and arrows begin where the page does)
-  if (document.activeElement === document.body) chosen.focus({ focusVisible: false });
+  if (focused() === document.body) chosen.focus({ focusVisible: false });
 }
 
 async function useKey(event) {

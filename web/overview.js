@@ -6,7 +6,7 @@ import { agesChart, fullness } from "./chart.js";
 import { desk, now } from "./desk.js";
 import { dayOf, show as find } from "./find.js";
 import { byAge, byDomain, byReason, bySender, byState, STATES } from "./groups.js";
-import { by, button, chip, element, foreign, menu } from "./parts.js";
+import { by, button, chip, element, focused, foreign, menu } from "./parts.js";
 import { show } from "./queue.js";
 import { UNDELIVERED } from "./records.js";
 import { stopSender } from "./stop.js";
@@ -22,6 +22,7 @@ const NEARLY_FULL = 0.9;
 // and above the second part it is bad.
 const [DAY, FEWEST_FAILED, MANY_FAILED, MOST_FAILED] = [24 * 3600, 5, 0.1, 0.5];
 // The lists of groups: their titles, and what their groups are of.
+/** @type {Record<string, [string, (messages: Message[]) => Group[]]>} */
 const LISTS = {
   reasons: ["whyWaits", byReason], domains: ["toWhom", byDomain], senders: ["whoSends", bySender],
 };
@@ -31,7 +32,8 @@ const every = new Set();
 // ---- all is well, or not
 
 // (no list of 10,000 arguments: some browsers have not so many)
-const oldest = (messages) => messages.reduce((least, it) => Math.min(least, it.arrival), Infinity);
+const oldest = (/** @type {Message[]} */ messages) =>
+  messages.reduce((least, it) => Math.min(least, it.arrival), Infinity);
 
 // Whether many of the newest that left within a day failed; null where few did.
 function failures() {
@@ -82,7 +84,7 @@ function drawTiles() {
 // ---- groups
 
 // What a group is called.
-export function nameOf({ kind, name }) {
+export function nameOf(/** @type {Group} */ { kind, name }) {
   if (kind === "waiting") return text("notTried");
   if (kind === "hold") return name ? text("heldFor", { reason: name }) : text("hold");
   if (kind === "sender") return name || text("nullSender");
@@ -90,7 +92,7 @@ export function nameOf({ kind, name }) {
 }
 
 // Which actions make sense for a group: a hold where something is not on hold, and so on.
-function choicesOf(group) {
+function choicesOf(/** @type {Group} */ group) {
   const { kind, name, messages } = group;
   const held = messages.filter((it) => it.state === "hold").length;
   const names = ["delete"];
@@ -102,7 +104,7 @@ function choicesOf(group) {
 }
 
 // (an answer is no pattern of the desk, and the null sender is left to those that were seen)
-function doGroup(does, group) {
+function doGroup(does, /** @type {Group} */ group) {
   const { kind, name, messages } = group;
   if (does === "stop") return stopSender(name);
   const side = kind === "domain" ? "recipient" : kind === "sender" && name ? "sender" : "";
@@ -111,7 +113,7 @@ function doGroup(does, group) {
   return holdMatching({ class: side, pattern: name }, words, messages.length);
 }
 
-function drawGroup(group, most) {
+function drawGroup(/** @type {Group} */ group, most) {
   const name = nameOf(group);
   const { length } = group.messages;
   const bar = element("progress", { max: most, "aria-hidden": "true" });
@@ -131,7 +133,7 @@ function drawGroup(group, most) {
     menu(text("actions"), label, choicesOf(group)), bar);
 }
 
-function drawGroups(id, groups) {
+function drawGroups(id, /** @type {Group[]} */ groups) {
   const shown = every.has(id) ? groups : groups.slice(0, FEW);
   const most = groups[0]?.messages.length ?? 1;
   const rows = shown.map((it) => drawGroup(it, most));
@@ -165,10 +167,10 @@ export function draw() {
   by("ages").replaceChildren(agesChart(byAge(desk.messages, now())));
   // (a menu that somebody has open is not to vanish under the hand)
   if (by("overview").querySelector("details[open]")) return;
-  const focused = document.activeElement?.closest?.(".group") ? document.activeElement : null;
-  const label = focused?.getAttribute("aria-label");
+  const had = focused()?.closest?.(".group") ? focused() : null;
+  const label = had?.getAttribute("aria-label");
   for (const [id, [, groupsOf]] of Object.entries(LISTS)) drawGroups(id, groupsOf(desk.messages));
-  if (focused) {
+  if (had) {
     const same = [...by("overview").querySelectorAll(".group [aria-label]")]
       .find((it) => it.getAttribute("aria-label") === label);
     (same ?? by("well")).focus();

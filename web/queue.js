@@ -11,7 +11,7 @@ import {
   activeRow, focusOn, list, mark, markAll, marks, messagesShown, rowFor, whenKeysOf,
 } from "./list.js";
 import { answerOf } from "./report.js";
-import { by, element, foreign, sayNothing, trying } from "./parts.js";
+import { all, by, element, foreign, sayNothing, trying } from "./parts.js";
 import { goTo, viewOfAddress, wordsOfAddress } from "./place.js";
 import { stopSender } from "./stop.js";
 import { text } from "./texts.js";
@@ -105,11 +105,12 @@ function tellAddress(isStep = false) {
 export function takeAddress() {
   const words = wordsOfAddress();
   by("search").value = words.get("words") ?? "";
-  by("order").value = words.get("order") in ORDERS ? words.get("order") : "newest";
-  by("only-state").value = STATES.includes(words.get("state")) ? words.get("state") : "";
-  by("only-age").value = AGES[words.get("age")] ? words.get("age") : "";
+  const [order, state, age] = ["order", "state", "age"].map((it) => words.get(it) ?? "");
+  by("order").value = order in ORDERS ? order : "newest";
+  by("only-state").value = STATES.includes(state) ? state : "";
+  by("only-age").value = Number(age) in AGES ? age : "";
   chooseDomain(words.get("domain") ?? "");
-  const id = words.get("message");
+  const id = words.get("message") ?? "";
   if (isOpen() && isOpen() !== id) shut();
   draw();
   if (desk.byId.has(id) && isOpen() !== id) openRow(id, false);
@@ -149,6 +150,7 @@ function chooseDomain(domain) {
 }
 
 // Shows these messages alone: those of a state, a domain, a group, or some words.
+/** @param {{ state?: string, domain?: string, words?: string, group?: Group | null }} only */
 export function show({ state = "", domain = "", words = "", group: one = null }) {
   by("search").value = words;
   by("only-state").value = state;
@@ -204,8 +206,8 @@ function tellMarks() {
 }
 
 function doMarked(name) {
-  const ids = [...marks].filter((it) => desk.byId.has(it));
-  const messages = ids.map((it) => desk.byId.get(it));
+  const messages = desk.messages.filter((it) => marks.has(it.id));
+  const ids = messages.map((it) => it.id);
   if (ids.length > MANY && ["hold", "release"].includes(name)) {
     return actGroup(name, messages, text("marked", { count: ids.length }));
   }
@@ -273,10 +275,10 @@ by("mark-none").addEventListener("click", () => {
   by("search").focus();
 });
 whenKeysOf({ opens: openRow, marked: tellMarks });
-for (const it of document.querySelectorAll("[data-marked]")) {
+for (const it of all("[data-marked]")) {
   it.addEventListener("click", () => doMarked(it.dataset.marked));
 }
-for (const it of document.querySelectorAll("[data-all]")) {
+for (const it of all("[data-all]")) {
   it.addEventListener("click", () => {
     it.closest("details").open = false;
     it.closest("details").firstElementChild.focus();

@@ -32,7 +32,7 @@ export function mailRow({ id, at, to, from, state, said, cause, opens, more = 0 
 }
 
 // The row of a recipient that left the queue.
-export function endRow(end, opens) {
+export function endRow(/** @type {End} */ end, opens) {
   const { id, at, recipient: to, sender: from, result: state } = end;
   const cause = whatHappened(end.status, end.text);
   const row = mailRow({ id, at, to, from, state, said: saidOf(end), cause, opens });

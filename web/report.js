@@ -9,7 +9,8 @@ const RECIPIENT = "    ";
 // What a recipient's name ends in; "" where it has none.
 export const domainOf = (address) => address.slice(address.lastIndexOf("@") + 1).toLowerCase();
 
-function begun([, id, mark, bytes, date, sender]) {
+/** @returns {Message} */
+function begun(/** @type {string[]} */ [, id, mark, bytes, date, sender]) {
   return {
     id,
     state: mark === "!" ? "hold" : "waiting",
@@ -18,11 +19,13 @@ function begun([, id, mark, bytes, date, sender]) {
     sender: sender === "<>" ? "" : sender,
     reason: "",
     pending: [],
+    all: "",
+    domains: [],
   };
 }
 
 // Where a line is no more than its text, a search finds it as it was written.
-function ended(message) {
+function ended(/** @type {Message} */ message) {
   if (message.state === "waiting" && message.pending.some((it) => it.status)) {
     message.state = "deferred";
   }
@@ -33,7 +36,8 @@ function ended(message) {
 }
 
 // The messages of a report, oldest first. Lines that are none of a report are passed over.
-export function messagesOf(report) {
+export function messagesOf(/** @type {string} */ report) {
+  /** @type {Message[]} */
   const messages = [];
   let answer = null;
   for (const line of report.split("\n")) {
@@ -58,7 +62,7 @@ export function messagesOf(report) {
 }
 
 // The last answer that a message has; "" before one.
-export function answerOf(message) {
+export function answerOf(/** @type {Message} */ message) {
   const last = message.pending.find((it) => it.status);
   return last ? `${last.status} ${last.text}`.trim() : "";
 }

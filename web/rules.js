@@ -18,15 +18,17 @@ import { ACTIONS, told } from "./words.js";
 const SHOWN = 5;
 const PAGE = 100;
 
+/** @type {Rule[]} */
 let rules = [];
 // the rule that is being changed, null where a new one is made
+/** @type {Rule | null} */
 let edited = null;
 
-const spoken = (line) => text(`mail_${line.class}`, { pattern: line.pattern });
+const spoken = (/** @type {Rule} */ line) => text(`mail_${line.class}`, { pattern: line.pattern });
 
 // ---- the list
 
-function drawn(line) {
+function drawn(/** @type {Rule} */ line) {
   const [verb, ...rest] = line.action.split(" ");
   const words = element("span", { class: "clamp", title: line.action }, foreign(rest.join(" ")));
   const label = text("actionsOf", { name: spoken(line) });
@@ -145,12 +147,12 @@ function mayReplace(line) {
 }
 
 // Drops the rule that another one stands in for; what went wrong, if that did.
-async function dropOld(line) {
+async function dropOld(/** @type {Rule} */ old, /** @type {Rule} */ line) {
   try {
-    await call("POST", "/v1/line-drop", { class: edited.class, pattern: edited.pattern });
+    await call("POST", "/v1/line-drop", { class: old.class, pattern: old.pattern });
     return null;
   } catch (fault) {
-    const words = { rule: spoken(line), old: spoken(edited), words: told(fault) };
+    const words = { rule: spoken(line), old: spoken(old), words: told(fault) };
     return bad(text("stillThere", words));
   }
 }
@@ -174,7 +176,7 @@ async function put() {
   const line = { ...written(), action: `${by("put-action").value} ${by("put-text").value}`.trim() };
   if (!(await mayReplace(line))) return;
   const reply = await call("POST", "/v1/line-put", line);
-  const fault = edited && !isSame(edited, line) ? await dropOld(line) : null;
+  const fault = edited && !isSame(edited, line) ? await dropOld(edited, line) : null;
   by("put-dialog").close();
   await sayAndLoad(fault ?? text(`put_${reply.put}`, { rule: spoken(line) }), load);
   const queued = line.action.startsWith("REJECT") && line.pattern !== "<>" && await queuedOf(line);

@@ -27,17 +27,17 @@ let isFresh = true;
 let isAsking = false;
 let stops = false;
 
-const drawn = (end) =>
+const drawn = (/** @type {End} */ end) =>
   endRow(end, () => (desk.byId.has(end.id) ? showMessage(end.id) : onlyThat(end)));
 
 // The ends of the message of one of them.
-function onlyThat(end) {
+function onlyThat(/** @type {End} */ end) {
   showOnly({ id: end.id, sender: end.sender });
   return open();
 }
 
 // Whether an end is of those that are looked for.
-function isMeant(end) {
+function isMeant(/** @type {End} */ end) {
   const result = by("ends-result").value;
   return (!only || end.id === only.id) && (!result || resultsOf(result).includes(end.result));
 }
@@ -92,7 +92,7 @@ async function more() {
 async function load() {
   loading += 1;
   [next, isFresh] = [null, true];
-  const most = desk.limits?.history;
+  const most = desk.limits.history;
   by("ends-kept").textContent = most ? text("endsKept", { count: most }) : text("endsNone");
   by("ends-shown").textContent = text("loading");
   try {

@@ -12,7 +12,7 @@ import { told } from "./words.js";
 
 const ACTION = "REJECT";
 
-const isOf = (sender) => (it) => it.sender.toLowerCase() === sender;
+const isOf = (sender) => (/** @type {Message} */ it) => it.sender.toLowerCase() === sender;
 
 // The rule of a sender that this one takes the place of; null where there is none, or the same.
 async function ruleOf(sender) {

@@ -15,7 +15,7 @@ export const languages = Object.entries(LANGUAGES).map(([name, it]) => [name, it
 // The one that was chosen here, else the first of the browser's that there is.
 function wanted() {
   const asked = [localStorage.getItem(KEPT), ...navigator.languages];
-  return asked.map((it) => it?.slice(0, 2)).find((it) => it in LANGUAGES) ?? "en";
+  return asked.map((it) => it?.slice(0, 2)).find((it) => it && it in LANGUAGES) ?? "en";
 }
 
 export const language = wanted();
@@ -93,7 +93,7 @@ export const timeOfDay = (seconds) => clock.format(new Date(seconds * 1000));
 // How long something takes or has taken: "4 min", "3 h", "2 d".
 export function span(seconds) {
   if (seconds < SECONDS.minutes) return text("moments");
-  const [unit, of] = Object.entries(SECONDS).findLast(([, it]) => seconds >= it);
+  const [unit, of] = Object.entries(SECONDS).reverse().find(([, it]) => seconds >= it) ?? ["", 1];
   return text(unit, { count: Math.floor(seconds / of) });
 }
 

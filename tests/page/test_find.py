@@ -61,8 +61,8 @@ def test_all_mail_is_found_at_one_place(visit, paper):
         said = r"Searched the queue\." if state in ("hold", "deferred") else r"Searched everything, back to .+\."
         says(visit, rf"{len(wanted)} found\. {said}")
     look(visit, "buchhalt")
-    browser.until(lambda: len(browser.run(FOUND)) == 2, "found are", browser.run(FOUND))
-    expect(browser.run(FOUND) == [
+    # (a row has its lines as soon as it is painted)
+    browser.until(lambda: browser.run(FOUND) == [
         ["0000000501", "buchhaltung@far.example | From ann@a.example", "deferred", "The mailbox is full.\n4.2.2 mailbox is full"],
         ["0000000009", "Buchhaltung@near.example | From ann@a.example", "failed", "There is no such mailbox.\n5.1.1 no such user"]], "found are", browser.run(FOUND))
     for scheme, width in (("light", 1280), ("dark", 1280), ("light", 360)):
