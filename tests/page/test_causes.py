@@ -94,8 +94,9 @@ def test_causes_are_above_answers(visit, paper):
            or grey in browser.texts("#reasons .cause"), "the groups say", browser.texts("#reasons .cause"))
     look_at(visit, "overview")
     visit.turn_to("queue")
-    said = browser.run("document.querySelector(arguments[0] + ' .said').innerText", visit.row("0000000001"))
-    expect(said.split("\n") == [grey, f"4.7.1 {GREY[1]}"], "the row says", said)
+    # (a row has its lines as soon as it is painted)
+    browser.until(lambda: browser.text(f"{visit.row('0000000001')} .said").split("\n") == [grey, f"4.7.1 {GREY[1]}"], "the row says",
+                  browser.text(f"{visit.row('0000000001')} .said"))
     expect(browser.run("document.querySelector(arguments[0] + ' .cause').innerText", visit.row("0000000002")) == "", "what is on hold has a cause")
     visit.open("0000000001")
     browser.until(lambda: browser.count("#detail-ends li") == 2, "the detail has no history")
@@ -106,13 +107,13 @@ def test_causes_are_above_answers(visit, paper):
            and "and send it again later." in ends and "tries again" not in ends, "of what left the detail says", ends)
     look_at(visit, "detail")
     visit.turn_to("sent")
-    expect(browser.texts("#ends .cause") == [nobody, "The mail server of the other side does not answer."], "sent says",
-           browser.texts("#ends .cause"))
+    browser.until(lambda: browser.texts("#ends .cause") == [nobody, "The mail server of the other side does not answer."], "sent says",
+                  browser.texts("#ends .cause"))
     visit.turn_to("find")
     browser.click("#find-form [type=submit]")
     browser.until(lambda: browser.count("#found tbody tr") == 4, "nothing is found")
-    expect(sorted(filter(None, browser.texts("#found .cause")))[-1] == nobody and grey in browser.texts("#found .cause"), "the search says",
-           browser.texts("#found .cause"))
+    browser.until(lambda: nobody in browser.texts("#found .cause") and grey in browser.texts("#found .cause"), "the search says",
+                  browser.texts("#found .cause"))
     visit.turn_to("notices")
     browser.click("#notice-list tbody tr:nth-child(1) button")
     browser.until(lambda: browser.text("#notice-causes"), "the notice has no cause")
