@@ -6,7 +6,8 @@
 
 import { call, changing } from "./api.js";
 import { desk, drop, now, refresh } from "./desk.js";
-import { answerOf } from "./report.js";
+import { isFor } from "./patterns.js";
+import { answerOf, HELD } from "./report.js";
 import { address, ask, bad, button, by, element, focused, say, sender } from "./parts.js";
 import { size, text } from "./texts.js";
 import { told } from "./words.js";
@@ -15,7 +16,6 @@ const LANES = 4;
 // How long something may take until it is said that it is under way, in milliseconds.
 const UNSAID = 1000;
 export const UNDO_SECONDS = 8;
-const HELD = "held by customer";
 // Of more than so many it is shown how far it is.
 const MANY = 20;
 
@@ -70,6 +70,7 @@ async function one(id, name, sum) {
     if (!DOES[name].changed(reply)) sum.already += 1;
     else {
       sum.done += 1;
+      sum.ids.push(id);
       if (name === "requeue") sum.made = reply.id;
       if (message) DOES[name].after(message, reply);
     }
@@ -125,9 +126,27 @@ export async function saidWhile(does) {
   }
 }
 
-// `before` is how many were done by calls that went before, and `first` are lines of what else was.
-export async function each(ids, name, before = 0, first = []) {
-  const sum = { before, done: 0, already: 0, gone: 0, faults: new Map(), stopped: false, made: "" };
+// A hold can be taken back, of those that it has put on hold and that are so still.
+function offerUndo(/** @type {string[]} */ ids) {
+  const isHeld = (id) => {
+    const message = desk.byId.get(id);
+    return message?.state === "hold" && message.reason === HELD;
+  };
+  if (!ids.length) return;
+  const does = () => act("release", ids.filter(isHeld));
+  by("told").append(button(text("undo"), does, { id: "undo-hold" }));
+}
+
+const notHeld = (/** @type {Message[]} */ messages) =>
+  messages.filter((it) => it.state !== "hold").map((it) => it.id);
+
+// `before` is how many were done by calls that went before, `held` which of them can be undone, and
+// `first` are lines of what else was done.
+export async function each(ids, name, { before = 0, held = [], first = [] } = {}) {
+  const sum = {
+    before, done: 0, already: 0, gone: 0, faults: new Map(), stopped: false, made: "",
+    ids: [...held],
+  };
   const tells = ids.length > MANY ? progress(name, ids.length) : () => {};
   const waiting = [...ids];
   let asked = 0;
@@ -141,6 +160,7 @@ export async function each(ids, name, before = 0, first = []) {
   const lanes = () => Promise.all(Array.from({ length: Math.min(LANES, ids.length) }, lane));
   await (ids.length > MANY ? lanes() : saidWhile(lanes));
   say(...first, ...linesOf(sum, name, ids));
+  if (name === "hold") offerUndo(sum.ids);
 }
 
 // ---- one thing at a time
@@ -248,8 +268,10 @@ export function holdMatching(/** @type {Pattern} */ pattern, words, count) {
   return alone(async () => {
     const title = text("holdGroupTitle", { count, words });
     if (!(await ask(title, text("groupText"), text("holdYes", { count })))) return;
+    const held = notHeld(desk.messages.filter(isFor(pattern)));
     const { changed } = await saidWhile(() => call("POST", "/v1/hold-matching", pattern));
     say(`${text("holdSum", { count: changed })}.`);
+    offerUndo(held);
   });
 }
 
@@ -263,19 +285,22 @@ export function actGroup(name, /** @type {Message[]} */ messages, words) {
     const title = text(`${name}GroupTitle`, { count, words });
     const said = text(name === "hold" ? "groupText" : "seenText");
     if (!(await ask(title, said, text(`${name}Yes`, { count })))) return;
-    const done = name === "hold" ? await saidWhile(() => holdDomains(ids)) : 0;
-    if (ids.size) await each([...ids], name, done);
-    else say(`${text(`${name}Sum`, { count: done })}.`);
+    const done = name === "hold" ? await saidWhile(() => holdDomains(ids)) : {};
+    await each([...ids], name, done);
   });
 }
 
-// Holds the domains that are wholly among these, and takes them away from these. How many it held.
+// Holds the domains that are wholly among these, and takes them away from these. How many it held,
+// and which of those that were seen.
 async function holdDomains(ids) {
-  let done = 0;
+  /** @type {{ before: number, held: string[] }} */
+  const done = { before: 0, held: [] };
   for (const domain of wholeDomains(ids)) {
     const pattern = { class: "recipient", pattern: domain };
-    done += (await call("POST", "/v1/hold-matching", pattern)).changed;
-    for (const it of desk.messages) if (it.domains.includes(domain)) ids.delete(it.id);
+    const some = desk.messages.filter((it) => it.domains.includes(domain) && ids.has(it.id));
+    done.before += (await call("POST", "/v1/hold-matching", pattern)).changed;
+    done.held.push(...notHeld(some));
+    for (const it of some) ids.delete(it.id);
   }
   return done;
 }
@@ -308,7 +333,9 @@ export function actAll(name) {
     if (name !== "hold" && !(await ask(again, text("alsoText"), yes, how))) return;
     const ids = desk.messages.map((it) => it.id);
     if (name === "delete" && !(await heldBack(ids, count))) return;
+    const held = name === "hold" ? notHeld(desk.messages) : [];
     const { changed } = await saidWhile(() => call("POST", `/v1/${name}-all`));
     say(`${text(`${name}Sum`, { count: changed })}.`);
+    offerUndo(held);
   });
 }

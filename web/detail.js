@@ -5,6 +5,7 @@ import { call, history } from "./api.js";
 import { wholeCause } from "./causes.js";
 import { desk, now } from "./desk.js";
 import { address, button, by, chip, element, foreign, sender, trying } from "./parts.js";
+import { reasonOf } from "./report.js";
 import { moment, size, span, text } from "./texts.js";
 
 // After five days the relay gives a message up that is not on hold.
@@ -40,7 +41,7 @@ function expiry(whole) {
 
 function facts({ message, whole }) {
   const state = [chip(message.state), " "];
-  if (message.reason) state.push(foreign(message.reason));
+  if (message.reason) state.push(foreign(reasonOf(message)));
   const arrived = element("span", {}, moment(message.arrival),
     ` (${text("ago", { age: span(Math.max(0, now() - message.arrival)) })})`);
   const pairs = [["state", element("span", {}, ...state)], ["arrived", arrived]];

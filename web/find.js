@@ -9,7 +9,7 @@ import { by, element, filling, trying } from "./parts.js";
 import { goTo, viewOfAddress, wordsOfAddress } from "./place.js";
 import { showMessage } from "./queue.js";
 import { endRow, mailRow, RESULTS, resultsOf, saidOf } from "./records.js";
-import { answerOf } from "./report.js";
+import { answerOf, reasonOf } from "./report.js";
 import { moment, text } from "./texts.js";
 
 // How many are looked for at once.
@@ -61,8 +61,8 @@ const isEnd = ({ results, fits }) => (/** @type {End} */ it) => results.includes
 // ---- what is shown
 
 function messageRow(/** @type {Message} */ message) {
-  const { id, arrival: at, sender: from, state, reason, pending } = message;
-  const said = state === "hold" ? reason : answerOf(message);
+  const { id, arrival: at, sender: from, state, pending } = message;
+  const said = state === "hold" ? reasonOf(message) : answerOf(message);
   const cause = causeOfMessage(message);
   const to = pending[0]?.address ?? "";
   const opens = () => showMessage(id);

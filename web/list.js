@@ -4,7 +4,7 @@
 import { leaving } from "./acts.js";
 import { causeOfMessage } from "./causes.js";
 import { now } from "./desk.js";
-import { answerOf } from "./report.js";
+import { answerOf, reasonOf } from "./report.js";
 import { shortened } from "./groups.js";
 import { by, chip, focused, foreign } from "./parts.js";
 import { moment, size, span, text } from "./texts.js";
@@ -43,7 +43,7 @@ function recipients(/** @type {Message} */ { pending }) {
 
 // The answer that a message waits for, whole and as a row has room for.
 function why(/** @type {Message} */ message) {
-  if (message.state === "hold") return [message.reason, message.reason];
+  if (message.state === "hold") return [reasonOf(message), reasonOf(message)];
   const last = message.pending.find((it) => it.status);
   if (!last) return [text("notTried"), text("notTried")];
   return [answerOf(message), `${last.status} ${shortened(last.text)}`];

@@ -20,6 +20,8 @@ function drawn(notice) {
   const cell = (it) => element("td", { role: "cell" }, it);
   const row = element("tr", { role: "row", class: "notice", "data-id": notice.id });
   row.dataset.number = notice.number;
+  row.dataset.kind = notice.kind;
+  row.dataset.all = `${notice.to} ${notice.id}`.toLowerCase();
   row.append(cell(moment(notice.at)), cell(chip(notice.kind, text(`kind_${notice.kind}`))),
     cell(subject), cell(to), cell(element("code", {}, notice.id)));
   return row;
@@ -57,6 +59,21 @@ function close() {
   by("notice-list").querySelector(`[data-number='${opened}'] button`)?.focus();
 }
 
+// Shows the notices of a kind, and those with the words that are looked for.
+function filter() {
+  const [words, kind] = ["search", "kind"].map((it) => by(`notices-${it}`).value.trim());
+  const rows = [...by("notice-list").tBodies[0].rows];
+  const isMeant = ({ dataset }) =>
+    (!kind || dataset.kind === kind) && dataset.all.includes(words.toLowerCase());
+  for (const it of rows) it.hidden = !isMeant(it);
+  const number = rows.filter((it) => !it.hidden).length;
+  const said = words || kind ? "noticesFound" : "noticesAll";
+  by("notices-shown").textContent = text(said, { count: rows.length, number });
+  by("notice-list").hidden = !number;
+  by("notices-none").hidden = number > 0;
+  by("notices-none").textContent = text(rows.length ? "nothingFound" : "noNotices");
+}
+
 async function load() {
   const rows = [];
   if (!by("notice-list").tBodies[0].rows.length) by("notices-shown").textContent = text("loading");
@@ -71,15 +88,14 @@ async function load() {
   rows.reverse();
   const body = by("notice-list").tBodies[0];
   if (numbers(rows) !== numbers(body.rows)) body.replaceChildren(...rows);
-  by("notices-shown").textContent = text("noticesAll", { count: rows.length });
-  by("notice-list").hidden = !rows.length;
-  by("notices-none").hidden = rows.length > 0;
+  filter();
 }
 
 export const open = () => filling("notice-list", load);
 
 // Opens the newest notice of a message.
 export async function openOf(id) {
+  by("notices-search").value = by("notices-kind").value = "";
   await open();
   const rows = [...by("notice-list").tBodies[0].rows];
   const row = rows.find((it) => it.dataset.id === id);
@@ -90,6 +106,12 @@ export async function openOf(id) {
 by("notice").addEventListener("keydown", ({ key }) => {
   if (key === "Escape") close();
 });
+by("notices-kind").append(
+  element("option", { value: "" }, text("anyKind")),
+  ...["failure", "delay"].map((it) => element("option", { value: it }, text(`kind_${it}`))),
+);
+by("notices-kind").addEventListener("change", filter);
+by("notices-search").addEventListener("input", filter);
 by("reload-notices").addEventListener("click", async () => {
   if (await open()) say(text("loadedAgain"));
 });

@@ -9,6 +9,7 @@ import { byAge, byDomain, byReason, bySender, byState, STATES } from "./groups.j
 import { by, button, chip, element, focused, foreign, menu } from "./parts.js";
 import { show } from "./queue.js";
 import { UNDELIVERED } from "./records.js";
+import { reasonOf } from "./report.js";
 import { stopSender } from "./stop.js";
 import { count, size, span, text } from "./texts.js";
 
@@ -86,7 +87,8 @@ function drawTiles() {
 // What a group is called.
 export function nameOf(/** @type {Group} */ { kind, name }) {
   if (kind === "waiting") return text("notTried");
-  if (kind === "hold") return name ? text("heldFor", { reason: name }) : text("hold");
+  if (kind === "hold" && !name) return text("hold");
+  if (kind === "hold") return text("heldFor", { reason: reasonOf({ reason: name }) });
   if (kind === "sender") return name || text("nullSender");
   return name;
 }

@@ -3,6 +3,7 @@
 
 import { act, actAll, actGroup, drawnBy, leaving } from "./acts.js";
 import { call, found } from "./api.js";
+import { csvOf } from "./csv.js";
 import { desk, now, refresh, when } from "./desk.js";
 import { ageName } from "./chart.js";
 import { close, isOpen, openDetail, redraw } from "./detail.js";
@@ -11,7 +12,7 @@ import {
   activeRow, focusOn, list, mark, markAll, marks, messagesShown, rowFor, whenKeysOf,
 } from "./list.js";
 import { answerOf } from "./report.js";
-import { all, by, element, foreign, sayNothing, trying } from "./parts.js";
+import { all, by, download, element, foreign, sayNothing, trying } from "./parts.js";
 import { goTo, viewOfAddress, wordsOfAddress } from "./place.js";
 import { stopSender } from "./stop.js";
 import { text } from "./texts.js";
@@ -21,6 +22,10 @@ const DOMAINS = 50;
 const BEHIND_KEYS = 400;
 // What may be a pattern of the desk: an address, a domain, a name with its @.
 const PATTERN = /^(?:[^\s@]+@|(?:[^\s@]+@)?\.?[a-z0-9_-]+(?:\.[a-z0-9_-]+)+)$/;
+// Of a file of the queue.
+const COLUMNS = [
+  "arrival", "id", "recipient", "sender", "size", "state", "reason", "status", "text",
+];
 // From so many marked messages on, patterns are worth a question.
 const MANY = 100;
 
@@ -67,7 +72,7 @@ function tellCount(number) {
   by("filter-none").hidden = !isFiltered();
   by("empty").hidden = number > 0;
   by("empty").textContent = text(isFiltered() ? "nothingFound" : "emptyQueue");
-  by("messages").hidden = number === 0;
+  by("messages").hidden = by("queue-csv").hidden = number === 0;
 }
 
 export function draw() {
@@ -241,6 +246,16 @@ export function closeDetail() {
   focusOn(rowFor(id) ?? null);
 }
 
+// Saves what is shown, all rows of it: one for each recipient that waits.
+function save() {
+  const rows = messagesShown().flatMap(({ pending, ...it }) => pending.map((one) => {
+    const { address: recipient, status, text: said } = one;
+    const named = { ...it, recipient, status, text: said };
+    return COLUMNS.map((name) => named[name]);
+  }));
+  download("queue.csv", csvOf([COLUMNS, ...rows]));
+}
+
 async function showReport() {
   by("report-text").textContent = (await call("GET", "/v1/report")).report;
   by("report").showModal();
@@ -264,6 +279,7 @@ by("filter").addEventListener("click", () => {
   by("filter").setAttribute("aria-expanded", !isShut);
 });
 by("filter-none").addEventListener("click", showAll);
+by("queue-csv").addEventListener("click", save);
 by("only-group-close").addEventListener("click", showAll);
 by("mark-all").addEventListener("change", () => {
   markAll(by("mark-all").checked);

@@ -1,10 +1,14 @@
 // The report of the desk, read: the one call that tells a whole queue, with each recipient and
 // what was said about it. 10,000 messages come by it at once, where lists come a hundred each.
 
+import { text } from "./texts.js";
+
 const MESSAGE = /^([0-9A-F]{10})([! ]) +(\d+) (.{31}) (.*)$/;
 const HOLD = "    (hold: ";
 const ANSWER = /^ {4}\((\d\.\d{1,3}\.\d{1,3})(?: (.*))?\)$/;
 const RECIPIENT = "    ";
+// Why a message is on hold that a customer has put there, as the desk says it.
+export const HELD = "held by customer";
 
 // What a recipient's name ends in; "" where it has none.
 export const domainOf = (address) => address.slice(address.lastIndexOf("@") + 1).toLowerCase();
@@ -30,10 +34,15 @@ function ended(/** @type {Message} */ message) {
     message.state = "deferred";
   }
   const said = message.pending.map((it) => `${it.address} ${it.status} ${it.text}`);
-  message.all = [message.id, message.sender, message.reason, ...said].join(" ").toLowerCase();
+  const { id, sender, reason } = message;
+  message.all = [id, sender, reason, reasonOf(message), ...said].join(" ").toLowerCase();
   message.domains = [...new Set(message.pending.map((it) => domainOf(it.address)))];
   return message;
 }
+
+// Why a message is on hold, in the language of the page where the desk has said it, and not a rule.
+export const reasonOf = (/** @type {{ reason: string }} */ { reason }) =>
+  (reason === HELD ? text("heldByCustomer") : reason);
 
 // The messages of a report, oldest first. Lines that are none of a report are passed over.
 export function messagesOf(/** @type {string} */ report) {

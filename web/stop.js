@@ -80,7 +80,7 @@ export function stopSender(from) {
     const there = await queuedOf(sender);
     if (!there.length) return;
     const ids = await chosen(sender, seen, there);
-    if (ids.length && await heldBack(ids, ids.length)) await each(ids, "delete", 0, [done]);
+    if (ids.length && await heldBack(ids, ids.length)) await each(ids, "delete", { first: [done] });
     else say(done, text("stopHeld"));
   });
 }

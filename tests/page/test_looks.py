@@ -192,7 +192,7 @@ def test_a_screen_reader_is_told_of_all(visit):
             nodes = tree_is(browser, view)
             chosen = [name.lower() for role, name, more in nodes if role == "tab" and more.get("selected")]
             panels = [name.lower() for role, name, _ in nodes if role == "tabpanel"]
-            expect(chosen == panels == [{"find": "find mail"}.get(view, view)], "chosen is", chosen, panels)
+            expect(chosen == panels == [{"find": "find mail", "sent": "history"}.get(view, view)], "chosen is", chosen, panels)
     visit.turn_to("queue")
     browser.click("#all-menu summary")
     browser.click("[data-all=delete]")

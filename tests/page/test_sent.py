@@ -183,6 +183,29 @@ def test_notices_and_their_ways(visit):
     browser.tells("No such notice any more. The oldest go when there are too many. (12 NoNotice)")
 
 
+def test_notices_are_found(visit, paper):
+    """By kind, and by the address that was told or the ID of the message: failures stand among many that are late."""
+    browser = visit.browser
+    paper.notices = {it: {"at": 1767225600 + it, "id": f"{it:010X}", "kind": "failure" if it in (7, 40) else "delay", "number": it,
+                          "to": f"a{it}@a.example", "human": "x", "status": "y", "subject": "z"} for it in range(1, 61)}
+    visit.on_paper("notices")
+    visit.says("#notices-shown", "60 notices")
+    seen = "[...document.querySelectorAll('#notice-list tbody tr')].filter((it) => !it.hidden).map((it) => Number(it.dataset.number))"
+    browser.choose("#notices-kind", "failure")
+    visit.says("#notices-shown", "2 of 60 notices")
+    expect(browser.run(seen) == [40, 7], "failures are", browser.run(seen))
+    browser.write("#notices-search", "A7@a")
+    visit.says("#notices-shown", "1 of 60 notices")
+    expect(browser.run(seen) == [7], "found are", browser.run(seen))
+    visit.picture("notices-found")
+    browser.choose("#notices-kind", "")
+    browser.write("#notices-search", f"{12:010X}")
+    visit.says("#notices-shown", "1 of 60 notices")
+    expect(browser.run(seen) == [12], "found are", browser.run(seen))
+    browser.write("#notices-search", "nobody")
+    visit.says("#notices-none", "Nothing matches.")
+
+
 def test_the_usage_adds_up(visit):
     """The parts of the bar are as wide as their counts, and end where it ends."""
     browser, desk = visit.browser, visit.desk

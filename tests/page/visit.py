@@ -120,5 +120,5 @@ class Visit:
         self.browser.picture(PICTURES / f"{name}.png")
 
     def told(self):
-        """The lines that tell what happened."""
-        return [it for it in (self.browser.text("#told") or "").split("\n") if it]
+        """The lines that tell what happened, without the button that takes it back."""
+        return [it for it in (self.browser.text("#told") or "").split("\n") if it and it != "Undo"]

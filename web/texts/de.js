@@ -99,6 +99,7 @@ export default {
   sizeTogether: "Größe zusammen",
   notTried: "noch nicht versucht",
   heldFor: "angehalten: {reason}",
+  heldByCustomer: "vom Kunden angehalten",
   actions: "Aktionen",
   actionsOf: "Aktionen für {name}",
   showGroup: {
@@ -141,7 +142,7 @@ export default {
   marked: { one: "{count} ausgewählt", other: "{count} ausgewählt" },
   markedTools: "Was mit ausgewählten Nachrichten geschieht",
   fromTo: "Von, an",
-  why: "Letzte Antwort",
+  why: "Warum sie wartet",
 
   close: "Schließen",
   arrived: "Eingang",
@@ -300,6 +301,8 @@ export default {
   },
   queuedMore: "Mindestens {count} Nachrichten davon sind in der Warteschlange und bleiben dort.",
   showQueued: "Zeigen",
+  ruleUndone: "Die Regeln sind wieder, wie sie waren.",
+  ruleChanged: "Nichts wurde rückgängig gemacht: Die Regel ist inzwischen geändert.",
   noRuleNow: "(jetzt keine Regel)",
   ruleNow: "(jetzt {action}, durch {pattern})",
   checkTitle: "Eine Adresse prüfen",
@@ -336,6 +339,9 @@ export default {
 
   noticesText: "Was der Dienst Ihren Absendern von verspäteter oder gescheiterter Post sagt.",
   noticesAll: { one: "{count} Meldung", other: "{count} Meldungen" },
+  noticesFound: { one: "{number} von {count} Meldung", other: "{number} von {count} Meldungen" },
+  noticesHint: "Adresse oder Nummer",
+  anyKind: "Jede Art",
   noNotices: "Es gibt keine Meldung.",
   made: "Wann",
   kind: "Art",
