@@ -6,8 +6,9 @@
 
 import { call, changing } from "./api.js";
 import { desk, drop, now, refresh } from "./desk.js";
-import { answerOf } from "./report.js";
-import { address, ask, bad, button, by, element, say, sender } from "./parts.js";
+import { isFor } from "./patterns.js";
+import { answerOf, HELD } from "./report.js";
+import { address, ask, bad, button, by, element, focused, say, sender } from "./parts.js";
 import { size, text } from "./texts.js";
 import { told } from "./words.js";
 
@@ -15,7 +16,6 @@ const LANES = 4;
 // How long something may take until it is said that it is under way, in milliseconds.
 const UNSAID = 1000;
 export const UNDO_SECONDS = 8;
-const HELD = "held by customer";
 // Of more than so many it is shown how far it is.
 const MANY = 20;
 
@@ -70,6 +70,7 @@ async function one(id, name, sum) {
     if (!DOES[name].changed(reply)) sum.already += 1;
     else {
       sum.done += 1;
+      sum.ids.push(id);
       if (name === "requeue") sum.made = reply.id;
       if (message) DOES[name].after(message, reply);
     }
@@ -114,7 +115,7 @@ function progress(name, all) {
 }
 
 // Says after a second that something is under way, until it has ended.
-async function saidWhile(does) {
+export async function saidWhile(does) {
   const words = element("p", { id: "working" }, text("working"));
   const timer = setTimeout(() => by("told").append(words), UNSAID);
   try {
@@ -125,9 +126,27 @@ async function saidWhile(does) {
   }
 }
 
-// `before` is how many were done by calls that went before.
-async function each(ids, name, before = 0) {
-  const sum = { before, done: 0, already: 0, gone: 0, faults: new Map(), stopped: false, made: "" };
+// A hold can be taken back, of those that it has put on hold and that are so still.
+function offerUndo(/** @type {string[]} */ ids) {
+  const isHeld = (id) => {
+    const message = desk.byId.get(id);
+    return message?.state === "hold" && message.reason === HELD;
+  };
+  if (!ids.length) return;
+  const does = () => act("release", ids.filter(isHeld));
+  by("told").append(button(text("undo"), does, { id: "undo-hold" }));
+}
+
+const notHeld = (/** @type {Message[]} */ messages) =>
+  messages.filter((it) => it.state !== "hold").map((it) => it.id);
+
+// `before` is how many were done by calls that went before, `held` which of them can be undone, and
+// `first` are lines of what else was done.
+export async function each(ids, name, { before = 0, held = [], first = [] } = {}) {
+  const sum = {
+    before, done: 0, already: 0, gone: 0, faults: new Map(), stopped: false, made: "",
+    ids: [...held],
+  };
   const tells = ids.length > MANY ? progress(name, ids.length) : () => {};
   const waiting = [...ids];
   let asked = 0;
@@ -140,7 +159,8 @@ async function each(ids, name, before = 0) {
   };
   const lanes = () => Promise.all(Array.from({ length: Math.min(LANES, ids.length) }, lane));
   await (ids.length > MANY ? lanes() : saidWhile(lanes));
-  say(...linesOf(sum, name, ids));
+  say(...first, ...linesOf(sum, name, ids));
+  if (name === "hold") offerUndo(sum.ids);
 }
 
 // ---- one thing at a time
@@ -148,7 +168,7 @@ async function each(ids, name, before = 0) {
 // Does what may take long, and nothing else of that kind meanwhile.
 export async function alone(does) {
   if (changing.count) return say(text("wait"));
-  const had = document.activeElement;
+  const had = focused();
   changing.count += 1;
   changing.turns += 1;
   by("views").ariaBusy = "true";
@@ -170,7 +190,7 @@ export async function alone(does) {
 
 // Holds a deletion back for some seconds. Nothing is asked of the desk before, so a page that is
 // closed meanwhile has deleted nothing. Answers whether it is to be done.
-function heldBack(ids, count) {
+export function heldBack(ids, count) {
   const undo = button(text("undo"), () => {}, { id: "undo" });
   const soon = button(text("deleteNow"), () => {}, { id: "delete-now", class: "link" });
   const left = element("span", { "aria-hidden": "true" });
@@ -201,20 +221,21 @@ function heldBack(ids, count) {
 // ---- what may be asked for
 
 // What a question shows of one message.
-const factsOf = (it) => [
+const factsOf = (/** @type {Message} */ it) => [
   [text("from"), sender(it.sender)],
   [text("to"), element("span", {}, ...someOf(it))],
   [text("size"), size(it.size)],
   [text("queueId"), it.id],
 ];
 
-function someOf({ pending }) {
+function someOf(/** @type {Message} */ { pending }) {
   const shown = pending.slice(0, 3).flatMap((it) => [address(it.address), element("br")]);
   const rest = pending.length - 3;
   return rest > 0 ? [...shown, text("andMore", { count: rest })] : shown.slice(0, -1);
 }
 
 async function mayDelete(ids) {
+  /** @type {any[]} */
   const messages = ids.map((id) => desk.byId.get(id)).filter(Boolean);
   const count = ids.length;
   const facts = messages.length === 1 && count === 1 ? factsOf(messages[0]) : [];
@@ -235,7 +256,7 @@ async function isWanted(name, ids) {
 }
 
 // Does it to messages by their IDs.
-export function act(name, ids) {
+export function act(name, /** @type {string[]} */ ids) {
   if (!ids.length) return undefined;
   return alone(async () => {
     if (await isWanted(name, ids)) await each(ids, name);
@@ -243,18 +264,20 @@ export function act(name, ids) {
 }
 
 // Holds all that a pattern is for, by one call: also what comes in until then.
-export function holdMatching(pattern, words, count) {
+export function holdMatching(/** @type {Pattern} */ pattern, words, count) {
   return alone(async () => {
     const title = text("holdGroupTitle", { count, words });
     if (!(await ask(title, text("groupText"), text("holdYes", { count })))) return;
+    const held = notHeld(desk.messages.filter(isFor(pattern)));
     const { changed } = await saidWhile(() => call("POST", "/v1/hold-matching", pattern));
     say(`${text("holdSum", { count: changed })}.`);
+    offerUndo(held);
   });
 }
 
 // Holds a group by as few calls as there are: the patterns whose messages are all of the group,
 // then those that are left, one by one. Releases those that were seen, and deletes them.
-export function actGroup(name, messages, words) {
+export function actGroup(name, /** @type {Message[]} */ messages, words) {
   const ids = new Set(messages.map((it) => it.id));
   if (name === "delete" || ids.size < 2 * LANES) return act(name, [...ids]);
   return alone(async () => {
@@ -262,19 +285,22 @@ export function actGroup(name, messages, words) {
     const title = text(`${name}GroupTitle`, { count, words });
     const said = text(name === "hold" ? "groupText" : "seenText");
     if (!(await ask(title, said, text(`${name}Yes`, { count })))) return;
-    const done = name === "hold" ? await saidWhile(() => holdDomains(ids)) : 0;
-    if (ids.size) await each([...ids], name, done);
-    else say(`${text(`${name}Sum`, { count: done })}.`);
+    const done = name === "hold" ? await saidWhile(() => holdDomains(ids)) : {};
+    await each([...ids], name, done);
   });
 }
 
-// Holds the domains that are wholly among these, and takes them away from these. How many it held.
+// Holds the domains that are wholly among these, and takes them away from these. How many it held,
+// and which of those that were seen.
 async function holdDomains(ids) {
-  let done = 0;
+  /** @type {{ before: number, held: string[] }} */
+  const done = { before: 0, held: [] };
   for (const domain of wholeDomains(ids)) {
     const pattern = { class: "recipient", pattern: domain };
-    done += (await call("POST", "/v1/hold-matching", pattern)).changed;
-    for (const it of desk.messages) if (it.domains.includes(domain)) ids.delete(it.id);
+    const some = desk.messages.filter((it) => it.domains.includes(domain) && ids.has(it.id));
+    done.before += (await call("POST", "/v1/hold-matching", pattern)).changed;
+    done.held.push(...notHeld(some));
+    for (const it of some) ids.delete(it.id);
   }
   return done;
 }
@@ -307,7 +333,9 @@ export function actAll(name) {
     if (name !== "hold" && !(await ask(again, text("alsoText"), yes, how))) return;
     const ids = desk.messages.map((it) => it.id);
     if (name === "delete" && !(await heldBack(ids, count))) return;
+    const held = name === "hold" ? notHeld(desk.messages) : [];
     const { changed } = await saidWhile(() => call("POST", `/v1/${name}-all`));
     say(`${text(`${name}Sum`, { count: changed })}.`);
+    offerUndo(held);
   });
 }

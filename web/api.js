@@ -12,6 +12,13 @@ const LONGEST_ACTING = 60_000;
 // What came in the place of a reply of 200. `number` is the desk's, and 0 where something else
 // answered, or nobody.
 export class Fault extends Error {
+  status = 0;
+  reads = false;
+  number = 0;
+  named = "";
+  /** @type {number | undefined} */
+  row = undefined;
+
   constructor(status, body, reads) {
     super(body.name ?? `status ${status}`);
     Object.assign(this, { status, reads, row: body.row });
@@ -101,7 +108,7 @@ async function* pages(first, next, member) {
 }
 
 // The messages that a pattern is for, behind an ID.
-export const found = (wanted, after = null) =>
+export const found = (wanted, /** @type {string | null} */ after = null) =>
   pages(
     () => call("POST", "/v1/find", { ...wanted, after }),
     (last) => call("POST", "/v1/find", { ...wanted, after: last.id }),

@@ -18,14 +18,21 @@ const MOST_KEPT = 2_000_000;
 export const now = () => Math.floor(Date.now() / 1000);
 
 export const desk = {
+  /** @type {Message[]} */
   messages: [],
+  /** @type {Map<string, Message>} */
   byId: new Map(),
-  usage: null,
-  limits: null,
+  // (both are empty until the desk was asked)
+  /** @type {Usage} */
+  usage: Object(null),
+  /** @type {Limits} */
+  limits: Object(null),
   // the newest that left the queue, a hundred at most
+  /** @type {End[]} */
   ends: [],
   // when it was asked, and whether that was before a reload
   at: 0,
+  /** @type {import("./api.js").Fault | null} */
   fault: null,
   report: "",
 };
@@ -34,6 +41,7 @@ const told = new EventTarget();
 export const when = (name, does) => told.addEventListener(name, does);
 const tell = (name, detail) => told.dispatchEvent(new CustomEvent(name, { detail }));
 
+/** @type {Promise<void> | null} */
 let asking = null;
 let timer = 0;
 let faults = 0;
@@ -78,7 +86,9 @@ export function refresh() {
   asking ??= (async () => {
     tell("asking");
     try {
-      let [made, turns] = [null, -1];
+      let turns = -1;
+      /** @type {any} */
+      let made = null;
       // (what was read before a change was done would bring back what it did away with)
       while (!made || (changing.count === 0 && changing.turns !== turns)) {
         turns = changing.turns;

@@ -2,8 +2,10 @@
 // when it expires, and what became of the recipients that have left.
 
 import { call, history } from "./api.js";
+import { wholeCause } from "./causes.js";
 import { desk, now } from "./desk.js";
 import { address, button, by, chip, element, foreign, sender, trying } from "./parts.js";
+import { reasonOf } from "./report.js";
 import { moment, size, span, text } from "./texts.js";
 
 // After five days the relay gives a message up that is not on hold.
@@ -12,6 +14,7 @@ const EXPIRY_SECONDS = 432_000;
 const FAILED = ["failed", "expired"];
 
 // the message that is open, what its buttons do, and what was asked about it
+/** @type {any} */
 let opened = null;
 
 export const isOpen = () => opened?.id ?? null;
@@ -38,7 +41,7 @@ function expiry(whole) {
 
 function facts({ message, whole }) {
   const state = [chip(message.state), " "];
-  if (message.reason) state.push(foreign(message.reason));
+  if (message.reason) state.push(foreign(reasonOf(message)));
   const arrived = element("span", {}, moment(message.arrival),
     ` (${text("ago", { age: span(Math.max(0, now() - message.arrival)) })})`);
   const pairs = [["state", element("span", {}, ...state)], ["arrived", arrived]];
@@ -54,24 +57,29 @@ function facts({ message, whole }) {
 
 function recipient({ address: to, status, text: said }) {
   const answer = status ? foreign(`${status} ${said}`) : text("notTried");
-  return element("li", {}, element("strong", {}, address(to)), element("p", {}, answer));
+  return element("li", {}, element("strong", {}, address(to)), wholeCause(status, said, false),
+    element("p", {}, answer));
 }
 
 function end({ at, recipient: to, result, status, text: said }) {
   const answer = status ? [": ", foreign(`${status} ${said}`)] : [];
-  return element("li", {}, chip(result), " ", address(to), element("p", {}, moment(at), ...answer));
+  return element("li", {}, chip(result), " ", address(to), wholeCause(status, said, true),
+    element("p", {}, moment(at), ...answer));
 }
 
 function drawButtons({ message }) {
   const names = [message.state === "hold" ? "release" : "hold", "requeue", "delete"];
+  if (message.sender) names.push("stop");
   const is = names.join(" ");
   const at = by("detail-tools");
   if (at.dataset.is === is && !opened.gone) return;
   const had = [...at.children].indexOf(document.activeElement);
   at.dataset.is = is;
-  at.replaceChildren(...names.map((name) => button(text(`do_${name}`), () => opened.does(name), {
-    "data-does": name, ...(name === "delete" ? { class: "danger" } : {}),
-  })));
+  at.replaceChildren(...names.map((name) => {
+    const kind = ["delete", "stop"].includes(name) ? { class: "danger" } : {};
+    const does = () => opened.does(name, opened.message);
+    return button(text(`do_${name}`), does, { "data-does": name, ...kind });
+  }));
   if (had >= 0) at.children[had]?.focus();
 }
 

@@ -1,4 +1,4 @@
-// Why mail waits: the messages of a queue by what the other side said, by domain and by age.
+// Why mail waits: the messages of a queue by what the other side said, by domain, sender and age.
 
 const HOUR = 3600;
 // The columns of the chart of ages end at these hours; the last one has no end.
@@ -48,7 +48,7 @@ export function kindOf(status, text) {
 }
 
 // The groups that a message is in, as its kind of reason and the text of that.
-function reasonsOf(message) {
+function reasonsOf(/** @type {Message} */ message) {
   if (message.state === "hold") return [["hold", message.reason]];
   const said = message.pending.filter((it) => it.status);
   if (!said.length) return [["waiting", ""]];
@@ -56,16 +56,21 @@ function reasonsOf(message) {
 }
 
 // Whether a message is in a group.
-export const isIn = (message, of) =>
-  reasonsOf(message).some(([kind, name]) => `${kind} ${name}` === of);
+export function isIn(/** @type {Message} */ message, /** @type {Group} */ { of, kind, name }) {
+  if (kind === "domain") return message.domains.includes(name);
+  if (kind === "sender") return message.sender.toLowerCase() === name;
+  return reasonsOf(message).some(([one, reason]) => `${one} ${reason}` === of);
+}
 
-function grouped(messages, namesOf) {
+/** @returns {Group[]} */
+function grouped(/** @type {Message[]} */ messages, namesOf) {
+  /** @type {Map<string, Group>} */
   const groups = new Map();
   for (const message of messages) {
     for (const [kind, name] of namesOf(message)) {
       const of = `${kind} ${name}`;
       if (!groups.has(of)) groups.set(of, { of, kind, name, messages: [] });
-      groups.get(of).messages.push(message);
+      groups.get(of)?.messages.push(message);
     }
   }
   return [...groups.values()].sort(
@@ -76,18 +81,20 @@ function grouped(messages, namesOf) {
 export const byReason = (messages) => grouped(messages, reasonsOf);
 export const byDomain = (messages) =>
   grouped(messages, (it) => it.domains.map((domain) => ["domain", domain]));
+export const bySender = (messages) =>
+  grouped(messages, (it) => [["sender", it.sender.toLowerCase()]]);
 
 // Which column of the chart an age belongs to.
 export const columnOf = (seconds) => AGES.findIndex((hours) => seconds < hours * HOUR);
 
 // How many messages of each state are in each column.
-export function byAge(messages, now) {
+export function byAge(/** @type {Message[]} */ messages, now) {
   const columns = AGES.map(() => ({ waiting: 0, deferred: 0, hold: 0 }));
   for (const it of messages) columns[columnOf(Math.max(0, now - it.arrival))][it.state] += 1;
   return columns;
 }
 
-export function byState(messages) {
+export function byState(/** @type {Message[]} */ messages) {
   const counts = { waiting: 0, deferred: 0, hold: 0 };
   for (const it of messages) counts[it.state] += 1;
   return counts;

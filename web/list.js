@@ -2,10 +2,11 @@
 // element as long as its message is shown, so that focus and marks survive a refresh.
 
 import { leaving } from "./acts.js";
+import { causeOfMessage } from "./causes.js";
 import { now } from "./desk.js";
-import { answerOf } from "./report.js";
+import { answerOf, reasonOf } from "./report.js";
 import { shortened } from "./groups.js";
-import { by, chip, foreign } from "./parts.js";
+import { by, chip, focused, foreign } from "./parts.js";
 import { moment, size, span, text } from "./texts.js";
 
 // (a screen has some fifteen rows: the first few are drawn within the first frame)
@@ -33,23 +34,23 @@ function newRow(id) {
   return row;
 }
 
-function recipients({ pending }) {
+function recipients(/** @type {Message} */ { pending }) {
   const [first] = pending;
   if (!first) return [];
   const rest = pending.length - 1;
   return [foreign(first.address), rest ? ` ${text("andMore", { count: rest })}` : ""];
 }
 
-// Why a message waits, whole and as a row has room for.
-function why(message) {
-  if (message.state === "hold") return [message.reason, message.reason];
+// The answer that a message waits for, whole and as a row has room for.
+function why(/** @type {Message} */ message) {
+  if (message.state === "hold") return [reasonOf(message), reasonOf(message)];
   const last = message.pending.find((it) => it.status);
   if (!last) return [text("notTried"), text("notTried")];
   return [answerOf(message), `${last.status} ${shortened(last.text)}`];
 }
 
 // (a row whose message is as it was costs nothing)
-function fill(row, message) {
+function fill(row, /** @type {Message} */ message) {
   const { id, state, reason } = message;
   const is = `${state} ${reason} ${answerOf(message)} ${message.pending.length}`;
   row.classList.toggle("leaving", leaving.has(id));
@@ -64,8 +65,9 @@ function fill(row, message) {
   people.children[0].replaceChildren(from);
   people.children[1].replaceChildren(...recipients(message));
   const [whole, short] = why(message);
-  said.firstChild.replaceChildren(foreign(short));
-  said.firstChild.title = whole;
+  said.firstElementChild.textContent = said.firstElementChild.title = causeOfMessage(message);
+  said.lastElementChild.replaceChildren(foreign(short));
+  said.lastElementChild.title = whole;
   states.replaceChildren(chip(state));
   moment(message.arrival, age);
   arrived.title = age.textContent;
@@ -73,7 +75,7 @@ function fill(row, message) {
   bytes.textContent = size(message.size);
 }
 
-function rowOf(message) {
+function rowOf(/** @type {Message} */ message) {
   const row = rows.get(message.id) ?? newRow(message.id);
   rows.set(message.id, row);
   fill(row, message);
@@ -119,8 +121,8 @@ function place(wanted) {
 }
 
 // Shows these messages, in this order.
-export function list(messages) {
-  const had = body.contains(document.activeElement) ? document.activeElement.closest("tr") : null;
+export function list(/** @type {Message[]} */ messages) {
+  const had = body.contains(focused()) ? focused().closest("tr") : null;
   const hadPlace = had ? had.sectionRowIndex : 0;
   const next = active?.isConnected ? active.sectionRowIndex : 0;
   const keep = shown.length && messages[0]?.id === shown[0]?.id ? drawn : STEP;

@@ -3,20 +3,21 @@
 import { fill, text } from "./texts.js";
 
 fill(document);
-fill(document.getElementById("message-row").content);
+for (const it of document.querySelectorAll("template")) fill(it.content);
 
 const { call, key } = await import("./api.js");
-const { by, closeMenus, sayNothing } = await import("./parts.js");
+const { all, by, closeMenus, focused, sayNothing } = await import("./parts.js");
 const { desk, forget, refresh, restore, when } = await import("./desk.js");
 const { told } = await import("./words.js");
 const { tellView, tellWho, wearColours } = await import("./look.js");
 const { goTo, viewOfAddress } = await import("./place.js");
-const [overview, queue, sent, rules, notices, usage] = await Promise.all(
-  ["overview", "queue", "sent", "rules", "notices", "usage"].map((it) => import(`./${it}.js`)),
+const names = ["overview", "find", "queue", "sent", "rules", "notices", "usage"];
+const [overview, find, queue, sent, rules, notices, usage] = await Promise.all(
+  names.map((it) => import(`./${it}.js`)),
 );
 
-const VIEWS = { overview, queue, sent, rules, notices, usage };
-const tabs = [...document.querySelectorAll("[role=tab]")];
+const VIEWS = { overview, find, queue, sent, rules, notices, usage };
+const tabs = all("[role=tab]");
 const viewOf = (tab) => tab.getAttribute("aria-controls");
 let chosen = tabs[0];
 
@@ -53,6 +54,9 @@ function moveBetweenTabs(event) {
 const tabOfAddress = () =>
   tabs.find((it) => viewOf(it) === viewOfAddress()) ?? tabs[0];
 
+// (two views have more in the address than their name)
+const takeAddress = () => VIEWS[viewOf(tabOfAddress())].takeAddress?.();
+
 // ---- the key
 
 function askForKey(words) {
@@ -69,10 +73,10 @@ function showViews() {
   by("key-form").hidden = true;
   by("views").hidden = false;
   by("refresh").hidden = false;
-  queue.takeAddress();
+  takeAddress();
   select(tabOfAddress());
   // (so that Tab and arrows begin where the page does)
-  if (document.activeElement === document.body) chosen.focus({ focusVisible: false });
+  if (focused() === document.body) chosen.focus({ focusVisible: false });
 }
 
 async function useKey(event) {
@@ -117,15 +121,6 @@ when("changed", () => {
 document.addEventListener("turn", ({ detail }) => {
   if (viewOf(chosen) !== detail) turnTo(by(`tab-${detail}`));
 });
-// (a message of the queue or a notice asks for its history)
-document.addEventListener("history", ({ detail }) => {
-  sent.showOnly(detail);
-  turnTo(by("tab-sent"));
-});
-document.addEventListener("failures", () => {
-  sent.showUndelivered();
-  turnTo(by("tab-sent"));
-});
 document.addEventListener("notices", ({ detail }) => {
   turnTo(by("tab-notices"));
   notices.openOf(detail);
@@ -135,7 +130,7 @@ document.addEventListener("focusin", closeMenus);
 document.addEventListener("keydown", closeMenus);
 addEventListener("popstate", () => {
   if (by("views").hidden) return;
-  if (tabOfAddress() === by("tab-queue")) queue.takeAddress();
+  takeAddress();
   if (tabOfAddress() !== chosen) turnTo(tabOfAddress());
 });
 for (const tab of tabs) {

@@ -1,7 +1,9 @@
 // The notices, the newest first, and the two texts of one, with the way to its message.
 
 import { call, notices } from "./api.js";
+import { recipientsOf, wholeCause } from "./causes.js";
 import { desk } from "./desk.js";
+import { show as find } from "./find.js";
 import { address, button, by, chip, element, filling, say, trying } from "./parts.js";
 import { moment, text } from "./texts.js";
 import { showMessage } from "./queue.js";
@@ -18,20 +20,24 @@ function drawn(notice) {
   const cell = (it) => element("td", { role: "cell" }, it);
   const row = element("tr", { role: "row", class: "notice", "data-id": notice.id });
   row.dataset.number = notice.number;
+  row.dataset.kind = notice.kind;
+  row.dataset.all = `${notice.to} ${notice.id}`.toLowerCase();
   row.append(cell(moment(notice.at)), cell(chip(notice.kind, text(`kind_${notice.kind}`))),
     cell(subject), cell(to), cell(element("code", {}, notice.id)));
   return row;
 }
 
-// Where more is told of the message of a notice: the queue while it is there, else the history.
-function way(notice, sender) {
-  const isQueued = desk.byId.has(notice.id);
-  const does = () => {
-    if (isQueued) return showMessage(notice.id);
-    const detail = { id: notice.id, sender };
-    return document.dispatchEvent(new CustomEvent("history", { detail }));
-  };
-  return button(text(isQueued ? "openMessage" : "openHistory", { id: notice.id }), does);
+// Where more is told of the message of a notice: the queue while it is there, and the search.
+function ways({ id }) {
+  const finds = button(text("findMessage", { id }), () => find({ words: id }));
+  if (!desk.byId.has(id)) return [finds];
+  return [button(text("openMessage", { id }), () => showMessage(id)), finds];
+}
+
+// Why, for each recipient that the notice tells of.
+function causes(status, isOver) {
+  return recipientsOf(status).map((it) => element("li", {}, address(it.address),
+    wholeCause(it.status, it.text, isOver)));
 }
 
 async function show(notice) {
@@ -40,9 +46,10 @@ async function show(notice) {
   opened = notice.number;
   by("notice-subject").textContent = told.subject;
   by("notice-to").replaceChildren(address(told.to));
+  by("notice-causes").replaceChildren(...causes(told.status, notice.kind === "failure"));
   by("notice-human").textContent = told.human;
   by("notice-status").textContent = told.status;
-  by("notice-ways").replaceChildren(way(notice, told.to), button(text("close"), close));
+  by("notice-ways").replaceChildren(...ways(notice), button(text("close"), close));
   by("notice").hidden = false;
   by("notice").focus();
 }
@@ -50,6 +57,21 @@ async function show(notice) {
 function close() {
   by("notice").hidden = true;
   by("notice-list").querySelector(`[data-number='${opened}'] button`)?.focus();
+}
+
+// Shows the notices of a kind, and those with the words that are looked for.
+function filter() {
+  const [words, kind] = ["search", "kind"].map((it) => by(`notices-${it}`).value.trim());
+  const rows = [...by("notice-list").tBodies[0].rows];
+  const isMeant = ({ dataset }) =>
+    (!kind || dataset.kind === kind) && dataset.all.includes(words.toLowerCase());
+  for (const it of rows) it.hidden = !isMeant(it);
+  const number = rows.filter((it) => !it.hidden).length;
+  const said = words || kind ? "noticesFound" : "noticesAll";
+  by("notices-shown").textContent = text(said, { count: rows.length, number });
+  by("notice-list").hidden = !number;
+  by("notices-none").hidden = number > 0;
+  by("notices-none").textContent = text(rows.length ? "nothingFound" : "noNotices");
 }
 
 async function load() {
@@ -66,15 +88,14 @@ async function load() {
   rows.reverse();
   const body = by("notice-list").tBodies[0];
   if (numbers(rows) !== numbers(body.rows)) body.replaceChildren(...rows);
-  by("notices-shown").textContent = text("noticesAll", { count: rows.length });
-  by("notice-list").hidden = !rows.length;
-  by("notices-none").hidden = rows.length > 0;
+  filter();
 }
 
 export const open = () => filling("notice-list", load);
 
 // Opens the newest notice of a message.
 export async function openOf(id) {
+  by("notices-search").value = by("notices-kind").value = "";
   await open();
   const rows = [...by("notice-list").tBodies[0].rows];
   const row = rows.find((it) => it.dataset.id === id);
@@ -85,6 +106,12 @@ export async function openOf(id) {
 by("notice").addEventListener("keydown", ({ key }) => {
   if (key === "Escape") close();
 });
+by("notices-kind").append(
+  element("option", { value: "" }, text("anyKind")),
+  ...["failure", "delay"].map((it) => element("option", { value: it }, text(`kind_${it}`))),
+);
+by("notices-kind").addEventListener("change", filter);
+by("notices-search").addEventListener("input", filter);
 by("reload-notices").addEventListener("click", async () => {
   if (await open()) say(text("loadedAgain"));
 });

@@ -1,12 +1,16 @@
 // The overview: whether all is well, how full it is, why mail waits, and how old it is.
 
 import { actGroup, holdMatching } from "./acts.js";
+import { whatHappened } from "./causes.js";
 import { agesChart, fullness } from "./chart.js";
 import { desk, now } from "./desk.js";
-import { byAge, byDomain, byReason, byState, STATES } from "./groups.js";
-import { by, button, chip, element, foreign, menu } from "./parts.js";
+import { dayOf, show as find } from "./find.js";
+import { byAge, byDomain, byReason, bySender, byState, STATES } from "./groups.js";
+import { by, button, chip, element, focused, foreign, menu } from "./parts.js";
 import { show } from "./queue.js";
-import { UNDELIVERED } from "./sent.js";
+import { UNDELIVERED } from "./records.js";
+import { reasonOf } from "./report.js";
+import { stopSender } from "./stop.js";
 import { count, size, span, text } from "./texts.js";
 
 // Of each list of groups, until more are asked for.
@@ -18,12 +22,19 @@ const NEARLY_FULL = 0.9;
 // Of those that left within a day: so many failures are told where they are more than this part,
 // and above the second part it is bad.
 const [DAY, FEWEST_FAILED, MANY_FAILED, MOST_FAILED] = [24 * 3600, 5, 0.1, 0.5];
-const every = { reasons: false, domains: false };
+// The lists of groups: their titles, and what their groups are of.
+/** @type {Record<string, [string, (messages: Message[]) => Group[]]>} */
+const LISTS = {
+  reasons: ["whyWaits", byReason], domains: ["toWhom", byDomain], senders: ["whoSends", bySender],
+};
+// the lists that are shown whole
+const every = new Set();
 
 // ---- all is well, or not
 
 // (no list of 10,000 arguments: some browsers have not so many)
-const oldest = (messages) => messages.reduce((least, it) => Math.min(least, it.arrival), Infinity);
+const oldest = (/** @type {Message[]} */ messages) =>
+  messages.reduce((least, it) => Math.min(least, it.arrival), Infinity);
 
 // Whether many of the newest that left within a day failed; null where few did.
 function failures() {
@@ -32,7 +43,7 @@ function failures() {
   const part = number / ends.length;
   if (number < FEWEST_FAILED || part <= MANY_FAILED) return null;
   const words = element("span", {}, text("wellFailed", { count: number, all: ends.length }), " ");
-  const shows = () => document.dispatchEvent(new CustomEvent("failures"));
+  const shows = () => find({ state: "undelivered", from: dayOf(now() - DAY) });
   words.append(button(text("showFailed"), shows, { class: "link", id: "show-failed" }));
   return [part > MOST_FAILED ? "bad" : "warn", words];
 }
@@ -74,47 +85,58 @@ function drawTiles() {
 // ---- groups
 
 // What a group is called.
-export function nameOf({ kind, name }) {
+export function nameOf(/** @type {Group} */ { kind, name }) {
   if (kind === "waiting") return text("notTried");
-  if (kind === "hold") return name ? text("heldFor", { reason: name }) : text("hold");
+  if (kind === "hold" && !name) return text("hold");
+  if (kind === "hold") return text("heldFor", { reason: reasonOf({ reason: name }) });
+  if (kind === "sender") return name || text("nullSender");
   return name;
 }
 
 // Which actions make sense for a group: a hold where something is not on hold, and so on.
-function choicesOf(group) {
-  const held = group.messages.filter((it) => it.state === "hold").length;
+function choicesOf(/** @type {Group} */ group) {
+  const { kind, name, messages } = group;
+  const held = messages.filter((it) => it.state === "hold").length;
   const names = ["delete"];
   if (held) names.unshift("release");
-  if (held < group.messages.length) names.unshift("hold");
-  const words = nameOf(group);
-  const pattern = { class: "recipient", pattern: group.name };
-  return names.map((name) => [
-    text(`do_${name}`),
-    () => (name === "hold" && group.kind === "domain"
-      ? holdMatching(pattern, words, group.messages.length)
-      : actGroup(name, group.messages, words)),
-    { "data-group": name, ...(name === "delete" ? { class: "danger" } : {}) },
-  ]);
+  if (held < messages.length) names.unshift("hold");
+  if (kind === "sender" && name) names.push("stop");
+  return names.map((it) => [text(`do_${it}`), () => doGroup(it, group),
+    { "data-group": it, ...(["delete", "stop"].includes(it) ? { class: "danger" } : {}) }]);
 }
 
-function drawGroup(group, most) {
+// (an answer is no pattern of the desk, and the null sender is left to those that were seen)
+function doGroup(does, /** @type {Group} */ group) {
+  const { kind, name, messages } = group;
+  if (does === "stop") return stopSender(name);
+  const side = kind === "domain" ? "recipient" : kind === "sender" && name ? "sender" : "";
+  const words = nameOf(group);
+  if (does !== "hold" || !side) return actGroup(does, messages, words);
+  return holdMatching({ class: side, pattern: name }, words, messages.length);
+}
+
+function drawGroup(/** @type {Group} */ group, most) {
   const name = nameOf(group);
   const { length } = group.messages;
   const bar = element("progress", { max: most, "aria-hidden": "true" });
   bar.value = length;
-  const choose = group.kind === "domain" ? { domain: group.name } : { group };
+  const choose = group.kind === "domain"
+    ? { domain: group.name } : { group: { ...group, words: name } };
   const shows = button("", () => show(choose), {
     class: "group-name", title: name, "aria-label": text("showGroup", { count: length, name }),
   });
   shows.append(foreign(name));
+  const [status, ...said] = group.name.split(" ");
+  const cause = group.kind === "deferred" ? whatHappened(status, said.join(" ")) : "";
+  const words = element("div", {}, element("span", { class: "cause" }, cause), shows);
   const label = text("actionsOf", { name });
   return element("li", { class: `group ${group.kind}` },
-    element("span", { class: "number" }, count(length)), shows,
+    element("span", { class: "number" }, count(length)), words,
     menu(text("actions"), label, choicesOf(group)), bar);
 }
 
-function drawGroups(id, groups) {
-  const shown = every[id] ? groups : groups.slice(0, FEW);
+function drawGroups(id, /** @type {Group[]} */ groups) {
+  const shown = every.has(id) ? groups : groups.slice(0, FEW);
   const most = groups[0]?.messages.length ?? 1;
   const rows = shown.map((it) => drawGroup(it, most));
   by(id).replaceChildren(...rows);
@@ -147,11 +169,10 @@ export function draw() {
   by("ages").replaceChildren(agesChart(byAge(desk.messages, now())));
   // (a menu that somebody has open is not to vanish under the hand)
   if (by("overview").querySelector("details[open]")) return;
-  const focused = document.activeElement?.closest?.(".group") ? document.activeElement : null;
-  const label = focused?.getAttribute("aria-label");
-  drawGroups("reasons", byReason(desk.messages));
-  drawGroups("domains", byDomain(desk.messages));
-  if (focused) {
+  const had = focused()?.closest?.(".group") ? focused() : null;
+  const label = had?.getAttribute("aria-label");
+  for (const [id, [, groupsOf]] of Object.entries(LISTS)) drawGroups(id, groupsOf(desk.messages));
+  if (had) {
     const same = [...by("overview").querySelectorAll(".group [aria-label]")]
       .find((it) => it.getAttribute("aria-label") === label);
     (same ?? by("well")).focus();
@@ -160,10 +181,18 @@ export function draw() {
 
 export const open = draw;
 
-for (const id of ["reasons", "domains"]) {
-  by(`${id}-more`).addEventListener("click", () => {
-    every[id] = true;
+// A list of groups under its title.
+function listOf(id, title) {
+  const more = button("", () => {
+    every.add(id);
     draw();
     by(id).children[FEW]?.querySelector("button").focus();
-  });
+  }, { id: `${id}-more`, class: "link", hidden: "" });
+  const names = { "aria-labelledby": `${id}-title` };
+  return element("section", { class: `card of-${id}`, ...names },
+    element("h2", { id: `${id}-title` }, text(title)),
+    element("ul", { id, class: "groups", ...names }),
+    element("p", { id: `${id}-none`, class: "quiet", hidden: "" }, text("emptyQueue")), more);
 }
+
+by("groups").append(...Object.entries(LISTS).map(([id, [title]]) => listOf(id, title)));

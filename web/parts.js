@@ -3,7 +3,23 @@
 import { text } from "./texts.js";
 import { told } from "./words.js";
 
+/**
+ * The element of an ID. (The page has many kinds of them, so its type is left open.)
+ * @returns {any}
+ */
 export const by = (id) => document.getElementById(id);
+
+/**
+ * The elements of a selector.
+ * @returns {any[]}
+ */
+export const all = (selector) => [...document.querySelectorAll(selector)];
+
+/**
+ * What has the focus.
+ * @returns {any}
+ */
+export const focused = () => document.activeElement;
 
 // An element with text or children. Text of the desk comes in here alone, and never as markup.
 export function element(name, attributes = {}, ...children) {
@@ -146,9 +162,9 @@ export function menu(words, label, choices) {
 }
 
 // A menu that is left is closed, by the mouse as by Tab and Escape.
-export function closeMenus({ type, key, target }) {
+export function closeMenus(/** @type {any} */ { type, key, target }) {
   if (type === "keydown" && key !== "Escape") return;
-  for (const it of document.querySelectorAll("details.menu[open]")) {
+  for (const it of all("details.menu[open]")) {
     if (type !== "keydown" && it.contains(target)) continue;
     const inside = it.contains(document.activeElement);
     it.open = false;

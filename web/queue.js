@@ -3,6 +3,7 @@
 
 import { act, actAll, actGroup, drawnBy, leaving } from "./acts.js";
 import { call, found } from "./api.js";
+import { csvOf } from "./csv.js";
 import { desk, now, refresh, when } from "./desk.js";
 import { ageName } from "./chart.js";
 import { close, isOpen, openDetail, redraw } from "./detail.js";
@@ -11,8 +12,9 @@ import {
   activeRow, focusOn, list, mark, markAll, marks, messagesShown, rowFor, whenKeysOf,
 } from "./list.js";
 import { answerOf } from "./report.js";
-import { by, element, foreign, sayNothing, trying } from "./parts.js";
+import { all, by, download, element, foreign, sayNothing, trying } from "./parts.js";
 import { goTo, viewOfAddress, wordsOfAddress } from "./place.js";
+import { stopSender } from "./stop.js";
 import { text } from "./texts.js";
 
 // Of the domains that are offered, and how long after a key the desk is asked, in milliseconds.
@@ -20,6 +22,10 @@ const DOMAINS = 50;
 const BEHIND_KEYS = 400;
 // What may be a pattern of the desk: an address, a domain, a name with its @.
 const PATTERN = /^(?:[^\s@]+@|(?:[^\s@]+@)?\.?[a-z0-9_-]+(?:\.[a-z0-9_-]+)+)$/;
+// Of a file of the queue.
+const COLUMNS = [
+  "arrival", "id", "recipient", "sender", "size", "state", "reason", "status", "text",
+];
 // From so many marked messages on, patterns are worth a question.
 const MANY = 100;
 
@@ -50,7 +56,7 @@ function isShown() {
     (!state || it.state === state)
     && (!domain || it.domains.includes(domain))
     && (!age || columnOf(Math.max(0, moment - it.arrival)) === Number(age))
-    && (!group || (group.kind === "domain" ? it.domains.includes(group.name) : isIn(it, group.of)))
+    && (!group || isIn(it, group))
     && (!words || it.all.includes(words));
 }
 
@@ -66,7 +72,7 @@ function tellCount(number) {
   by("filter-none").hidden = !isFiltered();
   by("empty").hidden = number > 0;
   by("empty").textContent = text(isFiltered() ? "nothingFound" : "emptyQueue");
-  by("messages").hidden = number === 0;
+  by("messages").hidden = by("queue-csv").hidden = number === 0;
 }
 
 export function draw() {
@@ -104,11 +110,12 @@ function tellAddress(isStep = false) {
 export function takeAddress() {
   const words = wordsOfAddress();
   by("search").value = words.get("words") ?? "";
-  by("order").value = words.get("order") in ORDERS ? words.get("order") : "newest";
-  by("only-state").value = STATES.includes(words.get("state")) ? words.get("state") : "";
-  by("only-age").value = AGES[words.get("age")] ? words.get("age") : "";
+  const [order, state, age] = ["order", "state", "age"].map((it) => words.get(it) ?? "");
+  by("order").value = order in ORDERS ? order : "newest";
+  by("only-state").value = STATES.includes(state) ? state : "";
+  by("only-age").value = Number(age) in AGES ? age : "";
   chooseDomain(words.get("domain") ?? "");
-  const id = words.get("message");
+  const id = words.get("message") ?? "";
   if (isOpen() && isOpen() !== id) shut();
   draw();
   if (desk.byId.has(id) && isOpen() !== id) openRow(id, false);
@@ -148,13 +155,13 @@ function chooseDomain(domain) {
 }
 
 // Shows these messages alone: those of a state, a domain, a group, or some words.
+/** @param {{ state?: string, domain?: string, words?: string, group?: Group | null }} only */
 export function show({ state = "", domain = "", words = "", group: one = null }) {
   by("search").value = words;
   by("only-state").value = state;
   by("only-age").value = "";
   chooseDomain(domain);
-  const groupName = one && (one.name || text(one.kind === "waiting" ? "notTried" : "hold"));
-  group = one && { ...one, words: groupName };
+  group = one;
   document.dispatchEvent(new CustomEvent("turn", { detail: "queue" }));
   draw();
 }
@@ -204,8 +211,8 @@ function tellMarks() {
 }
 
 function doMarked(name) {
-  const ids = [...marks].filter((it) => desk.byId.has(it));
-  const messages = ids.map((it) => desk.byId.get(it));
+  const messages = desk.messages.filter((it) => marks.has(it.id));
+  const ids = messages.map((it) => it.id);
   if (ids.length > MANY && ["hold", "release"].includes(name)) {
     return actGroup(name, messages, text("marked", { count: ids.length }));
   }
@@ -213,7 +220,8 @@ function doMarked(name) {
 }
 
 function openRow(id, isStep = true) {
-  openDetail(id, { does: (name) => act(name, [id]), quiet: !isStep });
+  const does = (name, { sender }) => (name === "stop" ? stopSender(sender) : act(name, [id]));
+  openDetail(id, { does, quiet: !isStep });
   tellAddress(isStep);
   for (const it of document.querySelectorAll("tr.opened")) it.classList.remove("opened");
   rowFor(id)?.classList.add("opened");
@@ -236,6 +244,16 @@ export function closeDetail() {
   shut();
   tellAddress();
   focusOn(rowFor(id) ?? null);
+}
+
+// Saves what is shown, all rows of it: one for each recipient that waits.
+function save() {
+  const rows = messagesShown().flatMap(({ pending, ...it }) => pending.map((one) => {
+    const { address: recipient, status, text: said } = one;
+    const named = { ...it, recipient, status, text: said };
+    return COLUMNS.map((name) => named[name]);
+  }));
+  download("queue.csv", csvOf([COLUMNS, ...rows]));
 }
 
 async function showReport() {
@@ -261,6 +279,7 @@ by("filter").addEventListener("click", () => {
   by("filter").setAttribute("aria-expanded", !isShut);
 });
 by("filter-none").addEventListener("click", showAll);
+by("queue-csv").addEventListener("click", save);
 by("only-group-close").addEventListener("click", showAll);
 by("mark-all").addEventListener("change", () => {
   markAll(by("mark-all").checked);
@@ -272,10 +291,10 @@ by("mark-none").addEventListener("click", () => {
   by("search").focus();
 });
 whenKeysOf({ opens: openRow, marked: tellMarks });
-for (const it of document.querySelectorAll("[data-marked]")) {
+for (const it of all("[data-marked]")) {
   it.addEventListener("click", () => doMarked(it.dataset.marked));
 }
-for (const it of document.querySelectorAll("[data-all]")) {
+for (const it of all("[data-all]")) {
   it.addEventListener("click", () => {
     it.closest("details").open = false;
     it.closest("details").firstElementChild.focus();

@@ -6,10 +6,10 @@ import { call, found, history, lines } from "./api.js";
 import { csvOf } from "./csv.js";
 import { desk } from "./desk.js";
 import {
-  ask, bad, by, button, download, element, filling, foreign, menu, sayAndLoad, trying,
+  ask, bad, by, button, download, element, filling, foreign, menu, say, sayAndLoad, trying,
 } from "./parts.js";
+import { fits, meant } from "./patterns.js";
 import { show } from "./queue.js";
-import { domainOf } from "./report.js";
 import { openImport } from "./rules_file.js";
 import { count, text } from "./texts.js";
 import { ACTIONS, told } from "./words.js";
@@ -17,16 +17,22 @@ import { ACTIONS, told } from "./words.js";
 // Of those that a rule would be for; and of a page of the desk.
 const SHOWN = 5;
 const PAGE = 100;
+// So many rules are drawn at once, and more as one comes to their end.
+const STEP = 100;
 
+/** @type {Rule[]} */
 let rules = [];
+// those that the search leaves
+let shown = rules;
 // the rule that is being changed, null where a new one is made
+/** @type {Rule | null} */
 let edited = null;
 
-const spoken = (line) => text(`mail_${line.class}`, { pattern: line.pattern });
+const spoken = (/** @type {Rule} */ line) => text(`mail_${line.class}`, { pattern: line.pattern });
 
 // ---- the list
 
-function drawn(line) {
+function drawn(/** @type {Rule} */ line) {
   const [verb, ...rest] = line.action.split(" ");
   const words = element("span", { class: "clamp", title: line.action }, foreign(rest.join(" ")));
   const label = text("actionsOf", { name: spoken(line) });
@@ -41,21 +47,28 @@ function drawn(line) {
   const actions = menu(text("actions"), label, choices);
   row.append(cell(text(line.class), "side"), cell(pattern, "pattern"),
     cell(action, "action"), cell(words, "words"), cell(actions, "do"));
-  row.dataset.all = `${line.class} ${line.pattern} ${line.action}`.toLowerCase();
   return row;
+}
+
+// Draws more of the rules that are looked for, below those that are there.
+function more() {
+  const body = by("lines").tBodies[0];
+  body.append(...shown.slice(body.rows.length, body.rows.length + STEP).map(drawn));
 }
 
 function filter() {
   const words = by("rules-search").value.trim().toLowerCase();
-  const rows = [...by("lines").tBodies[0].rows];
-  for (const it of rows) it.hidden = words !== "" && !it.dataset.all.includes(words);
-  const number = rows.filter((it) => !it.hidden).length;
+  const hasWords = (it) => `${it.class} ${it.pattern} ${it.action}`.toLowerCase().includes(words);
+  shown = words ? rules.filter(hasWords) : rules;
+  by("lines").tBodies[0].replaceChildren();
+  more();
   const said = words ? "rulesFound" : "rulesAll";
-  by("lines-shown").textContent = text(said, { count: rows.length, number });
+  const number = shown.length;
+  by("lines-shown").textContent = text(said, { count: rules.length, number });
   by("lines").hidden = number === 0;
   by("rules-none").hidden = number > 0;
-  by("rules-none").textContent = text(rows.length ? "nothingFound" : "noRules");
-  by("rules-csv").disabled = rows.length === 0;
+  by("rules-none").textContent = text(rules.length ? "nothingFound" : "noRules");
+  by("rules-csv").disabled = rules.length === 0;
 }
 
 async function load() {
@@ -67,23 +80,48 @@ async function load() {
     if (!rules.length) by("lines-shown").textContent = "";
     throw fault;
   }
+  const had = by("lines").tBodies[0].rows.length;
   rules = made;
-  by("lines").tBodies[0].replaceChildren(...rules.map(drawn));
   filter();
+  // (who is far down in the list stays there)
+  while (by("lines").tBodies[0].rows.length < Math.min(had, shown.length)) more();
 }
 
 export const open = () => filling("lines", load);
 
+// The action that a pattern has now; null where it has no rule.
+const actionOf = (/** @type {Pattern} */ line) =>
+  rules.find((it) => isSame(it, line))?.action ?? null;
+
+// Brings rules back as they were, unless somebody has changed one of them since.
+async function undo(before, after) {
+  await load();
+  if (after.some((it) => actionOf(it) !== it.action)) return say(bad(text("ruleChanged")));
+  for (const { class: side, pattern, action } of before) {
+    const line = { class: side, pattern };
+    await (action === null
+      ? call("POST", "/v1/line-drop", line) : call("POST", "/v1/line-put", { ...line, action }));
+  }
+  return sayAndLoad(text("ruleUndone"), load);
+}
+
+// Offers to undo a change, beside what is told of it. `before` has the patterns that it touched.
+function offerUndo(before) {
+  const after = before.map((it) => ({ ...it, action: actionOf(it) }));
+  const does = () => trying(() => undo(before, after));
+  by("told").append(button(text("undo"), does, { id: "undo-rule" }));
+}
+
 async function drop(line) {
   const facts = [[text("mail"), spoken(line)], [text("action"), foreign(line.action)]];
   if (!(await ask(text("dropTitle"), "", text("dropYes"), { isDanger: true, facts }))) return;
-  let done = text("dropped", { rule: spoken(line) });
   try {
     await call("POST", "/v1/line-drop", { class: line.class, pattern: line.pattern });
+    await sayAndLoad(text("dropped", { rule: spoken(line) }), load);
+    offerUndo([line]);
   } catch (fault) {
-    done = fault;
+    await sayAndLoad(fault, load);
   }
-  await sayAndLoad(done, load);
   by("rules-new").focus();
 }
 
@@ -105,17 +143,6 @@ function edit(line) {
 
 const written = () => ({ class: by("put-class").value, pattern: by("put-pattern").value.trim() });
 
-// A pattern that would match nobody, though the desk takes it, and what was likely meant.
-export function meant(pattern) {
-  if (/^<.+@.+>$/.test(pattern)) return pattern.slice(1, -1);
-  const whole = /^(?:\*|%|\.\*|)@(.+)$/.exec(pattern);
-  if (whole) return whole[1];
-  const below = /^\*\.(.+)$/.exec(pattern);
-  if (below) return `.${below[1]}`;
-  if (/^[\w.+-]+@\*$/.test(pattern)) return pattern.slice(0, -1);
-  return null;
-}
-
 function warn() {
   const { pattern } = written();
   const better = meant(pattern);
@@ -131,7 +158,7 @@ function warn() {
 }
 
 // (the desk keeps patterns in lower case)
-const isSame = (known, line) =>
+const isSame = (known, /** @type {Pattern} */ line) =>
   known?.class === line.class && known.pattern === line.pattern.toLowerCase();
 
 // Asks before a rule is written over that is not the one that is changed here.
@@ -145,12 +172,12 @@ function mayReplace(line) {
 }
 
 // Drops the rule that another one stands in for; what went wrong, if that did.
-async function dropOld(line) {
+async function dropOld(/** @type {Rule} */ old, /** @type {Rule} */ line) {
   try {
-    await call("POST", "/v1/line-drop", { class: edited.class, pattern: edited.pattern });
+    await call("POST", "/v1/line-drop", { class: old.class, pattern: old.pattern });
     return null;
   } catch (fault) {
-    const words = { rule: spoken(line), old: spoken(edited), words: told(fault) };
+    const words = { rule: spoken(line), old: spoken(old), words: told(fault) };
     return bad(text("stillThere", words));
   }
 }
@@ -173,20 +200,18 @@ async function queuedOf(line) {
 async function put() {
   const line = { ...written(), action: `${by("put-action").value} ${by("put-text").value}`.trim() };
   if (!(await mayReplace(line))) return;
+  /** @type {{ class: string, pattern: string, action: string | null }[]} */
+  const before = [{ ...line, action: actionOf(line) }];
   const reply = await call("POST", "/v1/line-put", line);
-  const fault = edited && !isSame(edited, line) ? await dropOld(line) : null;
+  if (edited && !isSame(edited, line)) before.push(edited);
+  const fault = edited && before.length > 1 ? await dropOld(edited, line) : null;
   by("put-dialog").close();
   await sayAndLoad(fault ?? text(`put_${reply.put}`, { rule: spoken(line) }), load);
+  // (where somebody else has set it meanwhile, nobody here knows how it was)
+  const wasKnown = (reply.put === "added") === (before[0].action === null);
+  if (wasKnown && reply.put !== "same") offerUndo(before);
   const queued = line.action.startsWith("REJECT") && line.pattern !== "<>" && await queuedOf(line);
   if (queued) by("told").append(queued);
-}
-
-// Whether a pattern is for an address, as the desk looks it up.
-function fits(pattern, address) {
-  const [key, whole] = [pattern.toLowerCase(), address.toLowerCase()];
-  const domain = domainOf(whole);
-  const name = whole.slice(0, whole.length - domain.length);
-  return [whole, domain, name].includes(key) || (key.startsWith(".") && domain.endsWith(key));
 }
 
 // Those of some messages and ends that a pattern is for.
@@ -269,6 +294,13 @@ async function check(event) {
 by("put-action").append(
   ...ACTIONS.map((it) => element("option", { value: it }, `${it}: ${text(`action_${it}`)}`)),
 );
+new IntersectionObserver((changes) => {
+  if (changes.some((it) => it.isIntersecting)) more();
+}, { rootMargin: "600px" }).observe(by("lines-end"));
+// (on paper nobody comes to the end of a list)
+addEventListener("beforeprint", () => {
+  while (by("lines").tBodies[0].rows.length < shown.length) more();
+});
 by("rules-new").addEventListener("click", () => edit(null));
 by("rules-search").addEventListener("input", filter);
 by("rules-import").addEventListener("click", () => openImport(open));

@@ -3,16 +3,12 @@
 import { history } from "./api.js";
 import { csvOf } from "./csv.js";
 import { desk } from "./desk.js";
-import {
-  address, button, by, chip, download, element, filling, foreign, say, sender, trying,
-} from "./parts.js";
-import { moment, text } from "./texts.js";
+import { button, by, download, element, filling, say, trying } from "./parts.js";
 import { showMessage } from "./queue.js";
+import { endRow, RESULTS, resultsOf } from "./records.js";
+import { moment, text } from "./texts.js";
 
 const COLUMNS = ["at", "id", "number", "recipient", "result", "sender", "status", "text"];
-// What may become of a recipient, and of whom that mail did not come.
-const RESULTS = ["delivered", "failed", "deleted", "expired"];
-export const UNDELIVERED = ["failed", "expired"];
 // How many are looked for at once, page by page.
 const ENOUGH = 100;
 
@@ -31,37 +27,19 @@ let isFresh = true;
 let isAsking = false;
 let stops = false;
 
-function people(end) {
-  const to = element("span", { class: "line strong" }, address(end.recipient));
-  const from = element("span", { class: "line quiet" }, text("from"), " ", sender(end.sender));
-  return element("td", { role: "cell" }, to, from);
-}
-
-function drawn(end) {
-  const said = end.status ? `${end.status} ${end.text}` : "";
-  const clamp = element("span", { class: "clamp", title: said }, foreign(said));
-  const opens = () => (desk.byId.has(end.id) ? showMessage(end.id) : onlyThat(end));
-  const label = text("openOne", { id: end.id, to: end.recipient });
-  const id = button(end.id, opens, { class: "link", "aria-label": label });
-  const result = chip(end.result);
-  result.title = text(`${end.result}Means`);
-  const cell = (it) => element("td", { role: "cell" }, it);
-  const row = element("tr", { role: "row", class: "end", "data-result": end.result });
-  row.append(cell(moment(end.at)), people(end), cell(result), cell(clamp), cell(id));
-  return row;
-}
+const drawn = (/** @type {End} */ end) =>
+  endRow(end, () => (desk.byId.has(end.id) ? showMessage(end.id) : onlyThat(end)));
 
 // The ends of the message of one of them.
-function onlyThat(end) {
+function onlyThat(/** @type {End} */ end) {
   showOnly({ id: end.id, sender: end.sender });
   return open();
 }
 
 // Whether an end is of those that are looked for.
-function isMeant(end) {
+function isMeant(/** @type {End} */ end) {
   const result = by("ends-result").value;
-  const results = result === "undelivered" ? UNDELIVERED : [result];
-  return (!only || end.id === only.id) && (!result || results.includes(end.result));
+  return (!only || end.id === only.id) && (!result || resultsOf(result).includes(end.result));
 }
 
 function tell() {
@@ -114,7 +92,7 @@ async function more() {
 async function load() {
   loading += 1;
   [next, isFresh] = [null, true];
-  const most = desk.limits?.history;
+  const most = desk.limits.history;
   by("ends-kept").textContent = most ? text("endsKept", { count: most }) : text("endsNone");
   by("ends-shown").textContent = text("loading");
   try {
@@ -127,7 +105,7 @@ async function load() {
 export const open = () => filling("ends", load);
 
 // Has the view show one message: its recipients stand among those of its sender.
-export function showOnly(message) {
+function showOnly(message) {
   only = message;
   wanted = { class: "sender", pattern: message.sender.toLowerCase() || "<>" };
   by("ends-class").value = "sender";
@@ -139,13 +117,6 @@ async function find(event) {
   only = null;
   wanted = { class: by("ends-class").value, pattern: by("ends-pattern").value.trim() };
   await open();
-}
-
-// Has the view show whose mail did not come.
-export function showUndelivered() {
-  only = wanted = null;
-  by("ends-pattern").value = "";
-  by("ends-result").value = "undelivered";
 }
 
 async function showAll() {

@@ -15,7 +15,7 @@ export const languages = Object.entries(LANGUAGES).map(([name, it]) => [name, it
 // The one that was chosen here, else the first of the browser's that there is.
 function wanted() {
   const asked = [localStorage.getItem(KEPT), ...navigator.languages];
-  return asked.map((it) => it?.slice(0, 2)).find((it) => it in LANGUAGES) ?? "en";
+  return asked.map((it) => it?.slice(0, 2)).find((it) => it && it in LANGUAGES) ?? "en";
 }
 
 export const language = wanted();
@@ -50,6 +50,21 @@ export function text(name, values = {}) {
   });
 }
 
+// The head and the body of a table whose markup names its columns.
+function addColumns(table) {
+  const head = table.createTHead();
+  const row = head.insertRow();
+  const cells = table.dataset.columns.split(" ").map((name) => {
+    const cell = document.createElement("th");
+    cell.setAttribute("role", "columnheader");
+    cell.textContent = text(name);
+    return cell;
+  });
+  row.append(...cells);
+  row.setAttribute("role", "row");
+  for (const it of [head, table.createTBody()]) it.setAttribute("role", "rowgroup");
+}
+
 // Puts the texts of the page where its markup names them.
 export function fill(root) {
   document.documentElement.lang = language;
@@ -62,6 +77,7 @@ export function fill(root) {
   for (const it of root.querySelectorAll("[data-hint]")) {
     it.setAttribute("placeholder", text(it.dataset.hint));
   }
+  for (const it of root.querySelectorAll("[data-columns]")) addColumns(it);
 }
 
 // A moment in the time of this device.
@@ -77,7 +93,7 @@ export const timeOfDay = (seconds) => clock.format(new Date(seconds * 1000));
 // How long something takes or has taken: "4 min", "3 h", "2 d".
 export function span(seconds) {
   if (seconds < SECONDS.minutes) return text("moments");
-  const [unit, of] = Object.entries(SECONDS).findLast(([, it]) => seconds >= it);
+  const [unit, of] = Object.entries(SECONDS).reverse().find(([, it]) => seconds >= it) ?? ["", 1];
   return text(unit, { count: Math.floor(seconds / of) });
 }
 

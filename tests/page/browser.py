@@ -161,6 +161,7 @@ class Browser:
 
     def tells(self, wanted):
         """The page says this, as a whole line, in its region of what happened."""
-        self.until(lambda: wanted in (self.text("#told") or "").split("\n"),
-                   "the page does not say", repr(wanted), "but",
-                   repr(self.text("#told")))
+        until = time.monotonic() + LONGEST / 3
+        while wanted not in (found := (self.text("#told") or "").split("\n")):
+            expect(time.monotonic() < until, "the page does not say", repr(wanted), "but", found)
+            time.sleep(0.03)

@@ -6,6 +6,9 @@ from serving import ACME, BIRCH, expect
 
 MANY = 30
 READER = "acmereader000001"
+# The bytes of the newest reply from a path, and those that came for it.
+SIZES = """((it) => [it.decodedBodySize, it.encodedBodySize])(
+  performance.getEntriesByType('resource').filter((it) => it.name.endsWith('/' + arguments[0])).at(-1))"""
 
 
 @pytest.fixture(scope="module")
@@ -61,6 +64,20 @@ def test_its_limits_and_names(visit, proxy):
         visit.settled()
         expect({*states(proxy, ACME).values()} == {wanted}, "the desk has", {*states(proxy, ACME).values()})
     expect(browser.run("document.querySelector('#away').hidden"), "the head says", browser.text("#away"))
+
+
+def test_what_is_text_is_small(visit, proxy):
+    """The page and a report come by gzip, at most half as large."""
+    browser = visit.browser
+    for it in range(MANY):
+        submit(proxy, "acme", 3000 + it)
+    browser.protocol("Network.enable")
+    browser.protocol("Network.setCacheDisabled", cacheDisabled=True)
+    visit.use(ACME, f"https://{proxy.public}/")
+    for name in ("main.js", "texts/en.js", "style.css", "v1/report"):
+        whole, sent = browser.run(SIZES, name)
+        expect(0 < sent <= whole / 2, name, "of", whole, "bytes comes as", sent)
+    browser.protocol("Network.setCacheDisabled", cacheDisabled=False)
 
 
 def test_a_key_that_may_only_read(visit, proxy):

@@ -25,8 +25,10 @@ def test_the_detail(visit, paper):
            and facts["Attempts"] == "7 attempts" and facts["Sender"] == "was told that it is late"
            and facts["Queue ID"] == ids(1)[0],
            "the facts are", facts)
-    recipients = [it.split("\n\n") for it in browser.texts("#detail-recipients li")]
-    expect(recipients == [["bob@far.example", f"4.2.0 {LONG}".strip()]], "the recipients are", recipients)
+    recipients = [[*filter(None, it.split("\n"))] for it in browser.texts("#detail-recipients li")]
+    expect(recipients == [["bob@far.example", "The mail server of the other side is busy or out of order.",
+                           "Nobody has to act: The relay tries again by itself.", f"4.2.0 {LONG}".strip()]], "the recipients are",
+           recipients)
     browser.until(lambda: "gone@far.example" in (browser.text("#detail-ends") or ""), "the history is missing")
     expect("delivered" in browser.text("#detail-ends"), "the history is", browser.text("#detail-ends"))
     visit.picture("detail")
@@ -64,7 +66,7 @@ def test_a_new_try(visit, paper):
     mixed(paper)
     visit.on_paper("queue")
     visit.open(ids(4)[0])
-    expect(browser.texts("#detail-tools button") == ["Release", "Try now", "Delete"], "offered are", browser.texts("#detail-tools button"))
+    expect(browser.texts("#detail-tools button") == ["Release", "Try now", "Delete", "Stop this sender"], "offered are", browser.texts("#detail-tools button"))
     for yes in (False, True):
         browser.click("#detail [data-does=requeue]")
         visit.answer(yes, "Release 1 message that is on hold, and try it now?")

@@ -6,7 +6,7 @@ from paper import HOUR, message
 from serving import expect
 from visit import TOO_WIDE
 
-VIEWS = ("overview", "queue", "sent", "rules", "notices", "usage")
+VIEWS = ("overview", "find", "queue", "sent", "rules", "notices", "usage")
 # What has to have a name, by its role in the tree of the browser.
 NAMED = {"button", "textbox", "searchbox", "combobox", "checkbox", "table", "grid", "tab", "tabpanel", "tablist", "dialog",
          "group",
@@ -15,12 +15,13 @@ NAMED = {"button", "textbox", "searchbox", "combobox", "checkbox", "table", "gri
 # The roles that a view must have at least, and how many of each.
 ROLES = {
     "key": {"textbox": 1, "button": 1, "form": 1},
-    "overview": {"tab": 6, "tabpanel": 1, "meter": 3, "image": 1, "list": 2, "listitem": 4, "heading": 5},
-    "queue": {"tab": 6, "tabpanel": 1, "grid": 1, "row": 4, "columnheader": 5, "searchbox": 1, "combobox": 5, "complementary": 1},
-    "sent": {"tab": 6, "tabpanel": 1, "table": 1, "columnheader": 5, "row": 3, "searchbox": 1},
-    "rules": {"tab": 6, "tabpanel": 1, "table": 1, "columnheader": 5, "row": 3, "form": 1},
-    "notices": {"tab": 6, "tabpanel": 1, "table": 1, "columnheader": 5, "article": 1, "region": 1},
-    "usage": {"tab": 6, "tabpanel": 1, "table": 1, "columnheader": 3, "image": 1, "meter": 3, "cell": 18},
+    "overview": {"tab": 7, "tabpanel": 1, "meter": 3, "image": 1, "list": 2, "listitem": 4, "heading": 5},
+    "find": {"tab": 7, "tabpanel": 1, "table": 1, "columnheader": 5, "row": 3, "searchbox": 1, "combobox": 2, "form": 1},
+    "queue": {"tab": 7, "tabpanel": 1, "grid": 1, "row": 4, "columnheader": 5, "searchbox": 1, "combobox": 5, "complementary": 1},
+    "sent": {"tab": 7, "tabpanel": 1, "table": 1, "columnheader": 5, "row": 3, "searchbox": 1},
+    "rules": {"tab": 7, "tabpanel": 1, "table": 1, "columnheader": 5, "row": 3, "form": 1},
+    "notices": {"tab": 7, "tabpanel": 1, "table": 1, "columnheader": 5, "article": 1, "region": 1},
+    "usage": {"tab": 7, "tabpanel": 1, "table": 1, "columnheader": 3, "image": 1, "meter": 3, "cell": 18},
 }
 # How many texts, or edges of what can be pressed or filled and parts of charts, are shown, and those
 # that stand out too little from what is behind them.
@@ -121,7 +122,8 @@ def filled(visit):
                      for it, result in enumerate(("delivered", "failed", "deleted", "expired"), 1)]
     paper.notices = {it: {"at": now, "id": "0000000001", "kind": kind, "number": it, "to": "ann@a.example",
                           "human": "It is late.\r\n",
-                          "status": "Reporting-MTA: dns; relay.example\r\n", "subject": "Late"} for it,
+                          "status": "Reporting-MTA: dns; relay.example\r\n\r\nFinal-Recipient: rfc822; bob@far.example\r\nStatus: 5.1.1\r\n",
+                          "subject": "Late"} for it,
                      kind in ((1, "failure"), (2, "delay"))}
     paper.counts = {"delivered": 40, "failed": 9, "deleted": 5, "expired": 3}
     paper.limits["messages"] = 4
@@ -133,6 +135,9 @@ def fill(visit, view):
     """Turns to a view, and opens what can be opened."""
     browser = visit.browser
     visit.turn_to(view)
+    if view == "find":
+        browser.click("#find-form [type=submit]")
+        browser.one("#found")
     if view == "queue" and not browser.run("document.querySelector('#detail').checkVisibility()"):
         visit.open("0000000001")
     if view == "rules":
@@ -159,7 +164,8 @@ def tree_is(browser, view):
     for role, least in ROLES[view].items():
         found = [name for it, name, _ in nodes if it == role]
         expect(len(found) >= least, view, "has", len(found), "of the role", role, "and not", least, found)
-    names = [name for role, name, _ in nodes if role in ("button", "DisclosureTriangle")]
+    # (the browser has a button of its own in each field of a day)
+    names = [name for role, name, _ in nodes if role in ("button", "DisclosureTriangle") and "date picker" not in name]
     expect(len(names) == len({*names}), "two buttons have one name:", sorted(names))
     return nodes
 
@@ -186,7 +192,7 @@ def test_a_screen_reader_is_told_of_all(visit):
             nodes = tree_is(browser, view)
             chosen = [name.lower() for role, name, more in nodes if role == "tab" and more.get("selected")]
             panels = [name.lower() for role, name, _ in nodes if role == "tabpanel"]
-            expect(chosen == panels == [view], "chosen is", chosen, panels)
+            expect(chosen == panels == [{"find": "find mail", "sent": "history"}.get(view, view)], "chosen is", chosen, panels)
     visit.turn_to("queue")
     browser.click("#all-menu summary")
     browser.click("[data-all=delete]")
@@ -215,12 +221,12 @@ def test_tabs_by_arrows(visit):
     browser = visit.browser
     filled(visit)
     browser.run("document.querySelector('#tab-overview').focus()")
-    for key, view in ((RIGHT, "queue"), (RIGHT, "sent"), (RIGHT, "rules"), (RIGHT, "notices"), (RIGHT, "usage"),
+    for key, view in ((RIGHT, "find"), (RIGHT, "queue"), (RIGHT, "sent"), (RIGHT, "rules"), (RIGHT, "notices"), (RIGHT, "usage"),
                       (RIGHT, "overview"),
                       (END_KEY, "usage")):
         browser.keys(key)
         found = browser.run(TABS)
-        expect(found == [f"tab-{view}", view, 5], "an arrow comes to", found, "and not to", view)
+        expect(found == [f"tab-{view}", view, 6], "an arrow comes to", found, "and not to", view)
 
 
 def test_the_focus_is_seen(visit):
@@ -240,7 +246,7 @@ def test_the_focus_is_seen(visit):
                     break
                 stops += 1
                 expect(has_ring and is_seen, "at", width, "in", view, words, "has a ring", has_ring, "and is seen", is_seen)
-            least = {"overview": 10, "queue": 5, "sent": 6, "rules": 6, "notices": 3, "usage": 1}[view]
+            least = {"overview": 10, "find": 5, "queue": 5, "sent": 6, "rules": 6, "notices": 3, "usage": 1}[view]
             expect(least <= stops < 60, view, "has", stops, "stops of Tab at", width)
 
 

@@ -103,3 +103,23 @@ def test_a_group_of_thousands(visit, paper):
     expect(held == {f"{it:010X}" for it in range(1, 6004)}, "held are", len(held))
     changes = [path for method, path, _ in paper.asked if method == "POST"]
     expect(len(changes) < 10, "it took", len(changes), "calls")
+
+
+def test_many_rules(visit, paper):
+    """Of 5,000 rules those are drawn that are seen; the search finds each, and on paper there are all."""
+    browser = visit.browser
+    paper.lines = [{"class": "sender", "pattern": f"s{it:04}@a.example", "action": "OK"} for it in range(1, 5001)]
+    visit.on_paper("rules")
+    visit.says("#lines-shown", "5,000 rules")
+    drawn = "document.querySelectorAll('#lines tbody tr').length"
+    expect(0 < browser.run(drawn) <= 200 and browser.run("document.querySelectorAll('*').length") < 8000, "drawn are", browser.run(drawn))
+    before = browser.run(drawn)
+    browser.run("scrollTo(0, document.body.scrollHeight)")
+    browser.until(lambda: browser.run(drawn) > before, "no more rules come behind", before)
+    browser.write("#rules-search", "s4999@")
+    visit.says("#lines-shown", "1 of 5,000 rules")
+    expect(browser.rows("#lines", 1) == [["s4999@a.example"]], "found are", browser.rows("#lines", 1))
+    browser.write("#rules-search", " ")
+    visit.says("#lines-shown", "5,000 rules")
+    browser.run("dispatchEvent(new Event('beforeprint'))")
+    expect(browser.run(drawn) == 5000, "printed are", browser.run(drawn))

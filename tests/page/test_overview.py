@@ -175,8 +175,9 @@ def test_what_failed_is_told(visit, paper):
                "it is told as", browser.text("#well"), "and not", told)
     visit.picture("failed")
     browser.click("#show-failed")
-    visit.says("#ends-shown", "6 recipients.")
-    shown = browser.run("[...document.querySelectorAll('#ends tbody tr')].map((it) => it.dataset.result)")
+    browser.until(lambda: (browser.text("#find-shown") or "").startswith("6 found. Searched everything"), "the search says",
+                  browser.text("#find-shown"))
+    shown = browser.run("[...document.querySelectorAll('#found tbody tr')].map((it) => it.dataset.result)")
     expect(sorted(shown) == ["expired", *["failed"] * 5], "shown are", shown)
 
 

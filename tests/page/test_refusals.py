@@ -192,8 +192,11 @@ def test_hostile_texts_are_text(visit, paper):
     visit.on_paper()
     for width in (1280, 360):
         browser.size(width)
-        for view in ("overview", "sent", "rules", "notices", "queue"):
+        for view in ("overview", "find", "sent", "rules", "notices", "queue"):
             visit.turn_to(view)
+            if view == "find":
+                browser.click("#find-form [type=submit]")
+                browser.one("#found")
             if view == "rules":
                 browser.click("#check-form [type=submit]")
                 browser.one("#checked ol")

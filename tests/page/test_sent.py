@@ -48,7 +48,7 @@ def test_the_history(visit):
     visit.use(CEDAR)
     visit.turn_to("sent")
     wanted = [["d@far.example | From =cmd@a.example", "deleted", "", second],
-              ["b@far.example | From ann@a.example", "failed", "5.1.1 no such user <script>alert(1)</script>", first],
+              ["b@far.example | From ann@a.example", "failed", "There is no such mailbox. | 5.1.1 no such user <script>alert(1)</script>", first],
               ["a@far.example | From ann@a.example", "delivered", "", first]]
     browser.until(lambda: browser.run(ENDS)[:3] == wanted, "the history shows", browser.run(ENDS)[:3])
     expect("The last 150 are kept." in browser.text("#sent"), "how many are kept is not told")
@@ -166,7 +166,8 @@ def test_notices_and_their_ways(visit):
     expect(browser.run("document.activeElement.id") == "notice", "the focus is not at what opened")
     visit.picture("notices")
     browser.click("#notice-ways button")
-    visit.says("#ends-shown", f"1 recipient of {listed[-2]['id']}.")
+    browser.until(lambda: browser.run("[...document.querySelectorAll('#found tbody tr')].map((it) => it.dataset.id)") == [listed[-2]["id"]],
+                  "no way leads to what became of it")
     visit.turn_to("notices")
     browser.click("#notice-list tbody tr:nth-child(1) button")
     browser.until(lambda: f"Open message {listed[-1]['id']}" in browser.texts("#notice-ways button"),
@@ -180,6 +181,29 @@ def test_notices_and_their_ways(visit):
     desk.report("cedar", desk.submit("cedar", "ann@a.example", "bob@far.example"), failed=["bob@far.example"])
     browser.click("#notice-list tbody tr:last-child button")
     browser.tells("No such notice any more. The oldest go when there are too many. (12 NoNotice)")
+
+
+def test_notices_are_found(visit, paper):
+    """By kind, and by the address that was told or the ID of the message: failures stand among many that are late."""
+    browser = visit.browser
+    paper.notices = {it: {"at": 1767225600 + it, "id": f"{it:010X}", "kind": "failure" if it in (7, 40) else "delay", "number": it,
+                          "to": f"a{it}@a.example", "human": "x", "status": "y", "subject": "z"} for it in range(1, 61)}
+    visit.on_paper("notices")
+    visit.says("#notices-shown", "60 notices")
+    seen = "[...document.querySelectorAll('#notice-list tbody tr')].filter((it) => !it.hidden).map((it) => Number(it.dataset.number))"
+    browser.choose("#notices-kind", "failure")
+    visit.says("#notices-shown", "2 of 60 notices")
+    expect(browser.run(seen) == [40, 7], "failures are", browser.run(seen))
+    browser.write("#notices-search", "A7@a")
+    visit.says("#notices-shown", "1 of 60 notices")
+    expect(browser.run(seen) == [7], "found are", browser.run(seen))
+    visit.picture("notices-found")
+    browser.choose("#notices-kind", "")
+    browser.write("#notices-search", f"{12:010X}")
+    visit.says("#notices-shown", "1 of 60 notices")
+    expect(browser.run(seen) == [12], "found are", browser.run(seen))
+    browser.write("#notices-search", "nobody")
+    visit.says("#notices-none", "Nothing matches.")
 
 
 def test_the_usage_adds_up(visit):

@@ -6,7 +6,7 @@ from paper import message
 from serving import expect
 from visit import TOO_WIDE
 
-VIEWS = ("overview", "queue", "sent", "rules", "notices", "usage")
+VIEWS = ("overview", "find", "queue", "sent", "rules", "notices", "usage")
 # The texts of a language, as JSON.
 TEXTS = "import('/texts/' + arguments[0] + '.js').then((it) => it.default)"
 FIRM = """export const firm = { name: "Nordlicht Hosting", logo: "icon.svg",
@@ -33,6 +33,7 @@ def test_each_language_has_each_text(visit, paper):
     expect(not set(same) - {"endsHint"}, "not translated are", same)
     words = (ROOT / "web/index.html").read_text() + "".join(it.read_text() for it in (ROOT / "web").glob("*.js"))
     named = {it for kind in ("text", "label-text", "hint") for it in re.findall(rf'data-{kind}="(\w+)"', words)}
+    named |= {it for some in re.findall(r'data-columns="([\w ]+)"', words) for it in some.split()}
     named |= set(re.findall(r'\btext\("(\w+)"', words))
     expect(len(named) > 150 and not named - {*english}, "without a text are", named - {*english})
 

@@ -69,7 +69,7 @@ class Visit:
         """Opens a tab of the page, and waits for what it shows."""
         self.browser.click(f"#tab-{view}")
         self.browser.one(f"#{view}")
-        filled = {"overview": "#well", "queue": "#shown", "sent": "#ends-shown", "rules": "#lines-shown",
+        filled = {"overview": "#well", "find": "#find-shown", "queue": "#shown", "sent": "#ends-shown", "rules": "#lines-shown",
                   "notices": "#notices-shown", "usage": "#counts td"}[view]
         busy = f"document.querySelector('#{view} [aria-busy=true]')"
         # (a narrow page hides the list beside a message that is open)
@@ -120,5 +120,5 @@ class Visit:
         self.browser.picture(PICTURES / f"{name}.png")
 
     def told(self):
-        """The lines that tell what happened."""
-        return [it for it in (self.browser.text("#told") or "").split("\n") if it]
+        """The lines that tell what happened, without the button that takes it back."""
+        return [it for it in (self.browser.text("#told") or "").split("\n") if it and it != "Undo"]

@@ -1,6 +1,8 @@
 // Die Seite auf Deutsch. Die Namen sind die von en.js.
 
+import causes from "./causes-de.js";
 import faults from "./faults-de.js";
+import sent from "./sent-de.js";
 
 export default {
   language: "Deutsch",
@@ -92,10 +94,12 @@ export default {
   agesOver: "> {count} d",
   whyWaits: "Warum Post wartet",
   toWhom: "Für wen sie wartet",
+  whoSends: "Wer sie sendet",
   messages: "Nachrichten",
   sizeTogether: "Größe zusammen",
   notTried: "noch nicht versucht",
   heldFor: "angehalten: {reason}",
+  heldByCustomer: "vom Kunden angehalten",
   actions: "Aktionen",
   actionsOf: "Aktionen für {name}",
   showGroup: {
@@ -138,7 +142,7 @@ export default {
   marked: { one: "{count} ausgewählt", other: "{count} ausgewählt" },
   markedTools: "Was mit ausgewählten Nachrichten geschieht",
   fromTo: "Von, an",
-  why: "Letzte Antwort",
+  why: "Warum sie wartet",
 
   close: "Schließen",
   arrived: "Eingang",
@@ -227,35 +231,31 @@ export default {
   deleteNow: "Jetzt löschen",
   undone: "Nichts wurde gelöscht.",
 
-  findHistory: "Im Verlauf suchen",
-  side: "Absender oder Empfänger",
-  pattern: "Muster",
-  toRecipient: "an (Empfänger)",
-  fromSender: "von (Absender)",
-  endsHint: "bob@far.example, far.example",
-  find: "Suchen",
-  result: "Ergebnis",
-  anyResult: "Jedes Ergebnis",
-  csv: "Als CSV laden",
-  when: "Wann",
-  toFrom: "An, von",
-  older: "Ältere",
-  openOne: "{id}, {to} öffnen",
-  endsAll: "{count} Empfänger.",
-  endsSome: "{count} Empfänger, bis zurück zu {at}, unten mehr.",
-  endsMore: "{count} Empfänger, unten mehr.",
-  endsSearching: "{count} Empfänger, sucht bis zurück zu {at} …",
-  gathered: "{count} Empfänger bis jetzt",
-  gatheredSome: "{count} Empfänger gesichert, bis zum Aufhören.",
-  gatheredAll: "{count} Empfänger gesichert.",
-  endsOf: "{count} Empfänger von {id}.",
-  endsKept: { one: "Der letzte wird behalten.", other: "Die letzten {count} werden behalten." },
-  endsNone: "Ihr Anbieter behält für Sie keinen Verlauf.",
-  pendingMeans: "warten in der Warteschlange",
-  deliveredMeans: "hat ihr Mailserver angenommen",
-  failedMeans: "wurden endgültig abgewiesen",
-  deletedMeans: "haben Sie gelöscht",
-  expiredMeans: "wurden nach fünf Tagen aufgegeben",
+  do_stop: "Diesen Absender stoppen",
+  stopTitle: "{sender} stoppen?",
+  stopText: {
+    one: "Eine Regel weist neue Post davon ab (REJECT). {count} Nachricht der Warteschlange wird "
+      + "angehalten.",
+    other: "Eine Regel weist neue Post davon ab (REJECT). {count} Nachrichten der Warteschlange "
+      + "werden angehalten.",
+  },
+  stopYes: "Stoppen",
+  stopped: "{sender} ist gestoppt: Eine Regel weist neue Post davon ab.",
+  stopNotHeld: "Was davon in der Warteschlange ist, ist nicht angehalten: {words}",
+  stopHeld: "Was davon in der Warteschlange ist, ist angehalten.",
+  stopDeleteTitle: {
+    one: "Die {count} Nachricht von {sender} löschen, die Sie gesehen haben?",
+    other: "Die {count} Nachrichten von {sender} löschen, die Sie gesehen haben?",
+  },
+  stopDeleteText: "Sie sind jetzt angehalten und bleiben es, wenn Sie abbrechen. Ihr Absender "
+    + "erfährt nichts.",
+  stopLateTitle: {
+    one: "Auch die {count} Nachricht löschen, die inzwischen eintraf?",
+    other: "Auch die {count} Nachrichten löschen, die inzwischen eintrafen?",
+  },
+  stopLateText: "Das hat niemand gesehen. Es bleibt angehalten, wenn Sie abbrechen.",
+
+  ...sent,
 
   searchRules: "In den Regeln suchen",
   newRule: "Neue Regel",
@@ -301,6 +301,8 @@ export default {
   },
   queuedMore: "Mindestens {count} Nachrichten davon sind in der Warteschlange und bleiben dort.",
   showQueued: "Zeigen",
+  ruleUndone: "Die Regeln sind wieder, wie sie waren.",
+  ruleChanged: "Nichts wurde rückgängig gemacht: Die Regel ist inzwischen geändert.",
   noRuleNow: "(jetzt keine Regel)",
   ruleNow: "(jetzt {action}, durch {pattern})",
   checkTitle: "Eine Adresse prüfen",
@@ -337,6 +339,9 @@ export default {
 
   noticesText: "Was der Dienst Ihren Absendern von verspäteter oder gescheiterter Post sagt.",
   noticesAll: { one: "{count} Meldung", other: "{count} Meldungen" },
+  noticesFound: { one: "{number} von {count} Meldung", other: "{number} von {count} Meldungen" },
+  noticesHint: "Adresse oder Nummer",
+  anyKind: "Jede Art",
   noNotices: "Es gibt keine Meldung.",
   made: "Wann",
   kind: "Art",
@@ -347,9 +352,9 @@ export default {
   notice_delay: "Post ist verspätet",
   openNotice: "Meldung {number} öffnen",
   openMessage: "Nachricht {id} öffnen",
-  openHistory: "Verlauf von {id}",
   noticeHuman: "Der Text",
   noticeStatus: "Der Zustellbericht",
+  whatHappens: "Was geschah, und was zu tun ist",
   forPrograms: "Für Programme (message/delivery-status)",
   whatIsKept: "Was für Sie behalten wird",
   historyKept: "Verlauf",
@@ -367,6 +372,8 @@ export default {
   acceptedNot: "wurden angenommen, und nicht {count}",
   sumLabel: "{count} angenommen: {said}",
   whatHappened: "Was geschah",
+
+  ...causes,
 
   ...faults,
 };

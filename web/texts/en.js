@@ -1,7 +1,9 @@
 // The page in English. Each text has a name; {count} and its like stand for values. A text with two
 // forms has `one` and `other`, chosen by its {count}.
 
+import causes from "./causes-en.js";
 import faults from "./faults-en.js";
+import sent from "./sent-en.js";
 
 export default {
   language: "English",
@@ -12,7 +14,7 @@ export default {
   views: "Views",
   overview: "Overview",
   queue: "Queue",
-  sent: "Sent",
+  sent: "History",
   rules: "Rules",
   notices: "Notices",
   usage: "Usage",
@@ -98,10 +100,12 @@ export default {
   agesOver: "over {count} d",
   whyWaits: "Why mail waits",
   toWhom: "For whom it waits",
+  whoSends: "Who sends it",
   messages: "Messages",
   sizeTogether: "Size together",
   notTried: "not tried yet",
   heldFor: "on hold: {reason}",
+  heldByCustomer: "held by customer",
   actions: "Actions",
   actionsOf: "Actions for {name}",
   showGroup: { one: "Show {count} message: {name}", other: "Show {count} messages: {name}" },
@@ -143,7 +147,7 @@ export default {
   marked: { one: "{count} marked", other: "{count} marked" },
   markedTools: "What to do with marked messages",
   fromTo: "From, to",
-  why: "Last answer",
+  why: "Why it waits",
 
   // a message
   close: "Close",
@@ -231,42 +235,29 @@ export default {
   deleteNow: "Delete now",
   undone: "Nothing was deleted.",
 
-  // what became of mail
-  findHistory: "Find in the history",
-  side: "Sender or recipient",
-  pattern: "Pattern",
-  toRecipient: "to (recipient)",
-  fromSender: "from (sender)",
-  endsHint: "bob@far.example, far.example",
-  find: "Find",
-  result: "Result",
-  anyResult: "Any result",
-  csv: "Download as CSV",
-  when: "When",
-  toFrom: "To, from",
-  older: "Older ones",
-  openOne: "Open {id}, {to}",
-  endsAll: { one: "{count} recipient.", other: "{count} recipients." },
-  endsSome: {
-    one: "{count} recipient, back to {at}, more below.",
-    other: "{count} recipients, back to {at}, more below.",
+  // a sender that is stopped
+  do_stop: "Stop this sender",
+  stopTitle: "Stop {sender}?",
+  stopText: {
+    one: "A rule refuses its new mail (REJECT). {count} message in the queue is put on hold.",
+    other: "A rule refuses its new mail (REJECT). {count} messages in the queue are put on hold.",
   },
-  endsMore: { one: "{count} recipient, more below.", other: "{count} recipients, more below." },
-  endsSearching: {
-    one: "{count} recipient, searching back to {at} …",
-    other: "{count} recipients, searching back to {at} …",
+  stopYes: "Stop it",
+  stopped: "{sender} is stopped: a rule refuses its new mail.",
+  stopNotHeld: "What is queued of it is not on hold: {words}",
+  stopHeld: "What is queued of it is on hold.",
+  stopDeleteTitle: {
+    one: "Delete the {count} message of {sender} that you saw?",
+    other: "Delete the {count} messages of {sender} that you saw?",
   },
-  gathered: { one: "{count} recipient so far", other: "{count} recipients so far" },
-  gatheredSome: "{count} recipients are saved: it was stopped.",
-  gatheredAll: { one: "{count} recipient is saved.", other: "{count} recipients are saved." },
-  endsOf: { one: "{count} recipient of {id}.", other: "{count} recipients of {id}." },
-  endsKept: { one: "The last one is kept.", other: "The last {count} are kept." },
-  endsNone: "Your provider keeps no history for you.",
-  pendingMeans: "wait in the queue",
-  deliveredMeans: "were taken by their mail server",
-  failedMeans: "were refused for good",
-  deletedMeans: "were deleted by you",
-  expiredMeans: "were given up after five days",
+  stopDeleteText: "They are on hold now, and stay so if you cancel. Their sender is told nothing.",
+  stopLateTitle: {
+    one: "Delete also the {count} message that came in meanwhile?",
+    other: "Delete also the {count} messages that came in meanwhile?",
+  },
+  stopLateText: "Nobody has seen that. It stays on hold if you cancel.",
+
+  ...sent,
 
   // rules
   searchRules: "Search the rules",
@@ -313,6 +304,8 @@ export default {
   },
   queuedMore: "At least {count} messages of it are in the queue, and stay there.",
   showQueued: "Show them",
+  ruleUndone: "The rules are as they were.",
+  ruleChanged: "Nothing was undone: the rule was changed meanwhile.",
   noRuleNow: "(no rule now)",
   ruleNow: "(now {action}, by {pattern})",
   checkTitle: "Check an address",
@@ -350,6 +343,9 @@ export default {
   // notices and usage
   noticesText: "What the relay tells your senders of mail that is late or failed.",
   noticesAll: { one: "{count} notice", other: "{count} notices" },
+  noticesFound: { one: "{number} of {count} notice", other: "{number} of {count} notices" },
+  noticesHint: "Address or ID",
+  anyKind: "Any kind",
   noNotices: "There is no notice.",
   made: "Made",
   kind: "Kind",
@@ -360,9 +356,9 @@ export default {
   notice_delay: "Mail is late",
   openNotice: "Open notice {number}",
   openMessage: "Open message {id}",
-  openHistory: "History of {id}",
   noticeHuman: "The text",
   noticeStatus: "The delivery status",
+  whatHappens: "What happened, and what to do",
   forPrograms: "For programs (message/delivery-status)",
   whatIsKept: "What is kept for you",
   historyKept: "History",
@@ -380,6 +376,8 @@ export default {
   acceptedNot: "were accepted, and not {count}",
   sumLabel: "{count} accepted: {said}",
   whatHappened: "What happened",
+
+  ...causes,
 
   ...faults,
 };
