@@ -3,7 +3,7 @@
 
 // The rows of a text, the header first, each with the number of its first line. Empty lines are
 // no rows.
-export function rowsOf(text) {
+export function rowsOf(text, separator = ",") {
   const rows = [];
   let [line, begun, first, field, quoted] = [1, 0, 1, 0, false];
   const end = (at) => {
@@ -17,13 +17,29 @@ export function rowsOf(text) {
     const opens = at === field || (text[field] === '"' && text[at - 1] === '"');
     if (letter === '"') quoted = !quoted && opens;
     if (quoted) continue;
-    if (letter === ",") field = at + 1;
+    if (letter === separator) field = at + 1;
     if (!ends) continue;
     end(at);
     [begun, first, field] = [at + 1, line, at + 1];
   }
   end(text.length);
   return rows;
+}
+
+// The fields of a row.
+export function cellsOf(/** @type {string} */ row, separator = ",") {
+  const cells = [""];
+  let quoted = false;
+  for (let at = 0; at < row.length; at += 1) {
+    const [letter, last] = [row[at], cells.length - 1];
+    if (quoted && letter === '"' && row[at + 1] === '"') {
+      cells[last] += letter;
+      at += 1;
+    } else if (letter === '"' && (quoted || cells[last] === "")) quoted = !quoted;
+    else if (letter === separator && !quoted) cells.push("");
+    else cells[last] += letter;
+  }
+  return cells;
 }
 
 // Where a cell may begin with a formula, or with what a spreadsheet leaves out before one: at the

@@ -159,7 +159,16 @@ export function takeAddress() {
   const isSame = FIELDS.every((it) => (words[it] ?? "") === (search?.given[it] ?? ""));
   if (isSame) return;
   write(words);
-  start(false);
+  if (FIELDS.some((it) => words[it])) start(false);
+  else forget();
+}
+
+// Shows no search any more: Back led to where none was begun.
+function forget() {
+  search = null;
+  body.replaceChildren();
+  by("found").hidden = by("find-none").hidden = by("find-more").hidden = true;
+  by("find-shown").textContent = text("findHelp");
 }
 
 export function open() {

@@ -303,7 +303,7 @@ addEventListener("beforeprint", () => {
 });
 by("rules-new").addEventListener("click", () => edit(null));
 by("rules-search").addEventListener("input", filter);
-by("rules-import").addEventListener("click", () => openImport(open));
+by("rules-import").addEventListener("click", () => openImport(open, () => rules));
 by("rules-csv").addEventListener("click", () => {
   const columns = ["class", "pattern", "action"];
   const rows = rules.map((it) => columns.map((name) => it[name]));

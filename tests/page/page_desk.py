@@ -83,6 +83,12 @@ class Desk:
     def empty(self, key):
         self.ask("POST", "/v1/delete-all", key)
 
+    def drop_rules(self, key):
+        """(a rule that an earlier test has left would judge what this one submits)"""
+        while lines := self.ask("GET", "/v1/lines", key)["lines"]:
+            for it in lines:
+                self.ask("POST", "/v1/line-drop", key, {"class": it["class"], "pattern": it["pattern"]})
+
     def message(self, key, queue_id):
         return self.ask("GET", f"/v1/message/{queue_id}", key)
 

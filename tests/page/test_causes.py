@@ -88,7 +88,7 @@ def test_causes_are_above_answers(visit, paper):
     browser = visit.browser
     filled(paper)
     visit.on_paper()
-    grey, nobody = "The other side takes unknown senders only at a second try.", "There is no such mailbox."
+    grey, nobody = "Greylisted: it is taken only at a second try.", "There is no such mailbox."
     acts = "Nobody has to act: The relay tries again by itself. Mostly it is taken within the hour."
     expect(browser.texts("#reasons li:nth-child(2) .cause, #reasons li:nth-child(1) .cause")[0] == grey
            or grey in browser.texts("#reasons .cause"), "the groups say", browser.texts("#reasons .cause"))
@@ -107,7 +107,7 @@ def test_causes_are_above_answers(visit, paper):
            and "and send it again later." in ends and "tries again" not in ends, "of what left the detail says", ends)
     look_at(visit, "detail")
     visit.turn_to("sent")
-    browser.until(lambda: browser.texts("#ends .cause") == [nobody, "The mail server of the other side does not answer."], "sent says",
+    browser.until(lambda: browser.texts("#ends .cause") == [nobody, "No answer from the mail server of the other side."], "sent says",
                   browser.texts("#ends .cause"))
     visit.turn_to("find")
     browser.click("#find-form [type=submit]")

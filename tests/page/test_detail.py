@@ -26,7 +26,7 @@ def test_the_detail(visit, paper):
            and facts["Queue ID"] == ids(1)[0],
            "the facts are", facts)
     recipients = [[*filter(None, it.split("\n"))] for it in browser.texts("#detail-recipients li")]
-    expect(recipients == [["bob@far.example", "The mail server of the other side is busy or out of order.",
+    expect(recipients == [["bob@far.example", "Busy or out of order: the mail server of the other side.",
                            "Nobody has to act: The relay tries again by itself.", f"4.2.0 {LONG}".strip()]], "the recipients are",
            recipients)
     browser.until(lambda: "gone@far.example" in (browser.text("#detail-ends") or ""), "the history is missing")

@@ -38,7 +38,7 @@ def test_rows_are_short(visit, paper):
     visit.rows_are(ids(5, 4, 3, 2, 1))
     expect(browser.text("#shown") == "5 messages", "the head says", browser.text("#shown"))
     expect(browser.run(CELLS, visit.row(ids(2)[0])) == ["null sender | cat@near.example and 1 more",
-                                                        "The mail server of the other side does not answer. | 4.4.1 timed out",
+                                                        "No answer from the mail server of the other side. | 4.4.1 timed out",
                                                         "deferred", "5 h", "90.0 kB"], "a row has", browser.run(CELLS, visit.row(ids(2)[0])))
     expect(browser.run(CELLS, visit.row(ids(4)[0]))[1:] == ["look at it", "on hold", "10 min", "2.0 MB"], "one on hold has",
            browser.run(CELLS, visit.row(ids(4)[0])))

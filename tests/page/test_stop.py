@@ -167,4 +167,3 @@ def test_the_desk_itself(visit):
     expect([*desk.states(ACME)] == [left], "left are", desk.states(ACME))
     told = desk.ask("POST", "/v1/check", ACME, {"class": "sender", "address": "bad@a.example"})
     expect((told["action"], told["pattern"]) == ("REJECT", "bad@a.example"), "its rule is", told)
-    desk.ask("POST", "/v1/line-drop", ACME, {"class": "sender", "pattern": "bad@a.example"})

@@ -87,8 +87,6 @@ def write(visit, pattern, action="REJECT", words=""):
 def test_a_rule_is_undone(visit):
     """One that was set, changed, given another pattern, or dropped is as it was; one that somebody changed since is left alone."""
     browser, desk = visit.browser, visit.desk
-    for side, pattern, _ in rules(desk):
-        desk.ask("POST", "/v1/line-drop", ACME, {"class": side, "pattern": pattern})
     visit.use(ACME)
     visit.turn_to("rules")
     first, changed = [("sender", "ann@a.example", "REJECT go away")], [("sender", "ben@a.example", "DEFER")]
@@ -126,4 +124,3 @@ def test_a_rule_is_undone(visit):
     browser.click("#undo-rule")
     browser.tells("Nothing was undone: the rule was changed meanwhile.")
     expect(rules(desk) == [("sender", "ann@a.example", "OK")], "the rules are", rules(desk))
-    desk.ask("POST", "/v1/line-drop", ACME, LINE)

@@ -60,6 +60,11 @@ def test_german(visit, paper):
     visit.mark("0000000001")
     browser.click("[data-marked=hold]")
     browser.tells("0000000001 ist angehalten.")
+    browser.until(lambda: browser.text(f"{visit.row('0000000001')} .said") == "vom Kunden angehalten", "why it waits is told as",
+                  browser.text(f"{visit.row('0000000001')} .said"))
+    browser.write("#search", "vom kunden")
+    visit.rows_are(["0000000001"])
+    browser.write("#search", "")
     browser.refresh()
     visit.settled()
     expect(browser.run("document.documentElement.lang") == "de", "the language is forgotten")

@@ -22,7 +22,7 @@ class Visit:
         self.proxies, self.figures = proxies, []
 
     def begin(self):
-        """A new tab, in which no key is known, and empty queues."""
+        """A new tab, in which no key is known, and empty queues without rules."""
         browser = self.browser
         old = browser.window()
         browser.new_tab()
@@ -35,6 +35,7 @@ class Visit:
         self.paper.reset()
         for key in (ACME, BIRCH, CEDAR):
             self.desk.empty(key)
+            self.desk.drop_rules(key)
 
     def end(self):
         """The browser has refused nothing that the page wanted, and the page has met no fault of

@@ -7,13 +7,13 @@ export default {
   who_provider: "Ihr Anbieter muss handeln",
   who_nobody: "Niemand muss handeln",
 
-  cause_greylisted: "Die Gegenseite nimmt Unbekannte erst beim zweiten Versuch.",
+  cause_greylisted: "Greylisting: Sie wird erst beim zweiten Versuch angenommen.",
   todo_greylisted: "Der Dienst versucht es von selbst wieder. Meist klappt es binnen einer Stunde.",
   todo_greylisted_failed: "Senden Sie sie noch einmal.",
   cause_blockList: "Die Adresse des Dienstes steht auf einer Sperrliste.",
   todo_blockList:
     "Senden Sie Ihrem Anbieter die Antwort darunter: Er muss die Adresse austragen lassen.",
-  cause_tooMuch: "Die Gegenseite nimmt nicht so viel Post auf einmal.",
+  cause_tooMuch: "Zu viel Post auf einmal für die Gegenseite.",
   todo_tooMuch: "Senden Sie weniger auf einmal. Was wartet, wird von selbst wieder versucht.",
   todo_tooMuch_failed: "Senden Sie weniger auf einmal, und diese später noch einmal.",
   cause_spf: "Die Domain des Absenders erlaubt diesen Dienst nicht (SPF).",
@@ -25,7 +25,7 @@ export default {
   todo_dmarc: "Lassen Sie SPF und DKIM Ihrer Domain prüfen. Ihr Anbieter weiß, wie.",
   cause_reverseName: "Die Adresse des Dienstes hat keinen richtigen Namen im DNS.",
   todo_reverseName: "Senden Sie Ihrem Anbieter die Antwort darunter: Er muss den Namen setzen.",
-  cause_spam: "Die Gegenseite hält sie für Spam oder Schadsoftware.",
+  cause_spam: "Für Spam oder Schadsoftware gehalten.",
   todo_spam:
     "Prüfen Sie Text, Links und Anhänge. Sind sie harmlos, bitten Sie den Empfänger um Freigabe.",
   cause_mailboxFull: "Das Postfach ist voll.",
@@ -50,7 +50,7 @@ export default {
   todo_noDomain: "Berichtigen Sie die Domain hinter dem @.",
   cause_badAddress: "Die Adresse des Empfängers ist fehlerhaft oder mehrdeutig.",
   todo_badAddress: "Berichtigen Sie die Adresse.",
-  cause_badSender: "Die Gegenseite nimmt diesen Absender nicht.",
+  cause_badSender: "Dieser Absender wird von der Gegenseite nicht angenommen.",
   todo_badSender:
     "Prüfen Sie die Adresse, von der Sie senden: Ihre Domain muss es geben und Post nehmen.",
   cause_tooLarge: "Die Nachricht ist der Gegenseite zu groß.",
@@ -64,30 +64,30 @@ export default {
   todo_encryption: "Senden Sie Ihrem Anbieter die Antwort darunter.",
   cause_login: "Der Dienst ist beim nächsten Server nicht angemeldet.",
   todo_login: "Senden Sie Ihrem Anbieter die Antwort darunter.",
-  cause_noAnswer: "Der Mailserver der Gegenseite antwortet nicht.",
+  cause_noAnswer: "Keine Antwort vom Mailserver der Gegenseite.",
   todo_noAnswer:
     "Der Dienst versucht es fünf Tage lang. Eilt es, sagen Sie es dem Empfänger auf anderem Weg.",
   todo_noAnswer_failed:
     "Sagen Sie es dem Empfänger auf anderem Weg, und senden Sie später noch einmal.",
-  cause_busy: "Der Mailserver der Gegenseite ist überlastet oder gestört.",
+  cause_busy: "Überlastet oder gestört: der Mailserver der Gegenseite.",
   todo_busy: "Der Dienst versucht es von selbst wieder.",
   todo_busy_failed: "Senden Sie sie später noch einmal.",
   cause_misconfigured:
-    "Der Mailserver der Gegenseite ist falsch eingerichtet oder nicht erreichbar.",
+    "Falsch eingerichtet oder nicht erreichbar: der Mailserver der Gegenseite.",
   todo_misconfigured: "Sagen Sie es dem Empfänger auf anderem Weg, mit der Antwort darunter.",
   cause_givenUp: "Sie wurde nach fünf Tagen aufgegeben.",
   todo_givenUp: "Berichtigen Sie die Adresse, falls sie falsch ist, und senden Sie sie neu.",
-  cause_form: "Die Gegenseite nimmt die Form dieser Nachricht nicht.",
+  cause_form: "Die Form der Nachricht wird von der Gegenseite nicht angenommen.",
   todo_form: "Senden Sie sie als reinen Text, ohne besondere Anhänge oder Zeichen in Adressen.",
   cause_protocol: "Die Mailserver verstehen einander nicht.",
   todo_protocol: "Senden Sie Ihrem Anbieter die Antwort darunter.",
-  cause_policy: "Die Gegenseite weist sie nach eigenen Regeln ab.",
+  cause_policy: "Nach eigenen Regeln der Gegenseite abgewiesen.",
   todo_policy:
     "Lesen Sie die Antwort darunter. Bitten Sie den Empfänger auf anderem Weg um Freigabe.",
-  cause_later: "Die Gegenseite kann sie jetzt nicht nehmen.",
+  cause_later: "Jetzt nicht angenommen von der Gegenseite.",
   todo_later: "Der Dienst versucht es von selbst wieder.",
   todo_later_failed: "Senden Sie sie später noch einmal.",
-  cause_never: "Die Gegenseite weist sie endgültig ab.",
+  cause_never: "Endgültig abgewiesen von der Gegenseite.",
   todo_never:
     "Lesen Sie die Antwort darunter, und fragen Sie den Empfänger auf anderem Weg.",
 };

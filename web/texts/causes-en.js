@@ -1,5 +1,6 @@
-// Why mail waits or failed, in English: what happened, who has to act, and what to do. The rows and
-// their sources are those of causes.js; `_failed` is for mail that is not tried again.
+// Why mail waits or failed, in English: what happened, who has to act, and what to do. A row of a
+// list has room for few words, so the first ones say what differs. The rows and their sources are
+// those of causes.js; `_failed` is for mail that is not tried again.
 
 export default {
   who_you: "You have to act",
@@ -8,13 +9,13 @@ export default {
   who_provider: "Your provider has to act",
   who_nobody: "Nobody has to act",
 
-  cause_greylisted: "The other side takes unknown senders only at a second try.",
+  cause_greylisted: "Greylisted: it is taken only at a second try.",
   todo_greylisted: "The relay tries again by itself. Mostly it is taken within the hour.",
   todo_greylisted_failed: "Send it again.",
   cause_blockList: "The address of the relay is on a block list.",
   todo_blockList:
     "Send your provider the answer below: it has to have the address taken off the list.",
-  cause_tooMuch: "The other side takes no more mail at this rate.",
+  cause_tooMuch: "Too much mail at once for the other side.",
   todo_tooMuch: "Send less at once. What waits is tried again by itself.",
   todo_tooMuch_failed: "Send less at once, and send this again later.",
   cause_spf: "The domain of the sender does not allow this relay (SPF).",
@@ -25,7 +26,7 @@ export default {
   todo_dmarc: "Have SPF and DKIM of your domain checked. Your provider knows what to enter.",
   cause_reverseName: "The address of the relay has no proper name in the DNS.",
   todo_reverseName: "Send your provider the answer below: it has to set the reverse name.",
-  cause_spam: "The other side takes it for spam or malware.",
+  cause_spam: "Taken for spam or malware by the other side.",
   todo_spam:
     "Check text, links and attachments. If they are harmless, ask the recipient to allow you.",
   cause_mailboxFull: "The mailbox is full.",
@@ -48,7 +49,7 @@ export default {
   todo_noDomain: "Correct the domain behind the @.",
   cause_badAddress: "The address of the recipient is malformed or ambiguous.",
   todo_badAddress: "Correct the address.",
-  cause_badSender: "The other side does not take this sender.",
+  cause_badSender: "This sender is not taken by the other side.",
   todo_badSender: "Check the address that you send from: its domain has to exist and take mail.",
   cause_tooLarge: "The message is too large for the other side.",
   todo_tooLarge: "Send it smaller, or offer the attachment as a link.",
@@ -60,26 +61,26 @@ export default {
   todo_encryption: "Send your provider the answer below.",
   cause_login: "The relay is not logged in at the next server.",
   todo_login: "Send your provider the answer below.",
-  cause_noAnswer: "The mail server of the other side does not answer.",
+  cause_noAnswer: "No answer from the mail server of the other side.",
   todo_noAnswer:
     "The relay tries again for five days. Tell the recipient by another way if it is urgent.",
   todo_noAnswer_failed: "Tell the recipient by another way, and send it again later.",
-  cause_busy: "The mail server of the other side is busy or out of order.",
+  cause_busy: "Busy or out of order: the mail server of the other side.",
   todo_busy: "The relay tries again by itself.",
   todo_busy_failed: "Send it again later.",
-  cause_misconfigured: "The mail server of the other side is set up wrongly, or cannot be reached.",
+  cause_misconfigured: "Set up wrongly or out of reach: the mail server of the other side.",
   todo_misconfigured: "Tell the recipient by another way, with the answer below.",
   cause_givenUp: "It was given up after five days.",
   todo_givenUp: "Correct the address if it is wrong, and send it again.",
-  cause_form: "The other side does not take the form of this message.",
+  cause_form: "The form of the message is not taken by the other side.",
   todo_form: "Send it as plain text, without unusual attachments or letters in addresses.",
   cause_protocol: "The mail servers do not understand each other.",
   todo_protocol: "Send your provider the answer below.",
-  cause_policy: "The other side refuses it by rules of its own.",
+  cause_policy: "Refused by rules of the other side.",
   todo_policy: "Read the answer below. Ask the recipient by another way to have you allowed.",
-  cause_later: "The other side cannot take it now.",
+  cause_later: "Not taken now by the other side.",
   todo_later: "The relay tries again by itself.",
   todo_later_failed: "Send it again later.",
-  cause_never: "The other side refuses it for good.",
+  cause_never: "Refused for good by the other side.",
   todo_never: "Read the answer below, and ask the recipient by another way.",
 };

@@ -2,6 +2,7 @@
 
 import causes from "./causes-de.js";
 import faults from "./faults-de.js";
+import file from "./file-de.js";
 import sent from "./sent-de.js";
 
 export default {
@@ -331,7 +332,7 @@ export default {
   import: "Einlesen",
   whatImported: "Was eingelesen wurde",
   imported: "{added} neu, {changed} geändert, {same} schon da.",
-  semicolons: "Die Datei hat Strichpunkte zwischen den Feldern. Speichern Sie sie mit Kommas.",
+  ...file,
   tooManyRows: "Die Datei hat {count} Zeilen. Höchstens {most} gehen auf einmal: teilen Sie sie.",
   badHeader: "Es ist die Kopfzeile oder die ganze Datei. Die Kopfzeile ist {header}.",
   badRow: "Eintrag {row}, Zeile {line} der Datei:",

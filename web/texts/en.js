@@ -3,6 +3,7 @@
 
 import causes from "./causes-en.js";
 import faults from "./faults-en.js";
+import file from "./file-en.js";
 import sent from "./sent-en.js";
 
 export default {
@@ -334,7 +335,7 @@ export default {
   import: "Import",
   whatImported: "What the import did",
   imported: "{added} added, {changed} changed, {same} there already.",
-  semicolons: "The file has semicolons between its fields. Save it as CSV with commas.",
+  ...file,
   tooManyRows: "The file has {count} rows. At most {most} go in one file: split it.",
   badHeader: "It is the header, or the whole file. The header is {header}.",
   badRow: "Row {row}, line {line} of the file:",
