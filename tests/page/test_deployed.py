@@ -67,16 +67,18 @@ def test_its_limits_and_names(visit, proxy):
 
 
 def test_what_is_text_is_small(visit, proxy):
-    """The page and a report come by gzip, at most half as large."""
+    """The page comes by gzip, at most half as large. A reply does not: its length would tell what strangers' words have in common with it."""
     browser = visit.browser
     for it in range(MANY):
         submit(proxy, "acme", 3000 + it)
     browser.protocol("Network.enable")
     browser.protocol("Network.setCacheDisabled", cacheDisabled=True)
     visit.use(ACME, f"https://{proxy.public}/")
-    for name in ("main.js", "texts/en.js", "style.css", "v1/report"):
+    for name in ("main.js", "texts/en.js", "style.css"):
         whole, sent = browser.run(SIZES, name)
         expect(0 < sent <= whole / 2, name, "of", whole, "bytes comes as", sent)
+    whole, sent = browser.run(SIZES, "v1/report")
+    expect(whole == sent, "a report of", whole, "bytes comes as", sent)
     browser.protocol("Network.setCacheDisabled", cacheDisabled=False)
 
 
