@@ -1,6 +1,6 @@
 """What keeps root apart from the user of a service: who has taken over that user may have written whatever a command prints, and
-reads the environment of each process of its own. And a file of settings, as systemd reads it; the lock of who works at a store; and
-the mark of who is moved."""
+reads the environment of each process of its own. And a file of settings, as systemd reads it; the desks that nginx knows; the lock of
+who works at a store; and the mark of who is moved."""
 import contextlib
 import fcntl
 import os
@@ -9,7 +9,7 @@ import subprocess
 import sys
 import threading
 from pathlib import Path
-from typing import IO, Any, Dict, Iterator, List, NamedTuple, Optional
+from typing import IO, Any, Dict, Iterator, List, NamedTuple, Optional, Tuple
 
 # The folders of root's programs, which the path of cron, and of `su` without a login, does not name.
 OF_ROOT = "/usr/sbin", "/sbin"
@@ -75,6 +75,16 @@ def settings_of(path: Path) -> Dict[str, str]:
             raise ValueError(f"{path}: line {number}: {name} has a quote or a backslash within; write its value as it is")
         found[name] = value.strip() if not whole else whole[0] if whole[2] is None else whole[2]
     return found
+
+
+# A desk and its directory, as desk-maps writes them down in desks.conf.
+RECORDED = re.compile(r"# ([^ =]+)=(/.+)")
+
+
+def recorded_in(path: Path) -> List[Tuple[str, Path]]:
+    """The desks that desk-maps was given last, each by its address and its directory."""
+    lines = path.read_text().splitlines() if path.exists() else []
+    return [(it[1], Path(it[2])) for it in map(RECORDED.fullmatch, lines) if it]
 
 
 # The locks of who works at the store of a desk, and the marks of those that are being copied.

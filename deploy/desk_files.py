@@ -27,7 +27,7 @@ from datetime import datetime, timezone
 from pathlib import Path
 from typing import Callable, Dict, Iterator, List, NamedTuple, Optional, Tuple
 
-from desk_apart import settings_of
+from desk_apart import recorded_in, settings_of
 
 COLUMNS = ["name", "key", "messages", "bytes", "lines", "notices", "delay"]
 FURTHER = "history"
@@ -266,6 +266,7 @@ class Folder:
         self.dropped = {name: (desk, day) for name, desk, day in table_of(path / "dropped.csv", DROPPED)}
         self.erased = erased_in(path / "erased.csv")
         self.desks_before = table_of(path / "desks.csv", DESKS)
+        self.beyond = self.of_others()
         # (a row that was taken out by hand is that of a customer who was dropped)
         self.is_first = not (path / "relay.csv").exists()
         before = [] if self.is_first else [it[0] for it in rows_of(path / "relay.csv")[1:]]
@@ -283,6 +284,12 @@ class Folder:
         """Since when a login or domain is its customer's; nothing where nobody knows."""
         customer, *moment = self.senders_before.get(sender, ("", now()))
         return (moment or [""])[0] if customer in (self.senders[sender], "") else now()
+
+    def of_others(self) -> List[Tuple[str, Path]]:
+        """The desks beyond this machine that desk-maps was given last. One whose settings were here before is none of them."""
+        names = [*(it.name for it in self.desks), *(desk for _, desk in self.desks_before)]
+        own, directories = {it.settings["LISTEN"].lower() for it in self.desks}, {self.path.absolute() / f"{it}.csv" for it in names}
+        return [it for it in recorded_in(self.path / "desks.conf") if it[0].lower() not in own and it[1] not in directories]
 
     def of_worker(self) -> str:
         """The directories of all desks, without a key."""
@@ -308,7 +315,9 @@ class Folder:
                 print(f"{it} was open to others, who may know its keys; it is closed now", file=sys.stderr, flush=True)
             for (kind, sender), name in sorted(self.nobodys.items()):
                 print(f"{name} is in no directory, so the {kind} {sender} is not its any more", file=sys.stderr, flush=True)
-        self.closed, self.nobodys = [], {}
+            for it in (it for _, it in self.beyond if not it.exists()):
+                print(f"{it} is gone, so nginx knows none of its customers any more", file=sys.stderr, flush=True)
+        self.closed, self.nobodys, self.beyond = [], {}, [it for it in self.beyond if it[1].exists()]
 
     def rehearse(self, scripts: Path) -> None:
         """Tries all files, and leaves everything as it is."""
@@ -336,12 +345,13 @@ class Folder:
         put_beside(self.path / "desks.csv", text_of(desks_of), 0o640, workers)
         with tempfile.TemporaryDirectory(dir=self.path, prefix=TRIAL) as made:
             given = [f"{it.settings['LISTEN']}={it.path}{BESIDE}" for it in self.desks]
-            tried([scripts / "desk-maps", made, *given])
+            tried([scripts / "desk-maps", made, *given, *(f"{address}={it}" for address, it in self.beyond if it.exists())])
             maps: List[Tuple[str, int, Callable[[Path, str, int, int], object]]] = [
                 ("keys.map", 0o600, self.put_closed), ("names.map", 0o640, put_beside),
                 ("desks.conf", 0o644, put_beside)]
             for name, mode, put in maps:
-                put(self.path / name, Path(made, name).read_text(), mode, desks)
+                # (it names directories, which are in their places by then)
+                put(self.path / name, Path(made, name).read_text().replace(f"{BESIDE}\n", "\n"), mode, desks)
             self.check_worker(Path(made))
 
     def put_closed(self, path: Path, text: str, mode: int, group: int) -> None:

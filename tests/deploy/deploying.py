@@ -259,7 +259,7 @@ class Proxy:
         temporary = "".join(f"  {it}_temp_path {folder}/{it};\n" for it in TEMPORARY)
         self.put("nginx-main.conf", "nginx.conf", {
             "user hqproxy;\n": as_user,
-            "/run/nginx.pid": f"{folder}/nginx.pid", "/var/log/nginx": folder,
+            "/run/nginx.pid": f"{folder}/nginx.pid", "/var/log/nginx": folder, "/var/log/hq-nginx/error.log": f"{folder}/alerts.log",
             "  include /etc/nginx/conf.d/*.conf;\n": f"{temporary}  include {folder}/hq-desk.conf;\n"})
         self.put("nginx.conf", "hq-desk.conf", {
             "/etc/hq": folder, "/var/log/hq-nginx": folder, "/usr/share/hq-desk/web": f"{folder}/web"})

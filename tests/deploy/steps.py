@@ -38,7 +38,7 @@ def scripts_in(folder, here):
     for it, value in here.items():
         expect(it in text, "desk-backup has no", it)
         text = text.replace(it, str(value))
-    text = text.replace("systemctl stop", "true").replace("/run/hq-desk", str(folder / "run"))
+    text = text.replace("systemctl stop", "true").replace("systemctl show", "true").replace("/run/hq-desk", str(folder / "run"))
     for name, script in (("desk-backup", text), ("desk-stop", "#!/bin/sh\n"), ("desk-start", "#!/bin/sh\n"), ("desk-restart", "#!/bin/sh\n")):
         (folder / name).write_text(script)
         (folder / name).chmod(0o755)

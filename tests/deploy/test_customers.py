@@ -209,6 +209,63 @@ def test_refused_files(place):
     expect(ended.returncode == 1 and "desk-maps refuses" in ended.stderr and place.files() == before, "two desks:", ended)
 
 
+def has_far(place, rows="farfirm,farkey0000000001,9,9,9,9,9\n"):
+    """A desk beyond this machine, which desk-maps is given by hand with the ones that are here."""
+    (place.folder / "far.csv").write_text(HEADER + rows)
+    desks = [f"127.0.0.1:825={place.folder}/north.csv", f"127.0.0.1:849={place.folder}/far.csv"]
+    subprocess.run([DEPLOY / "desk-maps", place.folder, *desks], check=True, timeout=LONGEST, stdout=subprocess.DEVNULL)
+
+
+def of_far(place):
+    """What the three files of nginx have of that desk."""
+    told = {"keys.map": "farkey0000000001 farfirm;", "names.map": "farfirm 127.0.0.1:849;", "desks.conf": "server 127.0.0.1:849 "}
+    return [it for it, text in told.items() if text in (place.folder / it).read_text()]
+
+
+def test_desks_beyond_this_machine(place):
+    """Customers of a desk beyond this machine stay in all files of nginx, through each call, and until desk-maps is not given it."""
+    all_of = ["keys.map", "names.map", "desks.conf"]
+    has_far(place)
+    for words in (["set", "acme", "--messages", "997"], ["add", "birch"], ["key", "acme"]):
+        place.done(*words)
+        expect(of_far(place) == all_of, "behind", words, "it stands in", of_far(place))
+    recorded = [it for it in (place.folder / "desks.conf").read_text().splitlines() if it.startswith("#")]
+    expect(recorded == [f"# 127.0.0.1:825={place.folder}/north.csv", f"# 127.0.0.1:849={place.folder}/far.csv"], "written down is", recorded)
+    ended = place.run("add", "farfirm")
+    expect(ended.returncode == 1 and "desk-maps refuses" in ended.stderr and of_far(place) == all_of, "its name is given:", ended)
+    # (a directory that is gone is told once, and holds nobody up)
+    (place.folder / "far.csv").unlink()
+    ended = place.run("set", "acme", "--messages", "998")
+    expect((ended.returncode, of_far(place)) == (0, []) and "far.csv is gone, so nginx knows none of its customers" in ended.stderr, "got", ended)
+    place.done("set", "acme", "--messages", "999")
+
+
+def test_a_desk_that_was_dropped(place):
+    """A desk of this machine that was dropped does not come back as one beyond it, nor one that has another address or name now."""
+    place.desk("far", 849, "farfirm,farkey0000000001,9,9,9,9,9\n")
+    place.done("set", "acme", "--messages", "997")
+    (place.folder / "far.env").unlink()
+    ended = place.run("set", "acme", "--messages", "998")
+    expect(ended.returncode == 0 and of_far(place) == [], "it stands in", of_far(place), ended)
+    place.desk("far", 849, "farfirm,farkey0000000001,9,9,9,9,9\n")
+    place.done("set", "acme", "--messages", "997")
+    place.desk("far", 848, "farfirm,farkey0000000001,9,9,9,9,9\n")
+    place.done("set", "acme", "--messages", "998")
+    expect(of_far(place) == ["keys.map"] and "farfirm 127.0.0.1:848;" in (place.folder / "names.map").read_text(), "it stands in", of_far(place))
+    place.desk("other", 848, "farfirm,farkey0000000001,9,9,9,9,9\n")
+    (place.folder / "far.env").unlink()
+    place.done("set", "acme", "--messages", "999")
+    expect("farfirm 127.0.0.1:848;" in (place.folder / "names.map").read_text(), "the desk of another name is not there")
+
+
+def test_recorded_in_a_line(place):
+    """What is written down of a desk is one line: a directory whose name has a line end is refused."""
+    path = place.folder / "far\nserver.csv"
+    path.write_text(HEADER + "farfirm,farkey0000000001,9,9,9,9,9\n")
+    ended = subprocess.run([DEPLOY / "desk-maps", place.folder, f"127.0.0.1:849={path}"], capture_output=True, text=True, timeout=LONGEST)
+    expect(ended.returncode == 1 and "what cannot be printed" in ended.stderr, "it ended with", ended)
+
+
 def test_two_desks_of_one_address(place):
     """Of two desks with one address only one can listen there, and it has no customers of the other: nothing is changed."""
     place.desk("south", 825, ACME.replace("acme,", "fir,").replace("acmekey", "firkeys"))

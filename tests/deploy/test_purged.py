@@ -63,6 +63,13 @@ def test_drop_ins(purged, folder):
     expect(len([*(folder / "etc/systemd/system").glob("*.d")]) == 1, "empty folders stay")
 
 
+def test_nginx_starts(purged, folder):
+    """An nginx.conf of ours that stays names no log in a folder that is gone."""
+    told = purged({"etc/nginx/nginx.conf": (DEPLOY / "nginx-main.conf").read_text()})
+    text = (folder / "etc/nginx/nginx.conf").read_text()
+    expect("stays, since there is no copy" in told and "/hq-nginx/error" not in text and "error_log /var/log/nginx/" in text, "it has", text)
+
+
 def test_nothing(purged):
     """Where none of it was set up, none of it is told."""
     told = purged({})

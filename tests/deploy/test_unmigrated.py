@@ -8,7 +8,7 @@ import time
 
 import pytest
 from deploying import DEPLOY
-from serving import LONGEST, expect
+from serving import HEADER, LONGEST, expect
 
 PACKAGING = DEPLOY.parent / "packaging"
 OLD = DEPLOY.parent / "tests/examples/migration/version-2.db"
@@ -37,7 +37,7 @@ def configured(folder):
         store.execute("CREATE TABLE desk_schema (version INTEGER NOT NULL) STRICT")
         store.execute(f"INSERT INTO desk_schema VALUES ({NOW})")
     text = (PACKAGING / "debian/hq-desk.postinst").read_text()
-    for it, here in (("/usr/libexec/hq-desk/mail-goes-on", "mail-goes-on"), ("/usr/libexec/hq-desk/hq-as", f"{DEPLOY}/hq-as"),
+    for it, here in (("/usr/libexec/hq-desk/mail-goes-on", "mail-goes-on"), ("/usr/libexec/hq-desk/desk-maps", f"{DEPLOY}/desk-maps"), ("/usr/libexec/hq-desk/hq-as", f"{DEPLOY}/hq-as"),
                      ("hq-as hqdesk /usr/libexec/hq-desk/desk-store", f"hq-as hqdesk {DEPLOY}/desk-store"), ("/etc/hq", f"{folder}/etc/hq"),
                      ("/etc/systemd", f"{folder}/etc/systemd"), ("/run/", f"{folder}/run/"), ("/usr/share/hq-desk/schema", f"{PACKAGING}/schema"),
                      ("schema \"/var/lib/hqdesk", f"schema \"{folder}/stores")):
@@ -101,3 +101,17 @@ def test_a_file_that_is_no_store(configured, folder, what):
     begun = time.monotonic()
     told, _ = configured()
     expect(time.monotonic() - begun < 20 and "south was" not in told, "after", time.monotonic() - begun, "seconds it tells", told)
+
+
+@pytest.mark.parametrize("beyond", ["", "farfirm 127.0.0.1:849;\n"])
+def test_maps_of_an_earlier_release(configured, folder, beyond):
+    """Where nginx has no limits of desks yet they are written, unless customers are at a desk beyond this machine: that is told."""
+    place = folder / "etc/hq"
+    (place / "north.env").write_text('HOST=relay.example\nLISTEN="127.0.0.1:825"\n')
+    (place / "north.csv").write_text(HEADER + "acme,acmekey000000001,9,9,9,9,9\n")
+    (place / "names.map").write_text(f"default 127.0.0.1:825;\nacme 127.0.0.1:825;\n{beyond}")
+    printed, _ = configured()
+    names, desks = ((place / it).read_text() for it in ("names.map", "desks.conf"))
+    told = "customers are at desks beyond this machine: 127.0.0.1:849." in printed
+    expect(told == bool(beyond) and names.endswith(f"acme 127.0.0.1:825;\n{beyond}"), "told is", printed, "and the map", names)
+    expect(("server 127.0.0.1:825" in desks) != bool(beyond) and "$desk_with_room" in desks, "the limits are", desks)
