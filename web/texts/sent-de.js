@@ -32,9 +32,9 @@ export default {
   expiredMeans: "wurden nach fünf Tagen aufgegeben",
 
   findMail: "Post finden",
-  findHint: "Adresse oder ein Teil davon, Nummer, Worte einer Antwort",
+  findHint: "Teil einer Adresse, Nummer, Worte einer Antwort",
   fromDay: "Vom",
-  toDay: "bis zum",
+  toDay: "bis",
   findHelp: "Sucht in der Warteschlange, dann im Verlauf, das Neueste zuerst.",
   findBegun: "{count} gefunden, sucht …",
   findLooking: "{count} gefunden, sucht bis zurück zu {at} …",

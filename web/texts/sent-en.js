@@ -38,7 +38,7 @@ export default {
   expiredMeans: "were given up after five days",
 
   findMail: "Find mail",
-  findHint: "Address or a part of one, ID, words of an answer",
+  findHint: "Part of an address, ID, words of an answer",
   fromDay: "From day",
   toDay: "to day",
   findHelp: "Searches the queue, and then the history, the newest first.",
