@@ -14,7 +14,7 @@ import time
 import pytest
 from deploying import DEPLOY
 from serving import LONGEST, expect
-from test_erased import BOTH, DAY, EMPTY, WITH_HISTORY, Stores
+from test_erased import DAY, EMPTY, WITH_HISTORY, Stores
 
 
 @pytest.fixture
