@@ -106,7 +106,8 @@ def test_restarted():
     (f'{line(main=1)[:-1]}, request: "{line()[:-1]}"\n', False), ("x" * 100_000 + line() + "y" * (65_536 - len(line())), False),
     (line().replace("alert", "error"), False), (line().replace("worker process", "cache manager process"), False),
     (line().replace("exited on signal 9", "exited with code 0"), False), (line() + "x" * 70_000 + "\n", False),
-    ("9999/99/99 99:99:99 [alert] 4242#1: worker process 1 exited on signal 9\n", None)])
+    ("9999/99/99 99:99:99 [alert] 4242#1: worker process 1 exited on signal 9\n", None)],
+    ids=lambda it: "line" if isinstance(it, str) else str(it))
 def test_lines(checked, text, found):
     """A line counts that is the main process's own from its first to its last letter, as new as that one, and among the last."""
     checked.log.write_text(text)
