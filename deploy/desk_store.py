@@ -5,7 +5,8 @@ import sqlite3
 import time
 from typing import Dict, Iterator, List, Set, Tuple
 
-VERSION, SCHEMA = 3, "desk_schema"
+VERSION = 3
+SCHEMA = "desk_schema"
 TABLES = ("heads", "messages", "recipients", "lines", "marks", "notices", "holds", "ends")
 
 # In seconds: how long the look at a store of whatever release takes at most.
