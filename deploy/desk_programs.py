@@ -128,12 +128,20 @@ def fault_of_printing(text: str) -> str:
     return ""
 
 
+def units_of(desk: str) -> List[str]:
+    return [f"hq-desk@{desk}.service", f"hq-desk-retain@{desk}.timer", f"hq-desk-check@{desk}.timer"]
+
+
+def has_unit(desk: str) -> bool:
+    """Whether a unit of a desk runs, or starts at a boot."""
+    asked = (subprocess.run(["systemctl", "--quiet", "is-enabled", it], stdin=subprocess.DEVNULL, stderr=subprocess.DEVNULL) for it in units_of(desk))
+    return shutil.which("systemctl") is not None and (any(map(is_active, units_of(desk))) or any(not it.returncode for it in asked))
+
+
 def end(desks: List[str]) -> None:
     """Ends desks whose settings are gone, and by which they may still run."""
-    units = [f"hq-desk{it}@{desk}.{kind}" for desk in desks for it, kind in (("", "service"), ("-retain", "timer"), ("-check", "timer"))]
-    faults = fault_of(["systemctl", "disable", "--now", *units]) if shutil.which("systemctl") else []
-    if faults:
-        raise Refused(f"the files are written, and a desk may still run: {faults[0]}")
+    if shutil.which("systemctl") and (faults := fault_of(["systemctl", "disable", "--now", *(unit for it in desks for unit in units_of(it))])):
+        raise Refused(f"nothing was changed, and a desk may still run: {faults[0]}")
 
 
 def count_again() -> None:

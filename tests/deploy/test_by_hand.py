@@ -75,6 +75,31 @@ def test_a_desk_that_is_gone(place):
     place.done("--store", place.folder, "erase", name)
 
 
+def test_a_gone_desk_that_runs(place):
+    """It ends before anything is written; where that fails nothing changes, and a desk that still runs by then is ended by the same line."""
+    (place.folder / "south.db").write_text("a store")
+    place.systemctl('case $1 in disable) echo "no such unit" >&2; exit 1 ;; esac; exit 3')
+    for it in ("south.env", "south.key", "south.csv"):
+        (place.folder / it).unlink()
+    before = place.files()
+    ended = place.run("--store", place.folder, "drop-desk", "south")
+    expect(ended.returncode == 1 and "nothing was changed, and a desk may still run" in ended.stderr and place.files() == before, "it ended with", ended)
+    place.systemctl('case $1 in disable) exit 0 ;; esac; exit 3')
+    expect(place.run("--store", place.folder, "drop-desk", "south").returncode == 0, "it is not dropped")
+    # (files of before a cut have no customer of it any more)
+    place.systemctl('case "$*" in *"is-active --quiet hq-desk@south"*|disable*) exit 0 ;; esac; exit 3')
+    expect(place.run("--store", place.folder, "drop-desk", "south").returncode == 0, "a desk that runs is not ended")
+    place.systemctl("exit 3")
+    expect("no customer is at a desk south" in place.run("--store", place.folder, "drop-desk", "south").stderr, "one that does not run")
+
+
+def test_a_row_of_who_is_half_moved(place):
+    """Somebody takes the row of who is half moved out of the first directory by hand: the move goes on, to what it prints."""
+    (place.folder / ".customers.moving").write_text("nobody north south copied\n")
+    ended = place.run("--store", place.folder, "move", "nobody", "--desk", "south")
+    expect("there is no customer" not in ended.stderr, "it ended with", ended)
+
+
 def test_gone_within_a_move(place):
     """A desk to which somebody is half moved is not dropped, and the move goes on once its settings are there again."""
     (place.folder / ".customers.moving").write_text("dale north south copied\n")

@@ -108,6 +108,20 @@ def test_killed(machine):
     until(lambda: '"messages":0' in usage(machine), "acme is not answered")
 
 
+def test_a_process_of_nginx(machine):
+    """A worker process of nginx dies: the timer that desks want has nginx restarted, since what that process had stays counted."""
+    expect(machine.active("hq-desk-nginx.timer") == ["active"], "no timer looks for it")
+    before, drop_in = pid_of(machine, "nginx"), "/run/systemd/system/hq-desk-nginx.service.d"
+    # (it leaves an nginx alone that was started within the last five minutes)
+    machine.run(f"mkdir -p {drop_in}; printf '[Service]\\nExecCondition=\\nExecCondition=/usr/libexec/hq-desk/nginx-check "
+                f"/var/log/hq-nginx/error.log 0\\n' >{drop_in}/soon.conf; systemctl daemon-reload")
+    machine.run(f"kill -9 $(cut -d' ' -f1 /proc/{before}/task/{before}/children)")
+    until(lambda: pid_of(machine, "nginx") not in (before, "0"),
+          f"nginx goes on: {machine.run('journalctl -u hq-desk-nginx -n 20 -o cat --no-pager; cat /var/log/hq-nginx/error.log')}", 60)
+    machine.run(f"rm -r {drop_in}; systemctl daemon-reload")
+    until(lambda: '"messages":0' in usage(machine), "acme is not answered")
+
+
 def test_hung_up(machine):
     """A desk that was stopped for its store is started again, also where the terminal is closed meanwhile."""
     machine.run("/usr/libexec/hq-desk/desk-restart north --stopped sleep 3 & p=$!; sleep 1; systemctl is-active hq-desk@north && exit 9; "
