@@ -72,6 +72,18 @@ def test_what_others_did_is_not_undone(visit, paper):
     expect(browser.count("#undo-hold") == 0, "a release can be undone")
 
 
+def test_a_hold_of_an_address_with_an_extension(visit):
+    """The program holds what is behind a + of a name too; Undo releases all that it held of what was seen."""
+    browser, desk = visit.browser, visit.desk
+    made = [desk.submit("acme", it, "bob@far.example") for it in ("ann@a.example", "Ann+news@a.example", "joann@a.example")]
+    visit.use(ACME)
+    do_group(visit, "#senders", "ann@a.example", "hold")
+    visit.answer(True)
+    browser.tells("2 held.")
+    undo(visit, "2 released.")
+    expect(desk.states(ACME) == {made[0]: "deferred", made[1]: "deferred", made[2]: "incoming"}, "the desk has", desk.states(ACME))
+
+
 def rules(desk):
     return [(it["class"], it["pattern"], it["action"]) for it in desk.ask("GET", "/v1/lines", ACME)["lines"]]
 
