@@ -112,7 +112,8 @@ def test_order_of_a_restore():
     first, last = lines.index("desk-stop relay"), lines.index("desk-start relay")
     expect(first < lines.index("desk-stop north") and last == len(lines) - 1 and "restored" in lines[last - 1], "the lines are", lines)
     page = (DEPLOY.parent / "docs/PROCEDURES.md").read_text()
-    expect("`/usr/libexec/hq-desk/desk-stop relay north`, and all lines from `desk-restart` on" in page, "they begin anew otherwise")
+    # (the copy is put back once: since the start of the desk its customers work by what is there)
+    expect("and go on with the line that failed, and all after it" in page and "all lines from `desk-restart`" not in page, "they begin anew otherwise")
 
 
 def test_stays_stopped():
